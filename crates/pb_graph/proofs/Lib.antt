@@ -1,0 +1,3 @@
+pub mod BalanceLemmas
+pub mod BoundaryLemmas
+pub mod CycleLemmas

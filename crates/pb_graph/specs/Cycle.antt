@@ -1,0 +1,30 @@
+use Rattle.std.specs.Prelude.{ℕ, ◌<◌, Bool, true, not, ◌&&◌, ◌==◌, List, [], ◌∷◌, length, Option, Some, None, IsTrue}
+use Rattle.std.specs.List.{list_any}
+use Rattle.pb_graph.specs.declared.records.Stream.{Stream}
+use Rattle.pb_graph.specs.declared.records.Step.{Step}
+use Rattle.pb_graph.specs.ProcessGraph.{ProcessGraph}
+use Rattle.pb_graph.specs.Walk.{ends_of, any_stream, Walks}
+
+-- no two items of a list have one key
+abbrev pub is_distinct : {A : Type 0} → (A → ℕ) → List A → Bool
+is_distinct key [] = true
+is_distinct key (x ∷ xs) = not (list_any (λ y. key y == key x) xs) && is_distinct key xs
+
+abbrev pub first_or : ℕ → Option (ℕ × ℕ) → ℕ
+first_or n None = n
+first_or n (Some ends) = ends.0
+
+-- the node where a step begins, or the number of nodes where there is no such stream
+abbrev pub begin_of : ℕ → List Stream → Step → ℕ
+begin_of nodes ss t = first_or nodes (ends_of any_stream ss t)
+
+abbrev pub start_of : ProcessGraph → List Step → ℕ
+start_of g [] = 0
+start_of g (t ∷ rest) = begin_of g.nodes g.streams t
+
+-- A cycle: a closed walk of at least one step in which no stream and no node comes twice.
+pub record IsCycle (g : ProcessGraph) (steps : List Step) : Type 0 where
+  pub some : 0 < length steps
+  pub back : Walks (ends_of any_stream g.streams) (start_of g steps) steps (start_of g steps)
+  pub each_stream : IsTrue (is_distinct (λ t. t.stream) steps)
+  pub each_node : IsTrue (is_distinct (begin_of g.nodes g.streams) steps)

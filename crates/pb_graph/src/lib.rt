@@ -1,0 +1,16 @@
+//! The process graph of a plant, and the plain data that a study of it is made of.
+//!
+//! Nodes are units and tanks, arcs are streams, and node 0 is the environment `env`, which closes the graph
+//! (Mah, Stanley and Downing 1976; Narasimhan and Jordache, "Data Reconciliation and Gross Error Detection").
+#![tactic(auto)]
+
+mod balance;
+mod cut;
+mod cycle;
+mod graph;
+mod list;
+mod records;
+
+pub use graph::{Graph, MOST_NODES, MOST_STREAMS};
+pub use list::List;
+pub use records::{Class, Classified, Meas, Member, Step, Stream, Witness};
