@@ -1,0 +1,27 @@
+-- What holds of each item of a list, by place and by recursion.
+use Rattle.std.proofs.Common.{◌≡◌, ◌∙◌, ℕ, zero, suc, ◌+◌, ◌<◌, List, [], ◌∷◌, length, get_or, drop, ap, arith}
+use Rattle.std.specs.List.{All, AllByRecursion}
+use Rattle.std.proofs.Math.Seq.{drop-cons}
+
+pub AllByRecursion-from_all : {X : Type 0} (P : X → Type 0) (xs : List X) → All P xs → AllByRecursion P xs
+AllByRecursion-from_all P [] h = tt
+AllByRecursion-from_all P (x ∷ xs) h = (h 0 x (omega arith), AllByRecursion-from_all P xs (λ j d lt. h (suc j) d (omega (arith, lt))))
+
+pub All-from_recursion : {X : Type 0} (P : X → Type 0) (xs : List X) → AllByRecursion P xs → All P xs
+All-from_recursion P [] h j d lt = absurd (omega (arith, lt))
+All-from_recursion P (x ∷ xs) h zero d lt = h.0
+All-from_recursion P (x ∷ xs) h (suc j) d lt = All-from_recursion P xs h.1 j d (omega (arith, lt))
+
+-- what each item has, where it follows from what it had
+pub AllByRecursion-map : {X : Type 0} (P Q : X → Type 0) (xs : List X) → ((x : X) → P x → Q x) → AllByRecursion P xs → AllByRecursion Q xs
+AllByRecursion-map P Q [] f h = tt
+AllByRecursion-map P Q (x ∷ xs) f h = (f x h.0, AllByRecursion-map P Q xs f h.1)
+
+-- what each item has, where every value has it
+pub AllByRecursion-every : {X : Type 0} (P : X → Type 0) (xs : List X) → ((x : X) → P x) → AllByRecursion P xs
+AllByRecursion-every P [] f = tt
+AllByRecursion-every P (x ∷ xs) f = (f x, AllByRecursion-every P xs f)
+
+-- a loop's step: what is left at i is the item at i, and what is left at i + 1
+pub drop_next : {A : Type 0} (xs : List A) (i : ℕ) (d : A) → i < length xs → drop i xs ≡ get_or xs i d ∷ drop (i + 1) xs
+drop_next xs i d lt = let next : suc i ≡ i + 1 = omega arith in drop-cons xs i d lt ∙ ap (λ k. get_or xs i d ∷ drop k xs) next
