@@ -1,0 +1,4 @@
+pub mod Records
+pub mod Name
+pub mod Padded
+pub mod Written

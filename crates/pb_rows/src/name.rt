@@ -1,0 +1,153 @@
+// Names of units, tanks, streams, periods and facts.
+
+ghost use Rattle.std.specs.Prelude.{◌≡◌, ◌<◌, ◌∷◌, ◌++◌, [], length, slice_index_or, true, false, MatchOption, OnOk, OnErr, IsTrue, ◌↔◌};
+ghost use Rattle.std.specs.List.{list_all};
+ghost use Rattle.pb_rows.specs.Name.{has_name_length, is_name, is_name_byte};
+
+use std::alloc::{AllocError, Global};
+use std::marker::Model;
+
+/// A name: 1 to 32 bytes, each an ASCII letter, a digit, `_`, `-` or `.`.
+#[derive(Clone, Copy, PartialEq, Eq, Hash)]
+pub struct Name {
+    bytes: [u8; 32],
+    len: u8,
+}
+
+impl Model for Name {
+    ghost use Rattle.std.specs.Prelude.{List, ℕ, take, ◌++◌, ◌-◌, replicate, length};
+    ghost use Rattle.pb_rows.specs.Padded.{IsPaddedName, padded_back};
+
+    ghost Value = { List ℕ };
+
+    ghost view = { λ a. take a.len a.bytes };
+
+    ghost invariant = { λ a. IsPaddedName a.len a.bytes };
+
+    ghost inverse = { λ v. record { bytes = v ++ replicate (32 - length v) 0; len = length v } };
+
+    ghost inverse_ok = { λ a h. padded_back a h };
+}
+
+impl Name {
+    /// The name that a field writes; `None` exactly where the field isn't of the form.
+    pub fn read(field: &[u8]) -> Option<Name>
+        ensures { MatchOption result (is_name field.now ≡ false) (λ name. (is_name field.now ≡ true) × (name ≡ field.now)) }
+    {
+        if !is_name(field) {
+            return None;
+        }
+        let mut bytes = [0u8; 32];
+        bytes[..field.len()].copy_from_slice(field);
+        Some(Name {
+            bytes,
+            len: field.len() as u8,
+        })
+    }
+
+    /// The bytes of the name, which are those of a name.
+    pub fn bytes(&self) -> &[u8]
+        ensures value { result.now ≡ self.now }
+        ensures form { is_name self.now ≡ true }
+    {
+        &self.bytes[..usize::from(self.len)]
+    }
+}
+
+// Whether a field has the form of a name.
+fn is_name(field: &[u8]) -> bool
+    ensures { result ≡ is_name field.now }
+{
+    has_name_length(field) && has_name_bytes(field)
+}
+
+// Whether each byte of a field may stand in a name.
+fn has_name_bytes(field: &[u8]) -> bool
+    ensures { result ≡ list_all is_name_byte field.now }
+{
+    field.iter().all(|byte| is_name_byte(*byte))
+}
+
+// Whether a field is as long as a name may be.
+fn has_name_length(field: &[u8]) -> bool
+    ensures { result ≡ has_name_length field.now }
+{
+    !field.is_empty() && field.len() <= 32
+}
+
+// Whether a byte may stand in a name.
+fn is_name_byte(byte: u8) -> bool
+    ensures { result ≡ is_name_byte byte }
+{
+    byte.is_ascii_alphanumeric() || byte == b'_' || byte == b'-' || byte == b'.'
+}
+
+/// A list of names.
+#[derive(Drop)]
+pub struct NameList {
+    names: Vec<Name>,
+}
+
+impl Model for NameList {
+    ghost use Rattle.std.specs.Prelude.{List, ℕ};
+
+    ghost Value = { List (List ℕ) };
+
+    ghost view = { λ a. a.names.items };
+}
+
+impl NameList {
+    /// No name.
+    pub fn new(alloc: Global) -> NameList
+        ensures { result ≡ [] }
+    {
+        NameList {
+            names: Vec::new(alloc),
+        }
+    }
+
+    /// Appends a name. After an `Err`, want of memory, the list is as it was.
+    pub fn push(&mut self, name: Name) -> Result<(), AllocError>
+        ensures appended { OnOk result (self.new ≡ self.old ++ name ∷ []) }
+        ensures unchanged { OnErr result (self.new ≡ self.old) }
+    {
+        self.names.push(name)?;
+        Ok(())
+    }
+
+    /// The number of names.
+    pub fn len(&self) -> usize
+        ensures { result ≡ length self.now }
+    {
+        self.names.len()
+    }
+
+    /// Whether there is no name.
+    pub fn is_empty(&self) -> bool
+        ensures { IsTrue result ↔ (self.now ≡ []) }
+    {
+        self.names.is_empty()
+    }
+
+    /// The names as a slice.
+    pub fn as_slice(&self) -> &[Name]
+        ensures { result.now ≡ self.now }
+    {
+        self.names.as_slice()
+    }
+
+    /// The name at a place, counted from 0.
+    pub fn at(&self, i: usize) -> &Name
+        requires { i < length self.now }
+        ensures { result.now ≡ slice_index_or self.now i [] }
+    {
+        &self.names[i]
+    }
+}
+
+/// The names of a graph's nodes and streams, in their order.
+#[derive(Drop)]
+pub struct Names {
+    pub nodes: NameList,
+    pub streams: NameList,
+}

@@ -1,0 +1,90 @@
+// Rows out: the text of the rows ended so far, and the fields of the row that is being filled.
+
+ghost use Rattle.std.specs.Prelude.{◌≡◌, ◌∷◌, ◌++◌, [], IfOk, OnOk, OnErr};
+ghost use Rattle.csv.specs.Records.{fields_of, partial_of};
+ghost use Rattle.pb_rows.specs.Written.{line_of};
+
+use crate::row::Row;
+use csv::{ByteRecord, WriterBuilder};
+use std::alloc::{AllocError, Global};
+use std::marker::Model;
+
+/// Writes rows as `csv` writes them, each ended by a line feed.
+#[derive(Drop)]
+pub struct RowWriter {
+    text: Vec<u8>,
+    row: Row,
+}
+
+impl Model for RowWriter {
+    ghost use Rattle.pb_rows.specs.Written.{Written};
+
+    ghost Value = { Written };
+
+    ghost view = { λ a. record { text = a.text.items; row = a.row } };
+}
+
+impl RowWriter {
+    /// No row yet, and no field.
+    pub fn new(alloc: Global) -> RowWriter
+        ensures { result ≡ record { text = []; row = [] } }
+    {
+        RowWriter {
+            text: Vec::new(alloc),
+            row: Row::new(alloc),
+        }
+    }
+
+    /// Appends a field to the row that is being filled. After an `Err`, want of memory, all is as it was.
+    pub fn field(&mut self, bytes: &[u8]) -> Result<(), AllocError>
+        ensures appended { OnOk result (self.new ≡ record { text = self.old.text; row = self.old.row ++ bytes.now ∷ [] }) }
+        ensures unchanged { OnErr result (self.new ≡ self.old) }
+    {
+        self.row.push(bytes)
+    }
+
+    /// Ends the row: its line joins the text, and the next row begins without a field. After an `Err`, want of memory, all is
+    /// as it was.
+    pub fn end_row(&mut self) -> Result<(), AllocError>
+        ensures ended { OnOk result (self.new ≡ record { text = self.old.text ++ line_of self.old.row; row = [] }) }
+        ensures unchanged { OnErr result (self.new ≡ self.old) }
+    {
+        let alloc = *self.text.allocator();
+        let line = line_of(alloc, &byte_record(alloc, &self.row)?)?;
+        self.text.extend_from_slice(line.as_slice())?;
+        self.row = Row::new(alloc);
+        Ok(())
+    }
+
+    /// The rows ended so far, each as `csv` writes it and followed by a line feed.
+    pub fn bytes(&self) -> &[u8]
+        ensures { result.now ≡ self.now.text }
+    {
+        self.text.as_slice()
+    }
+}
+
+// A row as `csv` takes it.
+fn byte_record(alloc: Global, row: &Row) -> Result<ByteRecord, AllocError>
+    ensures { IfOk result (λ copy. fields_of copy ≡ row.now) }
+{
+    let mut copy = ByteRecord::new(alloc);
+    for i in 0..row.len() {
+        copy.push_field(row.field(i))?;
+    }
+    Ok(copy)
+}
+
+// The line of one row, by a writer of its own: so no length of an earlier row and no pending byte matters.
+fn line_of(alloc: Global, row: &ByteRecord) -> Result<Vec<u8>, AllocError>
+    ensures { IfOk result (λ line. line.items ≡ line_of (fields_of row.now)) }
+{
+    let mut writer = WriterBuilder::new().from_writer(Vec::new(alloc));
+    if writer.write_byte_record(row).is_err() {
+        return Err(AllocError);
+    }
+    match writer.into_inner() {
+        Ok(line) => Ok(line),
+        Err(_) => Err(AllocError),
+    }
+}
