@@ -1,3 +1,4 @@
 pub mod BalanceLemmas
 pub mod BoundaryLemmas
 pub mod CycleLemmas
+pub mod WalkLemmas

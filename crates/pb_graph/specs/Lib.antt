@@ -2,6 +2,8 @@ pub mod ProcessGraph
 pub mod Walk
 pub mod Boundary
 pub mod Cycle
+pub mod Path
+pub mod Neighbours
 pub mod Balance
 pub mod Classes
 pub mod Certificates
