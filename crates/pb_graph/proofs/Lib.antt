@@ -1,4 +1,5 @@
 pub mod BalanceLemmas
 pub mod BoundaryLemmas
 pub mod CycleLemmas
+pub mod NeighbourLemmas
 pub mod WalkLemmas

@@ -1,5 +1,5 @@
 -- Walks: one step, one walk behind another, the same walk back, the same walk where more streams may be taken.
-use Rattle.std.proofs.Common.{◌≡◌, ◌∙◌, ℕ, ◌<◌, Bool, true, false, not, cond, List, [], ◌∷◌, ◌++◌, length, Option, Some, None, slice_get, ap, sym, refl, subst, inl, inr, arith}
+use Rattle.std.proofs.Common.{◌≡◌, ◌∙◌, ℕ, ◌<◌, Bool, true, false, not, List, [], ◌∷◌, ◌++◌, Option, Some, None, slice_get, ap, sym, refl, subst, inl, inr, arith}
 use Rattle.std.proofs.lemmas.Bool.{cases_Bool}
 use Rattle.pb_graph.specs.declared.records.Stream.{Stream}
 use Rattle.pb_graph.specs.declared.records.Step.{Step}

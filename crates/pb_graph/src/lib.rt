@@ -9,8 +9,10 @@ mod cut;
 mod cycle;
 mod graph;
 mod list;
+mod neighbours;
 mod records;
 
 pub use graph::{Graph, MOST_NODES, MOST_STREAMS};
 pub use list::List;
+pub use neighbours::Neighbours;
 pub use records::{Class, Classified, Meas, Member, Step, Stream, Witness};
