@@ -4,6 +4,7 @@ pub mod Boundary
 pub mod Cycle
 pub mod Path
 pub mod Neighbours
+pub mod Search
 pub mod Balance
 pub mod Classes
 pub mod Certificates

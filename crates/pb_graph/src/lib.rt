@@ -11,8 +11,10 @@ mod graph;
 mod list;
 mod neighbours;
 mod records;
+mod search;
 
 pub use graph::{Graph, MOST_NODES, MOST_STREAMS};
 pub use list::List;
 pub use neighbours::Neighbours;
 pub use records::{Class, Classified, Meas, Member, Step, Stream, Witness};
+pub use search::{path, reach};
