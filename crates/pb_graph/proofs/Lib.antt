@@ -4,4 +4,5 @@ pub mod CycleLemmas
 pub mod FoundLemmas
 pub mod NeighbourLemmas
 pub mod SearchLemmas
+pub mod UnmeasureLemmas
 pub mod WalkLemmas

@@ -8,3 +8,4 @@ pub mod Search
 pub mod Balance
 pub mod Classes
 pub mod Certificates
+pub mod Squares

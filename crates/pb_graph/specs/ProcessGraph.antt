@@ -1,4 +1,4 @@
-use Rattle.std.specs.Prelude.{◌≢◌, ℕ, ◌^◌, ◌<◌, ◌≤◌, pos, ◌≤ℤ◌, unsigned_abs, Bool, List, length, All, IfSome, is_some}
+use Rattle.std.specs.Prelude.{◌≢◌, ℕ, zero, suc, ◌^◌, ◌<◌, ◌≤◌, pos, ◌≤ℤ◌, unsigned_abs, Bool, List, [], ◌∷◌, length, All, None, IfSome, is_some}
 use Rattle.pb_graph.specs.declared.graph.TheConstants.{MOST_NODES, MOST_STREAMS}
 use Rattle.pb_graph.specs.declared.records.Meas.{Meas}
 use Rattle.pb_graph.specs.declared.records.Stream.{Stream}
@@ -41,3 +41,9 @@ pub record Fits (g : ProcessGraph) (s : Stream) : Type 0 where
 
 abbrev pub is_measured : Stream → Bool
 is_measured s = is_some s.meas
+
+-- the streams without the j-th one's measurement
+abbrev pub unmeasured_at : ℕ → List Stream → List Stream
+unmeasured_at j [] = []
+unmeasured_at zero (s ∷ ss) = record s { meas = None } ∷ ss
+unmeasured_at (suc j) (s ∷ ss) = s ∷ unmeasured_at j ss

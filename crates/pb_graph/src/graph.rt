@@ -1,5 +1,5 @@
 ghost use Rattle.std.specs.Prelude.{◌≡◌, ℕ, ◌<◌, ◌≤◌, ◌^◌, ◌↔◌, ◌++◌, ◌∷◌, [], Some, None, length, slice_get, unsigned_abs, All, IsTrue, IfOk, OnOk, OnErr, set};
-ghost use Rattle.pb_graph.specs.ProcessGraph.{ProcessGraph, IsProcessGraph, IsStream, IsMeasurement, IsWithinLimits, Fits};
+ghost use Rattle.pb_graph.specs.ProcessGraph.{ProcessGraph, IsProcessGraph, IsStream, IsMeasurement, IsWithinLimits, Fits, unmeasured_at};
 ghost use Rattle.pb_graph.specs.Boundary.{IsCut};
 ghost use Rattle.pb_graph.specs.Cycle.{IsCycle};
 ghost use Rattle.pb_graph.specs.Balance.{net_of, IsBalanced};
@@ -115,6 +115,27 @@ impl Graph {
         balance::is_balanced(self.nodes, &self.streams, x)
     }
 
+    /// The same graph, with stream `j` without its measurement.
+    pub fn unmeasure(&self, alloc: Global, j: u32) -> Result<Graph, AllocError>
+        requires { j < length self.now.streams }
+        ensures { IfOk result (λ g. g ≡ record self.now { streams = unmeasured_at j self.now.streams }) }
+    {
+        Ok(Graph {
+            nodes: self.nodes,
+            streams: unmeasured(alloc, &self.streams, j)?,
+        })
+    }
+
+    /// An equal graph.
+    pub fn copy(&self, alloc: Global) -> Result<Graph, AllocError>
+        ensures { IfOk result (λ g. g ≡ self.now) }
+    {
+        Ok(Graph {
+            nodes: self.nodes,
+            streams: Vec::from_slice(alloc, &self.streams)?,
+        })
+    }
+
     /// Whether the side has one item for each node and the members are its boundary, in order, with their signs.
     pub fn is_cut(&self, side: &[bool], members: &[Member]) -> bool
         ensures { IsTrue result ↔ IsCut self.now side.now members.now }
@@ -128,6 +149,19 @@ impl Graph {
     {
         cycle::is_cycle(self.nodes, &self.streams, steps)
     }
+}
+
+/// The streams, with the j-th one without its measurement.
+fn unmeasured(alloc: Global, streams: &[Stream], j: u32) -> Result<Vec<Stream>, AllocError>
+    requires { j < length streams.now }
+    ensures { IfOk result (λ v. v.items ≡ unmeasured_at j streams.now) }
+{
+    let mut copy = Vec::from_slice(alloc, streams)?;
+    copy[j as usize] = Stream {
+        meas: None,
+        ..streams[j as usize]
+    };
+    Ok(copy)
 }
 
 fn joins(nodes: u32, s: &Stream) -> bool

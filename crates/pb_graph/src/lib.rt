@@ -11,10 +11,15 @@ mod graph;
 mod list;
 mod neighbours;
 mod records;
+mod results;
 mod search;
 
 pub use graph::{Graph, MOST_NODES, MOST_STREAMS};
 pub use list::List;
 pub use neighbours::Neighbours;
 pub use records::{Class, Classified, Meas, Member, Step, Stream, Witness};
+pub use results::{
+    Bounds, Critical, CriticalRow, GlobalTest, MeasureTest, NodalTest, Options, Solved, Stage,
+    Stop, StreamResult, Study, Taken, Tests, Verdict,
+};
 pub use search::{path, reach};
