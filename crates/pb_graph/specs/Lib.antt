@@ -8,3 +8,5 @@ pub mod Search
 pub mod Balance
 pub mod Classes
 pub mod Certificates
+pub mod Groups
+pub mod Prices
