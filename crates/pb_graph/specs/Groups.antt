@@ -35,9 +35,13 @@ abbrev pub group_count : List ℕ → ℕ
 group_count [] = 0
 group_count (k ∷ ks) = max (k + 1) (group_count ks)
 
+-- whether exactly one of two ends is in the group with number k, where their groups have these numbers
+abbrev pub is_one_end : ℕ → ℕ → ℕ → Bool
+is_one_end from to k = if to == k then not (from == k) else from == k
+
 -- whether a stream has exactly one end in the group with number k
 abbrev pub has_one_end : List ℕ → ℕ → Stream → Bool
-has_one_end group k s = if group_at group s.to == k then not (group_at group s.from == k) else group_at group s.from == k
+has_one_end group k s = is_one_end (group_at group s.from) (group_at group s.to) k
 
 -- whether the group with number k is free
 abbrev pub is_free_group : List ℕ → List Stream → ℕ → Bool

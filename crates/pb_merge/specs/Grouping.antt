@@ -1,4 +1,6 @@
-use Rattle.std.specs.Prelude.{◌≡◌, ◌≢◌, ◌↔◌, ℕ, ◌<◌, Bool, false, ℤ, pos, List, length, get_or, IsTrue}
+use Rattle.std.specs.Prelude.{◌≡◌, ◌≢◌, ◌↔◌, ℕ, ◌*◌, ◌^◌, ◌<◌, ◌≤◌, Bool, false, ℤ, pos, ◌≤ℤ◌, List, length, get_or, IsTrue}
+use Rattle.std.specs.List.{All}
+use Rattle.pb_graph.specs.declared.graph.TheConstants.{MOST_NODES}
 use Rattle.pb_graph.specs.ProcessGraph.{ProcessGraph}
 use Rattle.pb_graph.specs.Groups.{AreGroups, IsFreeGroup, is_free_group, group_at, group_count}
 use Rattle.pb_merge.specs.Variance.{group_variance}
@@ -10,11 +12,13 @@ pub record Grouping : Type 0 where
   pub free : List Bool
   pub variance : List ℤ
 
--- there is one item for each group
-pub record HasEach (gs : Grouping) : Type 0 where
-  pub least : length gs.least ≡ group_count gs.group
-  pub free : length gs.free ≡ group_count gs.group
-  pub variance : length gs.variance ≡ group_count gs.group
+-- there is one item for each group, and no variance is negative or above 2,000 times the greatest of a stream
+pub record IsGrouping (gs : Grouping) : Type 0 where
+  pub few : group_count gs.group ≤ MOST_NODES
+  pub each_least : length gs.least ≡ group_count gs.group
+  pub each_free : length gs.free ≡ group_count gs.group
+  pub each_variance : length gs.variance ≡ group_count gs.group
+  pub range : All (λ v. (pos 0 ≤ℤ v) × (v ≤ℤ pos (2000 * 10 ^ 22))) gs.variance
 
 -- n is the least node of group k
 pub record IsLeastNode (group : List ℕ) (k n : ℕ) : Type 0 where

@@ -4,9 +4,9 @@
 //! (Mah, Stanley and Downing 1976; Narasimhan and Jordache, "Data Reconciliation and Gross Error Detection", chapter 7).
 #![tactic(auto)]
 
-
+mod groups;
 mod numbers;
 mod roots;
+mod variance;
 
-
-
+pub use groups::Groups;
