@@ -88,10 +88,11 @@ crossed_is group k (s ∷ ss) h =
       | inr none ↦ rw none (crossed_is group k ss h.1 ∙ plus_zero (group_variance group k ss))
     ]
   where
-  plus_zero : (x : ℤ) → int_lt (pos 0) x ≡ int_lt (pos 0) (pos 0 +ℤ x)
-  plus_zero x = let e : x ≡ pos 0 +ℤ x = omega (arith, ints) in ap (int_lt (pos 0)) e
-  above : (x : ℤ) → pos 0 <ℤ x → int_lt (pos 0) x ≡ true
-  above x lt = grind (arith, ints, lt)
+    plus_zero : (x : ℤ) → int_lt (pos 0) x ≡ int_lt (pos 0) (pos 0 +ℤ x)
+    plus_zero x = let e : x ≡ pos 0 +ℤ x = omega (arith, ints) in ap (int_lt (pos 0)) e
+
+    above : (x : ℤ) → pos 0 <ℤ x → int_lt (pos 0) x ≡ true
+    above x lt = grind (arith, ints, lt)
 
 pub free_is : (g : ProcessGraph) (group : List ℕ) (k : ℕ) → AreGroups g group → 1 ≤ g.nodes → All (IsStream g.nodes) g.streams → All IsWithinLimits g.streams
     → is_free_group group g.streams k ≡ (not (0 == k) && int_lt (pos 0) (group_variance group k g.streams))
@@ -103,27 +104,28 @@ pub free_means : (g : ProcessGraph) (group : List ℕ) (n : ℕ) → AreGroups g
     → (is_free_group group g.streams (group_at group n) ≡ true → IsFreeGroup g n) × (IsFreeGroup g n → is_free_group group g.streams (group_at group n) ≡ true)
 free_means g group n h some ends lt = (
   (λ free.
-    let parts = and_parts (not (group_at group 0 == group_at group n)) (list_any (has_one_end group (group_at group n)) g.streams) free in
-    record {
-      apart = λ same. let no : true ≡ false = sym parts.0 ∙ ap not (eq-eqb (group_at group 0) (group_at group n) ((h.same 0 n some lt).1 same)) in cc no;
-      crossed =
-        let (i, s, within, is, one) = Any-from_list_any (has_one_end group (group_at group n)) g.streams parts.1 in
-        (i, s, within, is, crosses s (subst (IsStream g.nodes) is (ends i s within)) one);
-    }),
+      let parts = and_parts (not (group_at group 0 == group_at group n)) (list_any (has_one_end group (group_at group n)) g.streams) free in
+      record {
+        apart = λ same. let no : true ≡ false = sym parts.0 ∙ ap not (eq-eqb (group_at group 0) (group_at group n) ((h.same 0 n some lt).1 same)) in cc no;
+        crossed =
+            let (i, s, within, is, one) = Any-from_list_any (has_one_end group (group_at group n)) g.streams parts.1 in
+            (i, s, within, is, crosses s (subst (IsStream g.nodes) is (ends i s within)) one);
+      }),
   (λ free.
-    let (i, s, within, is, one) = free.crossed in
-    let apart : not (group_at group 0 == group_at group n) ≡ true = ap not (ne_eqb (group_at group 0) (group_at group n) (λ e. free.apart ((h.same 0 n some lt).0 e))) in
-    let crossed = list_any-from_Any (has_one_end group (group_at group n)) g.streams (i, s, within, is, ended s (subst (IsStream g.nodes) is (ends i s within)) one) in
-    rw (apart, crossed) refl),
+      let (i, s, within, is, one) = free.crossed in
+      let apart : not (group_at group 0 == group_at group n) ≡ true = ap not (ne_eqb (group_at group 0) (group_at group n) (λ e. free.apart ((h.same 0 n some lt).0 e))) in
+      let crossed = list_any-from_Any (has_one_end group (group_at group n)) g.streams (i, s, within, is, ended s (subst (IsStream g.nodes) is (ends i s within)) one) in
+      rw (apart, crossed) refl),
 )
   where
-  crosses : (s : Stream) → IsStream g.nodes s → has_one_end group (group_at group n) s ≡ true → CrossesGroup g.streams n s
-  crosses s e one = elim (one_end_cases (group_at group s.from) (group_at group s.to) (group_at group n) one) [
-    | inl p ↦ inl ((h.same n s.from lt e.from).0 (sym p.0), (λ same. p.1 (sym ((h.same n s.to lt e.to).1 same))))
-    | inr p ↦ inr ((λ same. p.0 (sym ((h.same n s.from lt e.from).1 same))), (h.same n s.to lt e.to).0 (sym p.1))
-  ]
-  ended : (s : Stream) → IsStream g.nodes s → CrossesGroup g.streams n s → has_one_end group (group_at group n) s ≡ true
-  ended s e c = elim c [
-    | inl p ↦ one_end_from (group_at group s.from) (group_at group s.to) (group_at group n) (sym ((h.same n s.from lt e.from).1 p.0)) (λ f. p.1 ((h.same n s.to lt e.to).0 (sym f)))
-    | inr p ↦ one_end_to (group_at group s.from) (group_at group s.to) (group_at group n) (λ f. p.0 ((h.same n s.from lt e.from).0 (sym f))) (sym ((h.same n s.to lt e.to).1 p.1))
-  ]
+    crosses : (s : Stream) → IsStream g.nodes s → has_one_end group (group_at group n) s ≡ true → CrossesGroup g.streams n s
+    crosses s e one = elim (one_end_cases (group_at group s.from) (group_at group s.to) (group_at group n) one) [
+      | inl p ↦ inl ((h.same n s.from lt e.from).0 (sym p.0), (λ same. p.1 (sym ((h.same n s.to lt e.to).1 same))))
+      | inr p ↦ inr ((λ same. p.0 (sym ((h.same n s.from lt e.from).1 same))), (h.same n s.to lt e.to).0 (sym p.1))
+    ]
+
+    ended : (s : Stream) → IsStream g.nodes s → CrossesGroup g.streams n s → has_one_end group (group_at group n) s ≡ true
+    ended s e c = elim c [
+      | inl p ↦ one_end_from (group_at group s.from) (group_at group s.to) (group_at group n) (sym ((h.same n s.from lt e.from).1 p.0)) (λ f. p.1 ((h.same n s.to lt e.to).0 (sym f)))
+      | inr p ↦ one_end_to (group_at group s.from) (group_at group s.to) (group_at group n) (λ f. p.0 ((h.same n s.from lt e.from).0 (sym f))) (sym ((h.same n s.to lt e.to).1 p.1))
+    ]

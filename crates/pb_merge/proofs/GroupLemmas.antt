@@ -46,12 +46,13 @@ step_root nodes ss root h t x y e =
     let joins = h.joins t.stream s (slice_get_within ss t.stream s at) at (not_true (is_measured s) plain) in
     along_root s t.forward joins is
   where
-  not_true : (b : Bool) → not b ≡ true → b ≡ false
-  not_true true e = cc e
-  not_true false e = refl
-  along_root : (s : Stream) (forward : Bool) → group_at root s.from ≡ group_at root s.to → along forward s ≡ (x, y) → group_at root x ≡ group_at root y
-  along_root s true joins is = ap (group_at root) (sym (ap (λ (p : ℕ × ℕ). p.0) is)) ∙ joins ∙ ap (group_at root) (ap (λ (p : ℕ × ℕ). p.1) is)
-  along_root s false joins is = ap (group_at root) (sym (ap (λ (p : ℕ × ℕ). p.0) is)) ∙ sym joins ∙ ap (group_at root) (ap (λ (p : ℕ × ℕ). p.1) is)
+    not_true : (b : Bool) → not b ≡ true → b ≡ false
+    not_true true e = cc e
+    not_true false e = refl
+
+    along_root : (s : Stream) (forward : Bool) → group_at root s.from ≡ group_at root s.to → along forward s ≡ (x, y) → group_at root x ≡ group_at root y
+    along_root s true joins is = ap (group_at root) (sym (ap (λ (p : ℕ × ℕ). p.0) is)) ∙ joins ∙ ap (group_at root) (ap (λ (p : ℕ × ℕ). p.1) is)
+    along_root s false joins is = ap (group_at root) (sym (ap (λ (p : ℕ × ℕ). p.0) is)) ∙ sym joins ∙ ap (group_at root) (ap (λ (p : ℕ × ℕ). p.1) is)
 
 walk_root : (nodes : ℕ) (ss : List Stream) (root : List ℕ) (a b : ℕ) → AreRoots nodes ss (length ss) root → SameGroup ss a b → group_at root a ≡ group_at root b
 walk_root nodes ss root a b h (steps, w) =
@@ -63,21 +64,21 @@ groups_are g root group least r h = record {
   each = h.each;
   same = λ a b a_lt b_lt. (
     (λ e.
-      let one : group_at root a ≡ group_at root b = sym (h.root_of a a_lt) ∙ ap (group_at least) e ∙ h.root_of b b_lt in
-      same_trans g.streams a (group_at root a) b (r.sound a a_lt)
-      (subst (λ (x : ℕ). SameGroup g.streams x b) (sym one) (same_sym g.streams b (group_at root b) (r.sound b b_lt)))),
+        let one : group_at root a ≡ group_at root b = sym (h.root_of a a_lt) ∙ ap (group_at least) e ∙ h.root_of b b_lt in
+        same_trans g.streams a (group_at root a) b (r.sound a a_lt)
+        (subst (λ (x : ℕ). SameGroup g.streams x b) (sym one) (same_sym g.streams b (group_at root b) (r.sound b b_lt)))),
     (λ same. by_root a a_lt ∙ ap (group_at group) (walk_root g.nodes g.streams root a b r same) ∙ sym (by_root b b_lt)),
   );
   numbered = λ n k lt below.
-    let mine = h.below n lt in
-    let rises = h.rising k (group_at group n) below mine in
-    let is = h.root_of n lt in
-    let low = r.low n lt in
-    (group_at least k, omega (arith, rises, is, low), h.member k (omega (arith, below, mine)));
+      let mine = h.below n lt in
+      let rises = h.rising k (group_at group n) below mine in
+      let is = h.root_of n lt in
+      let low = r.low n lt in
+      (group_at least k, omega (arith, rises, is, low), h.member k (omega (arith, below, mine)));
 }
   where
-  by_root : (a : ℕ) → a < g.nodes → group_at group a ≡ group_at group (group_at root a)
-  by_root a lt = sym (h.member (group_at group a) (h.below a lt)) ∙ ap (group_at group) (h.root_of a lt)
+    by_root : (a : ℕ) → a < g.nodes → group_at group a ≡ group_at group (group_at root a)
+    by_root a lt = sym (h.member (group_at group a) (h.below a lt)) ∙ ap (group_at group) (h.root_of a lt)
 
 -- the least nodes are least
 pub least_are : (g : ProcessGraph) (root group least : List ℕ) → AreRoots g.nodes g.streams (length g.streams) root → AreNumbered root g.nodes group least → (k : ℕ) → k < length least
@@ -86,10 +87,10 @@ least_are g root group least r h k lt = record {
   node = let b = h.before k lt in omega (arith, b, h.each);
   member = h.member k lt;
   first = λ m before e.
-    let b = h.before k lt in
-    let m_lt : m < g.nodes = omega (arith, before, b) in
-    let is = h.root_of m m_lt in
-    let low = r.low m m_lt in
-    let same = ap (group_at least) e in
-    absurd (omega (arith, before, is, low, same));
+      let b = h.before k lt in
+      let m_lt : m < g.nodes = omega (arith, before, b) in
+      let is = h.root_of m m_lt in
+      let low = r.low m m_lt in
+      let same = ap (group_at least) e in
+      absurd (omega (arith, before, is, low, same));
 }

@@ -48,18 +48,19 @@ made_groups g root gs h =
       groups = groups;
       least = λ k lt. least_are g root gs.group gs.least h.roots h.numbers k (omega (arith, count, lt));
       free = λ n lt.
-      let within = number_below gs.group n (omega (arith, groups.each, lt)) in
-      let is = is_free (group_at gs.group n) within in
-      let means = free_means g gs.group n groups h.limits.env h.limits.joins lt in
-      ((λ t. means.0 (sym is ∙ true_is (get_or gs.free (group_at gs.group n) false) t)), (λ f. is_true (get_or gs.free (group_at gs.group n) false) (is ∙ means.1 f)));
+          let within = number_below gs.group n (omega (arith, groups.each, lt)) in
+          let is = is_free (group_at gs.group n) within in
+          let means = free_means g gs.group n groups h.limits.env h.limits.joins lt in
+          ((λ t. means.0 (sym is ∙ true_is (get_or gs.free (group_at gs.group n) false) t)), (λ f. is_true (get_or gs.free (group_at gs.group n) false) (is ∙ means.1 f)));
       is_free = is_free;
       variance = λ k lt. h.variance k (omega (arith, count, lt));
     }
   where
-  true_is : (b : Bool) → IsTrue b → b ≡ true
-  true_is b t = t
-  is_true : (b : Bool) → b ≡ true → IsTrue b
-  is_true b t = t
+    true_is : (b : Bool) → IsTrue b → b ≡ true
+    true_is b t = t
+
+    is_true : (b : Bool) → b ≡ true → IsTrue b
+    is_true b t = t
 
 pub made_grouping : (g : ProcessGraph) (root : List ℕ) (gs : Grouping) → IsMade g root gs → IsGrouping gs
 made_grouping g root gs h =
@@ -71,6 +72,6 @@ made_grouping g root gs h =
       each_free = omega (arith, h.frees, h.variances, count);
       each_variance = omega (arith, h.variances, count);
       range = λ k d lt.
-      let is = get_or_default gs.variance k d (pos 0) lt ∙ h.variance k (omega (arith, h.variances, lt)) in
-      subst (λ v. (pos 0 ≤ℤ v) × (v ≤ℤ pos (2000 * 10 ^ 22))) (sym is) (variance_range g gs.group k groups h.limits);
+          let is = get_or_default gs.variance k d (pos 0) lt ∙ h.variance k (omega (arith, h.variances, lt)) in
+          subst (λ v. (pos 0 ≤ℤ v) × (v ≤ℤ pos (2000 * 10 ^ 22))) (sym is) (variance_range g gs.group k groups h.limits);
     }

@@ -16,7 +16,7 @@ push_at xs y i e = get_or_push xs y 0 i e
 
 -- of the places below n + 1, the last one and the others
 last_or : (P : ℕ → Type 0) (n a : ℕ) → a < n + 1 → P n → (a < n → P a) → P a
-last_or P n a lt last early = elim (cases_eq a n) [ | inl e ↦ subst P (sym e) last | inr ne ↦ early (omega (arith, lt, ne)) ]
+last_or P n a lt last early = elim (cases_eq a n) [ inl e ↦ subst P (sym e) last | inr ne ↦ early (omega (arith, lt, ne)) ]
 
 -- a node that is its own root begins a group
 pub numbered_new : (root : List ℕ) (n : ℕ) (group least : List ℕ) → AreNumbered root n group least → group_at root n ≡ n
@@ -32,21 +32,21 @@ numbered_new root n group least h own =
       each = omega (arith, length_push group size, h.each);
       few = omega (arith, more, h.few);
       below = λ a lt. last_or (λ a. group_at (group ++ size ∷ []) a < length (least ++ n ∷ [])) n a lt
-        (omega (arith, group_end, more))
-        (λ l. let b = h.below a l in omega (arith, group_is a l, more, b));
+          (omega (arith, group_end, more))
+          (λ l. let b = h.below a l in omega (arith, group_is a l, more, b));
       root_of = λ a lt. last_or (λ a. group_at (least ++ n ∷ []) (group_at (group ++ size ∷ []) a) ≡ group_at root a) n a lt
-        (ap (group_at (least ++ n ∷ [])) group_end ∙ least_end ∙ sym own)
-        (λ l. ap (group_at (least ++ n ∷ [])) (group_is a l) ∙ least_is (group_at group a) (h.below a l) ∙ h.root_of a l);
+          (ap (group_at (least ++ n ∷ [])) group_end ∙ least_end ∙ sym own)
+          (λ l. ap (group_at (least ++ n ∷ [])) (group_is a l) ∙ least_is (group_at group a) (h.below a l) ∙ h.root_of a l);
       before = λ k lt. last_or (λ k. group_at (least ++ n ∷ []) k < n + 1) size k (omega (arith, lt, more))
-        (omega (arith, least_end))
-        (λ l. let b = h.before k l in omega (arith, least_is k l, b));
+          (omega (arith, least_end))
+          (λ l. let b = h.before k l in omega (arith, least_is k l, b));
       member = λ k lt. last_or (λ k. group_at (group ++ size ∷ []) (group_at (least ++ n ∷ []) k) ≡ k) size k (omega (arith, lt, more))
-        (ap (group_at (group ++ size ∷ [])) least_end ∙ group_end)
-        (λ l. ap (group_at (group ++ size ∷ [])) (least_is k l) ∙ group_is (group_at least k) (h.before k l) ∙ h.member k l);
+          (ap (group_at (group ++ size ∷ [])) least_end ∙ group_end)
+          (λ l. ap (group_at (group ++ size ∷ [])) (least_is k l) ∙ group_is (group_at least k) (h.before k l) ∙ h.member k l);
       rising = λ j k lt within. last_or (λ k. j < k → group_at (least ++ n ∷ []) j < group_at (least ++ n ∷ []) k) size k (omega (arith, within, more))
-        (λ lt. let b = h.before j lt in omega (arith, least_end, least_is j lt, b))
-        (λ l lt. let r = h.rising j k lt l in omega (arith, least_is k l, least_is j (omega (arith, lt, l)), r))
-        lt;
+          (λ lt. let b = h.before j lt in omega (arith, least_end, least_is j lt, b))
+          (λ l lt. let r = h.rising j k lt l in omega (arith, least_is k l, least_is j (omega (arith, lt, l)), r))
+          lt;
     }
 
 -- another node has the number of its root
@@ -61,11 +61,11 @@ numbered_old root n group least h low own =
       each = omega (arith, length_push group k, h.each);
       few = omega (arith, h.few);
       below = λ a lt. last_or (λ a. group_at (group ++ k ∷ []) a < length least) n a lt
-        (let b = h.below r low in omega (arith, group_end, b))
-        (λ l. let b = h.below a l in omega (arith, group_is a l, b));
+          (let b = h.below r low in omega (arith, group_end, b))
+          (λ l. let b = h.below a l in omega (arith, group_is a l, b));
       root_of = λ a lt. last_or (λ a. group_at least (group_at (group ++ k ∷ []) a) ≡ group_at root a) n a lt
-        (ap (group_at least) group_end ∙ h.root_of r low ∙ own)
-        (λ l. ap (group_at least) (group_is a l) ∙ h.root_of a l);
+          (ap (group_at least) group_end ∙ h.root_of r low ∙ own)
+          (λ l. ap (group_at least) (group_is a l) ∙ h.root_of a l);
       before = λ k lt. let b = h.before k lt in omega (arith, b);
       member = λ j lt. group_is (group_at least j) (h.before j lt) ∙ h.member j lt;
       rising = h.rising;

@@ -39,7 +39,7 @@ moved_other : (high low r : ℕ) → r ≢ high → moved high low r ≡ r
 moved_other high low r ne = rw (ne_eqb r high ne) refl
 
 moved_low : (high low : ℕ) → moved high low low ≡ low
-moved_low high low = elim (cases_eq low high) [ | inl e ↦ moved_high high low low e | inr ne ↦ moved_other high low low ne ]
+moved_low high low = elim (cases_eq low high) [ inl e ↦ moved_high high low low e | inr ne ↦ moved_other high low low ne ]
 
 -- the entry of a node once two roots are one
 moved_at : (root : List ℕ) (high low n : ℕ) → n < length root → group_at (map (moved high low) root) n ≡ moved high low (group_at root n)
@@ -86,18 +86,18 @@ join_roots nodes ss j root s high low all h at plain pair le =
         | inr ne ↦ rw (is n lt) (rw (moved_other high low (group_at root n) ne) (h.sound n lt))
       ];
       joins = λ i t lt there open_t.
-      let t_ends = all_at (IsStream nodes) ss i t all there in
-      is t.from t_ends.from
-      ∙ elim (cases_eq i j) [
-        | inl e ↦
-            let same : t ≡ s = some_same (sym there ∙ ap (slice_get ss) e ∙ at) in
-            subst (λ (x : Stream). moved high low (group_at root x.from) ≡ moved high low (group_at root x.to)) (sym same) (elim pair [
-              | inl p ↦ moved_high high low (group_at root s.from) (sym p.0) ∙ sym (ap (moved high low) (sym p.1) ∙ moved_low high low)
-              | inr p ↦ ap (moved high low) (sym p.1) ∙ moved_low high low ∙ sym (moved_high high low (group_at root s.to) (sym p.0))
-            ])
-        | inr ne ↦ ap (moved high low) (h.joins i t (omega (arith, lt, ne)) there open_t)
-      ]
-      ∙ sym (is t.to t_ends.to);
+          let t_ends = all_at (IsStream nodes) ss i t all there in
+          is t.from t_ends.from
+          ∙ elim (cases_eq i j) [
+            | inl e ↦
+                let same : t ≡ s = some_same (sym there ∙ ap (slice_get ss) e ∙ at) in
+                subst (λ (x : Stream). moved high low (group_at root x.from) ≡ moved high low (group_at root x.to)) (sym same) (elim pair [
+                  | inl p ↦ moved_high high low (group_at root s.from) (sym p.0) ∙ sym (ap (moved high low) (sym p.1) ∙ moved_low high low)
+                  | inr p ↦ ap (moved high low) (sym p.1) ∙ moved_low high low ∙ sym (moved_high high low (group_at root s.to) (sym p.0))
+                ])
+            | inr ne ↦ ap (moved high low) (h.joins i t (omega (arith, lt, ne)) there open_t)
+          ]
+          ∙ sym (is t.to t_ends.to);
     }
 
 -- one stream more

@@ -39,9 +39,9 @@ crossing_within group k s h = elim (cases_Bool (has_one_end group k s)) [
   | inr none ↦ rw none (omega arith)
 ]
   where
-  variance_within : (m : Option Meas) → IfSome m IsMeasurement → unsigned_abs (variance_of m) ≤ 10 ^ 22
-  variance_within None h = omega arith
-  variance_within (Some m) h = omega (arith, ints, h.least, h.greatest)
+    variance_within : (m : Option Meas) → IfSome m IsMeasurement → unsigned_abs (variance_of m) ≤ 10 ^ 22
+    variance_within None h = omega arith
+    variance_within (Some m) h = omega (arith, ints, h.least, h.greatest)
 
 all_take : {X : Type 0} (P : X → Type 0) (xs : List X) (n : ℕ) → AllByRecursion P xs → AllByRecursion P (take n xs)
 all_take P xs zero h = tt

@@ -10,3 +10,6 @@ mod roots;
 mod variance;
 
 pub use groups::Groups;
+
+#[cfg(test)]
+mod tests;

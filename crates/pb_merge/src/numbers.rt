@@ -16,7 +16,11 @@ fn number(group: &[u32], groups: u32, n: u32, root: u32) -> u32
     requires { root ≢ n → root < length group.now }
     ensures { result ≡ number_of group.now groups n root }
 {
-    if root == n { groups } else { group[root as usize] }
+    if root == n {
+        groups
+    } else {
+        group[root as usize]
+    }
 }
 
 /// Numbers the groups in order of their least node, where `root` has for each node the least node of its group.

@@ -40,7 +40,12 @@ fn add_stream(totals: &mut [i128], group: &[u32], s: &Stream)
     ensures { (k : ℕ) → k < length totals.old → get_or totals.new k (pos 0) ≡ get_or totals.old k (pos 0) +ℤ crossing_variance group.now k s.now }
 {
     if let Some(m) = s.meas {
-        add_crossing(totals, group[s.from as usize], group[s.to as usize], m.variance);
+        add_crossing(
+            totals,
+            group[s.from as usize],
+            group[s.to as usize],
+            m.variance,
+        );
     }
 }
 
@@ -59,7 +64,12 @@ fn add_all(totals: &mut [i128], group: &[u32], streams: &[Stream])
 }
 
 /// The variance of each of the groups.
-pub fn variances(alloc: Global, groups: usize, group: &[u32], streams: &[Stream]) -> Result<Vec<i128>, AllocError>
+pub fn variances(
+    alloc: Global,
+    groups: usize,
+    group: &[u32],
+    streams: &[Stream],
+) -> Result<Vec<i128>, AllocError>
     requires few { length streams.now ≤ 2000 }
     requires ends { All (IsStream (length group.now)) streams.now }
     requires limits { All IsWithinLimits streams.now }
