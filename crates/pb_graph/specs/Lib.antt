@@ -9,3 +9,5 @@ pub mod Balance
 pub mod Classes
 pub mod Certificates
 pub mod Squares
+pub mod Groups
+pub mod Prices

@@ -1,0 +1,6 @@
+pub mod RootLemmas
+pub mod NumberLemmas
+pub mod VarianceLemmas
+pub mod GroupLemmas
+pub mod FreeLemmas
+pub mod MadeGroups

@@ -1,0 +1,19 @@
+use Rattle.std.specs.Prelude.{ℕ, ℤ, pos, List, Option, Some, None, if◌then◌else◌}
+use Rattle.pb_integers.specs.Sums.{sum_over}
+use Rattle.pb_graph.specs.declared.records.Meas.{Meas}
+use Rattle.pb_graph.specs.declared.records.Stream.{Stream}
+use Rattle.pb_graph.specs.Groups.{has_one_end}
+
+-- the variance of a stream, 0 where it is unmeasured
+abbrev pub variance_of : Option Meas → ℤ
+variance_of None = pos 0
+variance_of (Some m) = m.variance
+
+-- what a stream adds to the variance of group k
+abbrev pub crossing_variance : List ℕ → ℕ → Stream → ℤ
+crossing_variance group k s = if has_one_end group k s then variance_of s.meas else pos 0
+
+-- The variance of group k: the sum of the variances of the streams with exactly one end in it. It is the variance of the nodal
+-- imbalance of the group (Mah, Stanley and Downing 1976).
+abbrev pub group_variance : List ℕ → ℕ → List Stream → ℤ
+group_variance group k ss = sum_over (crossing_variance group k) ss
