@@ -1,0 +1,6 @@
+//! The spanning forest of a process graph.
+#![tactic(auto)]
+
+mod laws;
+
+pub use laws::{acyclic_law, chord_law, one_forest_law, part_law, spans_law, unique_law};
