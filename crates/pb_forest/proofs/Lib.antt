@@ -1,0 +1,4 @@
+pub mod OrderLemmas
+pub mod SpansLemmas
+pub mod AcyclicLemmas
+pub mod PathLemmas
