@@ -2,3 +2,4 @@ pub mod OrderLemmas
 pub mod SpansLemmas
 pub mod AcyclicLemmas
 pub mod PathLemmas
+pub mod LabelLemmas
