@@ -3,3 +3,4 @@ pub mod SpansLemmas
 pub mod AcyclicLemmas
 pub mod PathLemmas
 pub mod LabelLemmas
+pub mod RankLemmas

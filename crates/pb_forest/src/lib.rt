@@ -3,5 +3,6 @@
 
 mod labels;
 mod laws;
+mod rank;
 
 pub use laws::{acyclic_law, chord_law, one_forest_law, part_law, spans_law, unique_law};
