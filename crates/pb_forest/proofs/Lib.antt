@@ -4,3 +4,4 @@ pub mod AcyclicLemmas
 pub mod PathLemmas
 pub mod LabelLemmas
 pub mod RankLemmas
+pub mod HoldsLemmas

@@ -1,7 +1,10 @@
-use Rattle.std.specs.Prelude.{◌≡◌, ℕ, ◌+◌, ◌<◌, Bool, true, false, not, ◌&&◌, ◌||◌, nat_lt, List, [], ◌∷◌, length, Some, slice_get, get_or, if◌then◌else◌}
+use Rattle.std.specs.Prelude.{◌≡◌, ℕ, ◌+◌, ◌<◌, Bool, true, false, not, ◌&&◌, ◌||◌, nat_lt, List, [], ◌∷◌, length, Option, Some, slice_get, get_or, if◌then◌else◌}
 use Rattle.pb_graph.specs.declared.records.Stream.{Stream}
+use Rattle.pb_graph.specs.declared.records.Step.{Step}
 use Rattle.pb_graph.specs.ProcessGraph.{ProcessGraph, is_measured}
 use Rattle.pb_graph.specs.Walk.{ends_of, Reaches}
+use Rattle.pb_graph.specs.Path.{is_open}
+use Rattle.pb_graph.specs.Neighbours.{IsNeighbours}
 
 -- The order in which streams are taken: the unmeasured ones by id, and then the measured ones by id. Whether the k-th stream
 -- comes before the j-th one, which is measured or not.
@@ -39,3 +42,12 @@ degrees_of_freedom (s ∷ ss) (h ∷ held) = (if is_measured s && h then 1 else 
 pub record SpanningForest : Type 0 where
   pub graph : ProcessGraph
   pub held : List Bool
+
+-- the ends of a step along a held stream
+abbrev pub held_ends : SpanningForest → Step → Option (ℕ × ℕ)
+held_ends f = ends_of (is_open f.held) f.graph.streams
+
+-- what a spanning forest is kept with: its graph's incidence lists
+pub record IsKept (g : ProcessGraph) (lists : List (List ℕ)) (held : List Bool) : Type 0 where
+  pub near : IsNeighbours g lists
+  pub forest : IsForest g.streams held
