@@ -1,4 +1,4 @@
-ghost use Rattle.std.specs.Prelude.{◌≡◌, ◌<◌, ◌↔◌, false, Some, length, slice_get, IsTrue, IfOk, MatchOption};
+ghost use Rattle.std.specs.Prelude.{◌≡◌, ◌<◌, ◌≤◌, ◌↔◌, false, Some, length, slice_get, IsTrue, IfOk, MatchOption};
 ghost use Rattle.pb_graph.specs.Walk.{Reaches};
 ghost use Rattle.pb_graph.specs.Path.{IsPath};
 ghost use Rattle.pb_forest.specs.Forest.{SpanningForest, IsHeld, IsTied, IsForest, degrees_of_freedom, held_ends};
@@ -56,6 +56,7 @@ impl Forest {
     /// The degrees of freedom: the number of measured streams held.
     pub fn rank(&self) -> u32
         ensures value { result ≡ degrees_of_freedom self.now.graph.streams self.now.held }
+        ensures most { result ≤ length self.now.graph.streams }
         ensures forest { IsForest self.now.graph.streams self.now.held }
     {
         measured_held(self.graph.streams(), &self.held)

@@ -7,6 +7,8 @@ mod forest;
 mod labels;
 mod laws;
 mod rank;
+#[cfg(test)]
+mod tests;
 
 pub use forest::Forest;
 pub use laws::{acyclic_law, chord_law, one_forest_law, part_law, spans_law, unique_law};

@@ -7,7 +7,8 @@ use pb_graph::Stream;
 pub fn measured_held(streams: &[Stream], held: &[bool]) -> u32
     requires few { length streams.now ≤ 2000 }
     requires each { length held.now ≡ length streams.now }
-    ensures { result ≡ degrees_of_freedom streams.now held.now }
+    ensures value { result ≡ degrees_of_freedom streams.now held.now }
+    ensures most { result ≤ length streams.now }
 {
     let mut count = 0;
     for (j, s) in streams.iter().enumerate() {
