@@ -1,0 +1,5 @@
+use Rattle.pb_forest.proofs.SpansLemmas.{chord_law}
+use Rattle.pb_forest.proofs.laws.chord_law.Goals as goal
+
+pub returns : goal.returns
+returns c = chord_law

@@ -1,0 +1,5 @@
+use Rattle.pb_forest.proofs.PathLemmas.{part_law}
+use Rattle.pb_forest.proofs.laws.part_law.Goals as goal
+
+pub returns : goal.returns
+returns c = part_law

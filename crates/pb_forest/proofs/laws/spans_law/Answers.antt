@@ -1,0 +1,5 @@
+use Rattle.pb_forest.proofs.SpansLemmas.{spans_law}
+use Rattle.pb_forest.proofs.laws.spans_law.Goals as goal
+
+pub returns : goal.returns
+returns c = spans_law

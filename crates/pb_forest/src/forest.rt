@@ -1,0 +1,75 @@
+ghost use Rattle.std.specs.Prelude.{◌≡◌, ◌<◌, ◌≤◌, ◌↔◌, false, Some, length, slice_get, IsTrue, IfOk, MatchOption};
+ghost use Rattle.pb_graph.specs.Walk.{Reaches};
+ghost use Rattle.pb_graph.specs.Path.{IsPath};
+ghost use Rattle.pb_forest.specs.Forest.{SpanningForest, IsHeld, IsTied, IsForest, degrees_of_freedom, held_ends};
+
+use crate::labels::held_streams;
+use crate::rank::measured_held;
+use pb_graph::{Graph, List, Neighbours, Step};
+use std::alloc::{AllocError, Global};
+use std::marker::Model;
+
+/// The spanning forest of a process graph (Kruskal 1956; Narasimhan and Jordache, chapter 3).
+///
+/// Streams are taken in order, the unmeasured ones by id and then the measured ones by id. A stream is held exactly where no
+/// walk of streams before it joins its ends. So the forest takes as few measured streams as it can.
+#[derive(Debug, Drop)]
+pub struct Forest {
+    graph: Graph,
+    near: Neighbours,
+    held: Vec<bool>,
+}
+
+impl Model for Forest {
+    ghost use Rattle.pb_forest.specs.Forest.{SpanningForest, IsKept};
+
+    ghost Value = { SpanningForest };
+
+    ghost view = { λ a. record { graph = a.graph; held = a.held.items } };
+
+    ghost invariant = { λ a. IsKept a.graph a.near a.held.items };
+}
+
+impl Forest {
+    /// The spanning forest of a graph.
+    pub fn of(alloc: Global, g: &Graph) -> Result<Forest, AllocError>
+        ensures graph { IfOk result (λ f. f.graph ≡ g.now) }
+        ensures forest { IfOk result (λ f. IsForest g.now.streams f.held) }
+    {
+        let held = held_streams(alloc, g.nodes(), g.streams())?;
+        let near = Neighbours::of(alloc, g)?;
+        let graph = g.copy(alloc)?;
+        Ok(Forest { graph, near, held })
+    }
+
+    /// Whether the forest holds stream j.
+    pub fn holds(&self, j: u32) -> bool
+        requires { j < length self.now.graph.streams }
+        ensures held { IsTrue result ↔ IsHeld self.now.graph.streams j }
+        ensures tied { result ≡ false → IsTied self.now.graph.streams j }
+        ensures mark { slice_get self.now.held j ≡ Some result }
+        ensures forest { IsForest self.now.graph.streams self.now.held }
+    {
+        self.held[j as usize]
+    }
+
+    /// The degrees of freedom: the number of measured streams held.
+    pub fn rank(&self) -> u32
+        ensures value { result ≡ degrees_of_freedom self.now.graph.streams self.now.held }
+        ensures most { result ≤ length self.now.graph.streams }
+        ensures forest { IsForest self.now.graph.streams self.now.held }
+    {
+        measured_held(self.graph.streams(), &self.held)
+    }
+
+    /// The walk of held streams from node a to node b without a node twice, or None where held streams don't join them.
+    pub fn path(&self, alloc: Global, a: u32, b: u32) -> Result<Option<List<Step>>, AllocError>
+        requires a { a < self.now.graph.nodes }
+        requires b { b < self.now.graph.nodes }
+        ensures { IfOk result (λ o. MatchOption o
+            (Reaches (held_ends self.now) a b → ⊥)
+            (λ steps. IsPath (held_ends self.now) self.now.graph.nodes self.now.graph.streams a steps b)) }
+    {
+        pb_graph::path(alloc, &self.graph, &self.near, &self.held, a, b)
+    }
+}

@@ -1,0 +1,31 @@
+ghost use Rattle.pb_forest.specs.Laws.{SpansLaw, AcyclicLaw, UniqueLaw, PartLaw, ChordLaw, OneForestLaw};
+
+/// What any streams join, the forest joins.
+pub fn spans_law()
+    ensures { SpansLaw }
+{}
+
+/// The forest has no cycle.
+pub fn acyclic_law()
+    ensures { AcyclicLaw }
+{}
+
+/// Where there is no cycle, two walks without a node twice from one node to another are one.
+pub fn unique_law()
+    ensures { UniqueLaw }
+{}
+
+/// Where there is no cycle, a walk without a node twice takes only streams of any part that joins its ends.
+pub fn part_law()
+    ensures { PartLaw }
+{}
+
+/// An unmeasured stream outside the forest has its ends joined by held unmeasured streams.
+pub fn chord_law()
+    ensures { ChordLaw }
+{}
+
+/// A list of streams has one spanning forest.
+pub fn one_forest_law()
+    ensures { OneForestLaw }
+{}

@@ -1,0 +1,14 @@
+//! The spanning forest of a process graph: which streams it holds, its degrees of freedom, its paths, and its laws.
+//!
+//! The laws stand on empty functions, whose contracts state them for the crates above.
+#![tactic(auto)]
+
+mod forest;
+mod labels;
+mod laws;
+mod rank;
+#[cfg(test)]
+mod tests;
+
+pub use forest::Forest;
+pub use laws::{acyclic_law, chord_law, one_forest_law, part_law, spans_law, unique_law};

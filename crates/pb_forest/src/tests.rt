@@ -1,0 +1,67 @@
+ghost use Rattle.std.specs.Prelude.{◌≡◌, ◌≤◌, IfOk};
+
+use crate::Forest;
+use pb_graph::{Graph, Meas, Step, Stream};
+use std::alloc::{AllocError, Global};
+use std::process::Abort;
+
+fn stream(from: u32, to: u32, meas: Option<Meas>) -> Stream {
+    Stream { from, to, meas }
+}
+
+fn graph_of(
+    rt: &impl Abort,
+    alloc: Global,
+    nodes: u32,
+    streams: &[Stream],
+) -> Result<Graph, AllocError>
+    requires env { 1 ≤ nodes }
+    requires most { nodes ≤ 1001 }
+    ensures { IfOk result (λ g. g.nodes ≡ nodes) }
+{
+    let mut g = Graph::new(alloc, nodes);
+    for s in streams {
+        assert!(rt; g.fits(s));
+        g.push(*s)?;
+    }
+    Ok(g)
+}
+
+const METER: Option<Meas> = Some(Meas {
+    value: 5_000,
+    variance: 100,
+});
+
+/// A plain stream and a meter, both from one unit to another: the plain one is held, and nothing can be tested.
+#[test]
+fn meter_beside_plain_stream(rt: HostRuntime) -> Result<(), AllocError> {
+    let alloc = rt.alloc();
+    let g = graph_of(&rt, alloc, 3, &[stream(1, 2, None), stream(1, 2, METER)])?;
+    let forest = Forest::of(alloc, &g)?;
+    assert_eq!(rt; forest.rank(), 0);
+    assert_eq!(rt; g.len(), 2);
+    for j in 0..g.len() {
+        assert_eq!(rt; forest.holds(j), j == 0, "stream {j}");
+    }
+    for (a, b, forward) in [(1, 2, true), (2, 1, false)] {
+        let path = forest.path(alloc, a, b)?;
+        let steps = path.expect(&rt, "the units are joined");
+        assert_eq!(rt; steps.as_slice(), [Step { stream: 0, forward }].as_slice());
+    }
+    assert!(rt; forest.path(alloc, 0, 1)?.is_none());
+    Ok(())
+}
+
+/// One stream into a unit and two out of it, all metered: the first is held, and one balance tests the meters.
+#[test]
+fn one_unit_three_meters(rt: HostRuntime) -> Result<(), AllocError> {
+    let alloc = rt.alloc();
+    let g = graph_of(&rt, alloc, 2, &[stream(0, 1, METER), stream(1, 0, METER), stream(1, 0, METER)])?;
+    let forest = Forest::of(alloc, &g)?;
+    assert_eq!(rt; forest.rank(), 1);
+    assert_eq!(rt; g.len(), 3);
+    for j in 0..g.len() {
+        assert_eq!(rt; forest.holds(j), j == 0, "stream {j}");
+    }
+    Ok(())
+}
