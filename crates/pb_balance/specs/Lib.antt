@@ -1,0 +1,2 @@
+pub mod PricedSums
+pub mod Laws
