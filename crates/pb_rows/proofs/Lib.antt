@@ -3,3 +3,4 @@ pub mod RowLemmas
 pub mod ReadLemmas
 pub mod NumberLemmas
 pub mod TextLemmas
+pub mod RoundTripLemmas

@@ -1,19 +1,17 @@
 -- What a field of the form of a whole number reads as.
-use Rattle.std.proofs.Common.{◌≡◌, ◌≢◌, ◌<◌, ◌≤◌, ◌+◌, ◌-◌, ◌∷◌, [], ◌∙◌, ℕ, zero, suc, ℤ, pos, negsuc, neg_ℤ, List, Bool, true, false, Option, Some, None, length, get_or, arith, ap, sym, refl, inl, inr, rules, cond}
-use Rattle.std.specs.Prelude.{◌==◌, ◌&&◌, not, int_le, FitsSigned, Result, Ok, Err, drop, slice_index, nat_lt, IsUtf8, if◌then◌else◌}
-use Rattle.std.specs.Char.{digit_value, is_ascii_digit}
+use Rattle.std.proofs.Common.{◌≡◌, ◌<◌, ◌∷◌, [], ◌∙◌, ℕ, zero, suc, ℤ, List, true, false, length, arith, refl, inl, inr, rules}
+use Rattle.std.specs.Prelude.{◌==◌, not, FitsSigned, Result, Ok, Err, slice_index, IsUtf8}
+use Rattle.std.specs.Char.{is_ascii_digit}
 use Rattle.std.specs.List.{list_all}
-use Rattle.std.specs.Option.{SomeIff}
 use Rattle.std.specs.Result.{OkIff}
 use Rattle.std.specs.Str.{IsAscii}
-use Rattle.std.specs.Str.Parse.{AllDigits, IsNumeral, ParsesSigned, digits_value, signed_digits_value, without_leading_sign}
+use Rattle.std.specs.Str.Parse.{IsNumeral, ParsesSigned, digits_value, signed_digits_value, without_leading_sign}
 use Rattle.std.proofs.lemmas.Bool.{and_parts, cases_Bool, eqb-true, ne_eqb}
 use Rattle.std.proofs.lemmas.Fmt.{IsAscii-from_digits}
-use Rattle.std.proofs.lemmas.Int.{ints}
 use Rattle.std.proofs.lemmas.Str.{IsUtf8-from_ascii}
 use Rattle.std.proofs.lemmas.Str.Parse.{IsNumeralModel, numerals_by_value, digit_from_value}
 use mir.Syntax.{w128}
-use Rattle.pb_rows.specs.Number.{are_digits, is_padded, is_plain, is_whole, number, whole_value, within}
+use Rattle.pb_rows.specs.Number.{are_digits, is_plain, is_whole, whole_value}
 
 own : IsNumeralModel (λ ds. list_all is_ascii_digit ds ≡ true) (digits_value 10)
 own = numerals_by_value (λ ds. list_all is_ascii_digit ds ≡ true) (search rules)

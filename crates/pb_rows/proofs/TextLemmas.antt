@@ -1,6 +1,6 @@
 -- The decimal text of a number: what std writes is it, and it reads back.
-use Rattle.std.proofs.Common.{◌≡◌, ◌≢◌, ◌<◌, ◌≤◌, ◌+◌, ◌-◌, ◌/◌, ◌%◌, ◌*◌, ◌^◌, ◌++◌, ◌∷◌, [], ◌∙◌, ℕ, zero, suc, ℤ, pos, negsuc, neg_ℤ, List, Bool, true, false, Option, Some, None, length, map, get_or, arith, ap, ap₂, sym, refl, inl, inr, rules}
-use Rattle.std.specs.Prelude.{◌==◌, ◌&&◌, not, FitsSigned, slice_index, nat_lt, if◌then◌else◌}
+use Rattle.std.proofs.Common.{◌≡◌, ◌<◌, ◌≤◌, ◌+◌, ◌/◌, ◌%◌, ◌*◌, ◌^◌, ◌++◌, ◌∷◌, [], ◌∙◌, ℕ, zero, suc, ℤ, pos, negsuc, List, Bool, true, false, Some, length, map, get_or, arith, ap, ap₂, sym, refl, inl, inr}
+use Rattle.std.specs.Prelude.{◌==◌, ◌&&◌, not, FitsSigned, slice_index, nat_lt}
 use Rattle.std.specs.Char.{digit_value, is_ascii_digit}
 use Rattle.std.specs.Fmt.{decimal, signed_decimal}
 use Rattle.std.specs.Int.Digits.{AllBelowBase, digits_of, number_from_digits_after}
@@ -13,7 +13,7 @@ use Rattle.std.proofs.lemmas.Int.{ints}
 use Rattle.std.proofs.lemmas.Int.Digits.{all_below_base_digits_of, digits_of_step, first_digits_of, length-digits_of_step, number_digits_of}
 use Rattle.std.proofs.lemmas.List.{map-append}
 use mir.Syntax.{w128}
-use Rattle.pb_rows.specs.Number.{are_digits, decimal_text, is_padded, is_plain, number, whole_text}
+use Rattle.pb_rows.specs.Number.{decimal_text, is_plain, number, whole_text}
 
 -- the text of a number that isn't 0
 some_text : (n : ℕ) → 0 < n → decimal_text n ≡ map (λ digit. 48 + digit) (digits_of 10 n)
@@ -55,8 +55,7 @@ digits_back : (n : ℕ) (ds : List ℕ) → AllBelowBase 10 ds → (list_all is_
 digits_back n [] below = (refl, refl)
 digits_back n (d ∷ ds) below =
     let first = digit_back d below.0 in
-    let rest = digits_back (n * 10 + d) ds below.1 in
-    (
+    let rest = digits_back (n * 10 + d) ds below.1 in (
       rw first.0 rest.0,
       ap (λ (m : ℕ). digits_value_after 10 (n * 10 + m) (map (λ digit. 48 + digit) ds)) first.1 ∙ rest.1,
     )

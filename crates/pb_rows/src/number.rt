@@ -30,7 +30,9 @@ fn whole_value(field: &[u8]) -> Option<i128>
     requires { is_whole field.now ≡ true }
     ensures { SomeIff result (FitsSigned w128 (whole_value field.now)) (whole_value field.now) }
 {
-    let Ok(text) = std::str::from_utf8(field) else { return None };
+    let Ok(text) = std::str::from_utf8(field) else {
+        return None
+    };
     match text.parse::<i128>() {
         Ok(value) => Some(value),
         Err(_) => None,
@@ -47,8 +49,7 @@ pub fn whole_bytes(alloc: Global, value: i128) -> Result<Vec<u8>, AllocError>
 /// The law that what is written for a whole number reads back as it.
 pub fn whole_text_reads_back()
     ensures { WholeTextReadsBack }
-{
-}
+{}
 
 // Whether a field has the form of a whole number.
 fn is_whole(field: &[u8]) -> bool

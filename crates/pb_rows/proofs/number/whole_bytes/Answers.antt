@@ -1,4 +1,4 @@
-use Rattle.std.proofs.Common.{◌≡◌, ◌∙◌, FitsSigned, ap, ℕ, Vec, Global}
+use Rattle.std.proofs.Common.{◌∙◌, FitsSigned, ap, ℕ, Vec, Global}
 use Rattle.std.proofs.lemmas.Int.{to_z-of_z}
 use mir.Syntax.{w128}
 use Rattle.pb_rows.proofs.TextLemmas.{signed_text}

@@ -1,4 +1,3 @@
-use Rattle.std.proofs.Common.{◌≡◌, ◌∙◌}
 use Rattle.pb_rows.proofs.NumberLemmas.{parsed_ok, whole_utf8}
 use Rattle.pb_rows.proofs.number.whole_value.Goals as goal
 
