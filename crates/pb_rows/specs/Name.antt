@@ -1,7 +1,9 @@
 -- The form of a name.
-use Rattle.std.specs.Prelude.{ℕ, List, length, Bool, ◌==◌, ◌&&◌, ◌||◌, not, nat_le}
+use Rattle.std.specs.Prelude.{◌≡◌, ◌∷◌, [], IsTrue, nat_eq, ℕ, List, length, Bool, ◌==◌, ◌&&◌, ◌||◌, not, nat_le}
 use Rattle.std.specs.Char.{is_ascii_alphanumeric}
+use Rattle.std.specs.Cmp.Lexicographic.{bytes_decides, pointwise}
 use Rattle.std.specs.List.{list_all}
+use Rattle.std.proofs.Common.{ap}
 
 -- an ASCII letter, a digit, `_`, `-` or `.`
 abbrev pub is_name_byte : ℕ → Bool
@@ -14,3 +16,11 @@ has_name_length field = not (length field == 0) && nat_le (length field) 32
 -- 1 to 32 such bytes
 abbrev pub is_name : List ℕ → Bool
 is_name field = has_name_length field && list_all is_name_byte field
+
+-- whether two names are the same, byte for byte
+abbrev pub same_name : List ℕ → List ℕ → Bool
+same_name a b = pointwise nat_eq a b
+
+-- the same names are hashed alike
+pub same_name_writes : (a b : List ℕ) → IsTrue (same_name a b) → a ∷ [] ≡ b ∷ []
+same_name_writes a b same = ap (λ name. name ∷ []) ((bytes_decides a b).0 same)

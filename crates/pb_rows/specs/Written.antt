@@ -1,7 +1,9 @@
--- Rows as they are written.
-use Rattle.std.specs.Prelude.{ℕ, List}
-use Rattle.std.specs.List.{flat_map}
+-- Rows as they are written, and that they read back.
+use Rattle.std.specs.Prelude.{◌≡◌, ◌==◌, ◌&&◌, ℕ, List, [], ◌∷◌, length, Bool, true, false, not}
+use Rattle.std.specs.Char.{is_ascii_lowercase}
+use Rattle.std.specs.List.{flat_map, list_all}
 use Rattle.csv.specs.Writing.{default_writer, row_text}
+use Rattle.pb_rows.specs.Records.{records_of}
 
 -- what a writer of rows holds: the text of the rows ended so far, and the fields of the row that is being filled
 pub record Written : Type 0 where
@@ -15,3 +17,16 @@ line_of fields = row_text default_writer fields
 -- the text of several rows, one after the other
 abbrev pub text_of_rows : List (List (List ℕ)) → List ℕ
 text_of_rows rows = flat_map line_of rows
+
+-- one or more letters from `a` to `z`
+abbrev pub is_word : List ℕ → Bool
+is_word field = not (length field == 0) && list_all is_ascii_lowercase field
+
+-- a row whose first field is such a word, as every row kind is
+abbrev pub begins_with_word : List (List ℕ) → Bool
+begins_with_word [] = false
+begins_with_word (kind ∷ fields) = is_word kind
+
+-- rows that begin with a word, of whatever lengths, read back from their text as they were written
+abbrev pub WrittenRowsReadBack : Type 0
+WrittenRowsReadBack = (rows : List (List (List ℕ))) → list_all begins_with_word rows ≡ true → records_of (text_of_rows rows) ≡ rows

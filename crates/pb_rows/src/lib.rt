@@ -5,10 +5,16 @@
 //! Fields are read exactly: names, whole numbers and civil dates.
 #![tactic(auto)]
 
+mod date;
 mod name;
+mod number;
 mod row;
+#[cfg(test)]
+mod tests;
 mod writer;
 
+pub use date::read_date;
 pub use name::{Name, NameList, Names};
+pub use number::{read_whole, whole_bytes, whole_text_reads_back};
 pub use row::{Row, Rows};
-pub use writer::RowWriter;
+pub use writer::{RowWriter, written_rows_read_back};

@@ -2,13 +2,16 @@
 
 ghost use Rattle.std.specs.Prelude.{◌≡◌, ◌<◌, ◌∷◌, ◌++◌, [], length, slice_index_or, true, false, MatchOption, OnOk, OnErr, IsTrue, ◌↔◌};
 ghost use Rattle.std.specs.List.{list_all};
-ghost use Rattle.pb_rows.specs.Name.{has_name_length, is_name, is_name_byte};
+ghost use Rattle.std.specs.Cmp.{partial_equiv_from_equiv};
+ghost use Rattle.std.specs.Cmp.Lexicographic.{nat_list_eq_equiv};
+ghost use Rattle.pb_rows.specs.Name.{has_name_length, is_name, is_name_byte, same_name, same_name_writes};
 
 use std::alloc::{AllocError, Global};
+use std::hash::{Hash, Hasher};
 use std::marker::Model;
 
 /// A name: 1 to 32 bytes, each an ASCII letter, a digit, `_`, `-` or `.`.
-#[derive(Clone, Copy, PartialEq, Eq, Hash)]
+#[derive(Clone, Copy)]
 pub struct Name {
     bytes: [u8; 32],
     len: u8,
@@ -27,6 +30,30 @@ impl Model for Name {
     ghost inverse = { λ v. record { bytes = v ++ replicate (32 - length v) 0; len = length v } };
 
     ghost inverse_ok = { λ a h. padded_back a h };
+}
+
+impl PartialEq for Name {
+    ghost eq = { same_name };
+
+    ghost laws = { partial_equiv_from_equiv nat_list_eq_equiv };
+
+    fn eq(&self, other: &Name) -> bool {
+        self.bytes() == other.bytes()
+    }
+}
+
+impl Eq for Name {
+    ghost laws = { nat_list_eq_equiv };
+}
+
+impl Hash for Name {
+    ghost hash_input = { λ name. name ∷ [] };
+
+    ghost respects_eq = { λ a b same. same_name_writes a b same };
+
+    fn hash<H: Hasher>(&self, state: &mut H) {
+        state.write(self.bytes());
+    }
 }
 
 impl Name {

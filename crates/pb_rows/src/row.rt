@@ -124,7 +124,7 @@ impl Rows {
         let mut rows = Rows::new(alloc);
         for entry in reader.into_byte_records() {
             match entry {
-                Ok(record) => rows.push(row_of(alloc, &record)?)?,
+                Ok(fields) => rows.push(row_of(alloc, &fields)?)?,
                 Err(error) => return Err(refused(error)),
             }
         }
@@ -162,12 +162,12 @@ fn refused(_error: Error) -> AllocError
 }
 
 // A record that `csv` has read, as a row of its own.
-fn row_of(alloc: Global, record: &ByteRecord) -> Result<Row, AllocError>
-    ensures { IfOk result (λ row. row ≡ fields_of record.now) }
+fn row_of(alloc: Global, entry: &ByteRecord) -> Result<Row, AllocError>
+    ensures { IfOk result (λ row. row ≡ fields_of entry.now) }
 {
     let mut row = Row::new(alloc);
-    for i in 0..record.len() {
-        let Some(field) = record.get(i) else {
+    for i in 0..entry.len() {
+        let Some(field) = entry.get(i) else {
             return Err(AllocError)
         };
         row.push(field)?;

@@ -2,8 +2,10 @@
 
 ghost use Rattle.std.specs.Prelude.{◌≡◌, ◌∷◌, ◌++◌, [], IfOk, OnOk, OnErr};
 ghost use Rattle.csv.specs.Records.{fields_of, partial_of};
-ghost use Rattle.pb_rows.specs.Written.{line_of};
+ghost use Rattle.pb_rows.specs.Number.{whole_text};
+ghost use Rattle.pb_rows.specs.Written.{line_of, WrittenRowsReadBack};
 
+use crate::number::whole_bytes;
 use crate::row::Row;
 use csv::{ByteRecord, WriterBuilder};
 use std::alloc::{AllocError, Global};
@@ -43,6 +45,15 @@ impl RowWriter {
         self.row.push(bytes)
     }
 
+    /// Appends a whole number as a field, in the form that `read_whole` reads. After an `Err`, want of memory, all is as it was.
+    pub fn whole(&mut self, value: i128) -> Result<(), AllocError>
+        ensures appended { OnOk result (self.new ≡ record { text = self.old.text; row = self.old.row ++ whole_text value ∷ [] }) }
+        ensures unchanged { OnErr result (self.new ≡ self.old) }
+    {
+        let bytes = whole_bytes(*self.text.allocator(), value)?;
+        self.field(bytes.as_slice())
+    }
+
     /// Ends the row: its line joins the text, and the next row begins without a field. After an `Err`, want of memory, all is
     /// as it was.
     pub fn end_row(&mut self) -> Result<(), AllocError>
@@ -63,6 +74,12 @@ impl RowWriter {
         self.text.as_slice()
     }
 }
+
+/// The law that the rows which a `RowWriter` has ended read back by `Rows::of` as they were, of whatever lengths, where the
+/// first field of each is one or more letters from `a` to `z`.
+pub fn written_rows_read_back()
+    ensures { WrittenRowsReadBack }
+{}
 
 // A row as `csv` takes it.
 fn byte_record(alloc: Global, row: &Row) -> Result<ByteRecord, AllocError>

@@ -31,7 +31,7 @@ loop-entry-preserved c =
     let inv = c.loop-entry.invariant in
     let steps = rw (c.in-Some.is, c.in-Ok.is) at (c.next.ensures.steps inv.turns inv.no_trim) in
     let read = steps.0 inv.ready in
-    let more = rows-more (λ (s : Bor (List ℕ)). Some s.now) c.loop-entry.entry-iterator.rdr c.next.new.self.rdr (fields_of c.in-Ok.record) default_config st.StartRecord (strip_bom c.args.bytes.now) inv.left c.loop-entry.rows inv.config inv.source inv.reached read.0 in
+    let more = rows-more (λ (s : Bor (List ℕ)). Some s.now) c.loop-entry.entry-iterator.rdr c.next.new.self.rdr (fields_of c.in-Ok.fields) default_config st.StartRecord (strip_bom c.args.bytes.now) inv.left c.loop-entry.rows inv.config inv.source inv.reached read.0 in
     rw (c.in_ok-push-in-Ok.ensures.appended, c.in_ok-row_of-in-Ok.ensures) record {
       no_trim = read.0.3 ∙ inv.no_trim;
       ready = inl read.1;

@@ -1,0 +1,3 @@
+pub mod PlaceLemmas
+pub mod PositionLemmas
+pub mod ShareLemmas

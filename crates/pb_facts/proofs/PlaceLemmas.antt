@@ -1,0 +1,154 @@
+-- The maps of kept facts, as facts are looked up and added.
+use Rattle.std.proofs.Common.{◌≡◌, ◌<◌, ◌≤◌, ◌++◌, ◌∷◌, [], ◌∙◌, ℕ, ℤ, List, Bool, true, false, Option, Some, None, length, get_or, arith, ap, sym, refl, inl, inr, subst, length-append}
+use Rattle.std.specs.Prelude.{◌||◌, ◌&&◌, not, is_some, if◌then◌else◌, position}
+use Rattle.std.specs.Cmp.{signed_Decides}
+use Rattle.std.specs.Cmp.Lexicographic.{bytes_decides}
+use Rattle.std.specs.HashMap.{get}
+use Rattle.std.specs.List.{list_any}
+use Rattle.std.proofs.lemmas.Bool.{and_parts, cases_Bool, cases_lt, leb-false}
+use Rattle.std.proofs.lemmas.List.Elements.{All-push}
+use Rattle.std.proofs.lemmas.List.{get_or_default}
+use Rattle.std.proofs.lemmas.List.Quantifiers.{all_pairs_push, position-Some}
+use Rattle.pb_rows.specs.Name.{same_name}
+use Rattle.pb_facts.specs.Fact.{IsInRange, id_of, is_dip_on, is_out_of_order, is_reading_on, is_too_long}
+use Rattle.pb_facts.specs.Facts.{NoRepeats, fault_of, first_fault, has_id, is_duplicate, is_full, is_live_dip_on, is_live_reading_on, is_repeat, is_repeat_by_day, live_place_of}
+use Rattle.pb_facts.specs.Places.{IsKept, Notes, SamePlaces, same_key}
+use Rattle.pb_facts.specs.declared.fact.Fact.{Fact}
+use Rattle.pb_facts.specs.declared.fact.Fact.TheVariants.{Reading, Transfer, Dip}
+use Rattle.pb_facts.specs.declared.facts.KeptFact.{KeptFact}
+use Rattle.pb_facts.specs.declared.facts.Places.{Places}
+use Rattle.pb_facts.proofs.PositionLemmas.{any_absent, is_some-position, position_at, position_none, position_push_new, position_push_other}
+
+-- ---- a new fact that repeats none
+
+or_none : (a b : Bool) → (a || b) ≡ false → (a ≡ false) × (b ≡ false)
+or_none false false e = (refl, refl)
+or_none false true e = cc e
+or_none true b e = cc e
+
+-- some item passes one of two tests
+pub list_any-or : {X : Type 0} (p q : X → Bool) (xs : List X) → list_any (λ x. p x || q x) xs ≡ (list_any p xs || list_any q xs)
+list_any-or p q [] = refl
+list_any-or p q (x ∷ xs) = rw (list_any-or p q xs) (by (p x) (q x) (list_any p xs) (list_any q xs))
+  where
+    by : (a b c d : Bool) → ((a || b) || (c || d)) ≡ ((a || c) || (b || d))
+    by true b c d = refl
+    by false true true d = refl
+    by false true false d = refl
+    by false false c d = refl
+
+-- a fact without a fault is no duplicate, and there is room for it
+no_fault : (kept : List KeptFact) (fact : Fact) → fault_of kept fact ≡ None → (is_duplicate kept fact ≡ false) × (is_full kept ≡ false)
+no_fault kept fact fine = by (is_duplicate kept fact) (is_out_of_order fact) (is_too_long fact) (is_full kept) fine
+  where
+    by : (a b c d : Bool) → first_fault a b c d ≡ None → (a ≡ false) × (d ≡ false)
+    by true b c d e = cc e
+    by false true c d e = cc e
+    by false false true d e = cc e
+    by false false false true e = cc e
+    by false false false false e = (refl, refl)
+
+-- ---- the maps after a new fact
+
+-- an entry for a new fact keeps a map right
+noted : (p : KeptFact → Bool) (kept : List KeptFact) (new : KeptFact) (place : ℕ) (old : Option ℕ) → old ≡ position p kept → (p new ≡ true → list_any p kept ≡ false)
+    → place ≡ length kept → (if p new then Some place else old) ≡ position p (kept ++ new ∷ [])
+noted p kept new place old right fresh at = elim (cases_Bool (p new)) [
+  | inl passes ↦ rw (passes, at) (sym (position_push_new p kept new (fresh passes) passes))
+  | inr fails ↦ rw fails (right ∙ sym (position_push_other p kept new fails))
+]
+
+-- no kept fact has the id of a new one
+fresh_id : (kept : List KeptFact) (fact : Fact) (id : List ℕ) → list_any (has_id (id_of fact)) kept ≡ false → same_name (id_of fact) id ≡ true → list_any (has_id id) kept ≡ false
+fresh_id kept fact id none same = subst (λ (q : List ℕ). list_any (has_id q) kept ≡ false) ((bytes_decides (id_of fact) id).0 same) none
+
+-- no live reading has the stream and day of a new one
+fresh_reading : (kept : List KeptFact) (fact : Fact) (stream : List ℕ) (day : ℤ) → list_any (is_repeat_by_day fact) kept ≡ false → is_reading_on stream day fact ≡ true
+    → list_any (is_live_reading_on stream day) kept ≡ false
+fresh_reading kept (Reading id s d grams variance) stream day none same =
+    let parts = and_parts (same_name s stream) _ same in
+    let e = (bytes_decides s stream).0 parts.0 in
+    let f = (signed_Decides d day).0 parts.1 in
+    subst (λ (q : List ℕ). list_any (is_live_reading_on q day) kept ≡ false) e (subst (λ (q : ℤ). list_any (is_live_reading_on s q) kept ≡ false) f none)
+fresh_reading kept (Transfer id s first last grams variance) stream day none same = cc same
+fresh_reading kept (Dip id t d mm density variance) stream day none same = cc same
+
+fresh_dip : (kept : List KeptFact) (fact : Fact) (tank : List ℕ) (day : ℤ) → list_any (is_repeat_by_day fact) kept ≡ false → is_dip_on tank day fact ≡ true
+    → list_any (is_live_dip_on tank day) kept ≡ false
+fresh_dip kept (Reading id s d grams variance) tank day none same = cc same
+fresh_dip kept (Transfer id s first last grams variance) tank day none same = cc same
+fresh_dip kept (Dip id t d mm density variance) tank day none same =
+    let parts = and_parts (same_name t tank) _ same in
+    let e = (bytes_decides t tank).0 parts.0 in
+    let f = (signed_Decides d day).0 parts.1 in
+    subst (λ (q : List ℕ). list_any (is_live_dip_on q day) kept ≡ false) e (subst (λ (q : ℤ). list_any (is_live_dip_on t q) kept ≡ false) f none)
+
+-- what holds of the kept facts holds with one more
+pub kept_more : (kept : List KeptFact) (old mid new : Places) (fact : Fact) (place : ℕ) → IsKept kept old → SamePlaces old mid → Notes mid new fact place
+    → fault_of kept fact ≡ None → IsInRange fact → place ≡ length kept → IsKept (kept ++ record { fact = fact; struck = false } ∷ []) new
+kept_more kept old mid new fact place right same notes fine ranges at =
+    let free = no_fault kept fact fine in
+    let apart = or_none _ _ (sym (list_any-or (has_id (id_of fact)) (is_repeat_by_day fact) kept) ∙ free.0) in
+    let item : KeptFact = record { fact = fact; struck = false } in
+    record {
+      ids = λ id. notes.ids id ∙ noted (has_id id) kept item place (get same_name mid.ids id) (same.ids id ∙ right.ids id) (fresh_id kept fact id apart.0) at;
+      readings = λ key. notes.readings key
+          ∙ noted (is_live_reading_on key.0 key.1) kept item place (get same_key mid.readings key) (same.readings key ∙ right.readings key) (fresh_reading kept fact key.0 key.1 apart.1) at;
+      dips = λ key. notes.dips key
+          ∙ noted (is_live_dip_on key.0 key.1) kept item place (get same_key mid.dips key) (same.dips key ∙ right.dips key) (fresh_dip kept fact key.0 key.1 apart.1) at;
+      no_repeats = all_pairs_push (λ (earlier later : KeptFact). is_repeat later.fact earlier ≡ false) kept item right.no_repeats (λ k d lt. any_absent (is_repeat fact) kept free.0 k d lt);
+      in_range = All-push (λ (k : KeptFact). IsInRange k.fact) kept item right.in_range ranges;
+      few = few kept item free.1;
+    }
+  where
+    few : (kept : List KeptFact) (item : KeptFact) → is_full kept ≡ false → length (kept ++ item ∷ []) ≤ 200000
+    few kept item free = omega (arith, leb-false 200000 (length kept) free, length-append kept (item ∷ []))
+
+-- ---- looking up
+
+and_false : (a : Bool) → (a && false) ≡ false
+and_false true = refl
+and_false false = refl
+
+-- no fact has the id, so no live one has
+pub no_place : (id : List ℕ) (kept : List KeptFact) → position (has_id id) kept ≡ None → live_place_of id kept ≡ None
+no_place id kept none =
+    let absent : list_any (has_id id) kept ≡ false = sym (is_some-position (has_id id) kept) ∙ ap is_some none in
+    position_none (λ k. not k.struck && has_id id k) kept (λ k d lt. rw (any_absent (has_id id) kept absent k d lt) (and_false (not (get_or kept k d).struck)))
+
+-- the fact with the id is live
+pub live_place : (id : List ℕ) (kept : List KeptFact) (i : ℕ) (d : KeptFact) → position (has_id id) kept ≡ Some i → (get_or kept i d).struck ≡ false → live_place_of id kept ≡ Some i
+live_place id kept i d at live =
+    let first = position-Some (has_id id) kept i d at in
+    position_at (λ k. not k.struck && has_id id k) kept i d first.0 (λ k lt. rw (first.2 k lt) (and_false (not (get_or kept k d).struck))) (rw (live, first.1) refl)
+
+-- the fact with the id was struck, and no other has the id
+pub struck_place : (id : List ℕ) (kept : List KeptFact) (i : ℕ) (d : KeptFact) → NoRepeats kept → position (has_id id) kept ≡ Some i → (get_or kept i d).struck ≡ true
+    → live_place_of id kept ≡ None
+struck_place id kept i d apart at struck =
+    let first = position-Some (has_id id) kept i d at in
+    let same : id_of (get_or kept i d).fact ≡ id = (bytes_decides _ id).0 first.1 in
+    position_none (λ k. not k.struck && has_id id k) kept (λ k e lt. elim (cases_lt k i) [
+      | inl before ↦ rw (get_or_default kept k e d lt, first.2 k before) (and_false (not (get_or kept k d).struck))
+      | inr from ↦ elim (cases_lt i k) [
+        | inl behind ↦ rw (get_or_default kept k e d lt, later k behind lt same) (and_false (not (get_or kept k d).struck))
+        | inr to ↦
+            let here : k ≡ i = omega arith in
+            rw (here, get_or_default kept i e d first.0, struck) refl
+      ]
+    ])
+  where
+    later : (k : ℕ) → i < k → k < length kept → id_of (get_or kept i d).fact ≡ id → has_id id (get_or kept k d) ≡ false
+    later k behind lt same =
+        let other : has_id (id_of (get_or kept k d).fact) (get_or kept i d) ≡ false = (or_none _ _ (apart i k d behind lt)).0 in
+        elim (cases_Bool (has_id id (get_or kept k d))) [
+          | inl used ↦
+              let e : id_of (get_or kept k d).fact ≡ id = (bytes_decides _ id).0 used in
+              cc (sym other ∙ (bytes_decides (id_of (get_or kept i d).fact) (id_of (get_or kept k d).fact)).1 (same ∙ sym e))
+          | inr free ↦ free
+        ]
+
+-- no fact is on the day of a transfer
+pub none_live : (kept : List KeptFact) → list_any (λ k. not k.struck && false) kept ≡ false
+none_live [] = refl
+none_live (k ∷ kept) = rw (and_false (not k.struck)) (none_live kept)

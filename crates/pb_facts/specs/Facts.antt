@@ -1,0 +1,58 @@
+-- The kept facts: what is live, and the first fault of a new fact.
+use Rattle.std.specs.Prelude.{◌≡◌, ◌&&◌, ◌||◌, ℕ, ℤ, nat_le, List, length, Bool, false, not, Option, Some, None, if◌then◌else◌, AllPairs, position}
+use Rattle.std.specs.List.{list_any}
+use Rattle.pb_rows.specs.Name.{same_name}
+use Rattle.pb_facts.specs.Fact.{id_of, is_dip_on, is_on_day_of, is_out_of_order, is_reading_on, is_too_long}
+use Rattle.pb_facts.specs.declared.fact.Fact.{Fact}
+use Rattle.pb_facts.specs.declared.fact.FactFault.{FactFault}
+use Rattle.pb_facts.specs.declared.fact.FactFault.TheVariants.{Duplicate, Order, Range, Full}
+use Rattle.pb_facts.specs.declared.facts.KeptFact.{KeptFact}
+
+-- a kept fact with this id, struck or not
+abbrev pub has_id : List ℕ → KeptFact → Bool
+has_id id kept = same_name (id_of kept.fact) id
+
+-- a live reading of this stream on this day
+abbrev pub is_live_reading_on : List ℕ → ℤ → KeptFact → Bool
+is_live_reading_on stream day kept = not kept.struck && is_reading_on stream day kept.fact
+
+-- a live dip of this tank at the end of this day
+abbrev pub is_live_dip_on : List ℕ → ℤ → KeptFact → Bool
+is_live_dip_on tank day kept = not kept.struck && is_dip_on tank day kept.fact
+
+-- a live fact that has the same stream and day, or the same tank and day, as a new one
+abbrev pub is_repeat_by_day : Fact → KeptFact → Bool
+is_repeat_by_day fact kept = not kept.struck && is_on_day_of fact kept.fact
+
+-- a kept fact that a new one repeats: it has the same id, struck or not, or it is live and has the same stream or tank and day
+abbrev pub is_repeat : Fact → KeptFact → Bool
+is_repeat fact kept = has_id (id_of fact) kept || is_repeat_by_day fact kept
+
+-- a new fact repeats some kept one
+abbrev pub is_duplicate : List KeptFact → Fact → Bool
+is_duplicate kept fact = list_any (is_repeat fact) kept
+
+-- as many facts were added as there may be, struck ones counted
+abbrev pub is_full : List KeptFact → Bool
+is_full kept = nat_le 200000 (length kept)
+
+-- the first of these faults that holds
+abbrev pub first_fault : Bool → Bool → Bool → Bool → Option FactFault
+first_fault duplicate order range full =
+    if duplicate then Some Duplicate else if order then Some Order else if range then Some Range else if full then Some Full else None
+
+-- the first fault of a new fact
+abbrev pub fault_of : List KeptFact → Fact → Option FactFault
+fault_of kept fact = first_fault (is_duplicate kept fact) (is_out_of_order fact) (is_too_long fact) (is_full kept)
+
+-- no fact repeats an earlier one: so no id comes twice, and no two live readings or dips share a stream or tank and day
+abbrev pub NoRepeats : List KeptFact → Type 0
+NoRepeats kept = AllPairs (λ earlier later. is_repeat later.fact earlier ≡ false) kept
+
+-- a kept fact, if it wasn't struck
+abbrev pub live_fact : KeptFact → Option Fact
+live_fact kept = if kept.struck then None else Some kept.fact
+
+-- the place of the live fact with this id
+abbrev pub live_place_of : List ℕ → List KeptFact → Option ℕ
+live_place_of id kept = position (λ k. not k.struck && has_id id k) kept

@@ -1,0 +1,4 @@
+pub mod Fact
+pub mod Facts
+pub mod Places
+pub mod Share

@@ -1,0 +1,88 @@
+// One fact, and what can be wrong with it.
+
+ghost use Rattle.std.specs.Prelude.{◌≡◌};
+ghost use Rattle.pb_facts.specs.Fact.{id_of, is_out_of_order, is_too_long};
+
+use pb_rows::Name;
+
+/// A fact of a plant, with its id.
+#[derive(Clone, Copy)]
+pub enum Fact {
+    /// What a metered stream carried on a day: grams, negative against its arrow, with their variance in squared grams.
+    Reading {
+        id: Name,
+        stream: Name,
+        day: i32,
+        grams: i64,
+        variance: i128,
+    },
+    /// What a batch stream carried from a first day to a last one, both included: grams, with their variance in squared grams.
+    Transfer {
+        id: Name,
+        stream: Name,
+        first: i32,
+        last: i32,
+        grams: i64,
+        variance: i128,
+    },
+    /// A tank's content at the end of a day: the level in millimetres, the density in grams per cubic metre, and the variance of
+    /// the content in squared grams.
+    Dip {
+        id: Name,
+        tank: Name,
+        day: i32,
+        mm: i64,
+        density: i64,
+        variance: i128,
+    },
+}
+
+/// Why a fact or a change of one isn't taken.
+#[derive(Clone, Copy, PartialEq, Eq, Debug)]
+pub enum FactFault {
+    /// No live fact has the id.
+    Unknown,
+    /// The id was used before, or a live fact has the same stream or tank and day.
+    Duplicate,
+    /// The first day comes after the last.
+    Order,
+    /// The change is of another kind than the fact.
+    Mismatch,
+    /// A transfer of more than 366 days.
+    Range,
+    /// As many facts as there may be were added.
+    Full,
+}
+
+impl Fact {
+    /// The fact's id.
+    pub fn id(&self) -> Name
+        ensures { result ≡ id_of self.now }
+    {
+        match self {
+            Fact::Reading { id, .. } => *id,
+            Fact::Transfer { id, .. } => *id,
+            Fact::Dip { id, .. } => *id,
+        }
+    }
+
+    // Whether it is a transfer whose first day comes after its last.
+    pub(crate) fn is_out_of_order(&self) -> bool
+        ensures { result ≡ is_out_of_order self.now }
+    {
+        match self {
+            Fact::Transfer { first, last, .. } => *last < *first,
+            _ => false,
+        }
+    }
+
+    // Whether it is a transfer of more than 366 days.
+    pub(crate) fn is_too_long(&self) -> bool
+        ensures { result ≡ is_too_long self.now }
+    {
+        match self {
+            Fact::Transfer { first, last, .. } => i64::from(*last) - i64::from(*first) >= 366,
+            _ => false,
+        }
+    }
+}

@@ -1,0 +1,12 @@
+//! The facts of a plant: readings, transfers and dips, kept in the order in which they were added.
+//!
+//! Days are counted from 1970-01-01. Amounts are grams and variances are squared grams.
+#![tactic(auto)]
+
+mod fact;
+mod facts;
+mod shares;
+
+pub use fact::{Fact, FactFault};
+pub use facts::{Facts, KeptFact};
+pub use shares::{share, shares_add_up};

@@ -1,0 +1,127 @@
+-- The decimal text of a number: what std writes is it, and it reads back.
+use Rattle.std.proofs.Common.{◌≡◌, ◌<◌, ◌≤◌, ◌+◌, ◌/◌, ◌%◌, ◌*◌, ◌^◌, ◌++◌, ◌∷◌, [], ◌∙◌, ℕ, zero, suc, ℤ, pos, negsuc, List, Bool, true, false, Some, length, map, get_or, arith, ap, ap₂, sym, refl, inl, inr}
+use Rattle.std.specs.Prelude.{◌==◌, ◌&&◌, not, FitsSigned, slice_index, nat_lt}
+use Rattle.std.specs.Char.{digit_value, is_ascii_digit}
+use Rattle.std.specs.Fmt.{decimal, signed_decimal}
+use Rattle.std.specs.Int.Digits.{AllBelowBase, digits_of, number_from_digits_after}
+use Rattle.std.specs.List.{list_all}
+use Rattle.std.specs.Str.Parse.{digits_value, digits_value_after}
+use Rattle.std.proofs.lemmas.Bool.{cases_Bool, eqb-true, ne_eqb}
+use Rattle.std.proofs.lemmas.Bool.Decides.{nat_tests}
+use Rattle.std.proofs.lemmas.Fmt.{decimal_by_steps_wide}
+use Rattle.std.proofs.lemmas.Int.{ints}
+use Rattle.std.proofs.lemmas.Int.Digits.{all_below_base_digits_of, digits_of_step, first_digits_of, length-digits_of_step, number_digits_of}
+use Rattle.std.proofs.lemmas.List.{map-append}
+use mir.Syntax.{w128}
+use Rattle.pb_rows.specs.Number.{decimal_text, is_plain, number, whole_text}
+
+-- the text of a number that isn't 0
+some_text : (n : ℕ) → 0 < n → decimal_text n ≡ map (λ digit. 48 + digit) (digits_of 10 n)
+unfolding decimal_text
+some_text n some = rw (ne_eqb n 0 (λ e. absurd (omega (arith, e)))) refl
+
+-- the text of a digit
+digit_text : (n : ℕ) → n < 10 → (48 + n) ∷ [] ≡ decimal_text n
+unfolding decimal_text
+digit_text zero small = refl
+digit_text (suc n) small =
+    let front : suc n / 10 ≡ 0 = omega arith in
+    let last : suc n % 10 ≡ suc n = omega arith in
+    let step = digits_of_step 10 (suc n) (omega arith) (omega arith) in
+    sym (some_text (suc n) (omega arith) ∙ ap (map (λ digit. 48 + digit)) (step ∙ ap₂ (λ (f l : ℕ). digits_of 10 f ++ l ∷ []) front last))
+
+-- one more digit
+longer_text : (n : ℕ) (front : List ℕ) → 10 ≤ n → front ≡ decimal_text (n / 10) → front ++ (48 + n % 10) ∷ [] ≡ decimal_text n
+longer_text n front large so_far =
+    let step = digits_of_step 10 n (omega arith) (omega arith) in
+    ap (λ (f : List ℕ). f ++ (48 + n % 10) ∷ []) (so_far ∙ some_text (n / 10) (omega arith))
+    ∙ sym (some_text n (omega arith) ∙ ap (map (λ digit. 48 + digit)) step ∙ map-append (λ digit. 48 + digit) (digits_of 10 (n / 10)) (n % 10 ∷ []))
+
+-- what std writes of a number is its text
+wide_text : (n : ℕ) → n < 10 ^ 64 → decimal n ≡ decimal_text n
+wide_text n wide = decimal_by_steps_wide (λ m ds. ds ≡ decimal_text m) digit_text longer_text n wide
+
+pub signed_text : (z : ℤ) → FitsSigned w128 z → signed_decimal z ≡ whole_text z
+signed_text (pos n) fits = wide_text n (omega (arith, ints, fits))
+signed_text (negsuc n) fits = ap (λ (f : List ℕ). 45 ∷ f) (wide_text (suc n) (omega (arith, ints, fits)))
+
+-- a digit's text is the digit
+digit_back : (d : ℕ) → d < 10 → (is_ascii_digit (48 + d) ≡ true) × (digit_value (48 + d) ≡ d)
+digit_back d small = grind (arith, nat_tests)
+
+-- the texts of digits are digits, and write the same number
+digits_back : (n : ℕ) (ds : List ℕ) → AllBelowBase 10 ds → (list_all is_ascii_digit (map (λ digit. 48 + digit) ds) ≡ true)
+    × (digits_value_after 10 n (map (λ digit. 48 + digit) ds) ≡ number_from_digits_after 10 n ds)
+digits_back n [] below = (refl, refl)
+digits_back n (d ∷ ds) below =
+    let first = digit_back d below.0 in
+    let rest = digits_back (n * 10 + d) ds below.1 in (
+      rw first.0 rest.0,
+      ap (λ (m : ℕ). digits_value_after 10 (n * 10 + m) (map (λ digit. 48 + digit) ds)) first.1 ∙ rest.1,
+    )
+
+-- the first digit of a number that isn't 0
+text_some : (n : ℕ) → 0 < n → (slice_index (decimal_text n) 0 == 48) ≡ false
+text_some n some =
+    let first = first_digits_of 10 n (omega arith) some in
+    rw (some_text n some) (by (digits_of 10 n) first)
+  where
+    by : (ds : List ℕ) → 0 < get_or ds 0 0 → (slice_index (map (λ digit. 48 + digit) ds) 0 == 48) ≡ false
+    by [] first = absurd (omega arith)
+    by (d ∷ ds) first = ne_eqb (48 + d) 48 (λ e. absurd (omega arith))
+
+text_length : (n : ℕ) → 0 < n → 0 < length (decimal_text n)
+text_length n some =
+    let step = length-digits_of_step 10 n (omega arith) some in
+    rw (some_text n some) (by (digits_of 10 n) (omega arith))
+  where
+    by : (ds : List ℕ) → 0 < length ds → 0 < length (map (λ digit. 48 + digit) ds)
+    by [] h = h
+    by (d ∷ ds) h = omega arith
+
+text_digits : (n : ℕ) → 0 < n → (list_all is_ascii_digit (decimal_text n) ≡ true) × (digits_value 10 (decimal_text n) ≡ n)
+text_digits n some =
+    let back = digits_back 0 (digits_of 10 n) (all_below_base_digits_of 10 n (omega arith)) in
+    rw (some_text n some) (back.0, back.1 ∙ number_digits_of 10 n (omega arith))
+
+-- the text of a number that isn't 0 has the form, and behind a minus sign too
+text_plain : (n : ℕ) → 0 < n → is_plain (decimal_text n) ≡ true
+text_plain n some =
+    let full : (length (decimal_text n) == 0) ≡ false = ne_eqb _ 0 (λ e. absurd (omega (arith, text_length n some, e))) in
+    rw (full, (text_digits n some).0, text_some n some) (by (nat_lt 1 (length (decimal_text n))))
+  where
+    by : (b : Bool) → not (b && false) ≡ true
+    by true = refl
+    by false = refl
+
+-- the text of a number reads back as the number
+reads_back_negative : (n : ℕ) → number (45 ∷ decimal_text (suc n)) ≡ Some (negsuc n)
+reads_back_negative n =
+    rw (text_plain (suc n) (omega arith), text_some (suc n) (omega arith), (text_digits (suc n) (omega arith)).1) refl
+
+first_not_minus : (ds : List ℕ) → 0 < length ds → list_all is_ascii_digit ds ≡ true → (slice_index ds 0 == 45) ≡ false
+first_not_minus [] some digits = absurd (omega arith)
+first_not_minus (d ∷ ds) some digits = elim (cases_Bool (d == 45)) [
+  | inl minus ↦ by (eqb-true d 45 minus) digits
+  | inr none ↦ none
+]
+  where
+    by : d ≡ 45 → list_all is_ascii_digit (d ∷ ds) ≡ true → (d == 45) ≡ false
+    by e all = cc (rw e at all)
+
+number_plain : (ds : List ℕ) → (slice_index ds 0 == 45) ≡ false → is_plain ds ≡ true → number ds ≡ Some (pos (digits_value 10 ds))
+number_plain [] none plain = cc plain
+number_plain (d ∷ ds) none plain = rw (none, plain) refl
+
+reads_back_positive : (n : ℕ) → number (decimal_text n) ≡ Some (pos n)
+unfolding decimal_text
+reads_back_positive zero = refl
+reads_back_positive (suc n) =
+    let some : 0 < suc n = omega arith in
+    let digits = text_digits (suc n) some in
+    number_plain (decimal_text (suc n)) (first_not_minus (decimal_text (suc n)) (text_length (suc n) some) digits.0) (text_plain (suc n) some)
+    ∙ ap (λ (m : ℕ). Some (pos m)) digits.1
+
+pub reads_back : (z : ℤ) → number (whole_text z) ≡ Some z
+reads_back (pos n) = reads_back_positive n
+reads_back (negsuc n) = reads_back_negative n

@@ -1,0 +1,63 @@
+// Civil dates as fields write them.
+
+ghost use Rattle.std.specs.Prelude.{◌≡◌, ◌+◌, ◌<◌, ◌≤◌, pos, length, Ok, IfSome};
+ghost use Rattle.pb_rows.specs.Date.{day_number, day_of, is_dashed, two_digits_at};
+
+use jiff::civil::Date;
+use std::alloc::AllocError;
+
+/// The day that a field writes, counted from 1970-01-01: exactly `YYYY-MM-DD`, a date of the Gregorian calendar from 1900 to
+/// 2199. `Ok(None)` exactly where it isn't; no memory is taken.
+pub fn read_date(field: &[u8]) -> Result<Option<i32>, AllocError>
+    ensures { result ≡ Ok (day_of field.now) }
+{
+    Ok(day_of(field))
+}
+
+fn day_of(field: &[u8]) -> Option<i32>
+    ensures { result ≡ day_of field.now }
+{
+    if !is_dashed(field) {
+        return None;
+    }
+    let century = two_digits_at(field, 0)?;
+    let year = two_digits_at(field, 2)?;
+    let month = two_digits_at(field, 5)?;
+    let day = two_digits_at(field, 8)?;
+    day_number(u16::from(century) * 100 + u16::from(year), month, day)
+}
+
+// Whether a field has the length of a date, and its dashes.
+fn is_dashed(field: &[u8]) -> bool
+    ensures { result ≡ is_dashed field.now }
+{
+    field.len() == 10 && field[4] == b'-' && field[7] == b'-'
+}
+
+// The number that two digits write at a place.
+fn two_digits_at(field: &[u8], i: usize) -> Option<u8>
+    requires { i + 1 < length field.now }
+    ensures value { result ≡ two_digits_at field.now i }
+    ensures small { IfSome result (λ n. n ≤ 99) }
+{
+    if field[i].is_ascii_digit() && field[i + 1].is_ascii_digit() {
+        Some((field[i] - b'0') * 10 + (field[i + 1] - b'0'))
+    } else {
+        None
+    }
+}
+
+// The day number of a date that the calendar has, from 1900 to 2199.
+fn day_number(year: u16, month: u8, day: u8) -> Option<i32>
+    requires month { month ≤ 99 }
+    requires day { day ≤ 99 }
+    ensures { result ≡ day_number (pos year) (pos month) (pos day) }
+{
+    if year < 1900 || year > 2199 {
+        return None;
+    }
+    match Date::new(year as i16, month as i8, day as i8) {
+        Ok(date) => Some(date.to_plain().to_unix_epoch_day()),
+        Err(_) => None,
+    }
+}
