@@ -1,0 +1,6 @@
+pub mod Counts
+pub mod Source
+pub mod Sink
+pub mod Supply
+pub mod Store
+pub mod Tally

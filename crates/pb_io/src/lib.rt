@@ -1,0 +1,7 @@
+//! Where bytes come from and where they go: sources and sinks, in memory and of the system, and the two calls that read one to
+//! its end and write one whole.
+#![tactic(auto)]
+
+mod reading;
+
+pub use reading::{ReadEnd, Source, SourceFailed, read_all};
