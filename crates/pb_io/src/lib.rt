@@ -3,5 +3,7 @@
 #![tactic(auto)]
 
 mod reading;
+mod writing;
 
 pub use reading::{ReadEnd, Source, SourceFailed, read_all};
+pub use writing::{Sink, SinkFailed, write_all};
