@@ -2,9 +2,10 @@
 use Rattle.std.specs.Prelude.{ℕ, ◌≤◌, ◌⊎◌, List, length, Contains}
 use Rattle.pb_io.specs.Counts.{counted}
 
--- the bytes that are held; how many there is room for; the most that a call appends; the numbers of the calls that fail; how many calls there were, and how many failed
+-- the bytes that are held and the number put; how many there is room for; the most that a call appends; the numbers of the calls that fail; how many calls there were, and how many failed
 pub record Store : Type 0 where
   pub held : List ℕ
+  pub written : ℕ
   pub room : ℕ
   pub most : ℕ
   pub fails : List ℕ

@@ -2,11 +2,13 @@
 //! its end and write one whole.
 #![tactic(auto)]
 
-mod calls;
+mod counts;
+mod mem_sink;
 mod mem_source;
 mod reading;
 mod writing;
 
+pub use mem_sink::MemSink;
 pub use mem_source::MemSource;
 pub use reading::{ReadEnd, Source, SourceFailed, read_all};
 pub use writing::{Sink, SinkFailed, write_all};

@@ -3,7 +3,7 @@ ghost use Rattle.std.specs.Prelude.{◌≡◌, ℕ, ◌+◌, ◌<◌, ◌≤◌,
 ghost use Rattle.pb_io.specs.Counts.{counted, Rose};
 ghost use Rattle.pb_io.specs.Supply.{Supply, FailsNext};
 
-use crate::calls::is_named;
+use crate::counts::{count_on, is_named};
 use crate::reading::{Source, SourceFailed};
 use std::marker::Model;
 
@@ -69,9 +69,9 @@ impl Source for MemSource {
         ensures ok { IfOk result (λ n. self.new ≡ record self.old { left = drop n self.old.left; taken = counted self.old.taken n; calls = counted self.old.calls 1 }) }
         ensures end { IfOk result (λ n. n ≡ 0 → 0 < length buf.new → self.old.left ≡ []) }
     {
-        self.calls = self.calls.saturating_add(1);
+        self.calls = count_on(self.calls, 1);
         if is_named(&self.fails, self.calls) {
-            self.faults = self.faults.saturating_add(1);
+            self.faults = count_on(self.faults, 1);
             return Err(SourceFailed);
         }
         let count = copy_front(&self.bytes[self.at..], self.most, buf);
