@@ -6,9 +6,11 @@ mod counts;
 mod mem_sink;
 mod mem_source;
 mod reading;
+mod standard;
 mod writing;
 
 pub use mem_sink::MemSink;
 pub use mem_source::MemSource;
 pub use reading::{ReadEnd, Source, SourceFailed, read_all};
+pub use standard::{StdSink, StdSource};
 pub use writing::{Sink, SinkFailed, write_all};

@@ -1,0 +1,112 @@
+//! The readers and writers of std as sources and sinks: the edge of the program, of whose bytes nothing is told.
+ghost use Rattle.std.specs.Prelude.{◌≡◌, None};
+ghost use Rattle.pb_io.specs.Tally.{Tally};
+
+use crate::counts::count_on;
+use crate::reading::{Source, SourceFailed};
+use crate::writing::{Sink, SinkFailed};
+use std::io::{Read, Write};
+use std::marker::Model;
+
+/// A reader as a source. Each error of the reader is a fault.
+#[derive(Drop)]
+pub struct StdSource<R> {
+    reader: R,
+    taken: u64,
+    calls: u64,
+    faults: u64,
+}
+
+impl<R> Model for StdSource<R> {
+    ghost Value = { Tally };
+
+    ghost view = { λ a. record { moved = a.taken; calls = a.calls; faults = a.faults } };
+}
+
+impl<R> StdSource<R> {
+    pub fn new(reader: R) -> StdSource<R>
+        ensures { result ≡ record { moved = 0; calls = 0; faults = 0 } }
+    {
+        StdSource {
+            reader,
+            taken: 0,
+            calls: 0,
+            faults: 0,
+        }
+    }
+}
+
+impl<R: Read> Source for StdSource<R> {
+    ghost left = { λ _. None };
+
+    ghost taken = { λ s. s.moved };
+
+    ghost calls = { λ s. s.calls };
+
+    ghost faults = { λ s. s.faults };
+
+    fn take(&mut self, buf: &mut [u8]) -> Result<usize, SourceFailed> {
+        self.calls = count_on(self.calls, 1);
+        let Ok(count) = self.reader.read(buf) else {
+            self.faults = count_on(self.faults, 1);
+            return Err(SourceFailed);
+        };
+        self.taken = count_on(self.taken, count as u64);
+        Ok(count)
+    }
+}
+
+/// A writer as a sink. Each error of the writer is a fault, and so is a write of no byte of a piece that isn't empty.
+#[derive(Drop)]
+pub struct StdSink<W> {
+    writer: W,
+    written: u64,
+    calls: u64,
+    faults: u64,
+}
+
+impl<W> Model for StdSink<W> {
+    ghost Value = { Tally };
+
+    ghost view = { λ a. record { moved = a.written; calls = a.calls; faults = a.faults } };
+}
+
+impl<W> StdSink<W> {
+    pub fn new(writer: W) -> StdSink<W>
+        ensures { result ≡ record { moved = 0; calls = 0; faults = 0 } }
+    {
+        StdSink {
+            writer,
+            written: 0,
+            calls: 0,
+            faults: 0,
+        }
+    }
+}
+
+impl<W: Write> Sink for StdSink<W> {
+    ghost held = { λ _. None };
+
+    ghost written = { λ s. s.moved };
+
+    ghost calls = { λ s. s.calls };
+
+    ghost faults = { λ s. s.faults };
+
+    fn put(&mut self, piece: &[u8]) -> Result<usize, SinkFailed> {
+        self.calls = count_on(self.calls, 1);
+        if piece.is_empty() {
+            return Ok(0);
+        }
+        match self.writer.write(piece) {
+            Ok(count) if count > 0 => {
+                self.written = count_on(self.written, count as u64);
+                Ok(count)
+            }
+            _ => {
+                self.faults = count_on(self.faults, 1);
+                Err(SinkFailed)
+            }
+        }
+    }
+}
