@@ -7,13 +7,13 @@ use Rattle.pb_io.specs.Source.{Takes, TakesInTurns}
 
 -- at first none were taken
 pub takes_none : {S : Type 0} (left : S → Option (List ℕ)) (taken : S → ℕ) (s : S) → Takes left taken s s []
-takes_none left taken s = record { next = Consumes-nil (left s); count = omega arith }
+takes_none left taken s = record { front = Consumes-nil (left s); count = omega arith }
 
 -- and then one piece more
 pub takes_more : {S : Type 0} (left : S → Option (List ℕ)) (taken : S → ℕ) (a b c : S) (xs ys : List ℕ)
     → Takes left taken a b xs → Takes left taken b c ys → Takes left taken a c (xs ++ ys)
 takes_more left taken a b c xs ys first second = record {
-  next = Consumes-trans (left a) (left b) (left c) xs ys first.next second.next;
+  front = Consumes-trans (left a) (left b) (left c) xs ys first.front second.front;
   count = omega (arith, first.count, second.count, length-append xs ys);
 }
 

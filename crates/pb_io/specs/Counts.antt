@@ -1,11 +1,11 @@
--- Counts that a u64 holds: of calls, of faults, of bytes.
+-- Counts that a u64 holds: of bytes, of calls, of faults.
 use Rattle.std.specs.Prelude.{◌≡◌, ℕ, ◌+◌, ◌-◌, ◌^◌, ◌<◌, ◌⊎◌, min}
 
 -- the greatest u64, at which a count stays
 abbrev pub greatest : ℕ
 greatest = 2 ^ 64 - 1
 
--- a count after n more, or after as many of them as reach the greatest
+-- a count after n more, or after as many of them as it takes to reach the greatest
 abbrev pub counted : ℕ → ℕ → ℕ
 counted count n = count + min n (greatest - count)
 

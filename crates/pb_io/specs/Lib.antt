@@ -1,6 +1,6 @@
 pub mod Counts
-pub mod Source
+pub mod MemSink
+pub mod MemSource
 pub mod Sink
-pub mod Supply
-pub mod Store
+pub mod Source
 pub mod Tally

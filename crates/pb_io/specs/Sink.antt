@@ -1,13 +1,13 @@
--- What is put into a sink, by its meanings: the bytes that it holds, where it tells them, and how many were put.
+-- What is put into a sink, seen by its meanings: the bytes that it holds, where it tells them, and how many were put.
 use Rattle.std.specs.Prelude.{◌≡◌, ℕ, ◌<◌, List, length, take, Option}
 use Rattle.std.specs.Io.KnownBytes.{Appends}
 use Rattle.pb_io.specs.Counts.{counted}
 
--- these bytes were put: they stand behind those that were held, where these are told, and the count has moved on by their number
+-- these bytes were put: they stand behind those that were held, where these are told, and the count moved on by their number
 pub record Puts {W : Type 0} (held : W → Option (List ℕ)) (written : W → ℕ) (old new : W) (bytes : List ℕ) : Type 0 where
   pub behind : Appends (held old) (held new) bytes
   pub count : written new ≡ counted (written old) (length bytes)
 
--- some of the bytes from the front were put, but not all
-abbrev pub PutsFront : {W : Type 0} → (W → Option (List ℕ)) → (W → ℕ) → W → W → List ℕ → Type 0
-PutsFront held written old new bytes = (n : ℕ) × (n < length bytes) × Puts held written old new (take n bytes)
+-- a prefix of the bytes was put, and not all of them
+abbrev pub PutsPrefix : {W : Type 0} → (W → Option (List ℕ)) → (W → ℕ) → W → W → List ℕ → Type 0
+PutsPrefix held written old new bytes = (n : ℕ) × (n < length bytes) × Puts held written old new (take n bytes)

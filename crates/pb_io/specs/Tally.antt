@@ -1,8 +1,8 @@
--- What is known of a source or a sink of the system: its counts alone.
+-- What is known of a reader or a writer of std behind a source or a sink: counts alone.
 use Rattle.std.specs.Prelude.{ℕ}
 
--- how many bytes were moved, how many calls there were, and how many failed
+-- how many bytes went through, how many calls there were, and how many of them failed
 pub record Tally : Type 0 where
-  pub moved : ℕ
+  pub bytes : ℕ
   pub calls : ℕ
   pub faults : ℕ

@@ -1,5 +1,8 @@
-//! Where bytes come from and where they go: sources and sinks, in memory and of the system, and the two calls that read one to
-//! its end and write one whole.
+//! Where bytes come from and where they go.
+//!
+//! A [`Source`] gives bytes and a [`Sink`] takes them, a few in each call, and each call may fail. [`read_all`] reads a source to
+//! its end, and [`write_all`] writes a slice whole. [`MemSource`] and [`MemSink`] work in memory, by contracts that say each
+//! byte and each failure; [`StdSource`] and [`StdSink`] are the edge of the program, of whose bytes nothing is told.
 #![tactic(auto)]
 
 mod counts;

@@ -1,7 +1,7 @@
 //! A sink in memory.
 ghost use Rattle.std.specs.Prelude.{◌≡◌, ◌+◌, ◌-◌, ◌<◌, ◌≤◌, ◌↔◌, [], ◌++◌, length, take, min, Some, vec_len, vec_capacity, Ok, IfOk, IsErr, OnErr};
 ghost use Rattle.pb_io.specs.Counts.{counted, Rose};
-ghost use Rattle.pb_io.specs.Store.{Store, RefusesNext};
+ghost use Rattle.pb_io.specs.MemSink.{SinkInMemory, RefusesNext};
 
 use crate::counts::{count_on, is_named};
 use crate::writing::{Sink, SinkFailed};
@@ -23,9 +23,9 @@ pub struct MemSink {
 
 impl Model for MemSink {
     ghost use Rattle.std.specs.Prelude.{◌<◌, ◌≤◌, vec_len, vec_capacity};
-    ghost use Rattle.pb_io.specs.Store.{Store};
+    ghost use Rattle.pb_io.specs.MemSink.{SinkInMemory};
 
-    ghost Value = { Store };
+    ghost Value = { SinkInMemory };
 
     ghost view = { λ a. record { held = a.bytes.items; written = vec_len a.bytes; room = a.room; most = a.most; fails = a.fails.items; calls = a.calls; faults = a.faults } };
 

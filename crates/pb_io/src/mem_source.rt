@@ -1,7 +1,7 @@
 //! A source in memory.
 ghost use Rattle.std.specs.Prelude.{◌≡◌, ℕ, ◌+◌, ◌<◌, ◌≤◌, ◌↔◌, List, [], ◌++◌, length, take, drop, min, Some, vec_len, IfOk, IsErr, OnErr};
 ghost use Rattle.pb_io.specs.Counts.{counted, Rose};
-ghost use Rattle.pb_io.specs.Supply.{Supply, FailsNext};
+ghost use Rattle.pb_io.specs.MemSource.{SourceInMemory, FailsNext};
 
 use crate::counts::{count_on, is_named};
 use crate::reading::{Source, SourceFailed};
@@ -22,9 +22,9 @@ pub struct MemSource {
 
 impl Model for MemSource {
     ghost use Rattle.std.specs.Prelude.{◌<◌, ◌≤◌, drop, vec_len};
-    ghost use Rattle.pb_io.specs.Supply.{Supply};
+    ghost use Rattle.pb_io.specs.MemSource.{SourceInMemory};
 
-    ghost Value = { Supply };
+    ghost Value = { SourceInMemory };
 
     ghost view = { λ a. record { left = drop a.at a.bytes.items; taken = a.at; most = a.most; fails = a.fails.items; calls = a.calls; faults = a.faults } };
 

@@ -20,12 +20,12 @@ pub struct StdSource<R> {
 impl<R> Model for StdSource<R> {
     ghost Value = { Tally };
 
-    ghost view = { λ a. record { moved = a.taken; calls = a.calls; faults = a.faults } };
+    ghost view = { λ a. record { bytes = a.taken; calls = a.calls; faults = a.faults } };
 }
 
 impl<R> StdSource<R> {
     pub fn new(reader: R) -> StdSource<R>
-        ensures { result ≡ record { moved = 0; calls = 0; faults = 0 } }
+        ensures { result ≡ record { bytes = 0; calls = 0; faults = 0 } }
     {
         StdSource {
             reader,
@@ -39,7 +39,7 @@ impl<R> StdSource<R> {
 impl<R: Read> Source for StdSource<R> {
     ghost left = { λ _. None };
 
-    ghost taken = { λ s. s.moved };
+    ghost taken = { λ s. s.bytes };
 
     ghost calls = { λ s. s.calls };
 
@@ -68,12 +68,12 @@ pub struct StdSink<W> {
 impl<W> Model for StdSink<W> {
     ghost Value = { Tally };
 
-    ghost view = { λ a. record { moved = a.written; calls = a.calls; faults = a.faults } };
+    ghost view = { λ a. record { bytes = a.written; calls = a.calls; faults = a.faults } };
 }
 
 impl<W> StdSink<W> {
     pub fn new(writer: W) -> StdSink<W>
-        ensures { result ≡ record { moved = 0; calls = 0; faults = 0 } }
+        ensures { result ≡ record { bytes = 0; calls = 0; faults = 0 } }
     {
         StdSink {
             writer,
@@ -87,7 +87,7 @@ impl<W> StdSink<W> {
 impl<W: Write> Sink for StdSink<W> {
     ghost held = { λ _. None };
 
-    ghost written = { λ s. s.moved };
+    ghost written = { λ s. s.bytes };
 
     ghost calls = { λ s. s.calls };
 
