@@ -1,6 +1,5 @@
 -- Bytes taken from a source one piece after the other.
-use Rattle.std.proofs.Common.{◌≡◌, ℕ, ◌+◌, ◌≤◌, ◌↔◌, List, [], ◌++◌, length, Option, Some, None, IfSome, arith, refl, sym, length-append}
-use Rattle.std.specs.Io.KnownBytes.{Consumes, IsAtEnd}
+use Rattle.std.proofs.Common.{◌≡◌, ℕ, ◌≤◌, List, [], ◌++◌, length, Option, arith, length-append}
 use Rattle.std.proofs.KnownBytes.{Consumes-nil, Consumes-trans}
 use Rattle.pb_io.specs.Counts.{counted}
 use Rattle.pb_io.specs.Source.{Takes, TakesInTurns}

@@ -10,6 +10,8 @@ mod mem_sink;
 mod mem_source;
 mod reading;
 mod standard;
+#[cfg(test)]
+mod tests;
 mod writing;
 
 pub use mem_sink::MemSink;

@@ -35,7 +35,12 @@ impl Model for MemSink {
 impl MemSink {
     /// A sink with room for `room` bytes, which are taken here, that appends at most `most` in a call, and fails at the calls
     /// whose numbers are in `fails`.
-    pub fn new(alloc: Global, room: usize, most: usize, fails: Vec<u32>) -> Result<MemSink, AllocError>
+    pub fn new(
+        alloc: Global,
+        room: usize,
+        most: usize,
+        fails: Vec<u32>,
+    ) -> Result<MemSink, AllocError>
         requires { 0 < most }
         ensures { IfOk result (λ sink. sink ≡ record { held = []; written = 0; room = room; most = most; fails = fails.items; calls = 0; faults = 0 }) }
     {

@@ -79,11 +79,7 @@ const CHUNK: usize = 8192;
 ///
 /// It stops once it has taken one byte more than the limit. After a refusal the bytes that were taken are gone from the source.
 #[tactic(auto, using(crate::proofs::Taking::takes_none, crate::proofs::Taking::takes_more))]
-pub fn read_all<S: Source>(
-    alloc: Global,
-    source: &mut S,
-    limit: usize,
-) -> Result<Vec<u8>, ReadEnd>
+pub fn read_all<S: Source>(alloc: Global, source: &mut S, limit: usize) -> Result<Vec<u8>, ReadEnd>
     requires { limit < 2 ^ 32 }
 
     // All the bytes to the end, within the limit.

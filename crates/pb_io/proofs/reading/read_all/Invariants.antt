@@ -9,7 +9,7 @@ invariant-turns g l = record {
   takes : Takes g.S.Source.left g.S.Source.taken l.fn.source l.source l.all.items;
   within : vec_len l.all ≤ l.limit;
   turns : g.S.Source.calls l.source ≤ counted (g.S.Source.calls l.fn.source) (length l.all.items);
-  later : g.S.Source.faults l.fn.source ≤ g.S.Source.faults l.source
+  later : g.S.Source.faults l.fn.source ≤ g.S.Source.faults l.source;
 }
 
 -- each turn but the last takes at least one byte

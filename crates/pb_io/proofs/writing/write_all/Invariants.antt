@@ -9,7 +9,7 @@ invariant-loop-done g l = record {
   within : l.done ≤ length l.bytes;
   puts : Puts g.W.Sink.held g.W.Sink.written l.fn.sink l.sink (take l.done l.bytes);
   turns : g.W.Sink.calls l.sink ≤ counted (g.W.Sink.calls l.fn.sink) l.done;
-  later : g.W.Sink.faults l.fn.sink ≤ g.W.Sink.faults l.sink
+  later : g.W.Sink.faults l.fn.sink ≤ g.W.Sink.faults l.sink;
 }
 
 abbrev pub decreases-loop-done : goal.decreases-loop-done
