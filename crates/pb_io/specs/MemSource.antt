@@ -1,5 +1,5 @@
 -- A source in memory.
-use Rattle.std.specs.Prelude.{ℕ, List, Contains}
+use Rattle.std.specs.Prelude.{ℕ, List, Contains, drop}
 use Rattle.pb_io.specs.Counts.{counted}
 
 -- the bytes that are left, and how many were taken; the most that a call gives; the numbers of the calls that fail, counted from 1;
@@ -15,3 +15,11 @@ pub record SourceInMemory : Type 0 where
 -- the list names the next call
 abbrev pub FailsNext : SourceInMemory → Type 0
 FailsNext source = Contains source.fails (counted source.calls 1)
+
+-- the source after a call that gave the next n bytes
+abbrev pub after_giving : SourceInMemory → ℕ → SourceInMemory
+after_giving source n = record source { left = drop n source.left; taken = counted source.taken n; calls = counted source.calls 1 }
+
+-- the source after a call that failed
+abbrev pub after_fault : SourceInMemory → SourceInMemory
+after_fault source = record source { calls = counted source.calls 1; faults = counted source.faults 1 }

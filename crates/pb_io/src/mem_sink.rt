@@ -1,7 +1,7 @@
 //! A sink in memory.
 ghost use Rattle.std.specs.Prelude.{◌≡◌, ◌+◌, ◌-◌, ◌<◌, ◌≤◌, ◌↔◌, [], ◌++◌, length, take, min, Some, vec_len, vec_capacity, Ok, IfOk, IsErr, OnErr};
 ghost use Rattle.pb_io.specs.Counts.{counted, Rose};
-ghost use Rattle.pb_io.specs.MemSink.{SinkInMemory, RefusesNext};
+ghost use Rattle.pb_io.specs.MemSink.{SinkInMemory, RefusesNext, after_appending, after_fault};
 
 use crate::counts::{count_on, is_named};
 use crate::writing::{Sink, SinkFailed};
@@ -27,7 +27,9 @@ impl Model for MemSink {
 
     ghost Value = { SinkInMemory };
 
-    ghost view = { λ a. record { held = a.bytes.items; written = vec_len a.bytes; room = a.room; most = a.most; fails = a.fails.items; calls = a.calls; faults = a.faults } };
+    ghost view = { λ a. record {
+        held = a.bytes.items; written = vec_len a.bytes; room = a.room;
+        most = a.most; fails = a.fails.items; calls = a.calls; faults = a.faults } };
 
     ghost invariant = { λ a. (vec_len a.bytes ≤ a.room) × (a.room ≤ vec_capacity a.bytes) × (0 < a.most) };
 }
@@ -42,7 +44,9 @@ impl MemSink {
         fails: Vec<u32>,
     ) -> Result<MemSink, AllocError>
         requires { 0 < most }
-        ensures { IfOk result (λ sink. sink ≡ record { held = []; written = 0; room = room; most = most; fails = fails.items; calls = 0; faults = 0 }) }
+        ensures { IfOk result (λ sink. sink ≡ record {
+            held = []; written = 0; room = room;
+            most = most; fails = fails.items; calls = 0; faults = 0 }) }
     {
         Ok(MemSink {
             bytes: Vec::with_capacity(alloc, room)?,
@@ -72,16 +76,17 @@ impl Sink for MemSink {
     ghost faults = { λ s. s.faults };
 
     fn put(&mut self, piece: &[u8]) -> Result<usize, SinkFailed>
-        // It fails exactly at a piece that isn't empty, where the list names the call or no room is left; then its counts
-        // alone move on.
+        // It fails exactly at a piece that isn't empty, where the list names the call or no room is
+        // left, and then its counts alone move on.
         ensures fails { IsErr result ↔ ((0 < length piece.now) × RefusesNext self.old) }
-        ensures err { OnErr result (self.new ≡ record self.old { calls = counted self.old.calls 1; faults = counted self.old.faults 1 }) }
+        ensures err { OnErr result (self.new ≡ after_fault self.old) }
         ensures cause { OnErr result (Rose self.old.faults self.new.faults) }
 
         // Else it appends as many bytes as the piece, `most` and the room left allow.
-        ensures number { IfOk result (λ n. n ≡ min (length piece.now) (min self.old.most (self.old.room - length self.old.held))) }
+        ensures number { IfOk result (λ n. n ≡ min self.old.most
+            (min (length piece.now) (self.old.room - length self.old.held))) }
         ensures some { IfOk result (λ n. 0 < length piece.now → 0 < n) }
-        ensures ok { IfOk result (λ n. self.new ≡ record self.old { held = self.old.held ++ take n piece.now; written = counted self.old.written n; calls = counted self.old.calls 1 }) }
+        ensures ok { IfOk result (λ n. self.new ≡ after_appending self.old (take n piece.now)) }
     {
         self.calls = count_on(self.calls, 1);
         if piece.is_empty() {
@@ -92,7 +97,7 @@ impl Sink for MemSink {
             self.faults = count_on(self.faults, 1);
             return Err(SinkFailed);
         }
-        let count = piece.len().min(self.most).min(left);
+        let count = self.most.min(piece.len()).min(left);
         // The room was taken in `new`.
         self.bytes.extend_from_slice(&piece[..count]).unwrap();
         Ok(count)

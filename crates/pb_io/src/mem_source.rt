@@ -1,7 +1,7 @@
 //! A source in memory.
 ghost use Rattle.std.specs.Prelude.{◌≡◌, ℕ, ◌+◌, ◌<◌, ◌≤◌, ◌↔◌, List, [], ◌++◌, length, take, drop, min, Some, vec_len, IfOk, IsErr, OnErr};
 ghost use Rattle.pb_io.specs.Counts.{counted, Rose};
-ghost use Rattle.pb_io.specs.MemSource.{SourceInMemory, FailsNext};
+ghost use Rattle.pb_io.specs.MemSource.{SourceInMemory, FailsNext, after_giving, after_fault};
 
 use crate::counts::{count_on, is_named};
 use crate::reading::{Source, SourceFailed};
@@ -26,7 +26,9 @@ impl Model for MemSource {
 
     ghost Value = { SourceInMemory };
 
-    ghost view = { λ a. record { left = drop a.at a.bytes.items; taken = a.at; most = a.most; fails = a.fails.items; calls = a.calls; faults = a.faults } };
+    ghost view = { λ a. record {
+        left = drop a.at a.bytes.items; taken = a.at;
+        most = a.most; fails = a.fails.items; calls = a.calls; faults = a.faults } };
 
     ghost invariant = { λ a. (a.at ≤ vec_len a.bytes) × (0 < a.most) };
 }
@@ -35,7 +37,9 @@ impl MemSource {
     /// A source of `bytes` that gives at most `most` of them in a call, and fails at the calls whose numbers are in `fails`.
     pub fn new(bytes: Vec<u8>, most: usize, fails: Vec<u32>) -> MemSource
         requires { 0 < most }
-        ensures { result ≡ record { left = bytes.items; taken = 0; most = most; fails = fails.items; calls = 0; faults = 0 } }
+        ensures { result ≡ record {
+            left = bytes.items; taken = 0;
+            most = most; fails = fails.items; calls = 0; faults = 0 } }
     {
         MemSource {
             bytes,
@@ -60,13 +64,14 @@ impl Source for MemSource {
     fn take(&mut self, buf: &mut [u8]) -> Result<usize, SourceFailed>
         // It fails exactly at the calls that the list names, and then its counts alone move on.
         ensures fails { IsErr result ↔ FailsNext self.old }
-        ensures err { OnErr result (self.new ≡ record self.old { calls = counted self.old.calls 1; faults = counted self.old.faults 1 }) }
+        ensures err { OnErr result (self.new ≡ after_fault self.old) }
         ensures cause { OnErr result (Rose self.old.faults self.new.faults) }
 
         // Else it gives as many bytes as `most`, the bytes left and the buffer allow.
-        ensures number { IfOk result (λ n. n ≡ min self.old.most (min (length self.old.left) (length buf.new))) }
+        ensures number { IfOk result (λ n.
+            n ≡ min self.old.most (min (length self.old.left) (length buf.new))) }
         ensures bytes { IfOk result (λ n. self.old.left ≡ take n buf.new ++ self.new.left) }
-        ensures ok { IfOk result (λ n. self.new ≡ record self.old { left = drop n self.old.left; taken = counted self.old.taken n; calls = counted self.old.calls 1 }) }
+        ensures ok { IfOk result (λ n. self.new ≡ after_giving self.old n) }
         ensures end { IfOk result (λ n. n ≡ 0 → 0 < length buf.new → self.old.left ≡ []) }
     {
         self.calls = count_on(self.calls, 1);

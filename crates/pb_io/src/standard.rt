@@ -1,6 +1,7 @@
 //! The readers and writers of std as sources and sinks: the edge of the program, of whose bytes nothing is told.
-ghost use Rattle.std.specs.Prelude.{◌≡◌, None};
-ghost use Rattle.pb_io.specs.Tally.{Tally};
+ghost use Rattle.std.specs.Prelude.{◌≡◌, ◌<◌, ◌≤◌, [], length, None, Ok, IfOk, OnErr};
+ghost use Rattle.pb_io.specs.Counts.{Rose};
+ghost use Rattle.pb_io.specs.Tally.{Tally, after_moving, after_fault};
 
 use crate::counts::count_on;
 use crate::reading::{Source, SourceFailed};
@@ -45,7 +46,12 @@ impl<R: Read> Source for StdSource<R> {
 
     ghost faults = { λ s. s.faults };
 
-    fn take(&mut self, buf: &mut [u8]) -> Result<usize, SourceFailed> {
+    fn take(&mut self, buf: &mut [u8]) -> Result<usize, SourceFailed>
+        ensures within { IfOk result (λ n. n ≤ length buf.new) }
+        ensures ok { IfOk result (λ n. self.new ≡ after_moving self.old n) }
+        ensures err { OnErr result (self.new ≡ after_fault self.old) }
+        ensures cause { OnErr result (Rose self.old.faults self.new.faults) }
+    {
         self.calls = count_on(self.calls, 1);
         let Ok(count) = self.reader.read(buf) else {
             self.faults = count_on(self.faults, 1);
@@ -93,7 +99,14 @@ impl<W: Write> Sink for StdSink<W> {
 
     ghost faults = { λ s. s.faults };
 
-    fn put(&mut self, piece: &[u8]) -> Result<usize, SinkFailed> {
+    fn put(&mut self, piece: &[u8]) -> Result<usize, SinkFailed>
+        ensures within { IfOk result (λ n. n ≤ length piece.now) }
+        ensures some { IfOk result (λ n. 0 < length piece.now → 0 < n) }
+        ensures empty { piece.now ≡ [] → result ≡ Ok 0 }
+        ensures ok { IfOk result (λ n. self.new ≡ after_moving self.old n) }
+        ensures err { OnErr result (self.new ≡ after_fault self.old) }
+        ensures cause { OnErr result (Rose self.old.faults self.new.faults) }
+    {
         self.calls = count_on(self.calls, 1);
         if piece.is_empty() {
             return Ok(0);
