@@ -1,0 +1,16 @@
+use Rattle.std.proofs.Common.{◌≤◌, ◌-◌, length, take}
+use Rattle.pb_io.specs.Counts.{counted}
+use Rattle.pb_io.specs.Sink.{Puts}
+use Rattle.pb_io.proofs.writing.write_all.Given as goal
+
+-- the bytes so far were put, at least one in each turn
+abbrev pub invariant-loop-done : goal.invariant-loop-done
+invariant-loop-done g l = record {
+  within : l.done ≤ length l.bytes;
+  puts : Puts g.W.Sink.held g.W.Sink.written l.fn.sink l.sink (take l.done l.bytes);
+  turns : g.W.Sink.calls l.sink ≤ counted (g.W.Sink.calls l.fn.sink) l.done;
+  later : g.W.Sink.faults l.fn.sink ≤ g.W.Sink.faults l.sink;
+}
+
+abbrev pub decreases-loop-done : goal.decreases-loop-done
+decreases-loop-done g l = length l.bytes - l.done

@@ -1,0 +1,6 @@
+pub mod Counts
+pub mod MemSink
+pub mod MemSource
+pub mod Sink
+pub mod Source
+pub mod Tally

@@ -1,0 +1,105 @@
+//! A sink in memory.
+ghost use Rattle.std.specs.Prelude.{◌≡◌, ◌+◌, ◌-◌, ◌<◌, ◌≤◌, ◌↔◌, [], ◌++◌, length, take, min, Some, vec_len, vec_capacity, Ok, IfOk, IsErr, OnErr};
+ghost use Rattle.pb_io.specs.Counts.{counted, Rose};
+ghost use Rattle.pb_io.specs.MemSink.{SinkInMemory, RefusesNext, after_appending, after_fault};
+
+use crate::counts::{count_on, is_named};
+use crate::writing::{Sink, SinkFailed};
+use std::alloc::{AllocError, Global};
+use std::marker::Model;
+
+/// A sink that has room for some bytes, appends a few in each call, and fails at the calls that a list names.
+///
+/// Its calls are counted from 1, in a u64 that stays at its greatest value.
+#[derive(Drop)]
+pub struct MemSink {
+    bytes: Vec<u8>,
+    room: usize,
+    most: usize,
+    fails: Vec<u32>,
+    calls: u64,
+    faults: u64,
+}
+
+impl Model for MemSink {
+    ghost use Rattle.std.specs.Prelude.{◌<◌, ◌≤◌, vec_len, vec_capacity};
+    ghost use Rattle.pb_io.specs.MemSink.{SinkInMemory};
+
+    ghost Value = { SinkInMemory };
+
+    ghost view = { λ a. record {
+        held = a.bytes.items; written = vec_len a.bytes; room = a.room;
+        most = a.most; fails = a.fails.items; calls = a.calls; faults = a.faults } };
+
+    ghost invariant = { λ a. (vec_len a.bytes ≤ a.room) × (a.room ≤ vec_capacity a.bytes) × (0 < a.most) };
+}
+
+impl MemSink {
+    /// A sink with room for `room` bytes, which are taken here, that appends at most `most` in a call, and fails at the calls
+    /// whose numbers are in `fails`.
+    pub fn new(
+        alloc: Global,
+        room: usize,
+        most: usize,
+        fails: Vec<u32>,
+    ) -> Result<MemSink, AllocError>
+        requires { 0 < most }
+        ensures { IfOk result (λ sink. sink ≡ record {
+            held = []; written = 0; room = room;
+            most = most; fails = fails.items; calls = 0; faults = 0 }) }
+    {
+        Ok(MemSink {
+            bytes: Vec::with_capacity(alloc, room)?,
+            room,
+            most,
+            fails,
+            calls: 0,
+            faults: 0,
+        })
+    }
+
+    /// The bytes that the sink holds.
+    pub fn bytes(&self) -> &[u8]
+        ensures { result.now ≡ self.now.held }
+    {
+        self.bytes.as_slice()
+    }
+}
+
+impl Sink for MemSink {
+    ghost held = { λ s. Some s.held };
+
+    ghost written = { λ s. s.written };
+
+    ghost calls = { λ s. s.calls };
+
+    ghost faults = { λ s. s.faults };
+
+    fn put(&mut self, piece: &[u8]) -> Result<usize, SinkFailed>
+        // It fails exactly at a piece that isn't empty, where the list names the call or no room is
+        // left, and then its counts alone move on.
+        ensures fails { IsErr result ↔ ((0 < length piece.now) × RefusesNext self.old) }
+        ensures err { OnErr result (self.new ≡ after_fault self.old) }
+        ensures cause { OnErr result (Rose self.old.faults self.new.faults) }
+
+        // Else it appends as many bytes as the piece, `most` and the room left allow.
+        ensures number { IfOk result (λ n. n ≡ min self.old.most
+            (min (length piece.now) (self.old.room - length self.old.held))) }
+        ensures some { IfOk result (λ n. 0 < length piece.now → 0 < n) }
+        ensures ok { IfOk result (λ n. self.new ≡ after_appending self.old (take n piece.now)) }
+    {
+        self.calls = count_on(self.calls, 1);
+        if piece.is_empty() {
+            return Ok(0);
+        }
+        let left = self.room - self.bytes.len();
+        if left == 0 || is_named(&self.fails, self.calls) {
+            self.faults = count_on(self.faults, 1);
+            return Err(SinkFailed);
+        }
+        let count = self.most.min(piece.len()).min(left);
+        // The room was taken in `new`.
+        self.bytes.extend_from_slice(&piece[..count]).unwrap();
+        Ok(count)
+    }
+}

@@ -1,0 +1,96 @@
+//! A source in memory.
+ghost use Rattle.std.specs.Prelude.{◌≡◌, ℕ, ◌+◌, ◌<◌, ◌≤◌, ◌↔◌, List, [], ◌++◌, length, take, drop, min, Some, vec_len, IfOk, IsErr, OnErr};
+ghost use Rattle.pb_io.specs.Counts.{counted, Rose};
+ghost use Rattle.pb_io.specs.MemSource.{SourceInMemory, FailsNext, after_giving, after_fault};
+
+use crate::counts::{count_on, is_named};
+use crate::reading::{Source, SourceFailed};
+use std::marker::Model;
+
+/// A source that gives the bytes of a vector, a few in each call, and fails at the calls that a list names.
+///
+/// Its calls are counted from 1, in a u64 that stays at its greatest value.
+#[derive(Drop)]
+pub struct MemSource {
+    bytes: Vec<u8>,
+    at: usize,
+    most: usize,
+    fails: Vec<u32>,
+    calls: u64,
+    faults: u64,
+}
+
+impl Model for MemSource {
+    ghost use Rattle.std.specs.Prelude.{◌<◌, ◌≤◌, drop, vec_len};
+    ghost use Rattle.pb_io.specs.MemSource.{SourceInMemory};
+
+    ghost Value = { SourceInMemory };
+
+    ghost view = { λ a. record {
+        left = drop a.at a.bytes.items; taken = a.at;
+        most = a.most; fails = a.fails.items; calls = a.calls; faults = a.faults } };
+
+    ghost invariant = { λ a. (a.at ≤ vec_len a.bytes) × (0 < a.most) };
+}
+
+impl MemSource {
+    /// A source of `bytes` that gives at most `most` of them in a call, and fails at the calls whose numbers are in `fails`.
+    pub fn new(bytes: Vec<u8>, most: usize, fails: Vec<u32>) -> MemSource
+        requires { 0 < most }
+        ensures { result ≡ record {
+            left = bytes.items; taken = 0;
+            most = most; fails = fails.items; calls = 0; faults = 0 } }
+    {
+        MemSource {
+            bytes,
+            at: 0,
+            most,
+            fails,
+            calls: 0,
+            faults: 0,
+        }
+    }
+}
+
+impl Source for MemSource {
+    ghost left = { λ s. Some s.left };
+
+    ghost taken = { λ s. s.taken };
+
+    ghost calls = { λ s. s.calls };
+
+    ghost faults = { λ s. s.faults };
+
+    fn take(&mut self, buf: &mut [u8]) -> Result<usize, SourceFailed>
+        // It fails exactly at the calls that the list names, and then its counts alone move on.
+        ensures fails { IsErr result ↔ FailsNext self.old }
+        ensures err { OnErr result (self.new ≡ after_fault self.old) }
+        ensures cause { OnErr result (Rose self.old.faults self.new.faults) }
+
+        // Else it gives as many bytes as `most`, the bytes left and the buffer allow.
+        ensures number { IfOk result (λ n.
+            n ≡ min self.old.most (min (length self.old.left) (length buf.new))) }
+        ensures bytes { IfOk result (λ n. self.old.left ≡ take n buf.new ++ self.new.left) }
+        ensures ok { IfOk result (λ n. self.new ≡ after_giving self.old n) }
+        ensures end { IfOk result (λ n. n ≡ 0 → 0 < length buf.new → self.old.left ≡ []) }
+    {
+        self.calls = count_on(self.calls, 1);
+        if is_named(&self.fails, self.calls) {
+            self.faults = count_on(self.faults, 1);
+            return Err(SourceFailed);
+        }
+        let count = copy_front(&self.bytes[self.at..], self.most, buf);
+        self.at += count;
+        Ok(count)
+    }
+}
+
+// Copies as many bytes from the front of `from` as `most` and `to` allow, and gives their number.
+fn copy_front(from: &[u8], most: usize, to: &mut [u8]) -> usize
+    ensures count { result ≡ min most (min (length from.now) (length to.old)) }
+    ensures copied { take result to.new ≡ take result from.now }
+{
+    let count = most.min(from.len()).min(to.len());
+    to[..count].copy_from_slice(&from[..count]);
+    count
+}

@@ -1,0 +1,122 @@
+//! Sources of bytes, and reading one to its end.
+ghost use Rattle.std.specs.Prelude.{◌≡◌, ◌≢◌, ℕ, ◌+◌, ◌^◌, ◌<◌, ◌≤◌, ◌⊎◌, List, [], length, take, Option, Some, Err, vec_len, IfSome, IfOk, OnOk, OnErr, IsErrOf, IsOkUnless};
+ghost use Rattle.std.specs.Io.KnownBytes.{IsAtEnd};
+ghost use Rattle.pb_io.specs.Counts.{counted, Rose};
+ghost use Rattle.pb_io.specs.Source.{Takes, TakesInTurns, TakesExactly, TakesAtMost};
+ghost use Rattle.pb_io.specs.declared.reading.ReadEnd.TheVariants.{Fault, NoMemory};
+
+use std::alloc::{AllocError, Global};
+use thiserror::Error;
+
+/// A call of [`Source::take`] failed.
+#[derive(Clone, Copy, Debug, PartialEq, Eq, Error)]
+#[error("the source failed")]
+pub struct SourceFailed;
+
+/// Why [`read_all`] gave no bytes.
+#[derive(Clone, Copy, Debug, PartialEq, Eq, Error)]
+pub enum ReadEnd {
+    /// A call of the source failed.
+    #[error("the source failed")]
+    Fault,
+    /// The source has more bytes than the limit.
+    #[error("more bytes than the limit")]
+    TooLarge,
+    /// No memory was found for the bytes.
+    #[error("out of memory")]
+    NoMemory,
+}
+
+impl From<SourceFailed> for ReadEnd {
+    ghost from_gives = { λ _ end. end ≡ Fault };
+
+    fn from(_failed: SourceFailed) -> ReadEnd {
+        ReadEnd::Fault
+    }
+}
+
+impl From<AllocError> for ReadEnd {
+    ghost from_gives = { λ _ end. end ≡ NoMemory };
+
+    fn from(_error: AllocError) -> ReadEnd {
+        ReadEnd::NoMemory
+    }
+}
+
+/// What bytes are taken from.
+///
+/// A contract sees the bytes that are left, where a source tells them, and three counts, each of which stays once it is the
+/// greatest u64: of the bytes taken, of the calls, and of the faults.
+pub trait Source {
+    ghost left: { Self → Option (List ℕ) };
+
+    ghost taken: { Self → ℕ };
+
+    ghost calls: { Self → ℕ };
+
+    ghost faults: { Self → ℕ };
+
+    /// Takes the next bytes into the front of `buf`, and gives their number; 0 on a buffer that isn't empty is the end of the
+    /// input. What `buf` holds behind these bytes, or after a failure, isn't said.
+    fn take(&mut self, buf: &mut [u8]) -> Result<usize, SourceFailed>
+        ensures within { IfOk result (λ n. n ≤ length buf.new) }
+        ensures bytes { IfOk result (λ n. Takes left taken self.old self.new (take n buf.new)) }
+        ensures end { IfOk result (λ n. n ≡ 0 → 0 < length buf.new → IsAtEnd (left self.new)) }
+        ensures only_end { left self.old ≡ Some [] → IfOk result (λ n. n ≡ 0) }
+
+        // It fails only where a fault was counted, and then no byte was taken.
+        ensures cause { OnErr result (Rose (faults self.old) (faults self.new)) }
+        ensures none { OnErr result (Takes left taken self.old self.new []) }
+
+        ensures faults_stay { faults self.old ≤ faults self.new }
+        ensures called { calls self.new ≡ counted (calls self.old) 1 };
+}
+
+// The most bytes that one turn asks for.
+const CHUNK: usize = 8192;
+
+/// Reads a source to its end, and gives its bytes, of which there may be `limit`.
+///
+/// It stops once it has taken one byte more than the limit. After a refusal the bytes that were taken are gone from the source.
+#[tactic(auto, using(crate::proofs::Taking::takes_none, crate::proofs::Taking::takes_more))]
+pub fn read_all<S: Source>(alloc: Global, source: &mut S, limit: usize) -> Result<Vec<u8>, ReadEnd>
+    requires { limit < 2 ^ 32 }
+
+    // All the bytes to the end, within the limit.
+    ensures bytes { IfOk result (λ all.
+        TakesInTurns S.left S.taken S.calls source.old source.new all.items) }
+    ensures whole { IfOk result (λ all. IfSome (S.left source.old) (λ bytes. all.items ≡ bytes)) }
+    ensures end { OnOk result (IsAtEnd (S.left source.new)) }
+    ensures within { IfOk result (λ all. vec_len all ≤ limit) }
+
+    // Too large is the answer exactly where one byte more than the limit was taken.
+    ensures too_large { IsErrOf result ReadEnd.TooLarge →
+        TakesExactly S.left S.taken S.calls source.old source.new (limit + 1) }
+    ensures not_too_large { result ≢ Err ReadEnd.TooLarge →
+        TakesAtMost S.left S.taken S.calls source.old source.new limit }
+
+    // A fault is the answer only where the source counted one.
+    ensures cause { IsErrOf result ReadEnd.Fault → Rose (S.faults source.old) (S.faults source.new) }
+    ensures faults_stay { S.faults source.old ≤ S.faults source.new }
+
+    // Where the bytes are told and no fault was counted, their number decides; want of memory alone is free.
+    ensures small { IfSome (S.left source.old) (λ bytes. length bytes ≤ limit →
+        ¬ Rose (S.faults source.old) (S.faults source.new) → IsOkUnless result ReadEnd.NoMemory) }
+    ensures large { IfSome (S.left source.old) (λ bytes. limit < length bytes →
+        ¬ Rose (S.faults source.old) (S.faults source.new) →
+        IsErrOf result ReadEnd.TooLarge ⊎ IsErrOf result ReadEnd.NoMemory) }
+{
+    let mut all = Vec::new(alloc);
+    let mut chunk = [0u8; CHUNK];
+    'turns: loop {
+        let room = (limit + 1 - all.len()).min(CHUNK);
+        let count = source.take(&mut chunk[..room])?;
+        if count == 0 {
+            return Ok(all);
+        }
+        if count > limit - all.len() {
+            return Err(ReadEnd::TooLarge);
+        }
+        all.extend_from_slice(&chunk[..count])?;
+    }
+}

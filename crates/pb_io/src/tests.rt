@@ -1,0 +1,93 @@
+//! What no clause says: that calls succeed with ample memory, and what the readers and writers of std do behind the adapters.
+use super::*;
+use std::alloc::{AllocError, Global};
+use std::io;
+use std::io::{Read, Write};
+use std::test::Fail;
+
+fn text(alloc: Global, bytes: &[u8]) -> Result<Vec<u8>, AllocError> {
+    Vec::from_slice(alloc, bytes)
+}
+
+#[test]
+fn reads_to_the_end(rt: HostRuntime) -> Result<(), Fail> {
+    let cases: [(&str, usize, u32, usize, Result<&str, ReadEnd>); 6] = [
+        ("", 1, 0, 0, Ok("")),
+        ("unit,U\n", 1, 0, 7, Ok("unit,U\n")),
+        ("unit,U\n", 3, 0, 100, Ok("unit,U\n")),
+        ("unit,U\n", 100, 0, 6, Err(ReadEnd::TooLarge)),
+        ("unit,U\n", 2, 3, 7, Err(ReadEnd::Fault)),
+        ("unit,U\n", 7, 2, 7, Err(ReadEnd::Fault)),
+    ];
+    for (bytes, most, failing, limit, want) in cases {
+        assert!(rt; most > 0 && limit < 1000);
+        let bytes = text(rt.alloc(), bytes.as_bytes())?;
+        let mut source = MemSource::new(bytes, most, vec![in rt.alloc(); failing]?);
+        match (read_all(rt.alloc(), &mut source, limit), want) {
+            (Ok(all), Ok(want)) => assert_eq!(rt; all.as_slice(), want.as_bytes()),
+            (Err(end), Err(want)) => assert_eq!(rt; end, want),
+            _ => assert!(rt; false, "at {most} and {failing}"),
+        }
+    }
+    Ok(())
+}
+
+#[test]
+fn writes_whole_or_a_prefix(rt: HostRuntime) -> Result<(), Fail> {
+    let cases: [(usize, usize, u32, &str); 5] = [
+        (6, 100, 0, "report"),
+        (6, 1, 0, "report"),
+        (6, 1, 3, "re"),
+        (4, 3, 0, "repo"),
+        (100, 100, 1, ""),
+    ];
+    for (room, most, failing, held) in cases {
+        assert!(rt; most > 0);
+        let mut sink = MemSink::new(rt.alloc(), room, most, vec![in rt.alloc(); failing]?)?;
+        let written = write_all(&mut sink, b"report");
+        assert_eq!(rt;
+            written.is_ok(),
+            held == "report",
+            "at {room}, {most} and {failing}"
+        );
+        assert_eq!(rt; sink.bytes(), held.as_bytes());
+    }
+    Ok(())
+}
+
+// A reader that fails, and a writer that takes no byte.
+#[derive(Drop)]
+struct Broken;
+
+impl Read for Broken {
+    fn read(&mut self, _buf: &mut [u8]) -> io::Result<usize> {
+        Err(io::Error::from(io::ErrorKind::Other))
+    }
+}
+
+impl Write for Broken {
+    fn write(&mut self, _buf: &[u8]) -> io::Result<usize> {
+        Ok(0)
+    }
+
+    fn flush(&mut self) -> io::Result<()> {
+        Ok(())
+    }
+}
+
+#[test]
+fn adapts_readers_and_writers(rt: HostRuntime) -> Result<(), Fail> {
+    let mut source = StdSource::new(b"unit,U\n".as_slice());
+    let read = read_all(rt.alloc(), &mut source, 100)?;
+    assert_eq!(rt; read.as_slice(), b"unit,U\n".as_slice());
+
+    let mut written = Vec::new(rt.alloc());
+    write_all(&mut StdSink::new(&mut written), read.as_slice())?;
+    assert_eq!(rt; written.as_slice(), b"unit,U\n".as_slice());
+
+    let failed = read_all(rt.alloc(), &mut StdSource::new(Broken), 100);
+    assert_eq!(rt; failed.err(), Some(ReadEnd::Fault));
+    let failed = write_all(&mut StdSink::new(Broken), b"report");
+    assert_eq!(rt; failed, Err(SinkFailed));
+    Ok(())
+}
