@@ -1,0 +1,4 @@
+pub mod QuotientLaws
+pub mod SearchLaws
+pub mod RootLaws
+pub mod BlockLaws

@@ -1,0 +1,5 @@
+pub mod Quotients
+pub mod Search
+pub mod Roots
+pub mod Blocks
+pub mod Laws

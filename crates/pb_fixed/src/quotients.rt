@@ -1,0 +1,41 @@
+//! Quotients rounded down, up and to the nearest.
+
+ghost use Rattle.std.specs.Prelude.{◌≡◌, ◌^◌, ◌<◌, ◌≤◌, pos, ◌≤ℤ◌, ◌<ℤ◌, unsigned_abs};
+ghost use Rattle.pb_fixed.specs.Quotients.{IsFloor, IsCeiling, IsNearest, floor_div, ceil_div, nearest_div};
+
+/// `n / d`, rounded down.
+pub fn div_floor(n: i128, d: i128) -> i128
+    requires { pos 0 <ℤ d }
+    ensures value { result ≡ floor_div n d }
+    ensures floor { IsFloor n d result }
+    ensures size { unsigned_abs result ≤ unsigned_abs n }
+{
+    n.div_euclid(d)
+}
+
+/// `n / d`, rounded up.
+pub fn div_ceil(n: i128, d: i128) -> i128
+    requires { pos 0 <ℤ d }
+    ensures value { result ≡ ceil_div n d }
+    ensures ceiling { IsCeiling n d result }
+    ensures size { unsigned_abs result ≤ unsigned_abs n }
+{
+    let floor = n.div_euclid(d);
+    if n.rem_euclid(d) == 0 {
+        floor
+    } else {
+        floor + 1
+    }
+}
+
+/// The greatest whole number not above `n / d + 1/2`: the nearest to `n / d`, and the upper one of two that are as near.
+pub fn div_nearest(n: i128, d: i128) -> i128
+    requires dividend { unsigned_abs n < 2 ^ 125 }
+    requires positive { pos 0 <ℤ d }
+    requires divisor { d <ℤ pos (2 ^ 125) }
+    ensures value { result ≡ nearest_div n d }
+    ensures nearest { IsNearest n d result }
+    ensures size { unsigned_abs result ≤ unsigned_abs n }
+{
+    (2 * n + d).div_euclid(2 * d)
+}
