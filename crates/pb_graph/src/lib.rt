@@ -13,6 +13,8 @@ mod neighbours;
 mod records;
 mod results;
 mod search;
+#[cfg(test)]
+mod tests;
 
 pub use graph::{Graph, MOST_NODES, MOST_STREAMS};
 pub use list::List;
