@@ -1,6 +1,6 @@
 -- The volume at a level, by the place of its neighbours.
-use Rattle.std.specs.Prelude.{is_some, IfSome, FitsSigned, ⊤, ◌++◌, get_or, Bool, true, false, ◌&&◌, ◌||◌, ◌⊎◌, int_lt, int_le, slice_get, IsSomeAnd, MatchOption, Contains}
-use Rattle.std.specs.List.{All, AllByRecursion}
+use Rattle.std.specs.Prelude.{is_some, IfSome, FitsSigned, ⊤, ◌++◌, get_or, true, false, ◌||◌, int_lt, int_le, slice_get, IsSomeAnd, MatchOption}
+use Rattle.std.specs.List.{AllByRecursion}
 use Rattle.std.specs.List.Sorted.{IsPartitionedBy}
 use Rattle.pb_integers.proofs.Lists.{AllByRecursion-from_all}
 use Rattle.std.proofs.Common.{◌≡◌, ◌∙◌, ℕ, zero, suc, ◌+◌, ◌-◌, ◌*◌, ◌<◌, ◌≤◌, ◌^◌, ℤ, pos, ◌+ℤ◌, ◌-ℤ◌, ◌*ℤ◌, ◌≤ℤ◌, ◌<ℤ◌, unsigned_abs, List, [], ◌∷◌, length, Option, Some, None, refl, sym, ap, subst, inl, inr, arith}
@@ -16,7 +16,7 @@ use Rattle.pb_integers.proofs.Ring.{var, lit, plus, times, minus, ring}
 use Rattle.pb_fixed.specs.Quotients.{IsFloor, floor_div}
 use Rattle.pb_fixed.proofs.QuotientLaws.{floor_from, floor_is, floor_multiple, floor_shift, floor_to}
 use Rattle.pb_strap.specs.declared.point.Point.{Point}
-use Rattle.pb_strap.specs.Table.{AreNeighbours, IsExactAtPoints, IsLinear, IsOnLine, IsOutside, IsPoint, IsRising, IsVolume, IsTable, is_above, rises, volume_between, volume_of}
+use Rattle.pb_strap.specs.Table.{IsExactAtPoints, IsLinear, IsOnLine, IsOutside, IsPoint, IsRising, IsVolume, IsTable, is_above, rises, volume_between, volume_of}
 
 lt_true : (a b : ℤ) → a <ℤ b → int_lt a b ≡ true
 lt_true a b h = grind (arith, ints)

@@ -1,8 +1,9 @@
 -- Strapping tables: the volume of a tank at a level (API Manual of Petroleum Measurement Standards, chapter 2.2A, capacity tables).
-use Rattle.std.specs.Prelude.{◌≡◌, ℕ, ◌+◌, ◌-◌, ◌*◌, ◌^◌, ◌≤◌, ◌<◌, ◌⊎◌, Bool, true, ◌&&◌, ◌||◌, if◌then◌else◌, ⊤, MatchOption, IsSomeAnd, Contains, ℤ, pos, ◌+ℤ◌, ◌-ℤ◌, ◌*ℤ◌, ◌≤ℤ◌, ◌<ℤ◌, int_lt, int_le, List, [], ◌∷◌, length, All, slice_get, Option, Some, None, IfSome}
+use Rattle.std.specs.Prelude.{◌≡◌, ℕ, ◌+◌, ◌-◌, ◌^◌, ◌≤◌, ◌⊎◌, Bool, true, ◌&&◌, ◌||◌, if◌then◌else◌, ⊤, MatchOption, IsSomeAnd, Contains, ℤ, pos, ◌+ℤ◌, ◌-ℤ◌, ◌*ℤ◌, ◌≤ℤ◌, ◌<ℤ◌, int_lt, int_le, List, [], ◌∷◌, length, All, slice_get, Option, Some, None}
 use Rattle.std.specs.Option.{option_map, option_map_or}
 use Rattle.pb_fixed.specs.Quotients.{IsFloor, floor_div}
 use Rattle.pb_strap.specs.declared.point.Point.{Point}
+use Rattle.pb_strap.specs.declared.strap.TheConstants.{MOST_POINTS}
 
 -- a level of 0 to 100,000 mm and a volume of 0 to 10^12 ml
 pub record IsPoint (p : Point) : Type 0 where
@@ -35,7 +36,7 @@ volume_between p q mm = p.ml +ℤ floor_div ((q.ml -ℤ p.ml) *ℤ (mm -ℤ p.mm
 
 -- a table that a tank may have: at most 2,000 points, each in range, rising
 pub record IsTable (points : List Point) : Type 0 where
-  pub few : length points ≤ 2000
+  pub few : length points ≤ MOST_POINTS
   pub each : All IsPoint points
   pub rising : IsRising points
 

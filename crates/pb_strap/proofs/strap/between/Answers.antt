@@ -1,11 +1,10 @@
-use Rattle.std.specs.Prelude.{unsigned_abs}
 use Rattle.std.specs.Int.{int_div_euclid}
-use Rattle.std.proofs.Common.{◌≡◌, ◌∙◌, ℤ, pos, ◌+ℤ◌, ◌-ℤ◌, ◌*ℤ◌, ◌≤ℤ◌, ◌<ℤ◌, FitsSigned, ap, to_z, of_z, arith}
+use Rattle.std.proofs.Common.{◌≡◌, ℤ, ◌-ℤ◌, ◌*ℤ◌, ◌<ℤ◌, FitsSigned, to_z, of_z, arith}
 use mir.Syntax.{w64}
 use Rattle.std.proofs.lemmas.Int.{ints, to_z-of_z}
 use Rattle.pb_fixed.specs.Quotients.{floor_div}
 use Rattle.pb_strap.specs.declared.point.Point.{Point}
-use Rattle.pb_strap.specs.Table.{IsPoint, volume_between}
+use Rattle.pb_strap.specs.Table.{IsPoint}
 use Rattle.pb_strap.proofs.TableLaws.{line_from, line_to, rise_fits}
 use Rattle.pb_strap.proofs.strap.between.Goals as goal
 

@@ -1,5 +1,5 @@
-use Rattle.std.specs.Prelude.{int_lt, get_or}
-use Rattle.std.proofs.Common.{rules, of_calls, ◌≡◌, ◌<◌, ◌≤◌, arith}
+use Rattle.std.specs.Prelude.{int_lt}
+use Rattle.std.proofs.Common.{rules, of_calls, arith}
 use Rattle.std.proofs.lemmas.Int.{ints}
 use Rattle.std.proofs.lemmas.Fn.{always_returns_same}
 use Rattle.pb_strap.proofs.TableLaws.{is_partitioned}

@@ -1,4 +1,4 @@
-use Rattle.std.proofs.Common.{◌≡◌, ◌∙◌, ℤ, pos, ◌+◌, ◌*◌, ◌^◌, ◌*ℤ◌, ◌≤ℤ◌, ◌<ℤ◌, FitsSigned, subst, ap, ap₂, sym, to_z, of_z, arith}
+use Rattle.std.proofs.Common.{◌≡◌, ◌∙◌, ℤ, pos, ◌*◌, ◌^◌, ◌*ℤ◌, ◌≤ℤ◌, FitsSigned, subst, ap₂, sym, to_z, of_z, arith}
 use mir.Syntax.{w64, w128}
 use Rattle.std.proofs.lemmas.Int.{fits_signed_mul, ints, to_z-of_z}
 use Rattle.pb_fixed.specs.Quotients.{floor_div}

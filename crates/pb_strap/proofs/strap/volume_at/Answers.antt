@@ -1,5 +1,5 @@
 use Rattle.std.specs.Prelude.{get_or, length}
-use Rattle.std.proofs.Common.{◌≡◌, ◌∙◌, ◌≢◌, ℕ, suc, ◌-◌, ◌<◌, ◌≤◌, ℤ, pos, ◌≤ℤ◌, ◌<ℤ◌, FitsSigned, Some, ap, subst, sym, to_z, of_z, arith}
+use Rattle.std.proofs.Common.{◌≡◌, ◌∙◌, ◌≢◌, ℕ, suc, ◌-◌, ◌<◌, pos, ◌≤ℤ◌, FitsSigned, Some, ap, subst, sym, to_z, of_z, arith}
 use mir.Syntax.{w64}
 use Rattle.std.proofs.lemmas.Int.{ints, to_z-of_z}
 use Rattle.pb_strap.specs.declared.point.Point.{Point}

@@ -1,6 +1,5 @@
-use Rattle.std.specs.Prelude.{◌≡◌, ℤ, List, Option, is_some, false, IsSomeAnd, IfSome}
+use Rattle.std.specs.Prelude.{◌≡◌, ℤ, Option, is_some, IfSome}
 use Rattle.std.proofs.Common.{subst, sym, rules, ap, ◌∙◌}
-use Rattle.pb_strap.specs.declared.point.Point.{Point}
 use Rattle.pb_strap.specs.Table.{IsExactAtPoints, IsLinear, IsTable, IsVolume, volume_of}
 use Rattle.pb_strap.proofs.TableLaws.{is_exact_at_points, is_linear, none-outside, outside-none, volume_of-width}
 use Rattle.pb_strap.proofs.strap.Strap.volume.Goals as goal
