@@ -81,6 +81,9 @@ block_exponent_unique items h k p q = let a = p.least k q.fit in let b = q.least
 pub block_exponent_only : (items : List ℤ) (h : ℕ) → IsBlockExponent items h → h ≡ block_exponent_of items
 block_exponent_only items h p = block_exponent_unique items h (block_exponent_of items) p (block_exponent_is items)
 
+pub FitBlocks-above : (items : List ℤ) (h : ℕ) → block_exponent_of items ≤ h → FitBlocks h items
+FitBlocks-above items h le = FitBlocks-mono (block_exponent_of items) h items le (block_exponent_is items).fit
+
 -- ---- the exponent of one item, by the binary logarithm of the number below it
 -- a loop's step: the greatest exponent so far
 pub fit_more : (items : List ℤ) (i most next e : ℕ) → next ≡ max e most → ((j : ℕ) (d : ℤ) → j < i → get_or items j d ≤ℤ pos (2 ^ (57 + most)))

@@ -2,7 +2,7 @@
 use Rattle.std.specs.Prelude.{◌≡◌, ℕ, ◌*◌, ◌≤◌, ℤ, pos, neg_ℤ, ◌+ℤ◌, ◌-ℤ◌, ◌*ℤ◌, ◌≤ℤ◌, ◌<ℤ◌, List}
 use Rattle.pb_fixed.specs.Quotients.{IsFloor, IsCeiling, IsNearest, floor_div, ceil_div, nearest_div}
 use Rattle.pb_fixed.specs.Roots.{IsRootFloor, IsRootCeiling, IsScaledRoot, root_floor_of, root_ceil_of, scaled_root_of}
-use Rattle.pb_fixed.specs.Blocks.{IsBlockExponent, block_exponent_of}
+use Rattle.pb_fixed.specs.Blocks.{FitBlocks, IsBlockExponent, block_exponent_of}
 
 -- a way of rounding quotients: it is exact at multiples, keeps the order, and moves along with multiples of the divisor
 pub record RoundsQuotients (rounded : ℤ → ℤ → ℤ) : Type 0 where
@@ -40,7 +40,8 @@ pub record AreRoots : Type 0 where
   pub scaled_only : (v r : ℤ) → pos 0 ≤ℤ v → IsScaledRoot v r → r ≡ scaled_root_of v
   pub scaled_mono : (v w : ℤ) → pos 0 ≤ℤ v → v ≤ℤ w → scaled_root_of v ≤ℤ scaled_root_of w
 
--- the block exponent is the least that fits, and the only one
+-- the block exponent is the least that fits, and the only one, and each greater number fits too
 pub record AreBlockExponents : Type 0 where
   pub exponent : (items : List ℤ) → IsBlockExponent items (block_exponent_of items)
   pub only : (items : List ℤ) (h : ℕ) → IsBlockExponent items h → h ≡ block_exponent_of items
+  pub fit_above : (items : List ℤ) (h : ℕ) → block_exponent_of items ≤ h → FitBlocks h items
