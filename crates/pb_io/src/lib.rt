@@ -1,8 +1,9 @@
 //! Where bytes come from and where they go.
 //!
-//! A [`Source`] gives bytes and a [`Sink`] takes them, a few in each call, and each call may fail. [`read_all`] reads a source to
-//! its end, and [`write_all`] writes a slice whole. [`MemSource`] and [`MemSink`] work in memory, by contracts that say each
-//! byte and each failure; [`StdSource`] and [`StdSink`] are the edge of the program, of whose bytes nothing is told.
+//! A [`Source`] gives bytes and a [`Sink`] takes them, a few in each call, and each call may fail.
+//! [`read_all`] reads a source to its end, and [`write_all`] writes a slice whole. [`MemSource`]
+//! and [`MemSink`] work in memory, by contracts that say each byte and each failure. [`StdSource`]
+//! and [`StdSink`] are the edge of the program, of whose bytes nothing is told.
 #![tactic(auto)]
 
 mod counts;

@@ -8,7 +8,8 @@ use crate::writing::{Sink, SinkFailed};
 use std::alloc::{AllocError, Global};
 use std::marker::Model;
 
-/// A sink that has room for some bytes, appends a few in each call, and fails at the calls that a list names.
+/// A sink that has room for some bytes, appends a few in each call, and fails at the calls that a
+/// list names.
 ///
 /// Its calls are counted from 1, in a u64 that stays at its greatest value.
 #[derive(Drop)]
@@ -28,15 +29,22 @@ impl Model for MemSink {
     ghost Value = { SinkInMemory };
 
     ghost view = { λ a. record {
-        held = a.bytes.items; written = vec_len a.bytes; room = a.room;
-        most = a.most; fails = a.fails.items; calls = a.calls; faults = a.faults } };
+      held = a.bytes.items;
+      written = vec_len a.bytes;
+      room = a.room;
+      most = a.most;
+      fails = a.fails.items;
+      calls = a.calls;
+      faults = a.faults;
+    } };
 
-    ghost invariant = { λ a. (vec_len a.bytes ≤ a.room) × (a.room ≤ vec_capacity a.bytes) × (0 < a.most) };
+    ghost invariant = { λ a.
+        (vec_len a.bytes ≤ a.room) × (a.room ≤ vec_capacity a.bytes) × (0 < a.most) };
 }
 
 impl MemSink {
-    /// A sink with room for `room` bytes, which are taken here, that appends at most `most` in a call, and fails at the calls
-    /// whose numbers are in `fails`.
+    /// A sink that has room for `room` bytes, whose memory is taken here, appends at most `most` in
+    /// a call, and fails at the calls whose numbers are in `fails`.
     pub fn new(
         alloc: Global,
         room: usize,
@@ -45,8 +53,14 @@ impl MemSink {
     ) -> Result<MemSink, AllocError>
         requires { 0 < most }
         ensures { IfOk result (λ sink. sink ≡ record {
-            held = []; written = 0; room = room;
-            most = most; fails = fails.items; calls = 0; faults = 0 }) }
+          held = [];
+          written = 0;
+          room = room;
+          most = most;
+          fails = fails.items;
+          calls = 0;
+          faults = 0;
+        }) }
     {
         Ok(MemSink {
             bytes: Vec::with_capacity(alloc, room)?,

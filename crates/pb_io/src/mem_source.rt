@@ -7,7 +7,8 @@ use crate::counts::{count_on, is_named};
 use crate::reading::{Source, SourceFailed};
 use std::marker::Model;
 
-/// A source that gives the bytes of a vector, a few in each call, and fails at the calls that a list names.
+/// A source that gives the bytes of a vector, a few in each call, and fails at the calls that a
+/// list names.
 ///
 /// Its calls are counted from 1, in a u64 that stays at its greatest value.
 #[derive(Drop)]
@@ -27,19 +28,30 @@ impl Model for MemSource {
     ghost Value = { SourceInMemory };
 
     ghost view = { λ a. record {
-        left = drop a.at a.bytes.items; taken = a.at;
-        most = a.most; fails = a.fails.items; calls = a.calls; faults = a.faults } };
+      left = drop a.at a.bytes.items;
+      taken = a.at;
+      most = a.most;
+      fails = a.fails.items;
+      calls = a.calls;
+      faults = a.faults;
+    } };
 
     ghost invariant = { λ a. (a.at ≤ vec_len a.bytes) × (0 < a.most) };
 }
 
 impl MemSource {
-    /// A source of `bytes` that gives at most `most` of them in a call, and fails at the calls whose numbers are in `fails`.
+    /// A source of `bytes` that gives at most `most` of them in a call, and fails at the calls
+    /// whose numbers are in `fails`.
     pub fn new(bytes: Vec<u8>, most: usize, fails: Vec<u32>) -> MemSource
         requires { 0 < most }
         ensures { result ≡ record {
-            left = bytes.items; taken = 0;
-            most = most; fails = fails.items; calls = 0; faults = 0 } }
+          left = bytes.items;
+          taken = 0;
+          most = most;
+          fails = fails.items;
+          calls = 0;
+          faults = 0;
+        } }
     {
         MemSource {
             bytes,

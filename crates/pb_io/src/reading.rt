@@ -45,8 +45,8 @@ impl From<AllocError> for ReadEnd {
 
 /// What bytes are taken from.
 ///
-/// A contract sees the bytes that are left, where a source tells them, and three counts, each of which stays once it is the
-/// greatest u64: of the bytes taken, of the calls, and of the faults.
+/// A contract sees the bytes that are left, where a source tells them, and three counts, each of
+/// which stays once it is the greatest u64: of the bytes taken, of the calls, and of the faults.
 pub trait Source {
     ghost left: { Self → Option (List ℕ) };
 
@@ -56,8 +56,9 @@ pub trait Source {
 
     ghost faults: { Self → ℕ };
 
-    /// Takes the next bytes into the front of `buf`, and gives their number; 0 on a buffer that isn't empty is the end of the
-    /// input. What `buf` holds behind these bytes, or after a failure, isn't said.
+    /// Takes the next bytes into the front of `buf`, and gives their number; 0 on a buffer that
+    /// isn't empty is the end of the input. What `buf` holds behind these bytes, or after a
+    /// failure, isn't said.
     fn take(&mut self, buf: &mut [u8]) -> Result<usize, SourceFailed>
         ensures within { IfOk result (λ n. n ≤ length buf.new) }
         ensures bytes { IfOk result (λ n. Takes left taken self.old self.new (take n buf.new)) }
@@ -77,7 +78,8 @@ const CHUNK: usize = 8192;
 
 /// Reads a source to its end, and gives its bytes, of which there may be `limit`.
 ///
-/// It stops once it has taken one byte more than the limit. After a refusal the bytes that were taken are gone from the source.
+/// It stops once it has taken one byte more than the limit. After a refusal the bytes that were
+/// taken are gone from the source.
 #[tactic(auto, using(crate::proofs::Taking::takes_none, crate::proofs::Taking::takes_more))]
 pub fn read_all<S: Source>(alloc: Global, source: &mut S, limit: usize) -> Result<Vec<u8>, ReadEnd>
     requires { limit < 2 ^ 32 }
@@ -96,10 +98,12 @@ pub fn read_all<S: Source>(alloc: Global, source: &mut S, limit: usize) -> Resul
         TakesAtMost S.left S.taken S.calls source.old source.new limit }
 
     // A fault is the answer only where the source counted one.
-    ensures cause { IsErrOf result ReadEnd.Fault → Rose (S.faults source.old) (S.faults source.new) }
+    ensures cause { IsErrOf result ReadEnd.Fault →
+        Rose (S.faults source.old) (S.faults source.new) }
     ensures faults_stay { S.faults source.old ≤ S.faults source.new }
 
-    // Where the bytes are told and no fault was counted, their number decides; want of memory alone is free.
+    // Where the bytes are told and no fault was counted, their number decides. Want of memory alone
+    // is free.
     ensures small { IfSome (S.left source.old) (λ bytes. length bytes ≤ limit →
         ¬ Rose (S.faults source.old) (S.faults source.new) → IsOkUnless result ReadEnd.NoMemory) }
     ensures large { IfSome (S.left source.old) (λ bytes. limit < length bytes →

@@ -1,4 +1,5 @@
-//! The readers and writers of std as sources and sinks: the edge of the program, of whose bytes nothing is told.
+//! The readers and writers of std as sources and sinks: the edge of the program, of whose bytes
+//! nothing is told.
 ghost use Rattle.std.specs.Prelude.{◌≡◌, ◌<◌, ◌≤◌, [], length, None, Ok, IfOk, OnErr};
 ghost use Rattle.pb_io.specs.Counts.{Rose};
 ghost use Rattle.pb_io.specs.Tally.{Tally, after_moving, after_fault};
@@ -25,6 +26,7 @@ impl<R> Model for StdSource<R> {
 }
 
 impl<R> StdSource<R> {
+    /// A source of what the reader gives.
     pub fn new(reader: R) -> StdSource<R>
         ensures { result ≡ record { bytes = 0; calls = 0; faults = 0 } }
     {
@@ -62,7 +64,8 @@ impl<R: Read> Source for StdSource<R> {
     }
 }
 
-/// A writer as a sink. Each error of the writer is a fault, and so is a write of no byte of a piece that isn't empty.
+/// A writer as a sink. Each error of the writer is a fault, and so is a write of no byte of a piece
+/// that isn't empty.
 #[derive(Drop)]
 pub struct StdSink<W> {
     writer: W,
@@ -78,6 +81,7 @@ impl<W> Model for StdSink<W> {
 }
 
 impl<W> StdSink<W> {
+    /// A sink that hands its pieces to the writer.
     pub fn new(writer: W) -> StdSink<W>
         ensures { result ≡ record { bytes = 0; calls = 0; faults = 0 } }
     {

@@ -1,14 +1,11 @@
-//! What no clause says: that calls succeed with ample memory, and what the readers and writers of std do behind the adapters.
+//! What no clause says: that calls succeed with ample memory, and what readers and writers of std
+//! do behind their adapters.
 use super::*;
-use std::alloc::{AllocError, Global};
 use std::io;
 use std::io::{Read, Write};
 use std::test::Fail;
 
-fn text(alloc: Global, bytes: &[u8]) -> Result<Vec<u8>, AllocError> {
-    Vec::from_slice(alloc, bytes)
-}
-
+// Of the numbers of calls that fail, 0 names none.
 #[test]
 fn reads_to_the_end(rt: HostRuntime) -> Result<(), Fail> {
     let cases: [(&str, usize, u32, usize, Result<&str, ReadEnd>); 6] = [
@@ -21,7 +18,7 @@ fn reads_to_the_end(rt: HostRuntime) -> Result<(), Fail> {
     ];
     for (bytes, most, failing, limit, want) in cases {
         assert!(rt; most > 0 && limit < 1000);
-        let bytes = text(rt.alloc(), bytes.as_bytes())?;
+        let bytes = Vec::from_slice(rt.alloc(), bytes.as_bytes())?;
         let mut source = MemSource::new(bytes, most, vec![in rt.alloc(); failing]?);
         match (read_all(rt.alloc(), &mut source, limit), want) {
             (Ok(all), Ok(want)) => assert_eq!(rt; all.as_slice(), want.as_bytes()),

@@ -12,8 +12,8 @@ pub struct SinkFailed;
 
 /// What bytes are put into.
 ///
-/// A contract sees the bytes that it holds, where a sink tells them, and three counts, each of which stays once it is the greatest
-/// u64: of the bytes put, of the calls, and of the faults.
+/// A contract sees the bytes that are held, where a sink tells them, and three counts, each of
+/// which stays once it is the greatest u64: of the bytes put, of the calls, and of the faults.
 pub trait Sink {
     ghost held: { Self → Option (List ℕ) };
 
@@ -23,7 +23,8 @@ pub trait Sink {
 
     ghost faults: { Self → ℕ };
 
-    /// Appends bytes from the front of `piece`, at least one where there is one, and gives their number.
+    /// Appends bytes from the front of `piece`, at least one where there is one, and gives their
+    /// number.
     fn put(&mut self, piece: &[u8]) -> Result<usize, SinkFailed>
         ensures within { IfOk result (λ n. n ≤ length piece.now) }
         ensures some { IfOk result (λ n. 0 < length piece.now → 0 < n) }

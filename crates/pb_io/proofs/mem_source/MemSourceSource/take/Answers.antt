@@ -14,4 +14,4 @@ returns-clause-bytes c =
     let n = c.copy_front-count.result in
     let all : take (length xs - at) (drop at xs) ≡ drop at xs = take_all _ _ (omega (arith, length-drop at xs)) in
     let front = copied_is_front xs (take n c.copy_front-count.new.to) at n (rw all at c.copy_front-count.ensures.copied) in
-    ap (λ supply. supply.left) (sym c.self.view_is) ∙ rw c.deref-2.ensures.value at front
+    ap (λ source. source.left) (sym c.self.view_is) ∙ rw c.deref-2.ensures.value at front
