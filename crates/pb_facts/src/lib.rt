@@ -6,6 +6,8 @@
 mod fact;
 mod facts;
 mod shares;
+#[cfg(test)]
+mod tests;
 
 pub use fact::{Fact, FactFault};
 pub use facts::{Facts, KeptFact};

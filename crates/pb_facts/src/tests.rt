@@ -1,0 +1,159 @@
+// What no clause says: that calls succeed where memory is ample, values from outside, and that many facts are added in good time.
+
+ghost use Rattle.std.specs.Prelude.{IfOk};
+ghost use Rattle.pb_facts.specs.Fact.{IsDay, IsInRange};
+
+use crate::{Fact, FactFault, Facts, share};
+use pb_rows::{Name, whole_bytes};
+use std::alloc::Global;
+use std::test::Fail;
+
+fn name(text: &[u8]) -> Result<Name, Fail> {
+    Ok(Name::read(text).ok_or("a name")?)
+}
+
+fn reading(id: &[u8], stream: &[u8], day: i32) -> Result<Fact, Fail>
+    requires { IsDay day }
+    ensures { IfOk result IsInRange }
+{
+    Ok(Fact::Reading {
+        id: name(id)?,
+        stream: name(stream)?,
+        day,
+        grams: 5,
+        variance: 1,
+    })
+}
+
+fn transfer(id: &[u8], first: i32, last: i32) -> Result<Fact, Fail>
+    requires first { IsDay first }
+    requires last { IsDay last }
+    ensures { IfOk result IsInRange }
+{
+    Ok(Fact::Transfer {
+        id: name(id)?,
+        stream: name(b"T")?,
+        first,
+        last,
+        grams: 5,
+        variance: 1,
+    })
+}
+
+fn dip(id: &[u8], tank: &[u8], day: i32) -> Result<Fact, Fail>
+    requires { IsDay day }
+    ensures { IfOk result IsInRange }
+{
+    Ok(Fact::Dip {
+        id: name(id)?,
+        tank: name(tank)?,
+        day,
+        mm: 4,
+        density: 1_000_000,
+        variance: 0,
+    })
+}
+
+// Adds a fact that has no fault.
+fn add(facts: &mut Facts, fact: Fact) -> Result<(), Fail>
+    requires { IsInRange fact }
+{
+    if facts.judge(&fact).is_some() {
+        return Err("a fault")?;
+    }
+    facts.add(fact)?;
+    Ok(())
+}
+
+// A plant with a reading, a dip and a transfer.
+fn three(alloc: Global) -> Result<Facts, Fail> {
+    let mut facts = Facts::new(alloc);
+    add(&mut facts, reading(b"r1", b"A", 19782)?)?;
+    add(&mut facts, dip(b"p1", b"K", 19782)?)?;
+    add(&mut facts, transfer(b"t1", 19752, 19754)?)?;
+    Ok(facts)
+}
+
+#[test]
+fn refuses_duplicates(rt: HostRuntime) -> Result<(), Fail> {
+    let facts = three(rt.alloc())?;
+    let duplicate = Some(FactFault::Duplicate);
+    assert_eq!(rt; facts.judge(&reading(b"r1", b"B", 1)?), duplicate);
+    assert_eq!(rt; facts.judge(&transfer(b"p1", 3, 1)?), duplicate);
+    assert_eq!(rt; facts.judge(&reading(b"r2", b"A", 19782)?), duplicate);
+    assert_eq!(rt; facts.judge(&dip(b"p2", b"K", 19782)?), duplicate);
+    Ok(())
+}
+
+#[test]
+fn tells_days_and_kinds_apart(rt: HostRuntime) -> Result<(), Fail> {
+    let facts = three(rt.alloc())?;
+    assert_eq!(rt; facts.judge(&reading(b"r2", b"A", 19783)?), None);
+    assert_eq!(rt; facts.judge(&reading(b"r2", b"B", 19782)?), None);
+    assert_eq!(rt; facts.judge(&reading(b"r2", b"K", 19782)?), None);
+    assert_eq!(rt; facts.judge(&dip(b"p2", b"A", 19782)?), None);
+    Ok(())
+}
+
+#[test]
+fn measures_transfers(rt: HostRuntime) -> Result<(), Fail> {
+    let facts = Facts::new(rt.alloc());
+    assert_eq!(rt;
+        facts.judge(&transfer(b"t2", 19754, 19753)?),
+        Some(FactFault::Order)
+    );
+    assert_eq!(rt; facts.judge(&transfer(b"t2", 0, 365)?), None);
+    assert_eq!(rt;
+        facts.judge(&transfer(b"t2", 0, 366)?),
+        Some(FactFault::Range)
+    );
+    Ok(())
+}
+
+#[test]
+fn looks_up_ids(rt: HostRuntime) -> Result<(), Fail> {
+    let facts = three(rt.alloc())?;
+    assert_eq!(rt; facts.len(), 3);
+    assert_eq!(rt; facts.find(&name(b"t1")?), Some(2));
+    assert_eq!(rt; facts.find(&name(b"t2")?), None);
+    match facts.live(2) {
+        Some(fact) => assert!(rt; fact.id() == name(b"t1")?),
+        None => assert!(rt; false),
+    }
+    Ok(())
+}
+
+#[test]
+fn looks_up_days(rt: HostRuntime) -> Result<(), Fail> {
+    let facts = three(rt.alloc())?;
+    assert!(rt; !facts.is_empty());
+    assert_eq!(rt; facts.reading_on(&name(b"A")?, 19782), Some(0));
+    assert_eq!(rt; facts.reading_on(&name(b"K")?, 19782), None);
+    assert_eq!(rt; facts.dip_on(&name(b"K")?, 19782), Some(1));
+    Ok(())
+}
+
+#[test]
+fn shares_of_three_days(rt: HostRuntime) {
+    let table = [
+        ((10, 3, 0, 1), 3),
+        ((10, 3, 1, 2), 3),
+        ((10, 3, 2, 3), 4),
+        ((-1, 2, 0, 1), -1),
+        ((-1, 2, 1, 2), 0),
+    ];
+    for ((g, n, a, b), part) in table {
+        assert_eq!(rt; share(g, n, a, b), part);
+    }
+}
+
+#[test]
+fn adds_many(rt: HostRuntime) -> Result<(), Fail> {
+    let mut facts = Facts::new(rt.alloc());
+    for i in 0..20_000u16 {
+        let id = whole_bytes(rt.alloc(), i128::from(i))?;
+        add(&mut facts, reading(id.as_slice(), b"A", i32::from(i))?)?;
+    }
+    assert_eq!(rt; facts.len(), 20_000);
+    Ok(())
+}
