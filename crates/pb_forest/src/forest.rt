@@ -12,7 +12,7 @@ use std::marker::Model;
 /// The spanning forest of a process graph (Kruskal 1956; Narasimhan and Jordache, chapter 3).
 ///
 /// Streams are taken in order, the unmeasured ones by id and then the measured ones by id. A stream is held exactly where no
-/// walk of streams before it joins its ends. So the forest takes as few measured streams as it can.
+/// walk of streams before it joins its ends.
 #[derive(Debug, Drop)]
 pub struct Forest {
     graph: Graph,

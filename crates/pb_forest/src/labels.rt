@@ -35,7 +35,6 @@ fn join(s: &Stream, labels: &mut [u32]) -> bool
 
 /// Takes the streams of one kind, measured or not, in order, and marks those whose ends were apart.
 fn pass(streams: &[Stream], measured: bool, labels: &mut [u32], held: &mut [bool])
-    requires few { length streams.now ≤ 2000 }
     requires each { length held.old ≡ length streams.now }
     requires ends { All (IsStream (length labels.old)) streams.now }
     requires begins { IsLabelling streams.now (length labels.old) (is_before measured 0) labels.old }
@@ -52,7 +51,6 @@ fn pass(streams: &[Stream], measured: bool, labels: &mut [u32], held: &mut [bool
 
 /// Marks the streams that are held: the unmeasured ones are taken first, and then the measured ones.
 fn mark(streams: &[Stream], labels: &mut [u32], held: &mut [bool])
-    requires few { length streams.now ≤ 2000 }
     requires each { length held.old ≡ length streams.now }
     requires ends { All (IsStream (length labels.old)) streams.now }
     requires numbers { (n : ℕ) → n < length labels.old → slice_index labels.old n ≡ n }
@@ -76,7 +74,6 @@ fn numbers(alloc: Global, limit: u32) -> Result<Vec<u32>, AllocError>
 
 /// One mark for each stream: whether it is held in the spanning forest.
 pub fn held_streams(alloc: Global, nodes: u32, streams: &[Stream]) -> Result<Vec<bool>, AllocError>
-    requires few { length streams.now ≤ 2000 }
     requires ends { All (IsStream nodes) streams.now }
     ensures { IfOk result (λ v. IsForest streams.now v.items) }
 {
