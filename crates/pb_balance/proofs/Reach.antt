@@ -19,10 +19,11 @@ use Rattle.pb_balance.proofs.Cycles.{AreUnmeasuredBut, round_frees}
 
 -- ---- where it is reached
 -- a walk over the other unmeasured streams does not take stream j, and no measured one
-no_meas : (s : Stream) → is_measured s ≡ false → s.meas ≡ None
+-- a stream that is not measured has no measurement
+pub no_meas : (s : Stream) → is_measured s ≡ false → s.meas ≡ None
 no_meas s none = elim s.meas as (λ o. is_some o ≡ false → o ≡ None) [ None ↦ λ e. refl | Some m ↦ λ e. cc e ] none
 
-others_walk : (j a b : ℕ) (ss : List Stream) (steps : List Step) → Walks (ends_of (unmeasured_but j) ss) a steps b
+pub others_walk : (j a b : ℕ) (ss : List Stream) (steps : List Step) → Walks (ends_of (unmeasured_but j) ss) a steps b
     → (takes j steps ≡ false) × AreUnmeasuredBut j ss steps
 others_walk j a b ss [] w = (refl, tt)
 others_walk j a b ss (t ∷ rest) (c, e, w) =

@@ -1,0 +1,8 @@
+pub mod Unique
+pub mod Paths
+pub mod Rounds
+pub mod Chords
+pub mod CutLemmas
+pub mod CycleLemmas
+pub mod MarkLemmas
+pub mod Items

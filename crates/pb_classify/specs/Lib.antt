@@ -1,0 +1,5 @@
+pub mod Certificate
+pub mod Classification
+pub mod Marks
+pub mod Chords
+pub mod Laws

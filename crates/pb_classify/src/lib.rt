@@ -1,0 +1,14 @@
+//! The class of each stream of a process graph by what the balances determine, with its canonical certificate: a cut for a stream
+//! that the measured flows determine, and a cycle for another (Narasimhan and Jordache, "Data Reconciliation and Gross Error
+//! Detection", chapter 3).
+#![tactic(auto)]
+
+mod classes;
+mod cut;
+mod cycles;
+mod laws;
+#[cfg(test)]
+mod tests;
+
+pub use classes::classify;
+pub use laws::one_classification_law;
