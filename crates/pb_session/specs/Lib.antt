@@ -1,0 +1,4 @@
+pub mod RowForm
+pub mod Stored
+pub mod DesignGraph
+pub mod Session
