@@ -2,3 +2,4 @@ pub mod RowForm
 pub mod Stored
 pub mod DesignGraph
 pub mod Session
+pub mod Kept

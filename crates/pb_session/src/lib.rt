@@ -5,6 +5,7 @@
 #![tactic(auto)]
 
 mod form;
+mod name_index;
 mod session;
 
 pub use form::{Answer, Declared, RowForm};

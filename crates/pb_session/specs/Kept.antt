@@ -1,0 +1,51 @@
+-- What a session keeps beside the stored rows, so that no record reads them all again.
+use Rattle.std.specs.Prelude.{◌≡◌, ℕ, ◌≤◌, ◌<◌, ◌^◌, ℤ, pos, ◌≤ℤ◌, true, false, List, length, Option, IfSome, bytes_eq}
+use Rattle.std.specs.List.{AllByRecursion}
+use Rattle.pb_graph.specs.declared.graph.TheConstants.{MOST_STREAMS}
+use Rattle.pb_session.specs.declared.session.TheConstants.{MOST_UNITS}
+use Rattle.pb_session.specs.declared.form.Declared.{Declared}
+use Rattle.pb_session.specs.declared.form.Declared.TheVariants.{Unit as UnitRow, Stream as StreamRow}
+use Rattle.pb_session.specs.declared.form.RowForm.{RowForm}
+use Rattle.pb_session.specs.declared.form.RowForm.TheVariants.{Blank as BlankForm, Declares, Design as DesignForm, Other}
+use Rattle.pb_session.specs.Stored.{is_among, node_names, stream_names, unit_names}
+
+-- the ends of a stream differ, and a base variance is from 1 to 10^19
+pub record IsStreamForm (from to : List ℕ) (base : Option ℤ) : Type 0 where
+  pub apart : bytes_eq from to ≡ false
+  pub limits : IfSome base (λ variance. (pos 1 ≤ℤ variance) × (variance ≤ℤ pos (10 ^ 19)))
+
+-- both ends of a stream are among the nodes
+pub record HasEnds (nodes : List (List ℕ)) (from to : List ℕ) : Type 0 where
+  pub begins : is_among nodes from ≡ true
+  pub ends : is_among nodes to ≡ true
+
+-- a declaration keeps the limits of its form
+abbrev pub IsDeclaration : Declared → Type 0
+IsDeclaration (UnitRow name) = Unit {0}
+IsDeclaration (StreamRow name from to base) = IsStreamForm from to base
+
+-- a declaration is of a unit, or of a stream whose ends are among the nodes
+abbrev pub IsJoined : List (List ℕ) → Declared → Type 0
+IsJoined nodes (UnitRow name) = Unit {0}
+IsJoined nodes (StreamRow name from to base) = HasEnds nodes from to × IsStreamForm from to base
+
+-- The names of the stored units and streams are kept in order, there are at most 1,000 and 2,000 of them, and each stream joins
+-- the environment or stored units.
+pub record IsKept (stored : List Declared) (units streams : List (List ℕ)) : Type 0 where
+  pub each_unit : units ≡ unit_names stored
+  pub each_stream : streams ≡ stream_names stored
+  pub few_units : length (unit_names stored) ≤ MOST_UNITS
+  pub few_streams : length (stream_names stored) ≤ MOST_STREAMS
+  pub joined : AllByRecursion (IsJoined (node_names stored)) stored
+
+-- a record of this form keeps the limits of its form
+abbrev pub IsForm : RowForm → Type 0
+IsForm BlankForm = Unit {0}
+IsForm (Declares row) = IsDeclaration row
+IsForm DesignForm = Unit {0}
+IsForm Other = Unit {0}
+
+-- there is room for a declaration
+abbrev pub HasRoom : List Declared → Declared → Type 0
+HasRoom stored (UnitRow name) = length (unit_names stored) < MOST_UNITS
+HasRoom stored (StreamRow name from to base) = length (stream_names stored) < MOST_STREAMS
