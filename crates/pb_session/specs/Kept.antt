@@ -1,18 +1,24 @@
 -- What a session keeps beside the stored rows, so that no record reads them all again.
-use Rattle.std.specs.Prelude.{◌≡◌, ℕ, ◌≤◌, ◌<◌, ◌^◌, ℤ, pos, ◌≤ℤ◌, true, false, List, length, Option, IfSome, bytes_eq}
-use Rattle.std.specs.List.{AllByRecursion}
+use Rattle.std.specs.Prelude.{◌≡◌, ℕ, ◌≤◌, ◌<◌, ◌^◌, ℤ, pos, ◌≤ℤ◌, true, false, List, length, All, bytes_eq}
 use Rattle.pb_graph.specs.declared.graph.TheConstants.{MOST_STREAMS}
 use Rattle.pb_session.specs.declared.session.TheConstants.{MOST_UNITS}
+use Rattle.pb_session.specs.declared.form.Kind.{Kind}
+use Rattle.pb_session.specs.declared.form.Kind.TheVariants.{Metered, Plain}
 use Rattle.pb_session.specs.declared.form.Declared.{Declared}
 use Rattle.pb_session.specs.declared.form.Declared.TheVariants.{Unit as UnitRow, Stream as StreamRow}
 use Rattle.pb_session.specs.declared.form.RowForm.{RowForm}
 use Rattle.pb_session.specs.declared.form.RowForm.TheVariants.{Blank as BlankForm, Declares, Design as DesignForm, Other}
 use Rattle.pb_session.specs.Stored.{is_among, node_names, stream_names, unit_names}
 
--- the ends of a stream differ, and a base variance is from 1 to 10^19
-pub record IsStreamForm (from to : List ℕ) (base : Option ℤ) : Type 0 where
+-- the base variance of a metered stream is from 1 to 10^19
+abbrev pub IsBase : Kind → ℤ → Type 0
+IsBase Metered base = (pos 1 ≤ℤ base) × (base ≤ℤ pos (10 ^ 19))
+IsBase Plain base = Unit {0}
+
+-- the ends of a stream differ, and its base variance is within the limits
+pub record IsStreamForm (from to : List ℕ) (kind : Kind) (base : ℤ) : Type 0 where
   pub apart : bytes_eq from to ≡ false
-  pub limits : IfSome base (λ variance. (pos 1 ≤ℤ variance) × (variance ≤ℤ pos (10 ^ 19)))
+  pub limits : IsBase kind base
 
 -- both ends of a stream are among the nodes
 pub record HasEnds (nodes : List (List ℕ)) (from to : List ℕ) : Type 0 where
@@ -22,12 +28,12 @@ pub record HasEnds (nodes : List (List ℕ)) (from to : List ℕ) : Type 0 where
 -- a declaration keeps the limits of its form
 abbrev pub IsDeclaration : Declared → Type 0
 IsDeclaration (UnitRow name) = Unit {0}
-IsDeclaration (StreamRow name from to base) = IsStreamForm from to base
+IsDeclaration (StreamRow name from to kind base) = IsStreamForm from to kind base
 
 -- a declaration is of a unit, or of a stream whose ends are among the nodes
 abbrev pub IsJoined : List (List ℕ) → Declared → Type 0
 IsJoined nodes (UnitRow name) = Unit {0}
-IsJoined nodes (StreamRow name from to base) = HasEnds nodes from to × IsStreamForm from to base
+IsJoined nodes (StreamRow name from to kind base) = HasEnds nodes from to × IsStreamForm from to kind base
 
 -- The names of the stored units and streams are kept in order, there are at most 1,000 and 2,000 of them, and each stream joins
 -- the environment or stored units.
@@ -36,7 +42,7 @@ pub record IsKept (stored : List Declared) (units streams : List (List ℕ)) : T
   pub each_stream : streams ≡ stream_names stored
   pub few_units : length (unit_names stored) ≤ MOST_UNITS
   pub few_streams : length (stream_names stored) ≤ MOST_STREAMS
-  pub joined : AllByRecursion (IsJoined (node_names stored)) stored
+  pub joined : All (IsJoined (node_names stored)) stored
 
 -- a record of this form keeps the limits of its form
 abbrev pub IsForm : RowForm → Type 0
@@ -48,4 +54,4 @@ IsForm Other = Unit {0}
 -- there is room for a declaration
 abbrev pub HasRoom : List Declared → Declared → Type 0
 HasRoom stored (UnitRow name) = length (unit_names stored) < MOST_UNITS
-HasRoom stored (StreamRow name from to base) = length (stream_names stored) < MOST_STREAMS
+HasRoom stored (StreamRow name from to kind base) = length (stream_names stored) < MOST_STREAMS

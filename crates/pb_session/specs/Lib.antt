@@ -1,4 +1,5 @@
 pub mod RowForm
+pub mod Refusals
 pub mod Stored
 pub mod DesignGraph
 pub mod Session

@@ -1,7 +1,9 @@
 -- The forms of the rows of a session.
-use Rattle.std.specs.Prelude.{ℕ, ◌^◌, ℤ, pos, ◌&&◌, not, List, [], ◌∷◌, Option, Some, None, option_map, if◌then◌else◌, codes, bytes_eq}
+use Rattle.std.specs.Prelude.{ℕ, ◌^◌, ℤ, pos, ◌&&◌, not, List, [], ◌∷◌, Option, Some, None, if◌then◌else◌, codes, bytes_eq}
 use Rattle.pb_rows.specs.Name.{is_name}
 use Rattle.pb_rows.specs.Number.{number, within}
+use Rattle.pb_session.specs.declared.form.Kind.{Kind}
+use Rattle.pb_session.specs.declared.form.Kind.TheVariants.{Metered, Plain}
 use Rattle.pb_session.specs.declared.form.Declared.{Declared}
 use Rattle.pb_session.specs.declared.form.Declared.TheVariants.{Unit as UnitRow, Stream as StreamRow}
 use Rattle.pb_session.specs.declared.form.RowForm.{RowForm}
@@ -12,21 +14,25 @@ abbrev pub unit_form : List (List ℕ) → RowForm
 unit_form (name ∷ []) = if is_name name then Declares (UnitRow name) else Other
 unit_form fields = Other
 
--- the base variance of a stream of a kind: none of a plain one, whose field is 0, and from 1 to 10^19 of a metered one
-abbrev pub base_of : List ℕ → List ℕ → Option (Option ℤ)
-base_of kind base =
-    if bytes_eq kind (codes "plain")
-    then option_map (λ zero. None) (within (pos 0) (pos 0) (number base))
-    else if bytes_eq kind (codes "metered") then option_map (λ variance. Some variance) (within (pos 1) (pos (10 ^ 19)) (number base)) else None
+abbrev pub kind_of : List ℕ → Option Kind
+kind_of word = if bytes_eq word (codes "metered") then Some Metered else if bytes_eq word (codes "plain") then Some Plain else None
 
--- three names, the ends different, and a base variance of its kind
-abbrev pub stream_row : List ℕ → List ℕ → List ℕ → Option (Option ℤ) → RowForm
-stream_row name from to None = Other
-stream_row name from to (Some base) = if is_name name && is_name from && is_name to && not (bytes_eq from to) then Declares (StreamRow name from to base) else Other
+-- the base variance of a stream: from 1 to 10^19 of a metered one, and 0 of a plain one
+abbrev pub base_of : Kind → List ℕ → Option ℤ
+base_of Metered field = within (pos 1) (pos (10 ^ 19)) (number field)
+base_of Plain field = within (pos 0) (pos 0) (number field)
 
--- `stream,NAME,FROM,TO,KIND,BASEVAR`
+abbrev pub stream_with : List ℕ → List ℕ → List ℕ → Kind → Option ℤ → RowForm
+stream_with name from to kind None = Other
+stream_with name from to kind (Some base) = Declares (StreamRow name from to kind base)
+
+abbrev pub stream_of : List ℕ → List ℕ → List ℕ → Option Kind → List ℕ → RowForm
+stream_of name from to None base = Other
+stream_of name from to (Some kind) base = stream_with name from to kind (base_of kind base)
+
+-- `stream,NAME,FROM,TO,KIND,BASEVAR`, the ends different
 abbrev pub stream_form : List (List ℕ) → RowForm
-stream_form (name ∷ from ∷ to ∷ kind ∷ base ∷ []) = stream_row name from to (base_of kind base)
+stream_form (name ∷ from ∷ to ∷ kind ∷ base ∷ []) = if is_name name && is_name from && is_name to && not (bytes_eq from to) then stream_of name from to (kind_of kind) base else Other
 stream_form fields = Other
 
 -- `design`

@@ -8,6 +8,7 @@ use Rattle.pb_report.specs.Design.{design_rows}
 use Rattle.pb_session.specs.declared.form.Declared.{Declared}
 use Rattle.pb_session.specs.declared.form.Answer.{Answer}
 use Rattle.pb_session.specs.declared.form.Answer.TheVariants.{Blank, Refused, Stored, Design}
+use Rattle.pb_session.specs.Refusals.{code_of}
 use Rattle.pb_session.specs.Stored.{answer_of, after}
 use Rattle.pb_session.specs.DesignGraph.{design_graph, design_names}
 
@@ -19,7 +20,7 @@ IsDesignText stored text =
 -- the text that an answer to the record with this number adds
 abbrev pub AddsBy : List Declared → ℕ → Answer → List ℕ → Type 0
 AddsBy stored at Blank text = text ≡ []
-AddsBy stored at (Refused code) text = text ≡ text_of_rows (refused_row at code ∷ [])
+AddsBy stored at (Refused refusal) text = text ≡ text_of_rows (refused_row at (code_of refusal) ∷ [])
 AddsBy stored at (Stored row) text = text ≡ []
 AddsBy stored at Design text = IsDesignText stored text
 

@@ -4,9 +4,11 @@
 //! no form or breaks a rule is refused, changes nothing, and the session goes on.
 #![tactic(auto)]
 
+mod design;
 mod form;
 mod name_index;
+mod read;
 mod session;
 
-pub use form::{Answer, Declared, RowForm};
+pub use form::{Answer, Declared, Kind, Refusal, RowForm};
 pub use session::{MOST_UNITS, Session};
