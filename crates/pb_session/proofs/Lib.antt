@@ -1,2 +1,5 @@
+pub mod CertificateLemmas
+pub mod DesignLemmas
 pub mod FormLemmas
+pub mod KeptLemmas
 pub mod NameLemmas

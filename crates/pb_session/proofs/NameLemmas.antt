@@ -2,7 +2,7 @@
 use Rattle.std.specs.Cmp.Lexicographic.{pointwise, bytes_decides}
 use Rattle.std.specs.List.{list_any}
 use Rattle.std.specs.Bool.{Decides, one_answer}
-use Rattle.std.proofs.Common.{◌≡◌, ◌∙◌, ℕ, ◌-◌, ◌&&◌, Bool, true, false, List, [], ◌∷◌, ◌++◌, if◌then◌else◌, length, take, replicate, nat_eq, bytes_eq, refl, sym, ap, arith}
+use Rattle.std.proofs.Common.{◌≡◌, ◌∙◌, ℕ, ◌-◌, ◌&&◌, Bool, false, List, [], ◌∷◌, ◌++◌, if◌then◌else◌, length, take, replicate, nat_eq, bytes_eq, refl, sym, ap}
 use Rattle.std.proofs.lemmas.Bool.{and_parts, and_from, eqb-true, eq-eqb}
 use Rattle.std.proofs.lemmas.List.{take_at}
 use Rattle.pb_session.specs.Stored.{is_among}
@@ -16,13 +16,14 @@ abbrev pub same_name : List ℕ → List ℕ → Bool
 same_name a b = pointwise nat_eq (padded a) (padded b) && nat_eq (length a) (length b)
 
 same_name_decides : (a b : List ℕ) → Decides (same_name a b) (a ≡ b)
-same_name_decides a b =
-    (λ same.
+same_name_decides a b = (
+  λ same.
       let parts = and_parts (pointwise nat_eq (padded a) (padded b)) (nat_eq (length a) (length b)) same in
       let bytes : padded a ≡ padded b = (bytes_decides (padded a) (padded b)).0 parts.0 in
       let len : length a ≡ length b = eqb-true (length a) (length b) parts.1 in
       sym (take_at a (replicate (32 - length a) 0) (length a) refl) ∙ ap (take (length a)) bytes ∙ take_at b (replicate (32 - length b) 0) (length a) (sym len),
-     λ e. and_from (pointwise nat_eq (padded a) (padded b)) (nat_eq (length a) (length b)) ((bytes_decides (padded a) (padded b)).1 (ap padded e)) (eq-eqb (length a) (length b) (ap length e)))
+  λ e. and_from (pointwise nat_eq (padded a) (padded b)) (nat_eq (length a) (length b)) ((bytes_decides (padded a) (padded b)).1 (ap padded e)) (eq-eqb (length a) (length b) (ap length e)),
+)
 
 -- the test by which names are looked up is that of their bytes
 pub name_test : (name : List ℕ) → same_name name ≡ bytes_eq name

@@ -8,7 +8,9 @@ use Rattle.pb_session.specs.declared.form.Declared.{Declared}
 use Rattle.pb_session.specs.declared.form.Declared.TheVariants.{Unit as UnitRow, Stream as StreamRow}
 use Rattle.pb_session.specs.declared.form.RowForm.{RowForm}
 use Rattle.pb_session.specs.declared.form.RowForm.TheVariants.{Blank as BlankForm, Declares, Design as DesignForm, Other}
-use Rattle.pb_session.specs.Stored.{is_among, node_names, stream_names, unit_names}
+use Rattle.pb_session.specs.declared.form.Answer.{Answer}
+use Rattle.pb_session.specs.declared.form.Answer.TheVariants.{Blank, Refused, Stored, Design}
+use Rattle.pb_session.specs.Stored.{is_among, is_taken, node_names, stream_names, unit_names}
 
 -- the base variance of a metered stream is from 1 to 10^19
 abbrev pub IsBase : Kind → ℤ → Type 0
@@ -51,7 +53,26 @@ IsForm (Declares row) = IsDeclaration row
 IsForm DesignForm = Unit {0}
 IsForm Other = Unit {0}
 
--- there is room for a declaration
-abbrev pub HasRoom : List Declared → Declared → Type 0
-HasRoom stored (UnitRow name) = length (unit_names stored) < MOST_UNITS
-HasRoom stored (StreamRow name from to kind base) = length (stream_names stored) < MOST_STREAMS
+-- a unit of this name can be stored behind these rows
+pub record CanStoreUnit (stored : List Declared) (name : List ℕ) : Type 0 where
+  pub new : is_taken stored name ≡ false
+  pub room : length (unit_names stored) < MOST_UNITS
+
+-- a stream of this name, between these nodes, can be stored behind these rows
+pub record CanStoreStream (stored : List Declared) (name from to : List ℕ) (kind : Kind) (base : ℤ) : Type 0 where
+  pub new : is_taken stored name ≡ false
+  pub room : length (stream_names stored) < MOST_STREAMS
+  pub nodes : HasEnds (node_names stored) from to
+  pub form : IsStreamForm from to kind base
+
+-- a declaration can be stored behind these rows
+abbrev pub CanStore : List Declared → Declared → Type 0
+CanStore stored (UnitRow name) = CanStoreUnit stored name
+CanStore stored (StreamRow name from to kind base) = CanStoreStream stored name from to kind base
+
+-- what an answer lets in can be stored behind these rows
+abbrev pub StoresWell : List Declared → Answer → Type 0
+StoresWell stored Blank = Unit {0}
+StoresWell stored (Refused refusal) = Unit {0}
+StoresWell stored (Stored row) = CanStore stored row
+StoresWell stored Design = Unit {0}

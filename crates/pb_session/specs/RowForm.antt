@@ -4,7 +4,6 @@ use Rattle.pb_rows.specs.Name.{is_name}
 use Rattle.pb_rows.specs.Number.{number, within}
 use Rattle.pb_session.specs.declared.form.Kind.{Kind}
 use Rattle.pb_session.specs.declared.form.Kind.TheVariants.{Metered, Plain}
-use Rattle.pb_session.specs.declared.form.Declared.{Declared}
 use Rattle.pb_session.specs.declared.form.Declared.TheVariants.{Unit as UnitRow, Stream as StreamRow}
 use Rattle.pb_session.specs.declared.form.RowForm.{RowForm}
 use Rattle.pb_session.specs.declared.form.RowForm.TheVariants.{Blank, Declares, Design, Other}

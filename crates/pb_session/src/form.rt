@@ -16,7 +16,9 @@ pub enum Kind {
 #[derive(Clone, Copy)]
 pub enum Declared {
     /// A unit of the plant.
-    Unit { name: Name },
+    Unit {
+        name: Name,
+    },
     /// A stream from one unit to another, or from or to the environment. `base` is its base variance in squared grams: from 1
     /// to 10^19 of a metered stream, 0 of a plain one.
     Stream {

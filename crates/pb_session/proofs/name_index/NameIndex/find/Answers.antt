@@ -1,4 +1,4 @@
-use Rattle.std.proofs.Common.{◌≡◌, ◌∙◌, ap, ℕ, List, Bool, bytes_eq, position}
+use Rattle.std.proofs.Common.{◌∙◌, ap, ℕ, List, Bool, bytes_eq, position}
 use Rattle.pb_session.proofs.NameLemmas.{name_test}
 use Rattle.pb_session.proofs.name_index.NameIndex.find.Goals as goal
 
