@@ -2,4 +2,3 @@ pub mod CertificateLemmas
 pub mod DesignLemmas
 pub mod FormLemmas
 pub mod KeptLemmas
-pub mod NameLemmas

@@ -1,7 +1,8 @@
 -- The graph of a design: the plant as it is declared, before a single reading.
-use Rattle.std.specs.Prelude.{ℕ, ℤ, pos, List, [], ◌∷◌, length, Option, Some, None, bytes_eq}
+use Rattle.std.specs.Prelude.{ℕ, ℤ, pos, List, [], ◌∷◌, length, Option, Some, None}
 use Rattle.std.specs.List.{position_or_len}
 use Rattle.pb_rows.specs.declared.name.Names.{Names}
+use Rattle.pb_rows.specs.Name.{same_name}
 use Rattle.pb_graph.specs.declared.records.Meas.{Meas}
 use Rattle.pb_graph.specs.declared.records.Stream.{Stream}
 use Rattle.pb_graph.specs.ProcessGraph.{ProcessGraph}
@@ -13,7 +14,7 @@ use Rattle.pb_session.specs.Stored.{node_names, stream_names}
 
 -- the node of a name: its place among the names of nodes
 abbrev pub node_of : List (List ℕ) → List ℕ → ℕ
-node_of nodes name = position_or_len (bytes_eq name) nodes
+node_of nodes name = position_or_len (same_name name) nodes
 
 -- a metered stream is measured, with the value 0 and its base variance; a plain one isn't
 abbrev pub meas_of : Kind → ℤ → Option Meas

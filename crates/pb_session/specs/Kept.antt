@@ -1,5 +1,6 @@
 -- What a session keeps beside the stored rows, so that no record reads them all again.
-use Rattle.std.specs.Prelude.{◌≡◌, ℕ, ◌≤◌, ◌<◌, ◌^◌, ℤ, pos, ◌≤ℤ◌, true, false, List, length, All, bytes_eq}
+use Rattle.std.specs.Prelude.{◌≡◌, ℕ, ◌≤◌, ◌<◌, ◌^◌, ℤ, pos, ◌≤ℤ◌, true, false, List, length, All}
+use Rattle.pb_rows.specs.Name.{same_name}
 use Rattle.pb_graph.specs.declared.graph.TheConstants.{MOST_STREAMS}
 use Rattle.pb_session.specs.declared.session.TheConstants.{MOST_UNITS}
 use Rattle.pb_session.specs.declared.form.Kind.{Kind}
@@ -19,7 +20,7 @@ IsBase Plain base = Unit {0}
 
 -- the ends of a stream differ, and its base variance is within the limits
 pub record IsStreamForm (from to : List ℕ) (kind : Kind) (base : ℤ) : Type 0 where
-  pub apart : bytes_eq from to ≡ false
+  pub apart : same_name from to ≡ false
   pub limits : IsBase kind base
 
 -- both ends of a stream are among the nodes

@@ -1,6 +1,6 @@
 -- The forms of the rows of a session.
 use Rattle.std.specs.Prelude.{ℕ, ◌^◌, ℤ, pos, ◌&&◌, not, List, [], ◌∷◌, Option, Some, None, if◌then◌else◌, codes, bytes_eq}
-use Rattle.pb_rows.specs.Name.{is_name}
+use Rattle.pb_rows.specs.Name.{is_name, same_name}
 use Rattle.pb_rows.specs.Number.{number, within}
 use Rattle.pb_session.specs.declared.form.Kind.{Kind}
 use Rattle.pb_session.specs.declared.form.Kind.TheVariants.{Metered, Plain}
@@ -31,7 +31,7 @@ stream_of name from to (Some kind) base = stream_with name from to kind (base_of
 
 -- `stream,NAME,FROM,TO,KIND,BASEVAR`, the ends different
 abbrev pub stream_form : List (List ℕ) → RowForm
-stream_form (name ∷ from ∷ to ∷ kind ∷ base ∷ []) = if is_name name && is_name from && is_name to && not (bytes_eq from to) then stream_of name from to (kind_of kind) base else Other
+stream_form (name ∷ from ∷ to ∷ kind ∷ base ∷ []) = if is_name name && is_name from && is_name to && not (same_name from to) then stream_of name from to (kind_of kind) base else Other
 stream_form fields = Other
 
 -- `design`

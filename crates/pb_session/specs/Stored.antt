@@ -1,6 +1,7 @@
 -- The rows that a session has stored, in order of declaration, and the answer to a record.
-use Rattle.std.specs.Prelude.{ℕ, Bool, true, false, ◌&&◌, ◌||◌, not, nat_le, List, [], ◌∷◌, ◌++◌, length, if◌then◌else◌, codes, bytes_eq}
+use Rattle.std.specs.Prelude.{ℕ, Bool, true, false, ◌&&◌, ◌||◌, not, nat_le, List, [], ◌∷◌, ◌++◌, length, if◌then◌else◌, codes}
 use Rattle.std.specs.List.{list_any}
+use Rattle.pb_rows.specs.Name.{same_name}
 use Rattle.pb_rows.specs.Records.{without_trailing_empty}
 use Rattle.pb_graph.specs.declared.graph.TheConstants.{MOST_STREAMS}
 use Rattle.pb_session.specs.declared.session.TheConstants.{MOST_UNITS}
@@ -36,7 +37,7 @@ node_names stored = codes "env" ∷ unit_names stored
 
 -- a name is one of these
 abbrev pub is_among : List (List ℕ) → List ℕ → Bool
-is_among names name = list_any (bytes_eq name) names
+is_among names name = list_any (same_name name) names
 
 -- a name is the environment's, or a stored unit has it
 abbrev pub is_node : List Declared → List ℕ → Bool

@@ -1,6 +1,7 @@
 // The design of the stored rows: their graph, its names, and the rows that a `design` record adds.
 
-ghost use Rattle.std.specs.Prelude.{◌≡◌, ℕ, ◌+◌, ◌<◌, ◌≤◌, ◌∷◌, ◌++◌, [], List, length, All, position, bytes_eq, codes, IfOk, OnOk, OnErr};
+ghost use Rattle.std.specs.Prelude.{◌≡◌, ℕ, ◌+◌, ◌<◌, ◌≤◌, ◌∷◌, ◌++◌, [], List, length, All, position, codes, IfOk, OnOk, OnErr};
+ghost use Rattle.pb_rows.specs.Name.{same_name};
 ghost use Rattle.pb_graph.specs.ProcessGraph.{IsStream, IsWithinLimits};
 ghost use Rattle.pb_session.specs.Stored.{is_among, unit_names, stream_names, node_names};
 ghost use Rattle.pb_session.specs.DesignGraph.{design_graph, design_names, meas_of, node_of, streams_of};
@@ -18,7 +19,7 @@ use std::alloc::{AllocError, Global};
 
 /// Whether a name is the environment's.
 pub fn is_env(name: &Name) -> bool
-    ensures { result ≡ bytes_eq name.now (codes "env") }
+    ensures { result ≡ same_name name.now (codes "env") }
 {
     name.bytes() == b"env".as_slice()
 }
@@ -36,7 +37,7 @@ fn env() -> Name
 // The node of a name, given the names of the units; `None` exactly where it is of no node.
 fn node(units: &NameIndex, name: &Name) -> Option<u32>
     requires { length units.now ≤ MOST_UNITS }
-    ensures { result ≡ position (bytes_eq name.now) (codes "env" ∷ units.now) }
+    ensures { result ≡ position (same_name name.now) (codes "env" ∷ units.now) }
 {
     if is_env(name) {
         return Some(0);

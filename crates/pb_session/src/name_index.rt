@@ -1,6 +1,7 @@
 // Names in order, each found by its hash.
 
-ghost use Rattle.std.specs.Prelude.{◌≡◌, ◌∷◌, ◌++◌, [], false, length, bytes_eq, position, OnOk, OnErr};
+ghost use Rattle.std.specs.Prelude.{◌≡◌, ◌∷◌, ◌++◌, [], false, length, position, OnOk, OnErr};
+ghost use Rattle.pb_rows.specs.Name.{same_name};
 ghost use Rattle.pb_session.specs.Stored.{is_among};
 
 use indexmap::IndexSet;
@@ -41,7 +42,7 @@ impl NameIndex {
 
     /// The place of a name; `None` exactly where it isn't there.
     pub fn find(&self, name: &Name) -> Option<usize>
-        ensures { result ≡ position (bytes_eq name.now) self.now }
+        ensures { result ≡ position (same_name name.now) self.now }
     {
         self.names.get_index_of(name)
     }

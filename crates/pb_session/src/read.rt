@@ -1,6 +1,7 @@
 // The form of a record.
 
 ghost use Rattle.std.specs.Prelude.{◌≡◌, ◌≤◌, false, take, drop, length, bytes_eq, IfSome};
+ghost use Rattle.pb_rows.specs.Name.{same_name};
 ghost use Rattle.pb_rows.specs.Records.{without_trailing_empty};
 ghost use Rattle.pb_session.specs.RowForm.{base_of, design_form, form_of, kind_of, stream_form, stream_of, unit_form};
 ghost use Rattle.pb_session.specs.Kept.{IsBase, IsForm};
@@ -79,7 +80,7 @@ fn read_stream(row: &Row, filled: usize) -> RowForm
 
 // The form of a `stream` row of these names.
 fn read_kind(name: Name, from: Name, to: Name, kind: &[u8], base: &[u8]) -> RowForm
-    requires { bytes_eq from to ≡ false }
+    requires { same_name from to ≡ false }
     ensures value { result ≡ stream_of name from to (kind_of kind.now) base.now }
     ensures limits { IsForm result }
 {
