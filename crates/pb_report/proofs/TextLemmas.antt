@@ -1,17 +1,14 @@
 -- Texts made piece by piece: what is written joined to what is left is the whole.
 use Rattle.std.specs.List.{flat_map}
-use Rattle.std.proofs.Common.{◌≡◌, ◌∙◌, ℕ, ◌+◌, ◌<◌, ◌==◌, List, [], ◌∷◌, ◌++◌, length, get_or, drop, Bool, true, false, if◌then◌else◌, codes, slice_get, Some, refl, sym, ap, append_assoc, arith, suc}
+use Rattle.std.proofs.Common.{◌≡◌, ◌∙◌, ℕ, ◌+◌, ◌<◌, ◌==◌, List, [], ◌∷◌, ◌++◌, length, get_or, drop, Bool, true, false, if◌then◌else◌, codes, slice_get, Some, refl, sym, ap, append_assoc, arith}
 use Rattle.std.proofs.lemmas.Bool.{ne_eqb}
-use Rattle.std.proofs.Math.Seq.{drop-cons}
+use Rattle.pb_integers.proofs.Lists.{drop_next}
 use Rattle.std.proofs.lemmas.Option.{slice_get_within, get_or_from_slice_get}
 use Rattle.pb_rows.specs.declared.name.Names.{Names}
 use Rattle.pb_rows.specs.Written.{line_of, text_of_rows}
 use Rattle.pb_graph.specs.declared.records.Stream.{Stream}
 use Rattle.pb_graph.specs.declared.records.Classified.{Classified}
 use Rattle.pb_report.specs.Design.{spaced, names_in, class_row, class_rows}
-
-pub drop_next : {A : Type 0} (xs : List A) (i : ℕ) (d : A) → i < length xs → drop i xs ≡ get_or xs i d ∷ drop (i + 1) xs
-drop_next xs i d lt = let next : suc i ≡ i + 1 = omega arith in drop-cons xs i d lt ∙ ap (λ k. get_or xs i d ∷ drop k xs) next
 
 -- the text of pieces that are left, of which the first has a space before it unless it is the first of all
 abbrev pub rest_of : {A : Type 0} → (A → List ℕ) → Bool → List A → List ℕ

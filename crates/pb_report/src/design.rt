@@ -9,7 +9,7 @@ ghost use Rattle.pb_report.specs.Design.{IsNamed, IsWithin, IsWitnessWithin, des
 use crate::form::Form;
 use crate::parts;
 use pb_graph::{Class, Classified, Graph, List, Stream, Witness};
-use pb_rows::{Names, RowWriter, whole_bytes};
+use pb_rows::{Names, RowWriter};
 use std::alloc::{AllocError, Global};
 
 /// Appends the rows of a design: `design` with the numbers of nodes and streams, and one `class` row for each stream, with its
@@ -50,19 +50,19 @@ fn design_lines(
     ensures { IfOk result (λ writer. writer ≡ record { text = text_of_rows (design_rows names.now g.now classes.now); row = [] }) }
 {
     let mut writer = RowWriter::new(alloc);
-    graph_line(alloc, g, &mut writer)?;
+    graph_line(g, &mut writer)?;
     class_lines(alloc, names, g, classes, &mut writer)?;
     Ok(writer)
 }
 
 // Writes the row of the graph.
-fn graph_line(alloc: Global, g: &Graph, writer: &mut RowWriter) -> Result<(), AllocError>
+fn graph_line(g: &Graph, writer: &mut RowWriter) -> Result<(), AllocError>
     requires { writer.old.row ≡ [] }
     ensures { OnOk result (writer.new ≡ record { text = writer.old.text ++ line_of (graph_row g.now); row = [] }) }
 {
     writer.field(b"design")?;
-    writer.field(whole_bytes(alloc, i128::from(g.nodes()))?.as_slice())?;
-    writer.field(whole_bytes(alloc, i128::from(g.len()))?.as_slice())?;
+    writer.whole(i128::from(g.nodes()))?;
+    writer.whole(i128::from(g.len()))?;
     writer.end_row()
 }
 

@@ -7,6 +7,8 @@ mod design;
 mod form;
 mod parts;
 mod refused;
+#[cfg(test)]
+mod tests;
 
 pub use design::write_design;
 pub use form::Form;

@@ -6,7 +6,7 @@ ghost use Rattle.pb_report.specs.Form.{text_in};
 ghost use Rattle.pb_report.specs.Refusal.{refusal_word, refused_row};
 
 use crate::form::Form;
-use pb_rows::{RowWriter, whole_bytes};
+use pb_rows::RowWriter;
 use std::alloc::{AllocError, Global};
 
 /// Appends the row of a refused record: `refused`, the record's number `at`, the refusal's code from 1 to 13, and its word.
@@ -39,8 +39,8 @@ fn refused_line(alloc: Global, at: u32, code: u32) -> Result<RowWriter, AllocErr
 {
     let mut writer = RowWriter::new(alloc);
     writer.field(b"refused")?;
-    writer.field(whole_bytes(alloc, i128::from(at))?.as_slice())?;
-    writer.field(whole_bytes(alloc, i128::from(code))?.as_slice())?;
+    writer.whole(i128::from(at))?;
+    writer.whole(i128::from(code))?;
     writer.field(word(code))?;
     writer.end_row()?;
     Ok(writer)

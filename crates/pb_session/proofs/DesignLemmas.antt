@@ -9,7 +9,7 @@ use Rattle.pb_graph.specs.declared.records.Meas.{Meas}
 use Rattle.pb_graph.specs.ProcessGraph.{IsStream, ProcessGraph}
 use Rattle.pb_rows.specs.declared.name.Names.{Names}
 use Rattle.pb_report.specs.Design.{IsNamed}
-use Rattle.pb_report.proofs.TextLemmas.{drop_next}
+use Rattle.pb_integers.proofs.Lists.{drop_next}
 use Rattle.pb_session.specs.declared.form.Declared.{Declared}
 use Rattle.pb_session.specs.declared.form.Declared.TheVariants.{Unit as UnitRow, Stream as StreamRow}
 use Rattle.pb_session.specs.Stored.{is_among, node_names, stream_names, unit_names}
