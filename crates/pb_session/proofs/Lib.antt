@@ -1,0 +1,4 @@
+pub mod CertificateLemmas
+pub mod DesignLemmas
+pub mod FormLemmas
+pub mod KeptLemmas

@@ -1,0 +1,6 @@
+pub mod RowForm
+pub mod Refusals
+pub mod Stored
+pub mod DesignGraph
+pub mod Session
+pub mod Kept
