@@ -1,5 +1,5 @@
 -- The forest has no cycle, and there is one.
-use Rattle.std.proofs.Common.{◌≡◌, ◌≢◌, ◌⊎◌, ◌∙◌, ℕ, zero, suc, ◌+◌, ◌<◌, ◌≤◌, Bool, true, false, not, ◌&&◌, ◌==◌, nat_lt, List, [], ◌∷◌, length, Option, Some, None, slice_get, get_or, ap, sym, refl, subst, inl, inr, arith}
+use Rattle.std.proofs.Common.{◌≡◌, ◌≢◌, ◌⊎◌, ◌∙◌, ℕ, zero, suc, ◌+◌, ◌<◌, ◌≤◌, Bool, true, false, not, ◌==◌, nat_lt, List, [], ◌∷◌, length, Option, Some, None, slice_get, get_or, ap, sym, refl, subst, inl, inr, arith}
 use Rattle.std.proofs.lemmas.Bool.{cases_Bool, cases_eq, and_parts, and_from, or_right, not-true, eq-eqb, ltb-true, lt-ltb}
 use Rattle.std.proofs.lemmas.Option.{slice_get_within, slice_get-get_or}
 use Rattle.std.proofs.lemmas.List.{ext_get_or}
@@ -124,22 +124,22 @@ acyclic_next ss held m i u forest at_u acyclic =
       | inr out ↦ part (λ t at both. cc (sym out ∙ (and_parts (is_open held i t) (is_before m (i + 1) i t) both).0))
       | inl in_it ↦ elim (cases_kind m (is_measured u)) [
         | inr other ↦ part (λ t at both.
-          let is : u ≡ t = some_same (sym at_u ∙ at) in
-          let kind : is_measured t ≡ not m = ap is_measured (sym is) ∙ other in
-          let parts = and_parts (is_open held i t) (is_before m (i + 1) i t) both in
-          and_from _ _ parts.0 (before_other m i t kind parts.1))
+            let is : u ≡ t = some_same (sym at_u ∙ at) in
+            let kind : is_measured t ≡ not m = ap is_measured (sym is) ∙ other in
+            let parts = and_parts (is_open held i t) (is_before m (i + 1) i t) both in
+            and_from _ _ parts.0 (before_other m i t kind parts.1))
         | inl same ↦
             let apart = (forest.decided i (slice_get_within ss i u at_u)).apart in_it u at_u in
             let joined = λ (r : Reaches (ends_of before ss) u.from u.to). reach_more before (is_before m i) ss u.from u.to (λ k t at both. (and_parts _ _ both).1) r in
             acyclic_more ss before next i u at_u (λ r. apart (subst (λ (k : Bool). Reaches (ends_of (is_before k i) ss) u.from u.to) (sym same) (joined r))) but acyclic
       ]
     ]
-    where
-      cases_kind : (m x : Bool) → (x ≡ m) ⊎ (x ≡ not m)
-      cases_kind true true = inl refl
-      cases_kind true false = inr refl
-      cases_kind false true = inr refl
-      cases_kind false false = inl refl
+  where
+    cases_kind : (m x : Bool) → (x ≡ m) ⊎ (x ≡ not m)
+    cases_kind true true = inl refl
+    cases_kind true false = inr refl
+    cases_kind false true = inr refl
+    cases_kind false false = inl refl
 
 acyclic_upto : (ss : List Stream) (held : List Bool) (m : Bool) (n : ℕ) → IsForest ss held → n ≤ length ss
     → IsAcyclic ss (held_before held m 0) → IsAcyclic ss (held_before held m n)
@@ -176,5 +176,5 @@ pub one_forest_law : OneForestLaw
 one_forest_law ss held other forest forest2 =
     let some : Stream = record { from = 0; to = 0; meas = None } in
     ext_get_or false held other (forest.each ∙ sym forest2.each) (λ i lt.
-      let within : i < length ss = omega (arith, lt, forest.each) in
-      marks_same ss i (get_or ss i some) (get_or held i false) (get_or other i false) (slice_get-get_or ss i some within) (forest.decided i within) (forest2.decided i within))
+    let within : i < length ss = omega (arith, lt, forest.each) in
+    marks_same ss i (get_or ss i some) (get_or held i false) (get_or other i false) (slice_get-get_or ss i some within) (forest.decided i within) (forest2.decided i within))

@@ -1,5 +1,5 @@
 -- Labels of nodes, as streams join more of them.
-use Rattle.std.proofs.Common.{◌≡◌, ◌≢◌, ◌⊎◌, ◌∙◌, ℕ, ◌+◌, ◌<◌, Bool, true, false, not, ◌==◌, nat_lt, List, [], ◌∷◌, length, Some, slice_get, get_or, set, get_or-set_same, get_or-set_other, ap, sym, refl, subst, inl, inr, arith}
+use Rattle.std.proofs.Common.{◌≡◌, ◌⊎◌, ◌∙◌, ℕ, ◌+◌, ◌<◌, Bool, true, false, not, ◌==◌, nat_lt, List, [], ◌∷◌, length, Some, slice_get, get_or, set, get_or-set_same, get_or-set_other, ap, sym, refl, subst, inl, inr, arith}
 use Rattle.std.proofs.lemmas.Bool.{cases_eq, and_parts, and_from, or_left, not-true, not-false, eq-eqb, ne_eqb, eqb-true, ltb-true, lt-ltb}
 use Rattle.std.proofs.Math.Bool.{beq}
 use Rattle.std.proofs.lemmas.Option.{slice_get_within}
@@ -113,15 +113,15 @@ decided_by ss nodes m labels j s at stream kind l =
     let joins : Bool → Stream → Type 0 = λ k v. Reaches (ends_of (is_before k j) ss) v.from v.to in
     record {
       apart = λ apart t here r.
-        let is : s ≡ t = some_same (sym at ∙ here) in
-        let other = not-true (get_or labels s.from 0 == get_or labels s.to 0) apart in
-        let joined : joins m s = subst (λ (k : Bool). joins k s) kind (subst (λ (v : Stream). joins (is_measured v) v) (sym is) r) in
-        cc (sym other ∙ eq-eqb (get_or labels s.from 0) (get_or labels s.to 0) (l.kept s.from s.to joined));
+          let is : s ≡ t = some_same (sym at ∙ here) in
+          let other = not-true (get_or labels s.from 0 == get_or labels s.to 0) apart in
+          let joined : joins m s = subst (λ (k : Bool). joins k s) kind (subst (λ (v : Stream). joins (is_measured v) v) (sym is) r) in
+          cc (sym other ∙ eq-eqb (get_or labels s.from 0) (get_or labels s.to 0) (l.kept s.from s.to joined));
       tied = λ tied t here.
-        let is : s ≡ t = some_same (sym at ∙ here) in
-        let same = eqb-true (get_or labels s.from 0) (get_or labels s.to 0) (not-false (get_or labels s.from 0 == get_or labels s.to 0) tied) in
-        let joined : joins m s = l.joined s.from s.to stream.from stream.to same in
-        subst (λ (v : Stream). joins (is_measured v) v) is (subst (λ (k : Bool). joins k s) (sym kind) joined);
+          let is : s ≡ t = some_same (sym at ∙ here) in
+          let same = eqb-true (get_or labels s.from 0) (get_or labels s.to 0) (not-false (get_or labels s.from 0 == get_or labels s.to 0) tied) in
+          let joined : joins m s = l.joined s.from s.to stream.from stream.to same in
+          subst (λ (v : Stream). joins (is_measured v) v) is (subst (λ (k : Bool). joins k s) (sym kind) joined);
     }
 
 -- the streams of a kind below a place are decided
@@ -167,13 +167,13 @@ numbers_label ss nodes labels size is = record {
   joined = λ a b la lb e. ([], sym (is a (omega (arith, la, size))) ∙ e ∙ is b (omega (arith, lb, size)));
   kept = λ a b r. ap (λ (n : ℕ). get_or labels n 0) (none a b r.0 r.1);
 }
-    where
-      none : (a b : ℕ) (steps : List Step) → Walks (ends_of (is_before false 0) ss) a steps b → a ≡ b
-      none a b [] w = w
-      none a b (t ∷ rest) (c, e, w) =
-          let (s, at, ok, goes) = stream_of (is_before false 0) ss t (a, c) e in
-          let lt = ltb-true t.stream 0 (and_parts (not (is_measured s)) (nat_lt t.stream 0) ok).1 in
-          absurd (omega arith)
+  where
+    none : (a b : ℕ) (steps : List Step) → Walks (ends_of (is_before false 0) ss) a steps b → a ≡ b
+    none a b [] w = w
+    none a b (t ∷ rest) (c, e, w) =
+        let (s, at, ok, goes) = stream_of (is_before false 0) ss t (a, c) e in
+        let lt = ltb-true t.stream 0 (and_parts (not (is_measured s)) (nat_lt t.stream 0) ok).1 in
+        absurd (omega arith)
 
 -- the unmeasured streams are those before the first measured one
 pub labels_between : (ss : List Stream) (nodes : ℕ) (labels : List ℕ) → IsLabelling ss nodes (is_before false (length ss)) labels → IsLabelling ss nodes (is_before true 0) labels

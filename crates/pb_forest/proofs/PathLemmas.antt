@@ -1,5 +1,5 @@
 -- Walks without a node twice, in a set of streams without cycle.
-use Rattle.std.proofs.Common.{◌≡◌, ◌≢◌, ◌∙◌, ◌⊎◌, ℕ, Bool, true, false, not, ◌&&◌, ◌==◌, List, [], ◌∷◌, Option, Some, slice_get, ap, ap₂, sym, refl, subst, inl, inr}
+use Rattle.std.proofs.Common.{◌≡◌, ◌≢◌, ◌∙◌, ◌⊎◌, ℕ, Bool, true, false, not, ◌==◌, List, [], ◌∷◌, Option, Some, slice_get, ap, ap₂, sym, refl, subst, inl, inr}
 use Rattle.std.specs.List.{list_any}
 use Rattle.std.proofs.lemmas.Bool.{cases_Bool, cases_eq, and_parts, and_from, or_parts, not-true, not_from_false, eq-eqb, ne_eqb}
 use Rattle.pb_graph.specs.declared.records.Stream.{Stream}
@@ -19,12 +19,15 @@ begin_is may nodes ss t a c e = ap (first_or nodes) (ends_more may any_stream ss
 path_rest : (ends : Step → Option (ℕ × ℕ)) (nodes : ℕ) (ss : List Stream) (a b : ℕ) (t : Step) (rest : List Step) → IsPath ends nodes ss a (t ∷ rest) b
     → (c : ℕ) × (ends t ≡ Some (a, c)) × IsPath ends nodes ss c rest b
 path_rest ends nodes ss a b t rest path =
-    let (c, e, w) = path.walk in
-    (c, e, record {
-      walk = w;
-      once = (and_parts (not (list_any (λ y. begin_of nodes ss y == begin_of nodes ss t) rest)) (is_distinct (begin_of nodes ss) rest) path.once).1;
-      last = (or_parts (begin_of nodes ss t == b) (list_any (λ y. begin_of nodes ss y == b) rest) path.last).1;
-    })
+    let (c, e, w) = path.walk in (
+      c,
+      e,
+      record {
+        walk = w;
+        once = (and_parts (not (list_any (λ y. begin_of nodes ss y == begin_of nodes ss t) rest)) (is_distinct (begin_of nodes ss) rest) path.once).1;
+        last = (or_parts (begin_of nodes ss t == b) (list_any (λ y. begin_of nodes ss y == b) rest) path.last).1;
+      },
+    )
 
 -- a path that takes a step leaves the node where it begins
 leaves : (may : ℕ → Stream → Bool) (nodes : ℕ) (ss : List Stream) (a b c : ℕ) (t : Step) (rest : List Step) → IsPath (ends_of may ss) nodes ss a (t ∷ rest) b
@@ -76,9 +79,11 @@ walk_without : (may : ℕ → Stream → Bool) (ss : List Stream) (j a b : ℕ) 
 walk_without may ss j a b [] w none = w
 walk_without may ss j a b (t ∷ rest) (c, e, w) none =
     let parts = or_parts (t.stream == j) (list_any (λ y. y.stream == j) rest) none in
-    let (s, at, ok, goes) = stream_of may ss t (a, c) e in
-    (c, ends_is (except j may) ss t.stream s t.forward at (and_from _ _ ok (not_from_false (t.stream == j) parts.0)) ∙ ap (λ (q : ℕ × ℕ). Some q) goes,
-      walk_without may ss j c b rest w parts.1)
+    let (s, at, ok, goes) = stream_of may ss t (a, c) e in (
+      c,
+      ends_is (except j may) ss t.stream s t.forward at (and_from _ _ ok (not_from_false (t.stream == j) parts.0)) ∙ ap (λ (q : ℕ × ℕ). Some q) goes,
+      walk_without may ss j c b rest w parts.1,
+    )
 
 -- behind its first step a path goes on without that stream
 rest_without : (may : ℕ → Stream → Bool) (nodes : ℕ) (ss : List Stream) (a b c : ℕ) (t : Step) (rest : List Step) → IsPath (ends_of may ss) nodes ss a (t ∷ rest) b

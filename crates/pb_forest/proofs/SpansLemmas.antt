@@ -1,5 +1,5 @@
 -- What streams before a place join, the held ones among them join.
-use Rattle.std.proofs.Common.{◌≡◌, ◌∙◌, ℕ, zero, suc, ◌<◌, ◌≤◌, Bool, true, false, not, ◌||◌, nat_lt, List, [], ◌∷◌, length, Some, slice_get, get_or, ap, sym, subst, inl, inr, arith}
+use Rattle.std.proofs.Common.{◌≡◌, ◌∙◌, ℕ, zero, suc, ◌<◌, ◌≤◌, Bool, true, false, not, nat_lt, List, [], ◌∷◌, length, Some, get_or, ap, sym, subst, inl, inr, arith}
 use Rattle.std.proofs.lemmas.Bool.{cases_Bool, and_parts, and_from, or_left, or_right, or_cases, ltb-true, lt-ltb}
 use Rattle.std.proofs.lemmas.Option.{slice_get_within}
 use Rattle.pb_graph.specs.declared.records.Stream.{Stream}
@@ -81,14 +81,14 @@ pub spans_law : SpansLaw
 spans_law ss held forest = record {
   before = spans_before ss held forest;
   whole = λ a b r.
-    let all = spans_before ss held forest true (length ss) a b (reach_more any_stream (is_before true (length ss)) ss a b (all_before ss) r) in
-    reach_more (held_before held true (length ss)) (is_open held) ss a b (λ k t at both. (and_parts _ _ both).0) all;
+      let all = spans_before ss held forest true (length ss) a b (reach_more any_stream (is_before true (length ss)) ss a b (all_before ss) r) in
+      reach_more (held_before held true (length ss)) (is_open held) ss a b (λ k t at both. (and_parts _ _ both).0) all;
   bare = λ a b r.
-    let all = spans_before ss held forest true 0 a b (reach_more unmeasured (is_before true 0) ss a b (unmeasured_before ss) r) in
-    let part : IsWithin ss (held_before held true 0) (held_unmeasured held) = λ k t at both.
-    let parts = and_parts (is_open held k t) (is_before true 0 k t) both in
-    and_from _ _ parts.0 (before_unmeasured k t parts.1) in
-    reach_more (held_before held true 0) (held_unmeasured held) ss a b part all;
+      let all = spans_before ss held forest true 0 a b (reach_more unmeasured (is_before true 0) ss a b (unmeasured_before ss) r) in
+      let part : IsWithin ss (held_before held true 0) (held_unmeasured held) = λ k t at both.
+      let parts = and_parts (is_open held k t) (is_before true 0 k t) both in
+      and_from _ _ parts.0 (before_unmeasured k t parts.1) in
+      reach_more (held_before held true 0) (held_unmeasured held) ss a b part all;
 }
 
 -- a stream without measurement comes behind unmeasured ones alone

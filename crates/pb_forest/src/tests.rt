@@ -56,7 +56,16 @@ fn meter_beside_plain_stream(rt: HostRuntime) -> Result<(), AllocError> {
 #[test]
 fn one_unit_three_meters(rt: HostRuntime) -> Result<(), AllocError> {
     let alloc = rt.alloc();
-    let g = graph_of(&rt, alloc, 2, &[stream(0, 1, METER), stream(1, 0, METER), stream(1, 0, METER)])?;
+    let g = graph_of(
+        &rt,
+        alloc,
+        2,
+        &[
+            stream(0, 1, METER),
+            stream(1, 0, METER),
+            stream(1, 0, METER),
+        ],
+    )?;
     let forest = Forest::of(alloc, &g)?;
     assert_eq!(rt; forest.rank(), 1);
     assert_eq!(rt; g.len(), 3);

@@ -1,9 +1,8 @@
-use Rattle.std.proofs.Common.{◌≡◌, ◌∙◌, ℕ, true, false, Some, None, length, get_or, slice_get, refl, sym, ap, inl, inr, arith}
+use Rattle.std.proofs.Common.{◌≡◌, Some, None, length, get_or, slice_get, refl, inl, inr, arith}
 use Rattle.std.proofs.lemmas.Bool.{cases_Bool}
 use Rattle.std.proofs.lemmas.Option.{slice_get-get_or}
 use Rattle.pb_graph.specs.declared.records.Stream.{Stream}
 use Rattle.pb_graph.specs.ProcessGraph.{is_measured}
-use Rattle.pb_forest.specs.Forest.{IsDecided}
 use Rattle.pb_forest.proofs.LabelLemmas.{numbers_label, labels_between}
 use Rattle.pb_forest.proofs.labels.mark.Goals as goal
 
@@ -23,10 +22,10 @@ returns c =
     record {
       each = omega (arith, c.pass.auto.held, c.pass-2.auto.held, c.requires.each);
       decided = λ j lt.
-        let s : Stream = get_or ss j some_stream in
-        let at : slice_get ss j ≡ Some s = slice_get-get_or ss j some_stream lt in
-        elim (cases_Bool (is_measured s)) [
-          | inl measured ↦ c.pass-2.ensures.marks j s at measured
-          | inr bare ↦ rw (c.pass-2.ensures.others j s at bare) (c.pass.ensures.marks j s at bare)
-        ];
+          let s : Stream = get_or ss j some_stream in
+          let at : slice_get ss j ≡ Some s = slice_get-get_or ss j some_stream lt in
+          elim (cases_Bool (is_measured s)) [
+            | inl measured ↦ c.pass-2.ensures.marks j s at measured
+            | inr bare ↦ rw (c.pass-2.ensures.others j s at bare) (c.pass.ensures.marks j s at bare)
+          ];
     }

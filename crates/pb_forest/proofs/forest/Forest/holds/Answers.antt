@@ -1,4 +1,4 @@
-use Rattle.std.proofs.Common.{◌≡◌, ◌∙◌, get_or, ap, subst}
+use Rattle.std.proofs.Common.{◌∙◌, get_or, ap, subst}
 use Rattle.pb_forest.specs.Forest.{SpanningForest, IsForest}
 use Rattle.pb_forest.proofs.HoldsLemmas.{mark_is, held_exactly}
 use Rattle.pb_forest.proofs.forest.Forest.holds.Goals as goal
