@@ -1,6 +1,6 @@
-ghost use Rattle.std.specs.Prelude.{◌≡◌, ◌<◌, Some, None, length, slice_get, IfOk, if◌then◌else◌};
+ghost use Rattle.std.specs.Prelude.{◌≡◌, ◌<◌, Some, length, slice_get, IfOk, if◌then◌else◌};
 ghost use Rattle.pb_graph.specs.ProcessGraph.{IsProcessGraph, is_measured};
-ghost use Rattle.pb_graph.specs.Walk.{ends_of, unmeasured_but, Reaches};
+ghost use Rattle.pb_graph.specs.Walk.{ends_of, unmeasured_but, is_in, Reaches};
 ghost use Rattle.pb_graph.specs.Neighbours.{IsNeighbours};
 ghost use Rattle.pb_classify.specs.Chords.{IsForestOf, IsFirstBefore, AreFirstBefore};
 ghost use Rattle.pb_classify.specs.Classification.{IsClassified, IsClassification};
@@ -54,6 +54,14 @@ fn determined_class(s: &Stream) -> Class
     }
 }
 
+/// Whether a stream's `to` end is in a side.
+fn ends_in(side: &[bool], s: &Stream) -> bool
+    requires { s.now.to < length side.now }
+    ensures { result ≡ is_in side.now s.now.to }
+{
+    side[s.to as usize]
+}
+
 /// The class of stream j with its canonical certificate.
 fn classified(
     alloc: Global,
@@ -72,10 +80,11 @@ fn classified(
 {
     let s = g.stream(j);
     let side = side_of(alloc, g, near, j, &s)?;
-    if *side.at(s.to as usize) {
+    let within = side.as_slice();
+    if ends_in(within, &s) {
         return free_stream(alloc, g, forest, j, &s, first);
     }
-    let members = boundary(alloc, g.streams(), side.as_slice())?;
+    let members = boundary(alloc, g.streams(), within)?;
     Ok(Classified {
         class: determined_class(&s),
         witness: Witness::Cut { side, members },

@@ -1,7 +1,7 @@
-ghost use Rattle.std.specs.Prelude.{◌≡◌, ℕ, ◌<◌, ◌≤◌, Some, None, length, slice_get, All, IfOk};
+ghost use Rattle.std.specs.Prelude.{◌≡◌, ◌≤◌, Some, length, slice_get, All, IfOk};
 ghost use Rattle.pb_graph.specs.ProcessGraph.{IsStream};
 ghost use Rattle.pb_graph.specs.Walk.{ends_of, unmeasured_but, IsReach};
-ghost use Rattle.pb_graph.specs.Boundary.{sign_at, member_at, boundary_of, IsCut};
+ghost use Rattle.pb_graph.specs.Boundary.{sign_at, member_at, boundary_of};
 ghost use Rattle.pb_graph.specs.Neighbours.{IsNeighbours};
 ghost use Rattle.pb_classify.specs.Marks.{AreMarks};
 

@@ -1,5 +1,4 @@
-use Rattle.std.proofs.Common.{◌≡◌, ◌∙◌, false, ap₂, sym, subst, arith}
-use Rattle.std.proofs.lemmas.Option.{get_or_from_slice_get}
+use Rattle.std.proofs.Common.{◌≡◌, ◌∙◌, ◌<◌, Bool, true, false, List, length, ap, ap₂, sym, subst, arith}
 use Rattle.pb_graph.specs.declared.records.Class.{Class}
 use Rattle.pb_graph.specs.declared.records.Witness.TheVariants.{Cut}
 use Rattle.pb_graph.specs.ProcessGraph.{IsStream}
@@ -10,14 +9,17 @@ use Rattle.pb_classify.proofs.Items.{stream_is, determined_item}
 use Rattle.pb_classify.proofs.classes.classified.Goals as goal
 
 -- the side has an item for each node
-pub at-requires : goal.at-requires
-at-requires c =
+pub ends_in-requires : goal.ends_in-requires
+ends_in-requires c =
     let is : IsStream c.args.g.now.nodes c.stream-s.result = stream_is c.args.g.now c.args.j c.stream-s.result c.requires.limits c.stream-s.ensures in
-    omega (arith, is.to, c.in_ok-side.ensures.each)
+    subst (λ (side : List Bool). c.stream-s.result.to < length side) (sym c.as_slice-within.ensures) (omega (arith, is.to, c.in_ok-side.ensures.each))
 
 pub free_stream-requires-clause-joined : goal.free_stream-requires-clause-joined
 free_stream-requires-clause-joined c =
-    c.in_ok-side.ensures.reached c.stream-s.result.to (get_or_from_slice_get c.in_ok-side.side c.stream-s.result.to c.at.result.now false c.at.ensures ∙ c.if-at.true)
+    let to = c.stream-s.result.to in
+    let within = c.as_slice-within.result.now in
+    let inside : is_in within to ≡ true = sym c.ends_in.ensures ∙ c.if-ends_in.true in
+    c.in_ok-side.ensures.reached to (ap (λ (side : List Bool). is_in side to) (sym c.as_slice-within.ensures) ∙ inside)
 
 pub returns : goal.returns
 returns c =
@@ -25,7 +27,9 @@ returns c =
     let s = c.stream-s.result in
     let side = c.in_ok-side.side in
     let members = c.in_ok-members.members in
-    let out : is_in side s.to ≡ false = get_or_from_slice_get side s.to c.at.result.now false c.at.ensures ∙ c.if-at.false in
-    let whole : members ≡ boundary_of side g.streams = c.in_ok-members.ensures ∙ ap₂ boundary_of c.as_slice.ensures c.streams.ensures.value in
+    let within = c.as_slice-within.result.now in
+    let outside : is_in within s.to ≡ false = sym c.ends_in.ensures ∙ c.if-ends_in.false in
+    let out : is_in side s.to ≡ false = ap (λ (w : List Bool). is_in w s.to) (sym c.as_slice-within.ensures) ∙ outside in
+    let whole : members ≡ boundary_of side g.streams = c.in_ok-members.ensures ∙ ap₂ boundary_of c.as_slice-within.ensures c.streams.ensures.value in
     subst (λ (class : Class). IsClassified g c.args.j (record { class = class; witness = Cut side members })) (sym c.determined_class.ensures)
     (determined_item g c.args.forest.now.held c.args.j s side members c.requires.limits c.requires.forest.forest c.stream-s.ensures c.in_ok-side.ensures out whole)
