@@ -1,0 +1,5 @@
+pub mod BestLaws
+pub mod MoveLaws
+pub mod CandidateLaws
+pub mod FitLaws
+pub mod SweepLaws

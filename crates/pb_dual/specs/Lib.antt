@@ -1,0 +1,6 @@
+pub mod DualValue
+pub mod Moves
+pub mod Best
+pub mod Candidates
+pub mod Sweeps
+pub mod Laws
