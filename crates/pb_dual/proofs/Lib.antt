@@ -3,3 +3,4 @@ pub mod MoveLaws
 pub mod CandidateLaws
 pub mod FitLaws
 pub mod SweepLaws
+pub mod ArcLaws

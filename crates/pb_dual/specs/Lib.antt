@@ -4,3 +4,5 @@ pub mod Best
 pub mod Candidates
 pub mod Sweeps
 pub mod Laws
+pub mod Arcs
+pub mod Priced
