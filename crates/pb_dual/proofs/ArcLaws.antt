@@ -6,6 +6,7 @@ use Rattle.std.specs.List.{AllByRecursion, list_any}
 use Rattle.std.specs.Option.{option_to_list}
 use Rattle.std.proofs.lemmas.Bool.{eqb-true}
 use Rattle.std.proofs.lemmas.Int.{ints}
+use Rattle.std.proofs.lemmas.List.{take_more}
 use Rattle.pb_integers.specs.Sums.{sum_over}
 use Rattle.pb_integers.proofs.Lists.{drop_next}
 use Rattle.pb_integers.proofs.RingLaws.{zero_add}
@@ -205,3 +206,14 @@ seen_is group k [] h = refl
 seen_is group k (s ∷ ss) h =
     ap (λ (b : Bool). has_one_end group k s || b) (seen_is group k ss h.1)
     ∙ seen_one s.meas (group_at group s.from == k) (group_at group s.to == k) (group_at group s.from) (group_at group s.to) (arcs_of group k ss) h.0
+
+first_alone : (o : Option Arc) → with_first o [] ≡ option_to_list o
+first_alone None = refl
+first_alone (Some a) = refl
+
+-- the arcs of one stream more
+pub arcs_more : (group : List ℕ) (k j : ℕ) (ss : List Stream) (d : Stream) → j < length ss
+    → arcs_of group k (take (j + 1) ss) ≡ arcs_of group k (take j ss) ++ option_to_list (arc_at group k (get_or ss j d))
+arcs_more group k j ss d lt =
+    let s = get_or ss j d in
+    ap (arcs_of group k) (take_more ss j d lt) ∙ arcs_append group k (take j ss) (s ∷ []) ∙ ap (λ (l : List Arc). arcs_of group k (take j ss) ++ l) (first_alone (arc_at group k s))
