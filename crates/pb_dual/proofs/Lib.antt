@@ -4,3 +4,4 @@ pub mod CandidateLaws
 pub mod FitLaws
 pub mod SweepLaws
 pub mod ArcLaws
+pub mod DualLaws

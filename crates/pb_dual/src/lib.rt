@@ -11,3 +11,5 @@ pub mod laws;
 mod passes;
 
 
+
+pub use dual::Dual;

@@ -97,7 +97,7 @@ fn highest(arcs: &[Arc], prices: &[i128], k: u32) -> i128
 
 /// The best price of group `k`: the present one less the nearest quotient of the net dual flow by the variance, moved into the
 /// interval that the arcs allow.
-pub fn best_price(arcs: &[Arc], prices: &[i128], k: u32) -> i128
+pub fn best_price_by(arcs: &[Arc], prices: &[i128], k: u32) -> i128
     requires few { length arcs.now ≤ 2000 }
     requires group { k < length prices.now }
     requires arcs { All (IsArc prices.now k) arcs.now }
