@@ -1,0 +1,7 @@
+pub mod BestLaws
+pub mod MoveLaws
+pub mod CandidateLaws
+pub mod FitLaws
+pub mod SweepLaws
+pub mod ArcLaws
+pub mod DualLaws

@@ -1,0 +1,28 @@
+use Rattle.std.proofs.Common.{◌≡◌, ◌∙◌, ◌+◌, ◌*◌, ◌^◌, ◌≤◌, ℤ, pos, ◌+ℤ◌, false, FitsSigned, to_z, get_or, take, unsigned_abs, ap₂, sym, rules, arith}
+use mir.Syntax.{w128}
+use Rattle.std.proofs.lemmas.Int.{ints}
+use Rattle.std.proofs.Math.Facts.{to_z-of_z}
+use Rattle.pb_integers.proofs.Sums.{sum_over-take_more}
+use Rattle.pb_dual.specs.declared.arcs.Arc.{Arc}
+use Rattle.pb_dual.specs.Arcs.{arc_flow, arcs_flow}
+use Rattle.pb_dual.proofs.passes.net_flow.Goals as goal
+
+abbrev some_arc : Arc
+some_arc = record { other = 0; enters = false; value = pos 0; variance = pos 0; room = pos 0 }
+
+-- one arc more joins the total
+pub loop-arc-preserved : goal.loop-arc-preserved
+loop-arc-preserved c =
+    let arcs = c.args.arcs.now in
+    let i = c.loop-arc.arc-index in
+    let inv = c.loop-arc.invariant in
+    let f = arc_flow c.args.prices.now c.args.k in
+    let total = to_z w128 c.loop-arc.total-bits in
+    let part : ℤ = c.inflow.result in
+    let fits_part : FitsSigned w128 part = omega (arith, ints, c.inflow.ensures.within) in
+    let is : c.sum-total.result ≡ total +ℤ part = simp to_z-of_z at c.sum-total.ensures in
+    let fits_sum : FitsSigned w128 c.sum-total.result = search rules in
+    let next = sum_over-take_more f arcs i some_arc c.loop-arc-test.true in
+    let so_far = is ∙ ap₂ (λ (x y : ℤ). x +ℤ y) inv.so_far c.inflow.ensures.value ∙ sym next in
+    let small : unsigned_abs c.sum-total.result ≤ (i + 1) * 2 ^ 113 = omega (arith, ints, is, inv.small, c.inflow.ensures.within) in
+    simp to_z-of_z (record { so_far = so_far; small = small })

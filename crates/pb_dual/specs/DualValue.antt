@@ -1,0 +1,29 @@
+-- The dual of weighted least squares under the balances. A price for each node stands for its balance; the dual value of any prices
+-- bounds the weighted squares of every balanced vector from below (Rockafellar, Network Flows and Monotropic Optimization, chapter 8).
+use Rattle.std.specs.Prelude.{◌^◌, ℕ, ℤ, pos, neg_ℤ, ◌+ℤ◌, ◌*ℤ◌, List, Option, Some, None}
+use Rattle.pb_integers.specs.Sums.{sum_over}
+use Rattle.pb_graph.specs.declared.records.Meas.{Meas}
+use Rattle.pb_graph.specs.declared.records.Stream.{Stream}
+use Rattle.pb_graph.specs.Prices.{rise_of}
+
+-- a gram has 2^56 units of dual flow
+abbrev pub scale : ℤ
+scale = pos (2 ^ 56)
+
+-- the dual flow of a measurement along which the price rises by d: its value, and its variance times the rise
+abbrev pub flow_at : Option Meas → ℤ → ℤ
+flow_at None d = pos 0
+flow_at (Some m) d = (scale *ℤ m.value) +ℤ (m.variance *ℤ d)
+
+-- the dual flow of a stream, in units of 2^-56 gram
+abbrev pub dual_flow : (ℕ → ℤ) → Stream → ℤ
+dual_flow price s = flow_at s.meas (rise_of price s)
+
+-- what a measurement along which the price rises by d takes from the dual value
+abbrev pub cost_at : Option Meas → ℤ → ℤ
+cost_at None d = pos 0
+cost_at (Some m) d = ((pos 2 *ℤ scale) *ℤ (d *ℤ m.value)) +ℤ (m.variance *ℤ (d *ℤ d))
+
+-- The dual value of prices, in units of 2^-112.
+abbrev pub dual_value : (ℕ → ℤ) → List Stream → ℤ
+dual_value price ss = neg_ℤ (sum_over (λ s. cost_at s.meas (rise_of price s)) ss)

@@ -1,0 +1,184 @@
+ghost use Rattle.std.specs.Prelude.{◌≡◌, ◌≢◌, ℕ, suc, ◌+◌, ◌^◌, ◌<◌, ◌≤◌, Some, true, max, pos, ◌≤ℤ◌, length, get_or, slice_get, unsigned_abs, All, IfOk};
+ghost use Rattle.pb_graph.specs.ProcessGraph.{IsStream, IsWithinLimits};
+ghost use Rattle.pb_graph.specs.Groups.{AreGroups, group_at, group_count, is_free_group};
+ghost use Rattle.pb_graph.specs.Prices.{PricesFit, IsInBox};
+ghost use Rattle.pb_dual.specs.DualValue.{dual_flow, dual_value};
+ghost use Rattle.pb_dual.specs.Moves.{with_price};
+ghost use Rattle.pb_dual.specs.Candidates.{best_price};
+ghost use Rattle.pb_dual.specs.Sweeps.{stepped, sweep_of, prices_after};
+ghost use Rattle.pb_dual.specs.Priced.{IsPriced, price_of};
+ghost use Rattle.pb_graph.specs.declared.records.Stream.{Stream};
+
+use crate::arcs::{Arc, all_arcs};
+use crate::arithmetic::{difference, flow};
+use crate::passes::best_price_by;
+use pb_graph::{Graph, List, Stream};
+use std::alloc::{AllocError, Global};
+use std::marker::Model;
+
+/// Prices for the groups of a graph, which always fit.
+///
+/// Prices are in units of 2^-56 per gram.
+#[derive(Debug, Drop)]
+pub struct Dual {
+    streams: Vec<Stream>,
+    group: Vec<u32>,
+    prices: Vec<i128>,
+    arcs: Vec<List<Arc>>,
+}
+
+impl Model for Dual {
+    ghost use Rattle.std.specs.Prelude.{length};
+    ghost use Rattle.pb_dual.specs.Priced.{Priced, HasArcs};
+
+    ghost Value = { Priced };
+
+    ghost view = { λ a. record { graph = record { nodes = length a.group.items; streams = a.streams.items }; group = a.group.items; prices = a.prices.items } };
+
+    ghost invariant = { λ a. HasArcs (record { graph = record { nodes = length a.group.items; streams = a.streams.items }; group = a.group.items; prices = a.prices.items }) a.arcs.items };
+}
+
+/// The number of groups: one more than the greatest number of one.
+fn count(group: &[u32]) -> u32
+    requires { All (λ k. k < 1001) group.now }
+    ensures { result ≡ group_count group.now }
+{
+    let mut count = 0;
+    for k in group {
+        count = count.max(*k + 1);
+    }
+    count
+}
+
+/// The dual flow of a stream, 0 where it is unmeasured.
+fn stream_flow(s: &Stream, group: &[u32], prices: &[i128]) -> i128
+    requires ends { IsStream (length group.now) s.now }
+    requires limits { IsWithinLimits s.now }
+    requires groups { All (λ k. k < length prices.now) group.now }
+    requires small { All (λ p. unsigned_abs p ≤ 2 ^ 120) prices.now }
+    requires in_box { IsInBox (λ n. get_or prices.now (group_at group.now n) (pos 0)) s.now }
+    ensures value { result ≡ dual_flow (λ n. get_or prices.now (group_at group.now n) (pos 0)) s.now }
+    ensures within { unsigned_abs result < 2 ^ 113 }
+{
+    match s.meas {
+        None => 0,
+        Some(m) => {
+            let to = prices[group[s.to as usize] as usize];
+            let from = prices[group[s.from as usize] as usize];
+            flow(m.value, m.variance, difference(to, from))
+        }
+    }
+}
+
+impl Dual {
+    /// Prices of 0. `group_of` is the number of each node's group.
+    pub fn new(alloc: Global, g: &Graph, group_of: &[u32]) -> Result<Dual, AllocError>
+        requires { AreGroups g.now group_of.now }
+        ensures graph { IfOk result (λ d. d.graph ≡ g.now) }
+        ensures group { IfOk result (λ d. d.group ≡ group_of.now) }
+        ensures price { IfOk result (λ d. price_of d ≡ prices_after g.now group_of.now 0) }
+    {
+        let streams = g.streams();
+        let groups = count(group_of);
+        let arcs = all_arcs(alloc, groups, group_of, streams)?;
+        let prices = vec![in alloc; 0i128; groups as usize]?;
+        let group = Vec::from_slice(alloc, group_of)?;
+        let streams = Vec::from_slice(alloc, streams)?;
+        Ok(Dual {
+            streams,
+            group,
+            prices,
+            arcs,
+        })
+    }
+
+    /// The number of groups.
+    fn groups(&self) -> u32
+        ensures value { result ≡ group_count self.now.group }
+        ensures priced { IsPriced self.now }
+    {
+        self.prices.len() as u32
+    }
+
+    /// The price of a group, at most 2^120 either way.
+    pub fn price(&self, group: u32) -> i128
+        requires { group < group_count self.now.group }
+        ensures value { result ≡ get_or self.now.prices group (pos 0) }
+        ensures within { unsigned_abs result ≤ 2 ^ 120 }
+    {
+        self.prices[group as usize]
+    }
+
+    /// The dual flow of a stream, in units of 2^-56 gram; 0 where the stream is unmeasured.
+    pub fn dual_flow(&self, j: u32) -> i128
+        requires { j < length self.now.graph.streams }
+        ensures value { (s : Stream) → slice_get self.now.graph.streams j ≡ Some s → result ≡ dual_flow (price_of self.now) s }
+        ensures within { unsigned_abs result < 2 ^ 113 }
+    {
+        stream_flow(&self.streams[j as usize], &self.group, &self.prices)
+    }
+
+    /// Whether a group is free.
+    fn is_free(&self, group: u32) -> bool
+        requires { group < group_count self.now.group }
+        ensures value { result ≡ is_free_group self.now.group self.now.graph.streams group }
+        ensures priced { IsPriced self.now }
+    {
+        group != 0 && self.arcs[group as usize].len() > 0
+    }
+
+    /// Gives a free group its best price.
+    fn set_best(&mut self, group: u32)
+        requires group { group < group_count self.old.group }
+        requires free { is_free_group self.old.group self.old.graph.streams group ≡ true }
+        ensures price { price_of self.new ≡ with_price self.old.group (price_of self.old) group (best_price self.old.group (price_of self.old) group self.old.graph.streams) }
+        ensures graph { self.new.graph ≡ self.old.graph }
+        ensures groups { self.new.group ≡ self.old.group }
+        ensures others { (k : ℕ) → k ≢ group → get_or self.new.prices k (pos 0) ≡ get_or self.old.prices k (pos 0) }
+    {
+        let price = best_price_by(self.arcs[group as usize].as_slice(), &self.prices, group);
+        self.prices[group as usize] = price;
+    }
+
+    /// Gives a free group its best price, and leaves another group as it is.
+    pub fn step(&mut self, group: u32)
+        requires { group < group_count self.old.group }
+        ensures price { price_of self.new ≡ stepped self.old.group self.old.graph.streams (price_of self.old) group }
+        ensures graph { self.new.graph ≡ self.old.graph }
+        ensures groups { self.new.group ≡ self.old.group }
+        ensures others { (k : ℕ) → k ≢ group → get_or self.new.prices k (pos 0) ≡ get_or self.old.prices k (pos 0) }
+        ensures fit { PricesFit self.new.graph (price_of self.new) }
+        ensures ascent { dual_value (price_of self.old) self.old.graph.streams ≤ℤ dual_value (price_of self.new) self.old.graph.streams }
+    {
+        if self.is_free(group) {
+            self.set_best(group);
+        }
+    }
+
+    /// Gives each free group its best price, in order of groups.
+    pub fn sweep(&mut self)
+        ensures price { price_of self.new ≡ sweep_of self.old.graph self.old.group (price_of self.old) }
+        ensures graph { self.new.graph ≡ self.old.graph }
+        ensures groups { self.new.group ≡ self.old.group }
+        ensures more { (k : ℕ) → price_of self.old ≡ prices_after self.old.graph self.old.group k → price_of self.new ≡ prices_after self.old.graph self.old.group (suc k) }
+        ensures fit { PricesFit self.new.graph (price_of self.new) }
+        ensures ascent { dual_value (price_of self.old) self.old.graph.streams ≤ℤ dual_value (price_of self.new) self.old.graph.streams }
+    {
+        for group in 0..self.groups() {
+            self.step(group);
+        }
+    }
+
+    /// Gives every group the price 0 again.
+    pub fn reset(&mut self)
+        ensures price { price_of self.new ≡ prices_after self.old.graph self.old.group 0 }
+        ensures graph { self.new.graph ≡ self.old.graph }
+        ensures groups { self.new.group ≡ self.old.group }
+        ensures each { (k : ℕ) → get_or self.new.prices k (pos 0) ≡ pos 0 }
+        ensures fit { PricesFit self.new.graph (price_of self.new) }
+    {
+        for k in 0..self.prices.len() {
+            self.prices[k] = 0;
+        }
+    }
+}
