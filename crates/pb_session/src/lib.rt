@@ -6,9 +6,11 @@
 
 mod design;
 mod form;
+mod laws;
 mod name_index;
 mod read;
 mod session;
 
 pub use form::{Answer, Declared, Kind, Refusal, RowForm};
+pub use laws::one_text_law;
 pub use session::{MOST_UNITS, Session};
