@@ -10,6 +10,8 @@ mod laws;
 mod name_index;
 mod read;
 mod session;
+#[cfg(test)]
+mod tests;
 
 pub use form::{Answer, Declared, Kind, Refusal, RowForm};
 pub use laws::one_text_law;
