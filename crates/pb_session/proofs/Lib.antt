@@ -2,3 +2,4 @@ pub mod CertificateLemmas
 pub mod DesignLemmas
 pub mod FormLemmas
 pub mod KeptLemmas
+pub mod TextLemmas

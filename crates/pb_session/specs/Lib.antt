@@ -3,4 +3,5 @@ pub mod Refusals
 pub mod Stored
 pub mod DesignGraph
 pub mod Session
+pub mod Laws
 pub mod Kept

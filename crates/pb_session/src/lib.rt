@@ -6,9 +6,13 @@
 
 mod design;
 mod form;
+mod laws;
 mod name_index;
 mod read;
 mod session;
+#[cfg(test)]
+mod tests;
 
 pub use form::{Answer, Declared, Kind, Refusal, RowForm};
+pub use laws::one_text_law;
 pub use session::{MOST_UNITS, Session};
