@@ -1,5 +1,5 @@
 -- What the arcs of a group add up to is what the streams do.
-use Rattle.std.proofs.Common.{◌≡◌, ◌≢◌, ◌∙◌, ◌==◌, ◌^◌, ℕ, ◌+◌, ◌<◌, ◌≤◌, ℤ, pos, neg_ℤ, ◌+ℤ◌, ◌-ℤ◌, ◌*ℤ◌, ◌≤ℤ◌, ◌<ℤ◌, Bool, true, false, not, List, [], ◌∷◌, ◌++◌, length, get_or, take, drop, Option, Some, None, refl, sym, subst, ap, ap₂, inl, inr, arith, unsigned_abs}
+use Rattle.std.proofs.Common.{◌≡◌, ◌∙◌, ◌==◌, ◌^◌, ℕ, ◌+◌, ◌<◌, ◌≤◌, ℤ, pos, neg_ℤ, ◌+ℤ◌, ◌-ℤ◌, ◌*ℤ◌, ◌≤ℤ◌, Bool, true, false, not, List, [], ◌∷◌, ◌++◌, length, get_or, take, drop, Option, Some, None, refl, sym, subst, ap, arith, unsigned_abs}
 use Rattle.std.specs.Prelude.{if◌then◌else◌, IfSome, is_some, nat_lt, ◌||◌}
 use Rattle.std.specs.Int.{int_max, int_min}
 use Rattle.std.specs.List.{AllByRecursion, list_any}
@@ -7,7 +7,6 @@ use Rattle.std.specs.Option.{option_to_list}
 use Rattle.std.proofs.lemmas.Bool.{eqb-true}
 use Rattle.std.proofs.lemmas.Int.{ints}
 use Rattle.std.proofs.lemmas.List.{take_more}
-use Rattle.pb_integers.specs.Sums.{sum_over}
 use Rattle.pb_integers.proofs.Lists.{drop_next}
 use Rattle.pb_integers.proofs.RingLaws.{zero_add}
 use Rattle.pb_fixed.proofs.QuotientLaws.{floor_size}
@@ -15,13 +14,13 @@ use Rattle.pb_graph.specs.declared.records.Meas.{Meas}
 use Rattle.pb_graph.specs.declared.records.Stream.{Stream}
 use Rattle.pb_graph.specs.ProcessGraph.{IsMeasurement, IsWithinLimits, is_measured}
 use Rattle.pb_graph.specs.Groups.{group_at, has_one_end}
-use Rattle.pb_graph.specs.Prices.{rise_of, IsInBox}
+use Rattle.pb_graph.specs.Prices.{IsInBox}
 use Rattle.pb_merge.specs.Variance.{variance_of, crossing_variance, group_variance}
 use Rattle.pb_dual.specs.declared.arcs.Arc.{Arc}
 use Rattle.pb_dual.specs.DualValue.{scale, flow_at, dual_flow}
 use Rattle.pb_dual.specs.Moves.{entering, group_flow}
 use Rattle.pb_dual.specs.Candidates.{room_of, raised, lowered, raised_at, lowered_at, low_from, high_from}
-use Rattle.pb_dual.specs.Arcs.{arc_of, arc_at, arcs_of, with_first, arc_rise, arc_flow, arcs_flow, arcs_variance, arcs_low, arcs_high, IsArc}
+use Rattle.pb_dual.specs.Arcs.{arc_of, arc_at, arcs_of, with_first, arcs_flow, arcs_variance, arcs_low, arcs_high, IsArc}
 
 -- one arc more
 pub low_more : (prices : List ℤ) (lo : ℤ) (arcs : List Arc) (i : ℕ) (d : Arc) → i < length arcs
@@ -151,22 +150,28 @@ within_one None true false from to k prices rest h e m f t x r = r
 within_one None false true from to k prices rest h e m f t x r = r
 within_one None false false from to k prices rest h e m f t x r = r
 within_one (Some m) true true from to k prices rest h e l f t x r = r
-within_one (Some m) false true from to k prices rest h e l f t x r = (record {
-  group = f;
-  size = l.value;
-  least = l.least;
-  greatest = l.greatest;
-  space = room_size m.variance l.least;
-  box = subst (λ (n : ℕ). unsigned_abs (m.variance *ℤ (get_or prices n (pos 0) -ℤ get_or prices from (pos 0))) ≤ 2 ^ 112) (e refl) x;
-}, r)
-within_one (Some m) true false from to k prices rest h e l f t x r = (record {
-  group = t;
-  size = l.value;
-  least = l.least;
-  greatest = l.greatest;
-  space = room_size m.variance l.least;
-  box = subst (λ (n : ℕ). unsigned_abs (m.variance *ℤ (get_or prices to (pos 0) -ℤ get_or prices n (pos 0))) ≤ 2 ^ 112) (h refl) x;
-}, r)
+within_one (Some m) false true from to k prices rest h e l f t x r = (
+  record {
+    group = f;
+    size = l.value;
+    least = l.least;
+    greatest = l.greatest;
+    space = room_size m.variance l.least;
+    box = subst (λ (n : ℕ). unsigned_abs (m.variance *ℤ (get_or prices n (pos 0) -ℤ get_or prices from (pos 0))) ≤ 2 ^ 112) (e refl) x;
+  },
+  r,
+)
+within_one (Some m) true false from to k prices rest h e l f t x r = (
+  record {
+    group = t;
+    size = l.value;
+    least = l.least;
+    greatest = l.greatest;
+    space = room_size m.variance l.least;
+    box = subst (λ (n : ℕ). unsigned_abs (m.variance *ℤ (get_or prices to (pos 0) -ℤ get_or prices n (pos 0))) ≤ 2 ^ 112) (h refl) x;
+  },
+  r,
+)
 within_one (Some m) false false from to k prices rest h e l f t x r = r
 
 -- a stream whose ends have groups with prices

@@ -56,8 +56,8 @@ one_best : (value : ℤ → ℤ) (lo hi c d : ℤ) → IsBest value lo hi c → 
 one_best value lo hi c d b e = by_lt_z c d
     (λ less. let m = b.most d e.from e.to in let l = e.least c b.from less in absurd (omega (arith, ints, m, l)))
     (λ le. by_lt_z d c
-      (λ less. let m = e.most c b.from b.to in let l = b.least d e.from less in absurd (omega (arith, ints, m, l)))
-      (λ ge. omega (arith, ints, le, ge)))
+    (λ less. let m = e.most c b.from b.to in let l = b.least d e.from less in absurd (omega (arith, ints, m, l)))
+    (λ ge. omega (arith, ints, le, ge)))
 
 best_only : (value : ℤ → ℤ) (lo hi c : ℤ) → IsBest value lo hi c → best value lo hi ≡ c
 best_only value lo hi c b = one_best value lo hi (best value lo hi) c (best_is value lo hi (omega (arith, ints, b.from, b.to))) b
@@ -89,8 +89,8 @@ slope_is old n a q k s e =
     let Q = var 3 in
     let S = var 4 in
     subst (λ (x : ℤ). (a *ℤ (x -ℤ (pos 2 *ℤ old))) +ℤ (pos 2 *ℤ n) ≡ ((a *ℤ s) -ℤ (q *ℤ (pos 2 *ℤ a))) +ℤ (pos 2 *ℤ n)) (sym e) (
-      ring vs (plus (times A (plus (plus S (times (lit (pos 2)) (plus O (minus Q)))) (minus (times (lit (pos 2)) O)))) (times (lit (pos 2)) N))
-      (plus (plus (times A S) (minus (times Q (times (lit (pos 2)) A)))) (times (lit (pos 2)) N)) refl)
+    ring vs (plus (times A (plus (plus S (times (lit (pos 2)) (plus O (minus Q)))) (minus (times (lit (pos 2)) O)))) (times (lit (pos 2)) N))
+    (plus (plus (times A S) (minus (times Q (times (lit (pos 2)) A)))) (times (lit (pos 2)) N)) refl)
 
 slope_above : (old n a q k : ℤ) → pos 0 <ℤ a → IsNearest n a q → (pos 2 *ℤ (old -ℤ q)) <ℤ k → pos 0 ≤ℤ ((a *ℤ (k -ℤ (pos 2 *ℤ old))) +ℤ (pos 2 *ℤ n))
 slope_above old n a q k h near less =
@@ -149,8 +149,8 @@ best_is_nearest value lo hi old n a q law h le near = best_only value lo hi _ (
           most = λ d a1 b1. by_lt_z d m
               (λ less. let r = rises value old n a q d m law h near less (omega (arith, ints, less)) in omega (arith, ints, r))
               (λ ge. by_lt_z m d
-                (λ less. falls value old n a q m d law h near (omega (arith, ints, less)) (omega (arith, ints, less)))
-                (λ ge2. let e : m ≡ d = omega (arith, ints, ge, ge2) in subst (λ (x : ℤ). value x ≤ℤ value m) e (omega (arith, ints))));
+              (λ less. falls value old n a q m d law h near (omega (arith, ints, less)) (omega (arith, ints, less)))
+              (λ ge2. let e : m ≡ d = omega (arith, ints, ge, ge2) in subst (λ (x : ℤ). value x ≤ℤ value m) e (omega (arith, ints))));
           least = λ d a1 b1. rises value old n a q d m law h near b1 (omega (arith, ints, b1));
         })
       ])

@@ -1,5 +1,5 @@
 -- The candidates are the prices of one group that keep every stream in the box.
-use Rattle.std.proofs.Common.{◌≡◌, ◌==◌, ◌^◌, ◌≤◌, ℕ, ℤ, pos, neg_ℤ, ◌+ℤ◌, ◌-ℤ◌, ◌*ℤ◌, ◌≤ℤ◌, ◌<ℤ◌, List, [], ◌∷◌, true, false, not, refl, arith, Bool, Option, Some, None, unsigned_abs}
+use Rattle.std.proofs.Common.{◌≡◌, ◌==◌, ◌^◌, ◌≤◌, ℕ, ℤ, pos, neg_ℤ, ◌+ℤ◌, ◌-ℤ◌, ◌*ℤ◌, ◌≤ℤ◌, List, [], ◌∷◌, true, false, not, refl, arith, Bool, Option, Some, None, unsigned_abs}
 use Rattle.std.specs.Prelude.{if◌then◌else◌, IfSome}
 use Rattle.std.specs.Int.{int_max, int_min}
 use Rattle.std.specs.List.{AllByRecursion}
@@ -11,7 +11,7 @@ use Rattle.pb_fixed.proofs.QuotientLaws.{floor_is, floor_from}
 use Rattle.pb_graph.specs.declared.records.Meas.{Meas}
 use Rattle.pb_graph.specs.declared.records.Stream.{Stream}
 use Rattle.pb_graph.specs.ProcessGraph.{IsMeasurement, IsWithinLimits}
-use Rattle.pb_graph.specs.Groups.{group_at, has_one_end}
+use Rattle.pb_graph.specs.Groups.{group_at}
 use Rattle.pb_graph.specs.Prices.{IsInBox}
 use Rattle.pb_dual.specs.Moves.{with_price}
 use Rattle.pb_dual.specs.Candidates.{room_of, raised, lowered, raised_at, lowered_at, low_from, high_from, least_candidate, greatest_candidate}

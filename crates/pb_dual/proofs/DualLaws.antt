@@ -1,6 +1,6 @@
 -- What the prices of the groups and their arcs keep.
-use Rattle.std.proofs.Common.{◌≡◌, ◌≢◌, ◌∙◌, ◌==◌, ◌^◌, ◌*◌, ℕ, zero, suc, ◌+◌, ◌-◌, ◌<◌, ◌≤◌, max, ℤ, pos, neg_ℤ, ◌+ℤ◌, ◌-ℤ◌, ◌≤ℤ◌, ◌<ℤ◌, Bool, true, false, not, List, [], ◌∷◌, length, get_or, set, replicate, Option, Some, None, slice_get, refl, sym, subst, ap, ap₂, inl, inr, arith, unsigned_abs, length-set}
-use Rattle.std.specs.Prelude.{◌&&◌, int_lt, nat_lt, IfSome}
+use Rattle.std.proofs.Common.{◌≡◌, ◌∙◌, ◌==◌, ◌^◌, ℕ, zero, suc, ◌+◌, ◌-◌, ◌<◌, ◌≤◌, ℤ, pos, neg_ℤ, ◌-ℤ◌, ◌<ℤ◌, Bool, true, not, List, [], ◌∷◌, length, get_or, set, replicate, refl, sym, subst, ap, ap₂, inl, inr, arith, unsigned_abs, length-set}
+use Rattle.std.specs.Prelude.{◌&&◌, int_lt, nat_lt}
 use Rattle.std.specs.List.{All, AllByRecursion, list_any}
 use Rattle.std.proofs.lemmas.Bool.{cases_eq, cases_lt, eq-eqb, ne_eqb, and_parts}
 use Rattle.std.proofs.lemmas.Grind.{get_or-set_at}
@@ -12,7 +12,7 @@ use Rattle.pb_integers.proofs.Order.{le_trans}
 use Rattle.pb_fixed.specs.Quotients.{nearest_div}
 use Rattle.pb_fixed.proofs.QuotientLaws.{nearest_is}
 use Rattle.pb_graph.specs.declared.records.Stream.{Stream}
-use Rattle.pb_graph.specs.ProcessGraph.{ProcessGraph, IsProcessGraph, IsStream, IsWithinLimits, is_measured}
+use Rattle.pb_graph.specs.ProcessGraph.{ProcessGraph, IsProcessGraph, IsWithinLimits}
 use Rattle.pb_graph.specs.Groups.{AreGroups, group_at, group_count, has_one_end, is_free_group}
 use Rattle.pb_graph.specs.Prices.{PricesFit, IsInBox}
 use Rattle.pb_merge.specs.Variance.{group_variance}
@@ -21,14 +21,14 @@ use Rattle.pb_merge.proofs.FreeLemmas.{first_number, crossing_measured, crossing
 use Rattle.pb_dual.specs.declared.arcs.Arc.{Arc}
 use Rattle.pb_dual.specs.DualValue.{dual_value}
 use Rattle.pb_dual.specs.Moves.{with_price, group_flow, FallsAlong}
-use Rattle.pb_dual.specs.Best.{best, clamped}
+use Rattle.pb_dual.specs.Best.{clamped}
 use Rattle.pb_dual.specs.Candidates.{least_candidate, greatest_candidate, best_price}
 use Rattle.pb_dual.specs.Arcs.{arcs_of, arcs_flow, arcs_variance, arcs_low, arcs_high, IsArc}
 use Rattle.pb_dual.specs.Priced.{Priced, price_of, IsPriced, HasArcs}
 use Rattle.pb_dual.specs.Laws.{CanMove}
 use Rattle.pb_dual.proofs.BestLaws.{best_is_nearest}
 use Rattle.pb_dual.proofs.MoveLaws.{falls_along}
-use Rattle.pb_dual.proofs.FitLaws.{HasOld, node_of, old_is}
+use Rattle.pb_dual.proofs.FitLaws.{node_of, old_is}
 use Rattle.pb_dual.proofs.SweepLaws.{zero_fits}
 use Rattle.pb_dual.proofs.ArcLaws.{IsPlaced, IsSeen, arcs_within, flow_arcs, high_arcs, length_arcs, low_arcs, seen_is, variance_arcs}
 
@@ -126,14 +126,14 @@ free_positive d k h free =
     let above = above_zero (group_variance d.group k d.graph.streams) (sym (crossed_is d.group k d.graph.streams adds) ∙ parts.1) in
     subst (λ (x : ℤ). pos 0 <ℤ x) (sym (variance_arcs d.group k d.graph.streams)) above
   where
-  above_zero : (x : ℤ) → int_lt (pos 0) x ≡ true → pos 0 <ℤ x
-  above_zero x e = omega (arith, ints, e)
+    above_zero : (x : ℤ) → int_lt (pos 0) x ≡ true → pos 0 <ℤ x
+    above_zero x e = omega (arith, ints, e)
 
 -- the price that the passes give is the best one
 pub nearest_is_best : (d : Priced) (k : ℕ) → IsPriced d → is_free_group d.group d.graph.streams k ≡ true
     → best_price d.group (price_of d) k d.graph.streams
     ≡ clamped (arcs_low d.prices (neg_ℤ (pos (2 ^ 120))) (arcs_of d.group k d.graph.streams)) (arcs_high d.prices (pos (2 ^ 120)) (arcs_of d.group k d.graph.streams))
-      (get_or d.prices k (pos 0) -ℤ nearest_div (arcs_flow d.prices k (arcs_of d.group k d.graph.streams)) (arcs_variance (arcs_of d.group k d.graph.streams)))
+    (get_or d.prices k (pos 0) -ℤ nearest_div (arcs_flow d.prices k (arcs_of d.group k d.graph.streams)) (arcs_variance (arcs_of d.group k d.graph.streams)))
 nearest_is_best d k h free =
     let g = d.graph in
     let ss = d.graph.streams in
@@ -160,11 +160,11 @@ nearest_is_best d k h free =
 pub set_price : (d : Priced) (k : ℕ) (c : ℤ) → k < length d.prices → price_of (record d { prices = set d.prices k c }) ≡ with_price d.group (price_of d) k c
 set_price d k c lt = λ i n. at n i
   where
-  at : (n : ℕ) → get_or (set d.prices k c) (group_at d.group n) (pos 0) ≡ with_price d.group (price_of d) k c n
-  at n = elim (cases_eq (group_at d.group n) k) [
-    | inl same ↦ rw (eq-eqb (group_at d.group n) k same) (get_or-set_at d.prices k (group_at d.group n) c (pos 0) same lt)
-    | inr other ↦ rw (ne_eqb (group_at d.group n) k other) (get_or-set_other d.prices k (group_at d.group n) c (pos 0) other)
-  ]
+    at : (n : ℕ) → get_or (set d.prices k c) (group_at d.group n) (pos 0) ≡ with_price d.group (price_of d) k c n
+    at n = elim (cases_eq (group_at d.group n) k) [
+      | inl same ↦ rw (eq-eqb (group_at d.group n) k same) (get_or-set_at d.prices k (group_at d.group n) c (pos 0) same lt)
+      | inr other ↦ rw (ne_eqb (group_at d.group n) k other) (get_or-set_other d.prices k (group_at d.group n) c (pos 0) other)
+    ]
 
 -- prices of 0
 pub zero_price : (d : Priced) → ((k : ℕ) → get_or d.prices k (pos 0) ≡ pos 0) → price_of d ≡ (λ (n : ℕ). pos 0)
@@ -217,7 +217,7 @@ can_move d k h free = record { limits = h.limits; groups = h.groups; fit = h.fit
 
 -- prices of 0 below a list's end are 0 past it too
 pub all_none : (prices : List ℤ) → ((k : ℕ) → k < length prices → get_or prices k (pos 0) ≡ pos 0) → (k : ℕ) → get_or prices k (pos 0) ≡ pos 0
-all_none prices none k = elim (cases_lt k (length prices)) [ | inl lt ↦ none k lt | inr past ↦ get_or_past prices k (pos 0) past ]
+all_none prices none k = elim (cases_lt k (length prices)) [ inl lt ↦ none k lt | inr past ↦ get_or_past prices k (pos 0) past ]
 
 -- prices of 0 in place of others
 pub zero_kept : (d : Priced) (prices : List ℤ) (arcs : List (List Arc)) → HasArcs d arcs → length prices ≡ length d.prices → ((k : ℕ) → k < length prices → get_or prices k (pos 0) ≡ pos 0)

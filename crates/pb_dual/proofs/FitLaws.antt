@@ -1,21 +1,18 @@
 -- Prices that fit, with the price of one free group moved.
-use Rattle.std.proofs.Common.{◌≡◌, ◌≢◌, ◌∙◌, ◌==◌, ◌^◌, ℕ, ◌<◌, ◌≤◌, ℤ, pos, ◌≤ℤ◌, Bool, true, false, not, List, [], ◌∷◌, length, get_or, ap, sym, refl, subst, inl, inr, arith, unsigned_abs}
-use Rattle.std.specs.Prelude.{◌&&◌, ◌↔◌, ◌⊎◌}
-use Rattle.std.specs.List.{All, Any, AllByRecursion, list_any}
+use Rattle.std.proofs.Common.{◌≡◌, ◌≢◌, ◌∙◌, ◌==◌, ◌^◌, ℕ, ◌<◌, ◌≤◌, ℤ, ◌≤ℤ◌, true, false, not, List, length, ap, sym, refl, subst, inl, inr, arith, unsigned_abs}
+use Rattle.std.specs.List.{list_any}
 use Rattle.std.proofs.lemmas.Bool.{cases_lt, cases_eq, eq-eqb, ne_eqb, and_parts}
-use Rattle.std.proofs.lemmas.Int.{ints}
 use Rattle.std.proofs.lemmas.List.{get_or_past}
 use Rattle.std.proofs.lemmas.List.Folds.{Any-from_list_any}
 use Rattle.pb_integers.proofs.Lists.{AllByRecursion-from_all, All-from_recursion}
 use Rattle.pb_integers.proofs.Order.{le_trans}
 use Rattle.pb_graph.specs.declared.records.Stream.{Stream}
 use Rattle.pb_graph.specs.ProcessGraph.{ProcessGraph, IsProcessGraph, IsStream, IsWithinLimits}
-use Rattle.pb_graph.specs.Groups.{AreGroups, SameGroup, IsFreeGroup, group_at, has_one_end, is_free_group}
+use Rattle.pb_graph.specs.Groups.{group_at, has_one_end, is_free_group}
 use Rattle.pb_graph.specs.Prices.{PricesFit, IsInBox}
 use Rattle.pb_merge.proofs.FreeLemmas.{first_number, one_end_cases, free_means}
 use Rattle.pb_dual.specs.DualValue.{dual_value}
 use Rattle.pb_dual.specs.Moves.{with_price}
-use Rattle.pb_dual.specs.Best.{IsBest}
 use Rattle.pb_dual.specs.Candidates.{least_candidate, greatest_candidate, best_price}
 use Rattle.pb_dual.specs.Laws.{CanMove, CandidateLaw, BestLaw}
 use Rattle.pb_dual.proofs.BestLaws.{best_is}
@@ -69,11 +66,11 @@ fits_forth g group price k c h low high =
     let r = candidate_in_box group price k c g.streams limits box low high in
     record {
       shared = λ a b a_lt b_lt same.
-      let one = (h.groups.same a b a_lt b_lt).1 same in
-      elim (cases_eq (group_at group a) k) [
-        | inl e ↦ with_at group price k c a e ∙ sym (with_at group price k c b (sym one ∙ e))
-        | inr ne ↦ with_other group price k c a ne ∙ h.fit.shared a b a_lt b_lt same ∙ sym (with_other group price k c b (λ e. ne (one ∙ e)))
-      ];
+          let one = (h.groups.same a b a_lt b_lt).1 same in
+          elim (cases_eq (group_at group a) k) [
+            | inl e ↦ with_at group price k c a e ∙ sym (with_at group price k c b (sym one ∙ e))
+            | inr ne ↦ with_other group price k c a ne ∙ h.fit.shared a b a_lt b_lt same ∙ sym (with_other group price k c b (λ e. ne (one ∙ e)))
+          ];
       fixed = λ n lt held. elim (cases_eq (group_at group n) k) [
         | inl e ↦ absurd (held ((free_means g group n h.groups h.limits.env h.limits.joins lt).0 (ap (is_free_group group g.streams) e ∙ h.free)))
         | inr ne ↦ with_other group price k c n ne ∙ h.fit.fixed n lt held

@@ -1,5 +1,5 @@
 -- The dual value as one group's price moves.
-use Rattle.std.proofs.Common.{◌≡◌, ◌≢◌, ◌∙◌, ◌==◌, ℕ, ℤ, pos, neg_ℤ, ◌+ℤ◌, ◌-ℤ◌, ◌*ℤ◌, List, [], ◌∷◌, true, false, not, refl, sym, subst, ap, ap₂, inl, inr, arith, Bool, Option, Some, None}
+use Rattle.std.proofs.Common.{◌≡◌, ◌∙◌, ◌==◌, ℕ, ℤ, pos, neg_ℤ, ◌+ℤ◌, ◌-ℤ◌, ◌*ℤ◌, List, [], ◌∷◌, true, false, not, refl, sym, ap, ap₂, inl, inr, arith, Bool, Option, Some, None}
 use Rattle.std.specs.Prelude.{if◌then◌else◌}
 use Rattle.std.proofs.lemmas.Bool.{cases_eq, eq-eqb, ne_eqb}
 use Rattle.std.proofs.lemmas.Int.{ints}
@@ -7,9 +7,9 @@ use Rattle.pb_integers.specs.Sums.{sum_over}
 use Rattle.pb_integers.proofs.Ring.{Expr, var, lit, plus, times, minus, ring}
 use Rattle.pb_graph.specs.declared.records.Meas.{Meas}
 use Rattle.pb_graph.specs.declared.records.Stream.{Stream}
-use Rattle.pb_graph.specs.Groups.{group_at, has_one_end}
+use Rattle.pb_graph.specs.Groups.{group_at}
 use Rattle.pb_graph.specs.Prices.{rise_of}
-use Rattle.pb_merge.specs.Variance.{variance_of, crossing_variance, group_variance}
+use Rattle.pb_merge.specs.Variance.{variance_of, group_variance}
 use Rattle.pb_dual.specs.DualValue.{scale, flow_at, cost_at, dual_flow, dual_value}
 use Rattle.pb_dual.specs.Moves.{with_price, entering, group_flow, FallsAlong, MoveLaw}
 
@@ -92,18 +92,18 @@ pub falls_along : (group : List ℕ) (price : ℕ → ℤ) (k : ℕ) (old : ℤ)
 falls_along group price k old ss c =
     turned (sum_over (cost (with_price group price k c)) ss) (sum_over (cost (with_price group price k old)) ss) ((c -ℤ old) *ℤ ((pos 2 *ℤ group_flow group (with_price group price k old) k ss) +ℤ (group_variance group k ss *ℤ (c -ℤ old)))) (costs group price k old c ss)
   where
-  turned : (x y p : ℤ) → x ≡ y +ℤ p → neg_ℤ x ≡ neg_ℤ y -ℤ p
-  turned x y p e = omega (arith, ints, e)
+    turned : (x y p : ℤ) → x ≡ y +ℤ p → neg_ℤ x ≡ neg_ℤ y -ℤ p
+    turned x y p e = omega (arith, ints, e)
 
 -- prices that have a group at a price are those with the group at it
 pub with_own : (group : List ℕ) (price : ℕ → ℤ) (k : ℕ) (old : ℤ) → ((n : ℕ) → group_at group n ≡ k → price n ≡ old) → with_price group price k old ≡ price
 with_own group price k old h = λ i n. at n i
   where
-  at : (n : ℕ) → with_price group price k old n ≡ price n
-  at n = elim (cases_eq (group_at group n) k) [
-    | inl same ↦ rw (eq-eqb (group_at group n) k same) (sym (h n same))
-    | inr other ↦ rw (ne_eqb (group_at group n) k other) refl
-  ]
+    at : (n : ℕ) → with_price group price k old n ≡ price n
+    at n = elim (cases_eq (group_at group n) k) [
+      | inl same ↦ rw (eq-eqb (group_at group n) k same) (sym (h n same))
+      | inr other ↦ rw (ne_eqb (group_at group n) k other) refl
+    ]
 
 pub move_law : MoveLaw
 move_law group price k old t ss h =

@@ -1,18 +1,16 @@
 -- Sweeps keep the prices fitting and do not lower the dual value.
-use Rattle.std.proofs.Common.{◌≡◌, ◌^◌, ℕ, zero, suc, ◌<◌, ◌≤◌, ℤ, pos, ◌-ℤ◌, ◌*ℤ◌, ◌≤ℤ◌, Bool, true, false, List, Option, Some, None, refl, sym, subst, inl, inr, arith, unsigned_abs}
+use Rattle.std.proofs.Common.{◌^◌, ℕ, zero, suc, ◌≤◌, ℤ, pos, ◌-ℤ◌, ◌*ℤ◌, ◌≤ℤ◌, List, Option, Some, None, refl, inl, inr, arith, unsigned_abs}
 use Rattle.std.specs.Prelude.{IfSome}
 use Rattle.std.proofs.lemmas.Bool.{cases_Bool}
-use Rattle.std.proofs.lemmas.Int.{ints}
 use Rattle.pb_integers.proofs.Order.{le_refl, le_trans}
 use Rattle.pb_integers.proofs.RingLaws.{mul_zero}
 use Rattle.pb_graph.specs.declared.records.Meas.{Meas}
-use Rattle.pb_graph.specs.declared.records.Stream.{Stream}
 use Rattle.pb_graph.specs.ProcessGraph.{ProcessGraph, IsProcessGraph}
 use Rattle.pb_graph.specs.Groups.{AreGroups, is_free_group, group_count}
-use Rattle.pb_graph.specs.Prices.{PricesFit, IsInBox}
+use Rattle.pb_graph.specs.Prices.{PricesFit}
 use Rattle.pb_dual.specs.DualValue.{dual_value}
-use Rattle.pb_dual.specs.Sweeps.{stepped, swept, sweep_of, prices_after}
-use Rattle.pb_dual.specs.Laws.{CanMove, Ascends, AscentLaw}
+use Rattle.pb_dual.specs.Sweeps.{stepped, swept, prices_after}
+use Rattle.pb_dual.specs.Laws.{CanMove, AscentLaw}
 use Rattle.pb_dual.proofs.FitLaws.{best_fits, best_up}
 
 -- new prices fit, and their dual value is at least that of the old ones

@@ -1,10 +1,10 @@
 -- A group's own view of the measured streams at its border.
-use Rattle.std.specs.Prelude.{◌≡◌, ◌==◌, ◌*◌, ◌^◌, ◌<◌, ◌≤◌, ℕ, ℤ, pos, neg_ℤ, ◌+ℤ◌, ◌-ℤ◌, ◌*ℤ◌, ◌≤ℤ◌, unsigned_abs, Bool, not, List, [], ◌∷◌, length, get_or, Option, Some, None, if◌then◌else◌}
+use Rattle.std.specs.Prelude.{◌==◌, ◌^◌, ◌<◌, ◌≤◌, ℕ, ℤ, pos, neg_ℤ, ◌+ℤ◌, ◌-ℤ◌, ◌*ℤ◌, ◌≤ℤ◌, unsigned_abs, Bool, not, List, [], ◌∷◌, length, get_or, Option, Some, None, if◌then◌else◌}
 use Rattle.std.specs.Int.{int_max, int_min}
 use Rattle.pb_integers.specs.Sums.{sum_over}
 use Rattle.pb_graph.specs.declared.records.Meas.{Meas}
 use Rattle.pb_graph.specs.declared.records.Stream.{Stream}
-use Rattle.pb_graph.specs.Groups.{group_at, is_one_end}
+use Rattle.pb_graph.specs.Groups.{group_at}
 use Rattle.pb_dual.specs.declared.arcs.Arc.{Arc}
 use Rattle.pb_dual.specs.DualValue.{scale}
 use Rattle.pb_dual.specs.Candidates.{room_of}

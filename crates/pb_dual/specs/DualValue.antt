@@ -1,5 +1,5 @@
--- The dual of weighted least squares under the balances. A price for each node stands for its balance; the dual value of any prices
--- bounds the weighted squares of every balanced vector from below (Rockafellar, Network Flows and Monotropic Optimization, chapter 8).
+-- The dual of weighted least squares under the balances, which has a price for each node in place of its balance (Rockafellar,
+-- Network Flows and Monotropic Optimization).
 use Rattle.std.specs.Prelude.{◌^◌, ℕ, ℤ, pos, neg_ℤ, ◌+ℤ◌, ◌*ℤ◌, List, Option, Some, None}
 use Rattle.pb_integers.specs.Sums.{sum_over}
 use Rattle.pb_graph.specs.declared.records.Meas.{Meas}
@@ -24,6 +24,6 @@ abbrev pub cost_at : Option Meas → ℤ → ℤ
 cost_at None d = pos 0
 cost_at (Some m) d = ((pos 2 *ℤ scale) *ℤ (d *ℤ m.value)) +ℤ (m.variance *ℤ (d *ℤ d))
 
--- The dual value of prices, in units of 2^-112.
+-- The dual value of prices, in units of 2^-112: no sum of weighted squares of a balanced vector is below that of prices that fit.
 abbrev pub dual_value : (ℕ → ℤ) → List Stream → ℤ
 dual_value price ss = neg_ℤ (sum_over (λ s. cost_at s.meas (rise_of price s)) ss)

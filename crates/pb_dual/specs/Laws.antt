@@ -5,7 +5,7 @@ use Rattle.pb_graph.specs.Groups.{AreGroups, is_free_group}
 use Rattle.pb_graph.specs.Prices.{PricesFit}
 use Rattle.pb_dual.specs.DualValue.{dual_value}
 use Rattle.pb_dual.specs.Moves.{with_price}
-use Rattle.pb_dual.specs.Best.{IsBest, best}
+use Rattle.pb_dual.specs.Best.{IsBest}
 use Rattle.pb_dual.specs.Candidates.{least_candidate, greatest_candidate, best_price}
 use Rattle.pb_dual.specs.Sweeps.{prices_after}
 

@@ -117,7 +117,12 @@ fn no_arcs(alloc: Global, groups: u32) -> Result<Vec<List<Arc>>, AllocError>
 }
 
 /// The arcs of each of the groups, in order of streams.
-pub fn all_arcs(alloc: Global, groups: u32, group: &[u32], streams: &[Stream]) -> Result<Vec<List<Arc>>, AllocError>
+pub fn all_arcs(
+    alloc: Global,
+    groups: u32,
+    group: &[u32],
+    streams: &[Stream],
+) -> Result<Vec<List<Arc>>, AllocError>
     requires groups { All (λ k. k < groups) group.now }
     requires ends { All (IsStream (length group.now)) streams.now }
     requires limits { All IsWithinLimits streams.now }

@@ -77,6 +77,7 @@ impl Dual {
         ensures graph { IfOk result (λ d. d.graph ≡ g.now) }
         ensures group { IfOk result (λ d. d.group ≡ group_of.now) }
         ensures price { IfOk result (λ d. price_of d ≡ prices_after g.now group_of.now 0) }
+        ensures each { IfOk result (λ d. (k : ℕ) → get_or d.prices k (pos 0) ≡ pos 0) }
     {
         let streams = g.streams();
         let groups = count(group_of);
@@ -105,6 +106,7 @@ impl Dual {
         requires { group < group_count self.now.group }
         ensures value { result ≡ get_or self.now.prices group (pos 0) }
         ensures within { unsigned_abs result ≤ 2 ^ 120 }
+        ensures fit { PricesFit self.now.graph (price_of self.now) }
     {
         self.prices[group as usize]
     }
@@ -182,3 +184,6 @@ impl Dual {
         }
     }
 }
+
+#[cfg(test)]
+mod tests;

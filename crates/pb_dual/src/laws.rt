@@ -7,23 +7,19 @@ ghost use Rattle.pb_dual.specs.Laws.{CandidateLaw, BestLaw, AscentLaw};
 /// group and `A` its variance.
 pub fn move_law()
     ensures { MoveLaw }
-{
-}
+{}
 
 /// The candidates for the price of a free group are exactly the numbers with which the prices fit.
 pub fn candidate_law()
     ensures { CandidateLaw }
-{
-}
+{}
 
 /// The best price of a free group is the least candidate of greatest dual value.
 pub fn best_law()
     ensures { BestLaw }
-{
-}
+{}
 
 /// After any number of sweeps the prices fit, and a sweep more doesn't lower the dual value.
 pub fn ascent_law()
     ensures { AscentLaw }
-{
-}
+{}

@@ -1,7 +1,8 @@
 //! Prices of groups of nodes, and sweeps of best prices that raise the dual value of weighted least squares.
 //!
-//! A price is the marginal cost of imbalance at a node (Rockafellar, Network Flows and Monotropic Optimization). Prices that fit
-//! bound the weighted squares of every balanced flow vector from below, whatever they are; sweeps make that bound better.
+//! A price is half of what one more gram of imbalance at its node costs in weighted squares (Rockafellar, Network Flows and
+//! Monotropic Optimization). The dual value of prices that fit is a lower bound on the weighted squares of every balanced vector,
+//! and each sweep makes it no worse.
 #![tactic(auto)]
 
 mod arcs;
@@ -9,7 +10,5 @@ mod arithmetic;
 mod dual;
 pub mod laws;
 mod passes;
-
-
 
 pub use dual::Dual;

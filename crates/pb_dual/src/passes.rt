@@ -105,6 +105,10 @@ pub fn best_price_by(arcs: &[Arc], prices: &[i128], k: u32) -> i128
     requires positive { pos 0 <ℤ arcs_variance arcs.now }
     ensures { result ≡ clamped (arcs_low prices.now (neg_ℤ (pos (2 ^ 120))) arcs.now) (arcs_high prices.now (pos (2 ^ 120)) arcs.now) (get_or prices.now k (pos 0) -ℤ nearest_div (arcs_flow prices.now k arcs.now) (arcs_variance arcs.now)) }
 {
-    let nearest = moved(prices[k as usize], net_flow(arcs, prices, k), variance(arcs, prices, k));
+    let nearest = moved(
+        prices[k as usize],
+        net_flow(arcs, prices, k),
+        variance(arcs, prices, k),
+    );
     into_interval(nearest, lowest(arcs, prices, k), highest(arcs, prices, k))
 }

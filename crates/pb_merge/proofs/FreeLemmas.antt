@@ -1,18 +1,17 @@
 -- A group is free where it isn't the first one and has some variance.
-use Rattle.std.proofs.Common.{◌≡◌, ◌≢◌, ◌∙◌, ◌==◌, ℕ, zero, suc, ◌<◌, ◌≤◌, ℤ, pos, ◌+ℤ◌, ◌≤ℤ◌, ◌<ℤ◌, Bool, true, false, not, List, [], ◌∷◌, length, get_or, Option, Some, None, slice_get, ap, ap₂, sym, refl, subst, inl, inr, arith}
-use Rattle.std.specs.Prelude.{◌&&◌, ◌||◌, ◌↔◌, ◌⊎◌, int_lt, IfSome, IsTrue, if◌then◌else◌}
-use Rattle.std.specs.List.{All, AllByRecursion, Any, list_any}
-use Rattle.std.proofs.lemmas.Bool.{cases_Bool, cases_eq, eq-eqb, eqb-true, ne_eqb, and_parts}
+use Rattle.std.proofs.Common.{◌≡◌, ◌≢◌, ◌∙◌, ◌==◌, ℕ, ◌<◌, ◌≤◌, ℤ, pos, ◌+ℤ◌, ◌≤ℤ◌, ◌<ℤ◌, Bool, true, false, not, List, [], ◌∷◌, get_or, Option, Some, None, slice_get, ap, ap₂, sym, refl, subst, inl, inr, arith}
+use Rattle.std.specs.Prelude.{◌&&◌, ◌⊎◌, int_lt, IfSome}
+use Rattle.std.specs.List.{All, AllByRecursion, list_any}
+use Rattle.std.proofs.lemmas.Bool.{cases_Bool, cases_eq, eq-eqb, ne_eqb, and_parts}
 use Rattle.std.proofs.lemmas.Int.{ints}
 use Rattle.std.proofs.lemmas.List.Folds.{Any-from_list_any, list_any-from_Any}
 use Rattle.std.proofs.lemmas.Option.{slice_get-get_or}
-use Rattle.pb_integers.specs.Sums.{sum_over}
 use Rattle.pb_integers.proofs.Lists.{AllByRecursion-from_all}
 use Rattle.pb_graph.specs.declared.records.Meas.{Meas}
 use Rattle.pb_graph.specs.declared.records.Stream.{Stream}
 use Rattle.pb_graph.specs.ProcessGraph.{ProcessGraph, IsStream, IsMeasurement, IsWithinLimits, is_measured}
-use Rattle.pb_graph.specs.Groups.{SameGroup, CrossesGroup, IsFreeGroup, AreGroups, group_at, group_count, is_one_end, has_one_end, is_free_group}
-use Rattle.pb_merge.specs.Variance.{variance_of, crossing_variance, group_variance}
+use Rattle.pb_graph.specs.Groups.{CrossesGroup, IsFreeGroup, AreGroups, group_at, is_one_end, has_one_end, is_free_group}
+use Rattle.pb_merge.specs.Variance.{variance_of, group_variance}
 use Rattle.pb_merge.proofs.RootLemmas.{stream_joins}
 
 -- exactly one of two numbers is k

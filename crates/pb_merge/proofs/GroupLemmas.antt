@@ -1,17 +1,16 @@
 -- The numbers are those of the groups.
-use Rattle.std.proofs.Common.{◌≡◌, ◌≢◌, ◌∙◌, ℕ, zero, suc, ◌+◌, ◌-◌, ◌<◌, ◌≤◌, max, Bool, true, false, not, List, [], ◌∷◌, length, get_or, Option, Some, None, slice_get, ap, sym, refl, subst, inl, inr, arith}
-use Rattle.std.specs.List.{All}
-use Rattle.std.proofs.lemmas.Bool.{cases_Bool, cases_lt}
+use Rattle.std.proofs.Common.{◌≡◌, ◌∙◌, ℕ, zero, suc, ◌+◌, ◌-◌, ◌<◌, ◌≤◌, Bool, true, false, not, List, [], ◌∷◌, length, Some, ap, sym, refl, subst, inl, inr, arith}
+use Rattle.std.proofs.lemmas.Bool.{cases_lt}
 use Rattle.std.proofs.Math.Nat.{le-max_left, le-max_right, max-le}
 use Rattle.pb_graph.specs.declared.records.Stream.{Stream}
 use Rattle.pb_graph.specs.declared.records.Step.{Step}
-use Rattle.pb_graph.specs.ProcessGraph.{ProcessGraph, IsStream, is_measured}
-use Rattle.pb_graph.specs.Walk.{along, ends_of, unmeasured, Walks}
+use Rattle.pb_graph.specs.ProcessGraph.{ProcessGraph, is_measured}
+use Rattle.pb_graph.specs.Walk.{along, ends_of, unmeasured}
 use Rattle.pb_graph.specs.Groups.{SameGroup, AreGroups, group_at, group_count}
 use Rattle.pb_graph.proofs.WalkLemmas.{stream_of, walk_keeps}
 use Rattle.pb_merge.specs.Roots.{AreRoots, AreNumbered}
 use Rattle.pb_merge.specs.Grouping.{IsLeastNode}
-use Rattle.pb_merge.proofs.RootLemmas.{same_self, same_sym, same_trans}
+use Rattle.pb_merge.proofs.RootLemmas.{same_sym, same_trans}
 use Rattle.std.proofs.lemmas.Option.{slice_get_within}
 
 -- a number is below the count

@@ -1,12 +1,10 @@
 -- The groups that roots, numbers and variances make.
 use Rattle.std.proofs.Common.{◌≡◌, ◌∙◌, ◌==◌, ◌*◌, ◌^◌, ℕ, ◌<◌, ◌≤◌, ℤ, pos, ◌≤ℤ◌, Bool, true, false, not, List, length, get_or, unsigned_abs, ap, sym, subst, arith}
 use Rattle.std.specs.Prelude.{◌&&◌, int_lt, IsTrue}
-use Rattle.std.specs.List.{All}
 use Rattle.std.proofs.lemmas.Int.{ints}
 use Rattle.std.proofs.lemmas.List.{get_or_default, take_all}
-use Rattle.pb_integers.specs.Sums.{sum_over}
 use Rattle.pb_graph.specs.ProcessGraph.{ProcessGraph, IsProcessGraph}
-use Rattle.pb_graph.specs.Groups.{group_at, group_count, is_free_group, AreGroups, IsFreeGroup}
+use Rattle.pb_graph.specs.Groups.{group_at, group_count, is_free_group, AreGroups}
 use Rattle.pb_merge.specs.Roots.{AreRoots, AreNumbered}
 use Rattle.pb_merge.specs.Variance.{group_variance}
 use Rattle.pb_merge.specs.Grouping.{Grouping, IsGrouping, AreGroupsOf}

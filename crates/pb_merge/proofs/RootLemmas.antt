@@ -1,18 +1,17 @@
 -- Roots: each node has the least node of its group.
-use Rattle.std.proofs.Common.{◌≡◌, ◌≢◌, ◌∙◌, ◌==◌, ℕ, suc, ◌+◌, ◌<◌, ◌≤◌, Bool, true, false, not, cond, min, max, List, [], ◌∷◌, ◌++◌, length, Option, Some, None, slice_get, get_or, map, ap, ap₂, sym, refl, subst, inl, inr, arith}
-use Rattle.std.specs.Prelude.{◌↔◌, ◌⊎◌}
+use Rattle.std.proofs.Common.{◌≡◌, ◌≢◌, ◌∙◌, ℕ, ◌+◌, ◌<◌, ◌≤◌, true, false, not, min, max, List, [], length, Some, slice_get, map, ap, sym, refl, subst, inl, inr, arith}
+use Rattle.std.specs.Prelude.{◌⊎◌}
 use Rattle.std.specs.List.{All}
-use Rattle.std.proofs.lemmas.Bool.{cases_Bool, cases_eq, cases_lt, eq-eqb, eqb-true, ne_eqb}
+use Rattle.std.proofs.lemmas.Bool.{cases_Bool, cases_eq, cases_lt, eq-eqb, ne_eqb}
 use Rattle.std.proofs.lemmas.List.{length-map, get_or-map}
 use Rattle.std.proofs.lemmas.Option.{get_or_from_slice_get, slice_get_within}
 use Rattle.std.proofs.Math.Nat.{max-eq_left, max-eq_right, min-eq_left, min-eq_right}
 use Rattle.pb_graph.specs.declared.records.Stream.{Stream}
-use Rattle.pb_graph.specs.declared.records.Step.{Step}
 use Rattle.pb_graph.specs.ProcessGraph.{IsStream, is_measured}
-use Rattle.pb_graph.specs.Walk.{along, ends_of, unmeasured}
+use Rattle.pb_graph.specs.Walk.{ends_of, unmeasured}
 use Rattle.pb_graph.specs.Groups.{SameGroup, group_at}
-use Rattle.pb_graph.proofs.WalkLemmas.{ends_is, reach_none, reach_one, reach_both, reach_back, some_same}
-use Rattle.pb_merge.specs.Roots.{moved, joined, joined_by, AreRoots}
+use Rattle.pb_graph.proofs.WalkLemmas.{ends_is, reach_one, reach_both, reach_back, some_same}
+use Rattle.pb_merge.specs.Roots.{moved, joined_by, AreRoots}
 
 -- an unmeasured stream joins its ends
 pub stream_joins : (ss : List Stream) (i : ℕ) (s : Stream) → slice_get ss i ≡ Some s → is_measured s ≡ false → SameGroup ss s.from s.to

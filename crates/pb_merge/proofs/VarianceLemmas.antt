@@ -1,18 +1,17 @@
 -- The variances of the groups, stream by stream.
-use Rattle.std.proofs.Common.{◌≡◌, ◌≢◌, ◌∙◌, ◌==◌, ◌*◌, ◌^◌, ℕ, zero, suc, ◌+◌, ◌<◌, ◌≤◌, ℤ, pos, ◌+ℤ◌, ◌≤ℤ◌, ◌<ℤ◌, Bool, true, false, not, List, [], ◌∷◌, length, get_or, set, take, Option, Some, None, ap, sym, refl, inl, inr, arith, unsigned_abs, length-set, length-take}
+use Rattle.std.proofs.Common.{◌≡◌, ◌≢◌, ◌∙◌, ◌*◌, ◌^◌, ℕ, zero, suc, ◌+◌, ◌<◌, ◌≤◌, ℤ, pos, ◌+ℤ◌, List, [], ◌∷◌, length, get_or, set, take, Option, Some, None, ap, sym, inl, inr, arith, unsigned_abs, length-set, length-take}
 use Rattle.std.specs.Prelude.{if◌then◌else◌, IfSome}
 use Rattle.std.specs.List.{All, AllByRecursion}
 use Rattle.std.proofs.lemmas.Bool.{cases_Bool, cases_eq, eq-eqb, ne_eqb}
 use Rattle.std.proofs.lemmas.Grind.{get_or-set_at}
 use Rattle.std.proofs.lemmas.Int.{ints}
-use Rattle.std.proofs.lemmas.List.{get_or-set_other, get_or_default}
-use Rattle.pb_integers.specs.Sums.{sum_over}
+use Rattle.std.proofs.lemmas.List.{get_or-set_other}
 use Rattle.pb_integers.proofs.Lists.{AllByRecursion-from_all, AllByRecursion-map}
 use Rattle.pb_integers.proofs.Sums.{sum_over-bound, sum_over-take_more}
 use Rattle.pb_graph.specs.declared.records.Meas.{Meas}
 use Rattle.pb_graph.specs.declared.records.Stream.{Stream}
 use Rattle.pb_graph.specs.ProcessGraph.{IsWithinLimits, IsMeasurement}
-use Rattle.pb_graph.specs.Groups.{group_at, has_one_end, is_one_end}
+use Rattle.pb_graph.specs.Groups.{has_one_end, is_one_end}
 use Rattle.pb_merge.specs.Variance.{crossing_variance, group_variance, variance_of}
 
 -- a variance added at both ends

@@ -1,5 +1,5 @@
--- Roots: each node has the least node of its group (as in union-find: Cormen, Leiserson, Rivest and Stein, chapter 21).
-use Rattle.std.specs.Prelude.{◌≡◌, ℕ, ◌<◌, ◌≤◌, false, ◌==◌, List, [], ◌∷◌, ◌++◌, map, length, Some, slice_get, min, max, if◌then◌else◌}
+-- Roots: each node has the least node of its group (a disjoint-set structure: Cormen, Leiserson, Rivest and Stein, Introduction to Algorithms).
+use Rattle.std.specs.Prelude.{◌≡◌, ℕ, ◌<◌, ◌≤◌, false, ◌==◌, List, map, length, Some, slice_get, min, max, if◌then◌else◌}
 use Rattle.pb_graph.specs.declared.records.Stream.{Stream}
 use Rattle.pb_graph.specs.ProcessGraph.{is_measured}
 use Rattle.pb_graph.specs.Groups.{SameGroup, group_at}

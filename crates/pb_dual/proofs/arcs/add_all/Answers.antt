@@ -1,8 +1,8 @@
-use Rattle.std.proofs.Common.{◌∙◌, ◌++◌, List, None, get_or, take, ap, sym, arith}
+use Rattle.std.proofs.Common.{◌∙◌, ◌++◌, List, None, get_or, ap, sym, arith}
 use Rattle.std.specs.Option.{option_to_list}
 use Rattle.pb_graph.specs.declared.records.Stream.{Stream}
 use Rattle.pb_dual.specs.declared.arcs.Arc.{Arc}
-use Rattle.pb_dual.specs.Arcs.{arc_at, arcs_of}
+use Rattle.pb_dual.specs.Arcs.{arc_at}
 use Rattle.pb_dual.proofs.ArcLaws.{arcs_more}
 use Rattle.pb_dual.proofs.arcs.add_all.Goals as goal
 

@@ -1,4 +1,4 @@
-use Rattle.std.proofs.Common.{◌≡◌, ◌^◌, ◌<◌, ◌≤◌, FitsSigned, ◌-ℤ◌, unsigned_abs, ap, arith}
+use Rattle.std.proofs.Common.{◌≡◌, ◌≤◌, FitsSigned, ◌-ℤ◌, unsigned_abs, ap, arith}
 use mir.Syntax.{w128}
 use Rattle.std.proofs.lemmas.Int.{ints}
 use Rattle.std.proofs.Math.Facts.{to_z-of_z}

@@ -1,4 +1,4 @@
-use Rattle.std.proofs.Common.{◌≡◌, ◌∙◌, ◌+◌, ℤ, pos, ◌+ℤ◌, ◌-ℤ◌, false, FitsSigned, to_z, get_or, drop, ap, sym, rules, arith}
+use Rattle.std.proofs.Common.{◌≡◌, ◌∙◌, ◌+◌, ℤ, pos, ◌+ℤ◌, false, FitsSigned, to_z, get_or, drop, ap, sym, rules, arith}
 use mir.Syntax.{w128}
 use Rattle.std.specs.Int.{int_min}
 use Rattle.std.proofs.lemmas.Int.{ints}

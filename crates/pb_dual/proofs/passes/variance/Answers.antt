@@ -1,10 +1,9 @@
-use Rattle.std.proofs.Common.{◌≡◌, ◌∙◌, ◌+◌, ◌*◌, ◌^◌, ◌≤◌, ℤ, pos, ◌+ℤ◌, false, FitsSigned, to_z, get_or, take, unsigned_abs, ap, sym, rules, arith}
+use Rattle.std.proofs.Common.{◌≡◌, ◌∙◌, ◌+◌, ◌*◌, ◌^◌, ◌≤◌, ℤ, pos, ◌+ℤ◌, false, FitsSigned, to_z, get_or, unsigned_abs, ap, sym, rules, arith}
 use mir.Syntax.{w128}
 use Rattle.std.proofs.lemmas.Int.{ints}
 use Rattle.std.proofs.Math.Facts.{to_z-of_z}
 use Rattle.pb_integers.proofs.Sums.{sum_over-take_more}
 use Rattle.pb_dual.specs.declared.arcs.Arc.{Arc}
-use Rattle.pb_dual.specs.Arcs.{arcs_variance}
 use Rattle.pb_dual.proofs.passes.variance.Goals as goal
 
 abbrev some_arc : Arc

@@ -1,6 +1,5 @@
-use Rattle.std.proofs.Common.{◌≡◌, ◌∙◌, ◌<◌, ◌≤◌, [], ◌∷◌, ◌++◌, arith, length, get_or, ap, sym, Vec, ℕ, Global}
+use Rattle.std.proofs.Common.{◌≡◌, ◌∙◌, ◌<◌, [], ◌∷◌, ◌++◌, arith, length, ap, Vec, ℕ, Global}
 use Rattle.pb_graph.specs.Groups.{group_at}
-use Rattle.pb_merge.specs.Roots.{number_of, AreNumbered}
 use Rattle.pb_merge.proofs.NumberLemmas.{number_new, number_old, numbered_new, numbered_old}
 use Rattle.pb_merge.proofs.numbers.number_all.Goals.{then-r-n+in_ok-push-2, else-r-n}
 use Rattle.pb_merge.proofs.numbers.number_all.Goals as goal

@@ -1,7 +1,6 @@
-use Rattle.std.proofs.Common.{◌+◌, length, get_or, None, subst, sym}
+use Rattle.std.proofs.Common.{length, get_or, None}
 use Rattle.std.proofs.lemmas.Option.{slice_get-get_or}
 use Rattle.pb_graph.specs.declared.records.Stream.{Stream}
-use Rattle.pb_merge.specs.Roots.{AreRoots}
 use Rattle.pb_merge.proofs.RootLemmas.{roots_more}
 use Rattle.pb_merge.proofs.roots.join_all.Goals as goal
 

@@ -1,8 +1,6 @@
-use Rattle.std.proofs.Common.{◌∙◌, pos, length, get_or, take, None, unsigned_abs, arith, ap, sym}
-use Rattle.std.proofs.lemmas.Int.{ints}
+use Rattle.std.proofs.Common.{◌∙◌, pos, get_or, None, arith}
 use Rattle.std.proofs.lemmas.List.{get_or_default}
 use Rattle.pb_graph.specs.declared.records.Stream.{Stream}
-use Rattle.pb_merge.specs.Variance.{group_variance}
 use Rattle.pb_merge.proofs.VarianceLemmas.{variance_room, variance_more}
 use Rattle.pb_merge.proofs.variance.add_all.Goals as goal
 

@@ -1,4 +1,4 @@
-use Rattle.std.proofs.Common.{◌≡◌, ◌+ℤ◌, pos, length, get_or, FitsSigned, arith, rules}
+use Rattle.std.proofs.Common.{◌≡◌, ◌+ℤ◌, pos, get_or, FitsSigned, arith, rules}
 use mir.Syntax.{w128}
 use Rattle.std.proofs.lemmas.Int.{ints}
 use Rattle.std.proofs.Math.Facts.{to_z-of_z}

@@ -1,7 +1,5 @@
-use Rattle.std.proofs.Common.{◌≡◌, ◌∙◌, ℕ, ℤ, pos, List, [], length, get_or, replicate, ap, sym, arith}
-use Rattle.pb_graph.specs.Groups.{AreGroups, group_at, group_count}
+use Rattle.std.proofs.Common.{◌≡◌, ◌∙◌, ℤ, pos, List, get_or, replicate, ap, arith}
 use Rattle.pb_dual.specs.Arcs.{arcs_of}
-use Rattle.pb_dual.specs.Priced.{HasArcs}
 use Rattle.pb_dual.proofs.DualLaws.{numbers_few, numbers_below, made, get_zero}
 use Rattle.pb_dual.proofs.dual.Dual.new.Goals as goal
 

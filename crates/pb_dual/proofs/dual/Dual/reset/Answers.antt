@@ -1,5 +1,5 @@
-use Rattle.std.proofs.Common.{◌≡◌, ◌<◌, ℕ, pos, length, get_or, arith}
-use Rattle.pb_dual.specs.Priced.{Priced, HasArcs}
+use Rattle.std.proofs.Common.{length, arith}
+use Rattle.pb_dual.specs.Priced.{Priced}
 use Rattle.pb_dual.proofs.DualLaws.{zero_kept}
 use Rattle.pb_dual.proofs.dual.Dual.reset.Goals as goal
 

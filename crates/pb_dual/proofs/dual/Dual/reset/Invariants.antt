@@ -1,5 +1,4 @@
 use Rattle.std.proofs.Common.{◌≡◌, ◌<◌, ℕ, pos, length, get_or}
-use Rattle.pb_dual.specs.Priced.{Priced, HasArcs}
 use Rattle.pb_dual.proofs.dual.Dual.reset.Given as goal
 
 -- the groups so far have the price 0

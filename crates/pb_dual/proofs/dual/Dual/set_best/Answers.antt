@@ -1,4 +1,4 @@
-use Rattle.std.proofs.Common.{◌≡◌, ◌≢◌, ◌∙◌, ◌<◌, ◌≤◌, ◌^◌, ℕ, ℤ, pos, ◌<ℤ◌, true, List, [], length, get_or, set, FitsSigned, unsigned_abs, ap, sym, subst, rules, arith}
+use Rattle.std.proofs.Common.{◌≡◌, ◌∙◌, ◌<◌, ◌≤◌, ◌^◌, ℤ, pos, ◌<ℤ◌, true, List, [], length, get_or, FitsSigned, unsigned_abs, ap, sym, subst, rules, arith}
 use mir.Syntax.{w128}
 use Rattle.std.specs.Prelude.{All}
 use Rattle.std.proofs.lemmas.List.{get_or_default, get_or-set_other}
@@ -10,7 +10,7 @@ use Rattle.pb_dual.specs.declared.dual.Dual.TheInside.{Inside}
 use Rattle.pb_dual.specs.Moves.{with_price}
 use Rattle.pb_dual.specs.Candidates.{best_price}
 use Rattle.pb_dual.specs.Arcs.{IsArc, arcs_of, arcs_variance}
-use Rattle.pb_dual.specs.Priced.{Priced, price_of, HasArcs}
+use Rattle.pb_dual.specs.Priced.{Priced, price_of}
 use Rattle.pb_dual.proofs.FitLaws.{best_fits}
 use Rattle.pb_dual.proofs.DualLaws.{arcs_few, arcs_fit, by_passes, can_move, free_positive, nearest_is_best, prices_small, set_price, set_priced}
 use Rattle.pb_dual.proofs.dual.Dual.set_best.Goals.{After-deref}

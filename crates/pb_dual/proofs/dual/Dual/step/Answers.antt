@@ -1,6 +1,5 @@
-use Rattle.std.proofs.Common.{◌≡◌, ◌∙◌, ℕ, ℤ, ◌≤ℤ◌, true, sym, subst}
+use Rattle.std.proofs.Common.{◌∙◌, ℕ, ℤ, ◌≤ℤ◌, sym, subst}
 use Rattle.pb_graph.specs.ProcessGraph.{ProcessGraph}
-use Rattle.pb_graph.specs.Groups.{is_free_group}
 use Rattle.pb_graph.specs.Prices.{PricesFit}
 use Rattle.pb_dual.specs.DualValue.{dual_value}
 use Rattle.pb_dual.specs.Priced.{price_of}

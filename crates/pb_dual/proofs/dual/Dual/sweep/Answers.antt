@@ -3,9 +3,9 @@ use Rattle.pb_graph.specs.ProcessGraph.{ProcessGraph}
 use Rattle.pb_graph.specs.Groups.{group_count}
 use Rattle.pb_graph.specs.Prices.{PricesFit}
 use Rattle.pb_dual.specs.DualValue.{dual_value}
-use Rattle.pb_dual.specs.Sweeps.{swept, sweep_of}
+use Rattle.pb_dual.specs.Sweeps.{swept}
 use Rattle.pb_dual.specs.Priced.{price_of}
-use Rattle.pb_dual.proofs.SweepLaws.{Improves, sweep_improves}
+use Rattle.pb_dual.proofs.SweepLaws.{sweep_improves}
 use Rattle.pb_dual.proofs.dual.Dual.sweep.Goals as goal
 
 pub returns-clause-fit : goal.returns-clause-fit

@@ -1,5 +1,4 @@
 use Rattle.std.proofs.Common.{◌≡◌}
-use Rattle.pb_graph.specs.Groups.{group_count}
 use Rattle.pb_dual.specs.Sweeps.{swept}
 use Rattle.pb_dual.specs.Priced.{price_of}
 use Rattle.pb_dual.proofs.dual.Dual.sweep.Given as goal

@@ -1,6 +1,6 @@
-use Rattle.std.proofs.Common.{◌≡◌, ◌∙◌, ◌<◌, ℕ, List, length, get_or, ap, subst, sym, arith}
+use Rattle.std.proofs.Common.{◌≡◌, ◌∙◌, ◌<◌, length, ap, arith}
 use Rattle.std.proofs.lemmas.List.{get_or_default}
-use Rattle.pb_graph.specs.Groups.{group_at, group_count}
+use Rattle.pb_graph.specs.Groups.{group_count}
 use Rattle.pb_merge.specs.Grouping.{Grouping}
 use Rattle.pb_merge.proofs.GroupLemmas.{number_below}
 use Rattle.pb_merge.proofs.groups.Groups.group.Goals as goal

@@ -1,7 +1,6 @@
-use Rattle.std.proofs.Common.{◌≡◌, ◌∙◌, ◌==◌, ℕ, ℤ, pos, not, List, length, get_or, ap, ap₂, sym, subst, arith}
+use Rattle.std.proofs.Common.{◌≡◌, ◌∙◌, ◌==◌, ℕ, ℤ, pos, not, List, length, get_or, ap, ap₂, subst, arith}
 use Rattle.std.specs.Prelude.{◌&&◌, int_lt}
 use Rattle.pb_graph.specs.declared.records.Stream.{Stream}
-use Rattle.pb_graph.specs.ProcessGraph.{ProcessGraph, IsProcessGraph}
 use Rattle.pb_merge.specs.Roots.{AreRoots, AreNumbered}
 use Rattle.pb_merge.specs.Variance.{group_variance}
 use Rattle.pb_merge.proofs.MadeGroups.{IsMade, made_groups, made_grouping}
