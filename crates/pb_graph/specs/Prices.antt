@@ -1,5 +1,5 @@
 -- Prices of the nodes, in units of 2^-56 per gram: half of what one more gram of imbalance at a node costs in weighted squares
--- (the dual variables, or potentials, of the balances: Rockafellar, Network Flows and Monotropic Optimization).
+-- (the dual variables, or potentials, of the balances: Rockafellar, Network Flows and Monotropic Optimization, chapter 1).
 use Rattle.std.specs.Prelude.{◌≡◌, ℕ, ◌^◌, ◌<◌, ◌≤◌, ℤ, pos, ◌-ℤ◌, ◌*ℤ◌, unsigned_abs, All, IfSome}
 use Rattle.pb_graph.specs.declared.records.Stream.{Stream}
 use Rattle.pb_graph.specs.ProcessGraph.{ProcessGraph}
