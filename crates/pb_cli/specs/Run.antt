@@ -1,0 +1,53 @@
+-- What a run did: the words it accepts, the bytes it took, and the bytes it put.
+use Rattle.std.specs.Prelude.{◌≡◌, ℕ, ◌+◌, Bool, List, [], ◌∷◌, length, Option, codes}
+use Rattle.std.specs.Io.KnownBytes.{IsAtEnd}
+use Rattle.pb_io.specs.Source.{TakesInTurns}
+use Rattle.pb_io.specs.Sink.{Puts}
+use Rattle.pb_rows.specs.Records.{records_of}
+use Rattle.pb_session.specs.Stored.{refuses_some}
+use Rattle.pb_session.specs.Session.{IsSessionText}
+use Rattle.pb_cli.specs.Prefix.{AreTextsOfSome, AreTextsCutShort}
+
+-- the accepted words: so far the one word `run`
+abbrev pub AreAccepted : List (List ℕ) → Type 0
+AreAccepted words = words ≡ codes "run" ∷ []
+
+-- The text of a run: the texts of the records of the input, in order, from a session that has stored nothing.
+abbrev pub IsTextOfRun : List ℕ → List ℕ → Type 0
+IsTextOfRun input text = IsSessionText [] 1 (records_of input) text
+
+-- whether some record of the input is refused
+abbrev pub refuses : List ℕ → Bool
+refuses input = refuses_some [] (records_of input)
+
+-- The source was read to its end, and all of the text of its bytes was put: the records' rows in order, each class with its
+-- certificate.
+pub record RunsWhole {S W : Type 0} (left : S → Option (List ℕ)) (taken calls : S → ℕ) (held : W → Option (List ℕ)) (written : W → ℕ)
+    (source source2 : S) (sink sink2 : W) (refused : Bool) : Type 0 where
+  pub input : List ℕ
+  pub taken_all : TakesInTurns left taken calls source source2 input
+  pub end : IsAtEnd (left source2)
+  pub text : List ℕ
+  pub is_text : IsTextOfRun input text
+  pub put_all : Puts held written sink sink2 text
+  pub refuses_as : refuses input ≡ refused
+
+-- The source was read to its end, and a prefix of the text of its bytes was put.
+pub record RunsCutShort {S W : Type 0} (left : S → Option (List ℕ)) (taken calls : S → ℕ) (held : W → Option (List ℕ)) (written : W → ℕ)
+    (source source2 : S) (sink sink2 : W) : Type 0 where
+  pub input : List ℕ
+  pub taken_all : TakesInTurns left taken calls source source2 input
+  pub end : IsAtEnd (left source2)
+  pub bytes : List ℕ
+  pub cut : AreTextsCutShort (records_of input) bytes
+  pub put_some : Puts held written sink sink2 bytes
+
+-- The source was read to its end, and the texts of the first of its records were put.
+pub record RunsPart {S W : Type 0} (left : S → Option (List ℕ)) (taken calls : S → ℕ) (held : W → Option (List ℕ)) (written : W → ℕ)
+    (source source2 : S) (sink sink2 : W) : Type 0 where
+  pub input : List ℕ
+  pub taken_all : TakesInTurns left taken calls source source2 input
+  pub end : IsAtEnd (left source2)
+  pub bytes : List ℕ
+  pub part : AreTextsOfSome (records_of input) bytes
+  pub put_some : Puts held written sink sink2 bytes

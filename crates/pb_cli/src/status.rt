@@ -1,0 +1,53 @@
+ghost use Rattle.std.specs.Prelude.{◌≡◌, codes};
+ghost use Rattle.pb_cli.specs.Status.{number_of, name_of};
+
+/// How a run ended.
+#[derive(Clone, Copy, Debug, PartialEq, Eq)]
+pub enum Status {
+    /// The input was read to its end, all of the output was written, and no record was refused.
+    Done,
+    /// The same, and some record was refused.
+    DoneRefused,
+    /// The words aren't accepted words. Nothing was read or written.
+    Usage,
+    /// The source failed. Nothing was written.
+    ReadFault,
+    /// The sink failed. What was written is a prefix of the output.
+    WriteFault,
+    /// The source has more bytes than the limit. Nothing was written.
+    TooLarge,
+    /// No memory was found. What was written is a prefix of the output.
+    NoMemory,
+}
+
+impl Status {
+    /// The number with which the program ends.
+    pub fn number(&self) -> u8
+        ensures { result ≡ number_of self.now }
+    {
+        match *self {
+            Status::Done => 0,
+            Status::DoneRefused => 1,
+            Status::Usage => 2,
+            Status::ReadFault => 3,
+            Status::WriteFault => 4,
+            Status::TooLarge => 5,
+            Status::NoMemory => 6,
+        }
+    }
+
+    /// The name of the status.
+    pub fn name(&self) -> &str
+        ensures { result.now ≡ name_of self.now }
+    {
+        match *self {
+            Status::Done => "Done",
+            Status::DoneRefused => "DoneRefused",
+            Status::Usage => "Usage",
+            Status::ReadFault => "ReadFault",
+            Status::WriteFault => "WriteFault",
+            Status::TooLarge => "TooLarge",
+            Status::NoMemory => "NoMemory",
+        }
+    }
+}

@@ -1,0 +1,195 @@
+//! What no clause says: the exact bytes of worked sessions, that a run succeeds with ample memory, and failing ends in mid-stream.
+use super::*;
+use pb_io::{MemSink, MemSource};
+use std::alloc::{AllocError, Global};
+
+/// The session of a plain stream between two meters, and its output.
+const LINE: &str =
+    "unit,U\nunit,V\nstream,A,env,U,metered,1\nstream,B,U,V,plain,0\nstream,C,V,env,metered,1\ndesign\n";
+
+const LINE_OUT: &str =
+    "design,3,3\nclass,A,env,U,yes,redundant,cut,env,-A +C\nclass,B,U,V,no,observable,cut,U,+A -B\nclass,C,V,env,yes,redundant,cut,U V,+A -C\n";
+
+/// How a run over ends in memory goes: its words, the most bytes of a take and of a put, and the number of the take and of the
+/// put that fails, counted from 1; 0 names none.
+#[derive(Clone, Copy)]
+struct Ends<'a> {
+    words: &'a [&'a str],
+    take: usize,
+    put: usize,
+    failing_take: u32,
+    failing_put: u32,
+}
+
+const PLAIN: Ends<'static> = Ends {
+    words: &["run"],
+    take: 4_096,
+    put: 4_096,
+    failing_take: 0,
+    failing_put: 0,
+};
+
+fn outcome(alloc: Global, ends: Ends<'_>, input: Vec<u8>) -> Result<(Status, Vec<u8>), AllocError> {
+    let mut words = Words::new(alloc);
+    for word in ends.words {
+        words.push(word)?;
+    }
+    let mut source = MemSource::new(input, ends.take.max(1), vec![in alloc; ends.failing_take]?);
+    let mut sink = MemSink::new(
+        alloc,
+        4_096,
+        ends.put.max(1),
+        vec![in alloc; ends.failing_put]?,
+    )?;
+    let status = run(alloc, &words, &mut source, &mut sink);
+    let written = Vec::from_slice(alloc, sink.bytes())?;
+    Ok((status, written))
+}
+
+#[test]
+fn writes_worked_sessions(rt: HostRuntime) -> Result<(), AllocError> {
+    let cases = [
+        ("", Status::Done, ""),
+        (LINE, Status::Done, LINE_OUT),
+        (
+            "unit,U\nunit,V\nstream,P,U,V,plain,0\nstream,M,U,V,metered,1\ndesign\n",
+            Status::Done,
+            "design,3,2\nclass,P,U,V,no,observable,cut,U,-P -M\nclass,M,U,V,yes,nonredundant,cycle,,+M -P\n",
+        ),
+        (
+            "unit,U\nunit,V\nstream,P,U,V,plain,0\nstream,R,U,V,plain,0\ndesign\n",
+            Status::Done,
+            "design,3,2\nclass,P,U,V,no,unobservable,cycle,,+R -P\nclass,R,U,V,no,unobservable,cycle,,+R -P\n",
+        ),
+        (
+            "unit,U\nstream,A,env,U,metered,1\nstream,B,U,env,metered,1\nstream,C,U,env,metered,1\ndesign\n",
+            Status::Done,
+            "design,2,3\nclass,A,env,U,yes,redundant,cut,env,-A +B +C\nclass,B,U,env,yes,redundant,cut,U,+A -B -C\nclass,C,U,env,yes,redundant,cut,U,+A -B -C\n",
+        ),
+        (
+            "unit,U\nunit,U\n",
+            Status::DoneRefused,
+            "refused,2,7,duplicate\n",
+        ),
+        (
+            "stream,P,U,env,plain,0\n",
+            Status::DoneRefused,
+            "refused,1,6,unknown\n",
+        ),
+        ("tank,K,1\n", Status::DoneRefused, "refused,1,1,kind\n"),
+        (
+            ",,,\nunit,U,,,\n\"unit\n",
+            Status::DoneRefused,
+            "refused,3,1,kind\n",
+        ),
+    ];
+    for (input, status, output) in cases {
+        let (ended, written) = outcome(
+            rt.alloc(),
+            PLAIN,
+            Vec::from_slice(rt.alloc(), input.as_bytes())?,
+        )?;
+        assert_eq!(rt; ended, status, "at {input}");
+        assert_eq!(rt; written.as_slice(), output.as_bytes(), "at {input}");
+    }
+    Ok(())
+}
+
+#[test]
+fn refuses_other_words(rt: HostRuntime) -> Result<(), AllocError> {
+    let lists: [&[&str]; 6] = [
+        &[],
+        &["check"],
+        &["make"],
+        &["run", "run"],
+        &["run", "--tests"],
+        &["ru"],
+    ];
+    for words in lists {
+        let (ended, written) = outcome(
+            rt.alloc(),
+            Ends { words, ..PLAIN },
+            Vec::from_slice(rt.alloc(), LINE.as_bytes())?,
+        )?;
+        assert_eq!(rt; ended, Status::Usage);
+        assert!(rt; written.is_empty());
+    }
+    Ok(())
+}
+
+/// The k-th put fails, one byte a put: the first k - 1 bytes are written.
+#[test]
+fn stops_where_a_put_fails(rt: HostRuntime) -> Result<(), AllocError> {
+    for k in 1..LINE_OUT.len() as u32 + 2 {
+        let ends = Ends {
+            put: 1,
+            failing_put: k,
+            ..PLAIN
+        };
+        let (ended, written) = outcome(
+            rt.alloc(),
+            ends,
+            Vec::from_slice(rt.alloc(), LINE.as_bytes())?,
+        )?;
+        let fails = k as usize <= LINE_OUT.len();
+        assert_eq!(rt;
+            ended,
+            if fails {
+                Status::WriteFault
+            } else {
+                Status::Done
+            }
+        );
+        assert_eq!(rt;
+            written.as_slice(),
+            LINE_OUT
+                .as_bytes()
+                .get(..k as usize - 1)
+                .unwrap_or(LINE_OUT.as_bytes())
+        );
+    }
+    Ok(())
+}
+
+/// The k-th take fails, seven bytes a take: nothing is written.
+#[test]
+fn stops_where_a_take_fails(rt: HostRuntime) -> Result<(), AllocError> {
+    let takes = LINE.len() as u32 / 7 + 2;
+    for k in 1..takes + 2 {
+        let ends = Ends {
+            take: 7,
+            failing_take: k,
+            ..PLAIN
+        };
+        let (ended, written) = outcome(
+            rt.alloc(),
+            ends,
+            Vec::from_slice(rt.alloc(), LINE.as_bytes())?,
+        )?;
+        let fails = k <= takes;
+        assert_eq!(rt;
+            ended,
+            if fails {
+                Status::ReadFault
+            } else {
+                Status::Done
+            }
+        );
+        assert_eq!(rt; written.len(), if fails { 0 } else { LINE_OUT.len() });
+    }
+    Ok(())
+}
+
+/// One byte more than the limit is too large.
+#[test]
+fn refuses_one_byte_too_many(rt: HostRuntime) -> Result<(), AllocError> {
+    let ends = Ends {
+        take: 1 << 20,
+        ..PLAIN
+    };
+    let input = vec![in rt.alloc(); b'\n'; MOST_BYTES + 1]?;
+    let (ended, written) = outcome(rt.alloc(), ends, input)?;
+    assert_eq!(rt; ended, Status::TooLarge);
+    assert!(rt; written.is_empty());
+    Ok(())
+}
