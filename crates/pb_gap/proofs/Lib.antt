@@ -1,2 +1,5 @@
 pub mod Weights
 pub mod Identity
+pub mod Members
+pub mod Rounding
+pub mod Enclosure
