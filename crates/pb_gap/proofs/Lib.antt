@@ -3,3 +3,4 @@ pub mod Identity
 pub mod Members
 pub mod Rounding
 pub mod Enclosure
+pub mod Statistic

@@ -46,7 +46,7 @@ product_positive (s ∷ ss) h =
     let p = mul_positive (variance_or_one s.meas) (variance_product ss) (one_positive s.meas h.0) (omega (arith, ints, rest)) in
     omega (arith, ints, p)
 
-abbrev MayWeigh : ℤ → Option Meas → Type 0
+abbrev pub MayWeigh : ℤ → Option Meas → Type 0
 MayWeigh l o = IfSome o (λ m. HasWeight l m.variance)
 
 weight_one : (l k : ℤ) (o : Option Meas) → IfSome o IsMeasurement → pos 1 ≤ℤ l → l ≡ k *ℤ variance_or_one o → MayWeigh l o
