@@ -1,14 +1,13 @@
 -- The enclosure of balanced vectors that are no worse than balanced whole flows.
-use Rattle.std.proofs.Common.{◌≡◌, ◌∙◌, ◌+◌, ◌*◌, ◌^◌, ◌≤◌, ◌<◌, ℕ, ℤ, pos, neg_ℤ, ◌+ℤ◌, ◌-ℤ◌, ◌*ℤ◌, ◌≤ℤ◌, ◌<ℤ◌, unsigned_abs, List, [], ◌∷◌, Option, Some, None, refl, sym, subst, ap, arith}
+use Rattle.std.proofs.Common.{◌≡◌, ◌∙◌, ◌^◌, ℕ, ℤ, pos, neg_ℤ, ◌+ℤ◌, ◌-ℤ◌, ◌*ℤ◌, ◌≤ℤ◌, ◌<ℤ◌, unsigned_abs, List, [], ◌∷◌, Option, Some, None, refl, sym, subst, ap, arith}
 use Rattle.std.specs.Int.{int_div_euclid}
 use Rattle.std.proofs.lemmas.Int.{by_lt_z, ints}
-use Rattle.pb_integers.specs.Sums.{sum_over}
-use Rattle.pb_integers.proofs.Order.{le_by_eq, le_trans, le_of_eq, add_mono, mul_cancel, mul_mono, mul_nonneg, mul_positive, square_pos}
+use Rattle.pb_integers.proofs.Order.{le_by_eq, le_trans, le_of_eq, add_mono, mul_cancel, mul_mono, mul_positive, square_pos}
 use Rattle.pb_integers.proofs.Ring.{var, lit, plus, times, less, square, ring}
 use Rattle.pb_integers.proofs.RingLaws.{mul_comm, mul_zero}
 use Rattle.pb_fixed.specs.Quotients.{floor_div, ceil_div}
 use Rattle.pb_fixed.specs.Roots.{scaled_root_of, root_ceil_of}
-use Rattle.pb_fixed.specs.Blocks.{block_squares_of, blocks_of, half_width_of}
+use Rattle.pb_fixed.specs.Blocks.{block_squares_of, blocks_of}
 use Rattle.pb_fixed.proofs.QuotientLaws.{ceiling_is, floor_is}
 use Rattle.pb_fixed.proofs.RootLaws.{root_ceil_is, scaled_root_is}
 use Rattle.pb_fixed.proofs.BlockLaws.{pow_mono}
@@ -17,15 +16,15 @@ use Rattle.pb_graph.specs.declared.records.Stream.{Stream}
 use Rattle.pb_graph.specs.declared.records.Member.{Member}
 use Rattle.pb_graph.specs.ProcessGraph.{ProcessGraph}
 use Rattle.pb_graph.specs.Balance.{IsBalanced}
-use Rattle.pb_graph.specs.Squares.{Fractional, IsNoWorse, variance_product, weighted_squares, squares_unit, whole_flows}
+use Rattle.pb_graph.specs.Squares.{Fractional, IsNoWorse, variance_product, weighted_squares, whole_flows}
 use Rattle.pb_graph.specs.Prices.{rise_of}
 use Rattle.pb_balance.specs.PricedSums.{signed_sum}
 use Rattle.pb_dual.specs.DualValue.{scale, flow_at, dual_value}
-use Rattle.pb_gap.specs.Residuals.{residual_at, residual_square_at, residuals_from, residual_squares}
+use Rattle.pb_gap.specs.Residuals.{residual_square_at, residuals_from, residual_squares}
 use Rattle.pb_gap.specs.Gap.{Gap, deviation_at, deviations_of, gap_of, gap_size}
-use Rattle.pb_gap.specs.Bounds.{AreSigned, IsWithin, bounds_of, dual_flow_sum, variance_sum, half_width_in}
+use Rattle.pb_gap.specs.Bounds.{AreSigned, dual_flow_sum, variance_sum, half_width_in}
 use Rattle.pb_gap.specs.Laws.{IsDualPair, EnclosureLaw, sum_residual}
-use Rattle.pb_gap.proofs.Weights.{HasWeight, Weighs, WeighAll, product_of, weigh_all}
+use Rattle.pb_gap.proofs.Weights.{Weighs, WeighAll, product_of, weigh_all}
 use Rattle.pb_gap.proofs.Identity.{identity}
 use Rattle.pb_gap.proofs.Members.{member_schwarz, variances_nonneg}
 use Rattle.pb_gap.proofs.Rounding.{bound, bound_add, bound_mono, bound_nonneg, square_in_blocks, HasHalfWidth, from_above, from_below}

@@ -7,15 +7,14 @@ use Rattle.pb_integers.proofs.Order.{mul_nonneg, square_pos}
 use Rattle.pb_integers.proofs.Ring.{var, lit, plus, times, minus, less, square, ring}
 use Rattle.pb_graph.specs.declared.records.Meas.{Meas}
 use Rattle.pb_graph.specs.declared.records.Stream.{Stream}
-use Rattle.pb_graph.specs.ProcessGraph.{ProcessGraph}
-use Rattle.pb_graph.specs.Squares.{Fractional, square_at, squares_from, variance_product, weighted_squares, squares_unit}
+use Rattle.pb_graph.specs.Squares.{square_at, squares_from, variance_product, weighted_squares, squares_unit}
 use Rattle.pb_graph.specs.Prices.{rise_of}
 use Rattle.pb_balance.specs.PricedSums.{priced_streams}
 use Rattle.pb_balance.proofs.Prices.{balanced_sum}
-use Rattle.pb_dual.specs.DualValue.{scale, cost_at, dual_value}
+use Rattle.pb_dual.specs.DualValue.{scale, cost_at}
 use Rattle.pb_gap.specs.Residuals.{residual_at, residual_square_at, residuals_from, residual_squares}
-use Rattle.pb_gap.specs.Laws.{IsDualPair, IdentityLaw, DualityLaw}
-use Rattle.pb_gap.proofs.Weights.{HasWeight, Weighs, WeighAll, product_of, weigh_all}
+use Rattle.pb_gap.specs.Laws.{IdentityLaw, DualityLaw}
+use Rattle.pb_gap.proofs.Weights.{Weighs, WeighAll, weigh_all}
 
 -- one stream: its square and its cost make its residual and what its rise of the price adds
 abbrev One : ℤ → ℤ → ℤ → Option Meas → ℤ → Type 0

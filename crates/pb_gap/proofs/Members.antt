@@ -1,9 +1,9 @@
 -- The inequality of Cauchy and Schwarz over a signed list of measured streams.
-use Rattle.std.proofs.Common.{◌≡◌, ◌∙◌, ℕ, zero, suc, ℤ, pos, ◌+ℤ◌, ◌-ℤ◌, ◌*ℤ◌, ◌≤ℤ◌, ◌<ℤ◌, List, [], ◌∷◌, length, Option, Some, None, slice_get, inl, inr, refl, sym, subst, ap, ap₂, arith}
+use Rattle.std.proofs.Common.{◌≡◌, ◌∙◌, ℕ, zero, suc, ℤ, pos, ◌+ℤ◌, ◌-ℤ◌, ◌*ℤ◌, ◌≤ℤ◌, ◌<ℤ◌, List, [], ◌∷◌, length, Option, Some, slice_get, inl, inr, refl, sym, subst, ap, arith}
 use Rattle.std.specs.Int.{int_div_euclid}
 use Rattle.std.specs.List.{AllByRecursion}
 use Rattle.std.proofs.lemmas.Int.{ints}
-use Rattle.pb_integers.specs.Sums.{sum_over, total, item, AreDistinctBy}
+use Rattle.pb_integers.specs.Sums.{sum_over, total, item}
 use Rattle.pb_integers.specs.Laws.{IsWeighed}
 use Rattle.pb_integers.proofs.Lists.{All-from_recursion, AllByRecursion-map}
 use Rattle.pb_integers.proofs.Order.{le_by_eq, le_trans, mul_mono_left}
@@ -21,10 +21,10 @@ use Rattle.pb_graph.proofs.WalkLemmas.{some_same}
 use Rattle.pb_balance.specs.PricedSums.{signed_sum}
 use Rattle.pb_merge.specs.Variance.{variance_of}
 use Rattle.pb_merge.proofs.RootLemmas.{all_at}
-use Rattle.pb_dual.specs.DualValue.{scale, dual_flow}
+use Rattle.pb_dual.specs.DualValue.{scale}
 use Rattle.pb_gap.specs.Residuals.{residual_at, residual_square_at, residuals_from, residual_squares}
 use Rattle.pb_gap.specs.Bounds.{IsSigned, AreSigned, dual_flow_in, variance_in, dual_flow_sum, variance_sum}
-use Rattle.pb_gap.specs.Laws.{IsDualPair, MemberSchwarzLaw, sum_residual}
+use Rattle.pb_gap.specs.Laws.{IsDualPair, MemberSchwarzLaw}
 use Rattle.pb_gap.proofs.Weights.{HasWeight, Weighs, WeighAll, product_of, weigh_all}
 use Rattle.pb_gap.proofs.Identity.{square_nonneg}
 

@@ -1,11 +1,10 @@
 -- The low and the high end of the statistic.
-use Rattle.std.proofs.Common.{◌≡◌, ◌∙◌, ◌^◌, ℕ, ℤ, pos, neg_ℤ, ◌+ℤ◌, ◌-ℤ◌, ◌*ℤ◌, ◌≤ℤ◌, ◌<ℤ◌, unsigned_abs, Bool, true, false, cond, List, [], ◌∷◌, Option, Some, None, refl, sym, subst, ap, arith}
+use Rattle.std.proofs.Common.{◌≡◌, ◌∙◌, ◌^◌, ℤ, pos, ◌+ℤ◌, ◌-ℤ◌, ◌*ℤ◌, ◌≤ℤ◌, ◌<ℤ◌, unsigned_abs, Bool, true, false, cond, List, [], ◌∷◌, Option, Some, None, refl, sym, subst, ap, arith}
 use Rattle.std.specs.Prelude.{IfSome, int_lt, nat_lt}
 use Rattle.std.specs.Int.{int_div_euclid, int_min}
 use Rattle.std.specs.List.{AllByRecursion, list_any}
 use Rattle.std.proofs.lemmas.Int.{int_min_is, ints}
-use Rattle.pb_integers.specs.Sums.{sum_over}
-use Rattle.pb_integers.proofs.Order.{le_by_eq, le_trans, le_of_eq, add_mono, mul_cancel, mul_mono, mul_nonneg, square_mono, square_pos, unsigned_abs_square}
+use Rattle.pb_integers.proofs.Order.{le_by_eq, le_trans, le_of_eq, mul_cancel, mul_mono, mul_nonneg, square_mono, square_pos, unsigned_abs_square}
 use Rattle.pb_integers.proofs.Ring.{var, lit, plus, times, less, square, ring}
 use Rattle.pb_integers.proofs.RingLaws.{zero_mul}
 use Rattle.pb_fixed.specs.Quotients.{floor_div, ceil_div}
@@ -14,17 +13,15 @@ use Rattle.pb_fixed.proofs.QuotientLaws.{ceiling_is, floor_is, floor_from}
 use Rattle.pb_fixed.proofs.RootLaws.{scaled_root_is}
 use Rattle.pb_graph.specs.declared.records.Meas.{Meas}
 use Rattle.pb_graph.specs.declared.records.Stream.{Stream}
-use Rattle.pb_graph.specs.ProcessGraph.{ProcessGraph, IsProcessGraph}
-use Rattle.pb_graph.specs.Balance.{IsBalanced}
-use Rattle.pb_graph.specs.Squares.{Fractional, square_at, squares_from, variance_product, weighted_squares, squares_unit, whole_flows}
+use Rattle.pb_graph.specs.Squares.{square_at, squares_from, variance_product, weighted_squares, squares_unit, whole_flows}
 use Rattle.pb_dual.specs.DualValue.{scale, dual_value}
 use Rattle.pb_gap.specs.Residuals.{residual_squares}
 use Rattle.pb_gap.specs.Gap.{gap_of, gap_size}
-use Rattle.pb_gap.specs.Statistic.{adjustment_at, adjustment_below, adjustment_above, adjustments_by, most_adjustment, capped_squares, full_squares, low_of, high_of}
-use Rattle.pb_gap.specs.Laws.{IsDualPair, LowLaw, HighLaw}
-use Rattle.pb_gap.proofs.Weights.{HasWeight, MayWeigh, product_of, weights_of, weigh_all}
+use Rattle.pb_gap.specs.Statistic.{adjustment_at, adjustment_below, adjustment_above, adjustments_by, most_adjustment, capped_squares, full_squares}
+use Rattle.pb_gap.specs.Laws.{LowLaw, HighLaw}
+use Rattle.pb_gap.proofs.Weights.{MayWeigh, product_of, weights_of, weigh_all}
 use Rattle.pb_gap.proofs.Identity.{identity, weak_duality}
-use Rattle.pb_gap.proofs.Enclosure.{gap_square, root_below, root_positive, whole_pair, within_gap}
+use Rattle.pb_gap.proofs.Enclosure.{root_below, root_positive, whole_pair, within_gap}
 
 -- ---- the squares from below
 -- what counts of an adjustment is not more than it
