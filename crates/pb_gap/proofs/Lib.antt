@@ -1,0 +1,6 @@
+pub mod Weights
+pub mod Identity
+pub mod Members
+pub mod Rounding
+pub mod Enclosure
+pub mod Statistic

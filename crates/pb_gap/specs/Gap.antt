@@ -1,0 +1,49 @@
+-- The gap of prices and whole flows: how far the flows are from the dual flows, in standard deviations.
+use Rattle.std.specs.Prelude.{ℕ, ◌*◌, ◌^◌, ◌≤◌, ℤ, pos, ◌-ℤ◌, ◌*ℤ◌, unsigned_abs, List, [], ◌∷◌, Option, Some, None}
+use Rattle.pb_fixed.specs.Quotients.{ceil_div}
+use Rattle.pb_fixed.specs.Roots.{root_ceil_of, scaled_root_of}
+use Rattle.pb_fixed.specs.Blocks.{block_exponent_of, block_squares_of}
+use Rattle.pb_graph.specs.declared.records.Meas.{Meas}
+use Rattle.pb_graph.specs.declared.records.Stream.{Stream}
+use Rattle.pb_graph.specs.Prices.{rise_of}
+use Rattle.pb_dual.specs.DualValue.{scale, flow_at}
+
+-- how far the flow p of a measurement along which the price rises by d is from its dual flow, in standard deviations, in units of
+-- 2^-20, rounded up; 0 where there is no measurement
+abbrev pub deviation_at : Option Meas → ℤ → ℤ → ℤ
+deviation_at None d p = pos 0
+deviation_at (Some m) d p = ceil_div (pos (unsigned_abs ((p *ℤ scale) -ℤ flow_at (Some m) d))) (scaled_root_of m.variance *ℤ pos (2 ^ 16))
+
+-- the deviation of the flow p of a stream
+abbrev pub deviation_of : (ℕ → ℤ) → Stream → ℤ → ℤ
+deviation_of price s p = deviation_at s.meas (rise_of price s) p
+
+-- the deviation of each stream's flow
+abbrev pub deviations_of : (ℕ → ℤ) → List Stream → List ℤ → List ℤ
+deviations_of price [] ps = []
+deviations_of price (s ∷ ss) [] = []
+deviations_of price (s ∷ ss) (p ∷ ps) = deviation_of price s p ∷ deviations_of price ss ps
+
+-- a gap of g blocks of 2^h, in units of 2^-20 standard deviation
+pub record Gap : Type 0 where
+  pub g : ℕ
+  pub h : ℕ
+
+-- the size of a gap, in units of 2^-20 standard deviation
+abbrev pub gap_size : Gap → ℕ
+gap_size gap = gap.g * 2 ^ gap.h
+
+-- h is the least number with every deviation at most 2^(57 + h), and g the least whose square is at least the sum of the squares of
+-- the deviations in blocks of 2^h
+abbrev pub gap_from : List ℤ → Gap
+gap_from deviations =
+    record { g = root_ceil_of (unsigned_abs (block_squares_of deviations (block_exponent_of deviations))); h = block_exponent_of deviations }
+
+-- The gap of prices and flows: the root of the sum of the squares of the deviations, rounded up. It bounds by how much the weighted
+-- squares of the flows are above the dual value (the duality gap: Rockafellar, Network Flows and Monotropic Optimization).
+abbrev pub gap_of : (ℕ → ℤ) → List Stream → List ℤ → Gap
+gap_of price ss ps = gap_from (deviations_of price ss ps)
+
+-- the gap is met at so many thousandths of a standard deviation
+abbrev pub MeetsGap : ℕ → Gap → Type 0
+MeetsGap thousandths gap = gap_size gap * 1000 ≤ thousandths * 2 ^ 20

@@ -1,0 +1,5 @@
+pub mod Residuals
+pub mod Gap
+pub mod Bounds
+pub mod Statistic
+pub mod Laws

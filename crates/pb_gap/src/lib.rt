@@ -1,0 +1,36 @@
+//! The gap between flows and prices, the bounds that it gives, and the statistic.
+//!
+//! Prices that fit give a lower bound on the weighted squares of every balanced vector, their dual value. Flows whose weighted squares
+//! are near it are near the least vector, and so is every vector no worse than they are: the gap says how near, and the bounds and the
+//! statistic follow from it. The functions are empty: the contract of each is a law.
+#![tactic(auto)]
+
+ghost use Rattle.pb_gap.specs.Laws.{WeightLaw, IdentityLaw, DualityLaw, MemberSchwarzLaw, EnclosureLaw, LowLaw, HighLaw};
+
+/// The product of the variances over each of them is a whole number.
+pub fn weight_law()
+    ensures { WeightLaw }
+{}
+
+/// The weighted squares of balanced flows are the dual value of any prices that fit and the weighted squares of the residuals, so
+/// the dual value is never above them.
+pub fn duality_law()
+    ensures identity { IdentityLaw }
+    ensures weak { DualityLaw }
+{}
+
+/// The inequality of Cauchy and Schwarz for a signed list of measured streams, none twice.
+pub fn schwarz_law()
+    ensures { MemberSchwarzLaw }
+{}
+
+/// Each balanced vector no worse than some balanced whole flows is within the bounds that any prices that fit give.
+pub fn enclosure_law()
+    ensures { EnclosureLaw }
+{}
+
+/// The weighted squares of each balanced vector are at least the low end of the statistic, and those of the flows at most its high end.
+pub fn statistic_law()
+    ensures low { LowLaw }
+    ensures high { HighLaw }
+{}
