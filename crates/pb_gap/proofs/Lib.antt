@@ -4,3 +4,4 @@ pub mod Members
 pub mod Rounding
 pub mod Enclosure
 pub mod Statistic
+pub mod StreamSums
