@@ -5,3 +5,4 @@ pub mod Rounding
 pub mod Enclosure
 pub mod Statistic
 pub mod StreamSums
+pub mod Gaps

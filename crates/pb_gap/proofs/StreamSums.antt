@@ -1,9 +1,8 @@
 -- A stream that is not unobservable is a signed sum of measured streams.
-use Rattle.std.proofs.Common.{◌≡◌, ◌≢◌, ◌∙◌, ℕ, zero, suc, ◌+◌, ◌≤◌, ℤ, pos, negsuc, neg_ℤ, ◌+ℤ◌, ◌-ℤ◌, ◌*ℤ◌, ◌≤ℤ◌, Bool, true, false, ◌==◌, List, [], ◌∷◌, Option, Some, None, slice_get, IsSome, refl, sym, subst, ap, ap₂, inl, inr, arith}
+use Rattle.std.proofs.Common.{◌≡◌, ◌≢◌, ◌∙◌, ℕ, suc, ◌+◌, ◌≤◌, ℤ, pos, negsuc, neg_ℤ, ◌+ℤ◌, ◌-ℤ◌, ◌*ℤ◌, ◌≤ℤ◌, Bool, true, false, ◌==◌, List, [], ◌∷◌, Option, Some, None, slice_get, IsSome, refl, sym, subst, ap, ap₂, inl, inr, arith}
 use Rattle.std.specs.Prelude.{◌⊎◌, IfSome, option_map}
 use Rattle.std.specs.List.{AllByRecursion, list_any}
-use Rattle.std.proofs.lemmas.Bool.{cases_eq, eq-eqb, ne_eqb, eqb-true}
-use Rattle.std.proofs.lemmas.Int.{ints}
+use Rattle.std.proofs.lemmas.Bool.{cases_eq, eq-eqb, ne_eqb}
 use Rattle.pb_integers.specs.Sums.{item, AreDistinctBy}
 use Rattle.pb_integers.proofs.Lists.{AllByRecursion-map}
 use Rattle.pb_integers.proofs.Ring.{var, lit, plus, times, minus, less, ring}
@@ -17,14 +16,14 @@ use Rattle.pb_graph.specs.declared.records.Witness.TheVariants.{Cut, Cycle}
 use Rattle.pb_graph.specs.ProcessGraph.{ProcessGraph, IsProcessGraph}
 use Rattle.pb_graph.specs.Walk.{is_in}
 use Rattle.pb_graph.specs.Balance.{IsBalanced}
-use Rattle.pb_graph.specs.Boundary.{sign_at, member_by, member_at, with_first, members_from, boundary_of}
+use Rattle.pb_graph.specs.Boundary.{sign_at, member_by, with_first, members_from}
 use Rattle.pb_graph.specs.Certificates.{CutsOff, Shows}
 use Rattle.pb_graph.specs.Squares.{Fractional, IsNoWorse, whole_flows}
 use Rattle.pb_balance.specs.PricedSums.{signed_sum}
 use Rattle.pb_balance.proofs.Cuts.{boundary_sum}
 use Rattle.pb_gap.specs.Gap.{gap_of}
-use Rattle.pb_gap.specs.Bounds.{IsSigned, AreSigned, IsWithin, bounds_of}
-use Rattle.pb_gap.specs.StreamBounds.{sign_in, others_times, sum_for, stream_bounds}
+use Rattle.pb_gap.specs.Bounds.{IsSigned, bounds_of}
+use Rattle.pb_gap.specs.StreamBounds.{sign_in, others_times, sum_for}
 use Rattle.pb_gap.specs.Laws.{IsDualPair, SumsTo, StreamSumLaw, StreamLaw, IsStreamWithin}
 use Rattle.pb_gap.proofs.Enclosure.{enclosure}
 

@@ -13,7 +13,7 @@ use Rattle.pb_integers.specs.Sums.{item}
 use Rattle.pb_balance.specs.PricedSums.{signed_sum}
 use Rattle.pb_dual.specs.DualValue.{scale, dual_value}
 use Rattle.pb_gap.specs.Residuals.{residual_squares}
-use Rattle.pb_gap.specs.Gap.{gap_of}
+use Rattle.pb_gap.specs.Gap.{Gap, IsGap, gap_from, gap_of}
 use Rattle.pb_gap.specs.Bounds.{AreSigned, IsWithin, bounds_of, dual_flow_sum, variance_sum}
 use Rattle.pb_gap.specs.StreamBounds.{sum_for, stream_bounds}
 use Rattle.pb_gap.specs.Statistic.{low_of, high_of}
@@ -53,6 +53,11 @@ abbrev pub MemberSchwarzLaw : Type 0
 MemberSchwarzLaw = (g : ProcessGraph) (price : ℕ → ℤ) (x : Fractional) (members : List Member) → IsDualPair g price x → AreSigned g members
     → (variance_product g.streams *ℤ (sum_residual price g x members *ℤ sum_residual price g x members))
     ≤ℤ (variance_sum g.streams members *ℤ residual_squares price g x)
+
+-- each list of deviations has a gap, and only one
+pub record AreGaps : Type 0 where
+  pub is : (deviations : List ℤ) → IsGap deviations (gap_from deviations)
+  pub only : (deviations : List ℤ) (gap : Gap) → IsGap deviations gap → gap ≡ gap_from deviations
 
 -- The enclosure: for any prices that fit and any balanced whole flows, each balanced fractional vector no worse than the flows has
 -- the signed sum of any list of measured streams, none twice, within its bounds.

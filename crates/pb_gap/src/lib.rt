@@ -5,7 +5,7 @@
 //! statistic follow from it. The functions are empty: the contract of each is a law.
 #![tactic(auto)]
 
-ghost use Rattle.pb_gap.specs.Laws.{WeightLaw, IdentityLaw, DualityLaw, MemberSchwarzLaw, EnclosureLaw, StreamSumLaw, StreamLaw, LowLaw, HighLaw};
+ghost use Rattle.pb_gap.specs.Laws.{WeightLaw, IdentityLaw, DualityLaw, MemberSchwarzLaw, AreGaps, EnclosureLaw, StreamSumLaw, StreamLaw, LowLaw, HighLaw};
 
 /// The product of the variances over each of them is a whole number.
 pub fn weight_law()
@@ -22,6 +22,11 @@ pub fn duality_law()
 /// The inequality of Cauchy and Schwarz for a signed list of measured streams, none twice.
 pub fn schwarz_law()
     ensures { MemberSchwarzLaw }
+{}
+
+/// The gap of a list of deviations is what its two numbers are said to be, and the only one.
+pub fn gap_law()
+    ensures { AreGaps }
 {}
 
 /// Each balanced vector no worse than some balanced whole flows is within the bounds that any prices that fit give.
