@@ -4,3 +4,5 @@ pub mod Members
 pub mod Rounding
 pub mod Enclosure
 pub mod Statistic
+pub mod StreamSums
+pub mod Gaps

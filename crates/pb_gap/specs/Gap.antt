@@ -1,8 +1,8 @@
 -- The gap of prices and whole flows: how far the flows are from the dual flows, in standard deviations.
-use Rattle.std.specs.Prelude.{ℕ, ◌*◌, ◌^◌, ◌≤◌, ℤ, pos, ◌-ℤ◌, ◌*ℤ◌, unsigned_abs, List, [], ◌∷◌, Option, Some, None}
+use Rattle.std.specs.Prelude.{ℕ, ◌*◌, ◌^◌, ◌≤◌, ℤ, pos, ◌-ℤ◌, ◌*ℤ◌, ◌≤ℤ◌, unsigned_abs, List, [], ◌∷◌, Option, Some, None}
 use Rattle.pb_fixed.specs.Quotients.{ceil_div}
 use Rattle.pb_fixed.specs.Roots.{root_ceil_of, scaled_root_of}
-use Rattle.pb_fixed.specs.Blocks.{block_exponent_of, block_squares_of}
+use Rattle.pb_fixed.specs.Blocks.{IsBlockExponent, block_exponent_of, block_squares_of}
 use Rattle.pb_graph.specs.declared.records.Meas.{Meas}
 use Rattle.pb_graph.specs.declared.records.Stream.{Stream}
 use Rattle.pb_graph.specs.Prices.{rise_of}
@@ -35,6 +35,12 @@ gap_size gap = gap.g * 2 ^ gap.h
 
 -- h is the least number with every deviation at most 2^(57 + h), and g the least whose square is at least the sum of the squares of
 -- the deviations in blocks of 2^h
+pub record IsGap (deviations : List ℤ) (gap : Gap) : Type 0 where
+  pub exponent : IsBlockExponent deviations gap.h
+  pub above : block_squares_of deviations gap.h ≤ℤ pos (gap.g * gap.g)
+  pub least : (k : ℕ) → block_squares_of deviations gap.h ≤ℤ pos (k * k) → gap.g ≤ k
+
+-- the gap of a list of deviations
 abbrev pub gap_from : List ℤ → Gap
 gap_from deviations =
     record { g = root_ceil_of (unsigned_abs (block_squares_of deviations (block_exponent_of deviations))); h = block_exponent_of deviations }

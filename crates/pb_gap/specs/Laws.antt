@@ -2,15 +2,20 @@
 use Rattle.std.specs.Prelude.{◌≡◌, ℕ, ℤ, pos, ◌+ℤ◌, ◌-ℤ◌, ◌*ℤ◌, ◌≤ℤ◌, List, All, IfSome}
 use Rattle.std.specs.Int.{int_div_euclid}
 use Rattle.pb_graph.specs.declared.records.Member.{Member}
+use Rattle.pb_graph.specs.declared.records.Classified.{Classified}
+use Rattle.pb_graph.specs.declared.results.Bounds.{Bounds}
 use Rattle.pb_graph.specs.ProcessGraph.{ProcessGraph, IsProcessGraph}
 use Rattle.pb_graph.specs.Balance.{IsBalanced}
 use Rattle.pb_graph.specs.Squares.{Fractional, IsBalancedFractional, IsNoWorse, variance_product, weighted_squares, squares_unit, whole_flows}
 use Rattle.pb_graph.specs.Prices.{PricesFit}
+use Rattle.pb_graph.specs.Certificates.{IsCertified}
+use Rattle.pb_integers.specs.Sums.{item}
 use Rattle.pb_balance.specs.PricedSums.{signed_sum}
 use Rattle.pb_dual.specs.DualValue.{scale, dual_value}
 use Rattle.pb_gap.specs.Residuals.{residual_squares}
-use Rattle.pb_gap.specs.Gap.{gap_of}
+use Rattle.pb_gap.specs.Gap.{Gap, IsGap, gap_from, gap_of}
 use Rattle.pb_gap.specs.Bounds.{AreSigned, IsWithin, bounds_of, dual_flow_sum, variance_sum}
+use Rattle.pb_gap.specs.StreamBounds.{sum_for, stream_bounds}
 use Rattle.pb_gap.specs.Statistic.{low_of, high_of}
 
 -- the product of the variances over each of them is a whole number: the weight of a measurement
@@ -49,11 +54,34 @@ MemberSchwarzLaw = (g : ProcessGraph) (price : ℕ → ℤ) (x : Fractional) (me
     → (variance_product g.streams *ℤ (sum_residual price g x members *ℤ sum_residual price g x members))
     ≤ℤ (variance_sum g.streams members *ℤ residual_squares price g x)
 
+-- each list of deviations has a gap, and only one
+pub record AreGaps : Type 0 where
+  pub is : (deviations : List ℤ) → IsGap deviations (gap_from deviations)
+  pub only : (deviations : List ℤ) (gap : Gap) → IsGap deviations gap → gap ≡ gap_from deviations
+
 -- The enclosure: for any prices that fit and any balanced whole flows, each balanced fractional vector no worse than the flows has
 -- the signed sum of any list of measured streams, none twice, within its bounds.
 abbrev pub EnclosureLaw : Type 0
 EnclosureLaw = (g : ProcessGraph) (price : ℕ → ℤ) (ps : List ℤ) (x : Fractional) (members : List Member) → IsDualPair g price x → IsBalanced g ps
     → IsNoWorse g x (whole_flows ps) → AreSigned g members → IsWithin x members (bounds_of price g.streams (gap_of price g.streams ps) members)
+
+-- a signed list of measured streams, none twice, whose signed sum is the flow of stream j in all balanced flows
+pub record SumsTo (g : ProcessGraph) (j : ℕ) (members : List Member) : Type 0 where
+  pub signed : AreSigned g members
+  pub sum : (xs : List ℤ) → IsBalanced g xs → signed_sum members xs ≡ item xs j
+
+abbrev pub StreamSumLaw : Type 0
+StreamSumLaw = (g : ProcessGraph) (j : ℕ) (c : Classified) → IsProcessGraph g → IsCertified g j c → IfSome (sum_for j c.class c.witness) (SumsTo g j)
+
+-- the flow of stream j is within the bounds
+pub record IsStreamWithin (x : Fractional) (j : ℕ) (bounds : Bounds) : Type 0 where
+  pub from : (x.denominator *ℤ bounds.lo) ≤ℤ item x.numerators j
+  pub to : item x.numerators j ≤ℤ (x.denominator *ℤ bounds.hi)
+
+-- The enclosure of each stream that has bounds: for any prices that fit, any balanced whole flows and any class with its certificate.
+abbrev pub StreamLaw : Type 0
+StreamLaw = (g : ProcessGraph) (price : ℕ → ℤ) (ps : List ℤ) (x : Fractional) (j : ℕ) (c : Classified) → IsDualPair g price x → IsBalanced g ps
+    → IsNoWorse g x (whole_flows ps) → IsCertified g j c → IfSome (stream_bounds price g.streams (gap_of price g.streams ps) j c) (IsStreamWithin x j)
 
 -- a thousand times the weighted squares of each balanced vector is at least the low end of the statistic of any balanced whole flows
 abbrev pub LowLaw : Type 0

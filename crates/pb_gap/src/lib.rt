@@ -5,7 +5,7 @@
 //! statistic follow from it. The functions are empty: the contract of each is a law.
 #![tactic(auto)]
 
-ghost use Rattle.pb_gap.specs.Laws.{WeightLaw, IdentityLaw, DualityLaw, MemberSchwarzLaw, EnclosureLaw, LowLaw, HighLaw};
+ghost use Rattle.pb_gap.specs.Laws.{WeightLaw, IdentityLaw, DualityLaw, MemberSchwarzLaw, AreGaps, EnclosureLaw, StreamSumLaw, StreamLaw, LowLaw, HighLaw};
 
 /// The product of the variances over each of them is a whole number.
 pub fn weight_law()
@@ -24,9 +24,21 @@ pub fn schwarz_law()
     ensures { MemberSchwarzLaw }
 {}
 
+/// The gap of a list of deviations is what its two numbers are said to be, and the only one.
+pub fn gap_law()
+    ensures { AreGaps }
+{}
+
 /// Each balanced vector no worse than some balanced whole flows is within the bounds that any prices that fit give.
 pub fn enclosure_law()
     ensures { EnclosureLaw }
+{}
+
+/// A stream that has bounds is the signed sum of measured streams, and it is within its bounds in each balanced vector no worse than
+/// some balanced whole flows.
+pub fn stream_law()
+    ensures sum { StreamSumLaw }
+    ensures within { StreamLaw }
 {}
 
 /// The weighted squares of each balanced vector are at least the low end of the statistic, and those of the flows at most its high end.
