@@ -4,9 +4,9 @@ use Rattle.std.specs.Cmp.Lexicographic.{bytes_decides}
 use Rattle.std.specs.HashMap.{get}
 use Rattle.std.specs.List.{list_any, position_or_len}
 use Rattle.std.specs.Option.{IsSome}
-use Rattle.std.proofs.Common.{◌≡◌, ◌≢◌, ◌∙◌, ℕ, zero, suc, ◌<◌, List, [], ◌∷◌, length, All, get_or, slice_get, Bool, true, false, true≢false, Option, Some, None, codes, refl, sym, ap, subst, arith, inl, inr, length-map}
+use Rattle.std.proofs.Common.{◌≡◌, ◌≢◌, ◌∙◌, ℕ, zero, suc, ◌<◌, List, [], ◌∷◌, length, All, get_or, slice_get, Bool, true, false, true≢false, Option, Some, None, codes, refl, sym, ap, subst, arith, inl, inr}
 use Rattle.std.proofs.lemmas.Bool.{cases_Bool, lt-ltb}
-use Rattle.std.proofs.lemmas.List.{get_or-map}
+use Rattle.std.proofs.lemmas.List.{get_or-map, length-map}
 use Rattle.std.proofs.lemmas.List.Quantifiers.{position-Some}
 use Rattle.std.proofs.lemmas.Option.{slice_get-get_or}
 use Rattle.pb_rows.specs.Name.{same_name}
@@ -28,7 +28,7 @@ use Rattle.pb_site.proofs.FaultLemmas.{same_self}
 
 -- ---- tables
 
-pub points_in : Option (List Point) → List Point
+abbrev pub points_in : Option (List Point) → List Point
 points_in None = []
 points_in (Some points) = points
 
@@ -44,11 +44,11 @@ or_true : (b : Bool) → (b || true) ≡ true
 or_true true = refl
 or_true false = refl
 
-name_in : Option Link → List ℕ
+abbrev name_in : Option Link → List ℕ
 name_in None = []
 name_in (Some link) = link.name
 
-kind_in : Option Link → ArcKind
+abbrev kind_in : Option Link → ArcKind
 kind_in None = TankArc
 kind_in (Some link) = link.kind
 
@@ -73,23 +73,23 @@ tank_link (CritMeasure value ∷ declared) j link at is = tank_link declared j l
 -- ---- arcs
 
 -- the arc at a place that the index has
-pub record IsAt (declared : List Declared) (j : ℕ) (link : Link) : Type 0 where
+pub record IsAt (declared : List Declared) (j : ℕ) (arc : Link) : Type 0 where
   pub place : j < length (links_of declared)
-  pub link : slice_get (links_of declared) j ≡ Some link
-  pub arc : slice_get (arcs_of declared) j ≡ Some (arc_between (node_names declared) link)
-  pub right : IsLink (node_names declared) link
+  pub link : slice_get (links_of declared) j ≡ Some arc
+  pub between : slice_get (arcs_of declared) j ≡ Some (arc_between (node_names declared) arc)
+  pub right : IsLink (node_names declared) arc
 
 pub is_at : (declared : List Declared) (index : Index) (j : ℕ) (link : Link) → IsKept declared index → link ≡ get_or index.links.items j link → j < length (arcs_of declared)
     → IsAt declared j link
 is_at declared index j link kept found within =
-    let between = arc_between (node_names declared) in
+    let joining = arc_between (node_names declared) in
     let links = links_of declared in
-    let lt : j < length links = rw (length-map links between) at within in
+    let lt : j < length links = rw (length-map links joining) at within in
     let here : link ≡ get_or links j link = rw kept.links at found in
     record {
       place = lt;
       link = slice_get-get_or links j link lt ∙ ap Some (sym here);
-      arc = slice_get-get_or (arcs_of declared) j (between link) within ∙ ap Some (get_or-map between links j link (between link) lt ∙ ap between (sym here));
+      between = slice_get-get_or (arcs_of declared) j (joining link) within ∙ ap Some (get_or-map joining links j link (joining link) lt ∙ ap joining (sym here));
       right = subst (IsLink (node_names declared)) (sym here) (kept.joined j link lt);
     }
 
@@ -109,7 +109,7 @@ place_is names name there =
 pub some_place : (names : List (List ℕ)) (name : List ℕ) (place : Option ℕ) → place ≡ position (same_name name) names → is_among names name ≡ true → IsSome place
 some_place names name place is there = rw (is, place_is names name there) refl
 
-number_in : Option ℕ → ℕ
+abbrev number_in : Option ℕ → ℕ
 number_in None = 0
 number_in (Some n) = n
 
@@ -136,7 +136,7 @@ arc_right names link right =
 
 pub no_table : (declared : List Declared) (j : ℕ) (link : Link) → IsAt declared j link → link.kind ≢ TankArc
     → None ≡ option_and_then (table_of_arc declared) (slice_get (arcs_of declared) j)
-no_table declared j link here other = rw here.arc (by link.kind other)
+no_table declared j link here other = rw here.between (by link.kind other)
   where
     by : (kind : ArcKind) → kind ≢ TankArc → None ≡ table_of_kind declared link.name kind
     by MeteredArc other = refl
@@ -148,4 +148,4 @@ pub arc_table : (declared : List Declared) (index : Index) (j : ℕ) (link : Lin
     → table ≡ get same_name index.tables link.name → table ≡ option_and_then (table_of_arc declared) (slice_get (arcs_of declared) j)
 arc_table declared index j link table kept here tank at =
     let known = tank_link declared j link here.link tank in
-    rw (here.arc, tank) (at ∙ kept.tables link.name ∙ (rw known refl))
+    rw (here.between, tank) (at ∙ kept.tables link.name ∙ (rw known refl))

@@ -7,8 +7,8 @@ mod declared;
 mod index;
 mod site;
 mod table;
-
-
+#[cfg(test)]
+mod tests;
 
 pub use declared::{Arc, ArcKind, Declared, Kind, Link, SiteFault};
 pub use site::{MOST_ARCS, MOST_PLACES, Site};
