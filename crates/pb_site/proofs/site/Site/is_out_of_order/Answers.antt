@@ -1,0 +1,11 @@
+use Rattle.std.specs.Prelude.{not}
+use Rattle.std.proofs.Common.{List, ap}
+use Rattle.pb_strap.specs.Table.{rises}
+use Rattle.pb_strap.specs.declared.point.Point.{Point}
+use Rattle.pb_site.proofs.LookUpLemmas.{table_points}
+use Rattle.pb_site.proofs.site.Site.is_out_of_order.Goals as goal
+
+pub returns-in-None : goal.returns-in-None
+returns-in-None c =
+    let points = table_points c.self.inside.declared.items c.self.inside.index c.in-Strap.tank _ c.self.invariant c.in-None.ensures.value in
+    rw (c.in-Strap.is, ← c.self.view_is) (ap (λ (ps : List Point). not (rises ps c.in-Strap.mm c.in-Strap.ml)) points)

@@ -1,0 +1,14 @@
+//! The declared plant: its units, tanks, strapping tables, streams and critical values, in the order in which they were declared.
+//!
+//! Base variances are squared grams, levels millimetres, volumes millilitres, and critical values thousandths.
+#![tactic(auto)]
+
+mod declared;
+mod index;
+mod site;
+mod table;
+#[cfg(test)]
+mod tests;
+
+pub use declared::{Arc, ArcKind, Declared, Kind, Link, SiteFault};
+pub use site::{MOST_ARCS, MOST_PLACES, Site};

@@ -1,0 +1,317 @@
+// The declared plant.
+
+ghost use Rattle.std.specs.Prelude.{◌≡◌, ℕ, ◌<◌, ◌≤◌, ◌∷◌, ◌++◌, [], length, Option, Some, None, IfOk, OnOk, OnErr, is_some, position, slice_get, option_and_then, option_copied, codes, vec_len, vec_capacity};
+ghost use Rattle.pb_rows.specs.Name.{same_name};
+ghost use Rattle.pb_site.specs.Row.{IsInRange};
+ghost use Rattle.pb_site.specs.Site.{arc_names, arcs_of, global_of, is_tank, measure_of, names_of, nodal_of, node_names, table_of_arc};
+ghost use Rattle.pb_site.specs.Faults.{fault_of, has_most_arcs, has_most_places, is_duplicate, is_full, is_mismatch, is_node, is_out_of_order, is_taken, is_unknown};
+ghost use Rattle.pb_site.specs.Kept.{IsArc};
+
+use crate::declared::{Arc, ArcKind, Declared, SiteFault};
+use crate::index::{self, Index};
+use indexmap::IndexSet;
+use pb_rows::{Name, NameList, Names};
+use pb_strap::Strap;
+use std::alloc::{AllocError, Global};
+use std::collections::HashMap;
+use std::marker::Model;
+
+/// The greatest number of units and tanks.
+pub const MOST_PLACES: usize = 1_000;
+
+/// The greatest number of streams and tanks.
+pub const MOST_ARCS: usize = 2_000;
+
+/// The declared plant: the declarations in order.
+#[derive(Drop)]
+pub struct Site {
+    alloc: Global,
+    declared: Vec<Declared>,
+    index: Index,
+}
+
+impl Model for Site {
+    ghost use Rattle.std.specs.Prelude.{List};
+    ghost use Rattle.pb_site.specs.declared.declared.Declared.{Declared};
+    ghost use Rattle.pb_site.specs.Kept.{IsKept};
+
+    ghost Value = { List Declared };
+
+    ghost view = { λ a. a.declared.items };
+
+    ghost invariant = { λ a. IsKept a.declared.items a.index };
+}
+
+impl Site {
+    /// A plant of which nothing is declared yet.
+    pub fn new(alloc: Global) -> Site
+        ensures { result ≡ [] }
+    {
+        Site {
+            alloc,
+            declared: Vec::new(alloc),
+            index: Index {
+                places: IndexSet::new(alloc),
+                arcs: IndexSet::new(alloc),
+                links: Vec::new(alloc),
+                tables: HashMap::new(alloc),
+                global: HashMap::new(alloc),
+                nodal: None,
+                measure: None,
+            },
+        }
+    }
+
+    /// The first fault of a new declaration, of Unknown, Duplicate, Order, Mismatch and Full; `None` exactly where there is none.
+    pub fn judge(&self, row: &Declared) -> Option<SiteFault>
+        ensures { result ≡ fault_of self.now row.now }
+    {
+        if self.is_unknown(row) {
+            Some(SiteFault::Unknown)
+        } else if self.is_duplicate(row) {
+            Some(SiteFault::Duplicate)
+        } else if self.is_out_of_order(row) {
+            Some(SiteFault::Order)
+        } else if is_mismatch(row) {
+            Some(SiteFault::Mismatch)
+        } else if self.is_full(row) {
+            Some(SiteFault::Full)
+        } else {
+            None
+        }
+    }
+
+    /// Adds a declaration that has no fault. After an `Err`, want of memory, the plant is as it was.
+    pub fn add(&mut self, row: Declared) -> Result<(), AllocError>
+        requires in_range { IsInRange row }
+        requires no_fault { fault_of self.old row ≡ None }
+        ensures added { OnOk result (self.new ≡ self.old ++ row ∷ []) }
+        ensures unchanged { OnErr result (self.new ≡ self.old) }
+    {
+        self.declared.reserve(1)?;
+        index::reserve(&mut self.index)?;
+        index::note(self.alloc, &mut self.index, &row)?;
+        keep(&mut self.declared, row);
+        Ok(())
+    }
+
+    /// The number of nodes: the environment, the units and the tanks.
+    pub fn nodes(&self) -> u32
+        ensures value { result ≡ length (node_names self.now) }
+        ensures few { result ≤ 1001 }
+    {
+        self.index.places.len() as u32 + 1
+    }
+
+    /// The number of arcs: the streams and the tanks.
+    pub fn arcs(&self) -> u32
+        ensures value { result ≡ length (arcs_of self.now) }
+        ensures few { result ≤ 2000 }
+    {
+        self.index.links.len() as u32
+    }
+
+    /// The arc at a place, counted from 0 in the order of declaration.
+    pub fn arc(&self, j: u32) -> Arc
+        requires { j < length (arcs_of self.now) }
+        ensures value { slice_get (arcs_of self.now) j ≡ Some result }
+        ensures joins { IsArc (length (node_names self.now)) result }
+    {
+        let link = self.index.links[j as usize];
+        Arc {
+            name: link.name,
+            from: self.node_of(&link.from).unwrap(),
+            to: self.node_of(&link.to).unwrap(),
+            kind: link.kind,
+            base: link.base,
+        }
+    }
+
+    /// The strapping table of the arc at a place; `None` exactly where the arc isn't a tank's.
+    pub fn strap(&self, j: u32) -> Option<&Strap>
+        requires { j < length (arcs_of self.now) }
+        ensures { option_copied result ≡ option_and_then (table_of_arc self.now) (slice_get (arcs_of self.now) j) }
+    {
+        let link = self.index.links[j as usize];
+        match link.kind {
+            ArcKind::Tank => Some(self.index.tables.get(&link.name)?.strap()),
+            _ => None,
+        }
+    }
+
+    /// The node of a name; `None` exactly where no node has it.
+    pub fn node_of(&self, name: &Name) -> Option<u32>
+        ensures { result ≡ position (same_name name.now) (node_names self.now) }
+    {
+        if index::is_env(name) {
+            return Some(0);
+        }
+        match self.index.places.get_index_of(name) {
+            Some(i) => Some(i as u32 + 1),
+            None => None,
+        }
+    }
+
+    /// The arc of a name; `None` exactly where no arc has it.
+    pub fn arc_of(&self, name: &Name) -> Option<u32>
+        ensures { result ≡ position (same_name name.now) (arc_names self.now) }
+    {
+        match self.index.arcs.get_index_of(name) {
+            Some(i) => Some(i as u32),
+            None => None,
+        }
+    }
+
+    /// The critical value of the global test with these degrees of freedom; `None` exactly where none was declared.
+    pub fn global(&self, dof: u32) -> Option<i64>
+        ensures { result ≡ global_of self.now dof }
+    {
+        self.index.global.get(&dof).copied()
+    }
+
+    /// The critical value of the nodal tests; `None` exactly where none was declared.
+    pub fn nodal(&self) -> Option<i64>
+        ensures { result ≡ nodal_of self.now }
+    {
+        self.index.nodal
+    }
+
+    /// The critical value of the measurement tests; `None` exactly where none was declared.
+    pub fn measure(&self) -> Option<i64>
+        ensures { result ≡ measure_of self.now }
+    {
+        self.index.measure
+    }
+
+    /// The names of the nodes and arcs.
+    pub fn names(&self) -> Result<Names, AllocError>
+        ensures { IfOk result (λ names. names ≡ names_of self.now) }
+    {
+        let mut names = Names {
+            nodes: NameList::new(self.alloc),
+            streams: NameList::new(self.alloc),
+        };
+        names.nodes.push(index::env())?;
+        push_all(&mut names.nodes, self.index.places.as_slice())?;
+        push_all(&mut names.streams, self.index.arcs.as_slice())?;
+        Ok(names)
+    }
+
+    // Whether a point names no declared tank, or an end of a stream no node.
+    fn is_unknown(&self, row: &Declared) -> bool
+        ensures { result ≡ is_unknown self.now row.now }
+    {
+        match row {
+            Declared::Strap { tank, .. } => !self.is_tank(tank),
+            Declared::Stream { from, to, .. } => !self.is_node(from) || !self.is_node(to),
+            _ => false,
+        }
+    }
+
+    // Whether the name is taken, or such a critical value was declared.
+    fn is_duplicate(&self, row: &Declared) -> bool
+        ensures { result ≡ is_duplicate self.now row.now }
+    {
+        match row {
+            Declared::Unit { name } => self.is_taken(name),
+            Declared::Tank { name, .. } => self.is_taken(name),
+            Declared::Stream { name, .. } => self.is_taken(name),
+            Declared::Strap { .. } => false,
+            Declared::CritGlobal { dof, .. } => self.global(*dof).is_some(),
+            Declared::CritNodal { .. } => self.nodal().is_some(),
+            Declared::CritMeasure { .. } => self.measure().is_some(),
+        }
+    }
+
+    // Whether a point can't stand behind the last one of its table.
+    fn is_out_of_order(&self, row: &Declared) -> bool
+        ensures { result ≡ is_out_of_order self.now row.now }
+    {
+        match row {
+            Declared::Strap { tank, mm, ml } => match self.index.tables.get(tank) {
+                Some(table) => !table.rises(*mm, *ml),
+                None => false,
+            },
+            _ => false,
+        }
+    }
+
+    // Whether there are as many units and tanks, streams and tanks, or points of the table as there may be.
+    fn is_full(&self, row: &Declared) -> bool
+        ensures { result ≡ is_full self.now row.now }
+    {
+        match row {
+            Declared::Unit { .. } => self.has_most_places(),
+            Declared::Tank { .. } => self.has_most_places() || self.has_most_arcs(),
+            Declared::Stream { .. } => self.has_most_arcs(),
+            Declared::Strap { tank, .. } => match self.index.tables.get(tank) {
+                Some(table) => table.is_full(),
+                None => false,
+            },
+            _ => false,
+        }
+    }
+
+    fn has_most_places(&self) -> bool
+        ensures { result ≡ has_most_places self.now }
+    {
+        self.index.places.len() >= MOST_PLACES
+    }
+
+    fn has_most_arcs(&self) -> bool
+        ensures { result ≡ has_most_arcs self.now }
+    {
+        self.index.links.len() >= MOST_ARCS
+    }
+
+    // Whether a tank of the name is declared.
+    fn is_tank(&self, name: &Name) -> bool
+        ensures { result ≡ is_tank self.now name.now }
+    {
+        self.index.tables.contains_key(name)
+    }
+
+    // Whether a name is the environment's, or that of a declared unit or tank.
+    fn is_node(&self, name: &Name) -> bool
+        ensures { result ≡ is_node self.now name.now }
+    {
+        index::is_env(name) || self.index.places.contains(name)
+    }
+
+    // Whether a name is the environment's, or that of a declared unit, tank or stream.
+    fn is_taken(&self, name: &Name) -> bool
+        ensures { result ≡ is_taken self.now name.now }
+    {
+        self.is_node(name) || self.index.arcs.contains(name)
+    }
+}
+
+// Whether a stream leads from a node to itself.
+fn is_mismatch(row: &Declared) -> bool
+    ensures { result ≡ is_mismatch row.now }
+{
+    match row {
+        Declared::Stream { from, to, .. } => from == to,
+        _ => false,
+    }
+}
+
+// Appends names.
+fn push_all(list: &mut NameList, names: &[Name]) -> Result<(), AllocError>
+    ensures { OnOk result (list.new ≡ list.old ++ names.now) }
+{
+    for name in names {
+        list.push(*name)?;
+    }
+    Ok(())
+}
+
+// Appends a declaration for which there is room.
+fn keep(declared: &mut Vec<Declared>, row: Declared)
+    requires { vec_len declared.old < vec_capacity declared.old }
+    ensures { declared.new.items ≡ declared.old.items ++ row ∷ [] }
+{
+    if declared.push(row).is_err() {
+        unreachable!()
+    }
+}
