@@ -9,7 +9,7 @@ use Rattle.pb_session.specs.declared.form.Answer.{Answer}
 use Rattle.pb_session.specs.declared.form.Answer.TheVariants.{Blank, Refused, Stored, Design}
 use Rattle.pb_session.specs.Stored.{after, answer_of}
 use Rattle.pb_session.specs.DesignGraph.{design_graph, design_names}
-use Rattle.pb_session.specs.Session.{AddsBy, IsSessionText}
+use Rattle.pb_session.specs.Session.{AddsBy}
 use Rattle.pb_session.specs.Laws.{OneTextLaw, OneSessionTextLaw}
 
 answer_text : OneClassificationLaw → (stored : List Declared) (at : ℕ) (answer : Answer) (one other : List ℕ) → AddsBy stored at answer one → AddsBy stored at answer other → one ≡ other
