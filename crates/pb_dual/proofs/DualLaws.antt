@@ -1,5 +1,5 @@
 -- What the prices of the groups and their arcs keep.
-use Rattle.std.proofs.Common.{◌≡◌, ◌∙◌, ◌==◌, ◌^◌, ℕ, zero, suc, ◌+◌, ◌-◌, ◌<◌, ◌≤◌, ℤ, pos, neg_ℤ, ◌-ℤ◌, ◌<ℤ◌, Bool, true, not, List, [], ◌∷◌, length, get_or, set, replicate, refl, sym, subst, ap, ap₂, inl, inr, arith, unsigned_abs, length-set}
+use Rattle.std.proofs.Common.{◌≡◌, ◌∙◌, ◌==◌, ◌^◌, ℕ, zero, suc, ◌<◌, ◌≤◌, ℤ, pos, neg_ℤ, ◌-ℤ◌, ◌<ℤ◌, Bool, true, not, List, [], length, get_or, set, replicate, refl, sym, subst, ap, ap₂, inl, inr, arith, unsigned_abs, length-set}
 use Rattle.std.specs.Prelude.{◌&&◌, int_lt, nat_lt}
 use Rattle.std.specs.List.{All, AllByRecursion, list_any}
 use Rattle.std.proofs.lemmas.Bool.{cases_eq, cases_lt, eq-eqb, ne_eqb, and_parts}
@@ -17,6 +17,7 @@ use Rattle.pb_graph.specs.Groups.{AreGroups, group_at, group_count, has_one_end,
 use Rattle.pb_graph.specs.Prices.{PricesFit, IsInBox}
 use Rattle.pb_merge.specs.Variance.{group_variance}
 use Rattle.pb_merge.proofs.GroupLemmas.{number_below}
+use Rattle.pb_merge.proofs.NumberingLaws.{number_node, numbers_below}
 use Rattle.pb_merge.proofs.FreeLemmas.{first_number, crossing_measured, crossings_add, crossed_is}
 use Rattle.pb_dual.specs.declared.arcs.Arc.{Arc}
 use Rattle.pb_dual.specs.DualValue.{dual_value}
@@ -31,57 +32,6 @@ use Rattle.pb_dual.proofs.MoveLaws.{falls_along}
 use Rattle.pb_dual.proofs.FitLaws.{node_of, old_is}
 use Rattle.pb_dual.proofs.SweepLaws.{zero_fits}
 use Rattle.pb_dual.proofs.ArcLaws.{IsPlaced, IsSeen, arcs_within, flow_arcs, high_arcs, length_arcs, low_arcs, seen_is, variance_arcs}
-
--- the number of a node's group is at most the node
-number_le : (g : ProcessGraph) (group : List ℕ) → AreGroups g group → (most n : ℕ) → n ≤ most → n < g.nodes → group_at group n ≤ n
-number_le g group h zero n le lt = elim (cases_lt 0 (group_at group n)) [
-  | inl some ↦ let (m, before, is) = h.numbered n 0 lt some in absurd (omega (arith, before, le))
-  | inr none ↦ omega (arith, none)
-]
-number_le g group h (suc most) n le lt = elim (cases_lt 0 (group_at group n)) [
-  | inl some ↦
-      let (m, before, is) = h.numbered n (group_at group n - 1) lt (omega (arith, some)) in
-      let below = number_le g group h most m (omega (arith, before, le)) (omega (arith, before, lt)) in
-      omega (arith, some, before, is, below)
-  | inr none ↦ omega (arith, none)
-]
-
-pub numbers_few : (g : ProcessGraph) (group : List ℕ) → AreGroups g group → All (λ k. k < g.nodes) group
-numbers_few g group h j d lt =
-    let n_lt : j < g.nodes = omega (arith, lt, h.each) in
-    let le = number_le g group h j j (omega arith) n_lt in
-    let is = get_or_default group j d 0 lt in
-    omega (arith, le, is, n_lt)
-
-pub numbers_below : (group : List ℕ) → All (λ k. k < group_count group) group
-numbers_below group j d lt = let is = get_or_default group j d 0 lt in let below = number_below group j lt in omega (arith, is, below)
-
-count_le : (group : List ℕ) (most : ℕ) → ((n : ℕ) → n < length group → group_at group n < most) → group_count group ≤ most
-count_le [] most h = omega arith
-count_le (k ∷ ks) most h =
-    let first = h 0 (omega arith) in
-    let rest = count_le ks most (λ n lt. h (suc n) (omega (arith, lt))) in
-    omega (arith, first, rest)
-
-pub count_few : (g : ProcessGraph) (group : List ℕ) → AreGroups g group → group_count group ≤ g.nodes
-count_few g group h = count_le group g.nodes (λ n lt. numbers_few g group h n 0 lt)
-
--- the greatest number is that of a node, and so is each number below the count
-last_node : (group : List ℕ) → 0 < group_count group → (n : ℕ) × (n < length group) × (group_at group n + 1 ≡ group_count group)
-last_node [] some = absurd (omega (arith, some))
-last_node (k ∷ ks) some = elim (cases_lt (k + 1) (group_count ks)) [
-  | inl less ↦ let (n, lt, is) = last_node ks (omega (arith, less)) in (suc n, omega (arith, lt), omega (arith, is, less))
-  | inr more ↦ (0, omega arith, omega (arith, more))
-]
-
-pub number_node : (g : ProcessGraph) (group : List ℕ) (k : ℕ) → AreGroups g group → k < group_count group → (n : ℕ) × (n < g.nodes) × (group_at group n ≡ k)
-number_node g group k h lt =
-    let (n, within, is) = last_node group (omega (arith, lt)) in
-    let n_lt : n < g.nodes = omega (arith, within, h.each) in
-    elim (cases_eq (group_at group n) k) [
-      | inl e ↦ (n, n_lt, e)
-      | inr ne ↦ let (m, before, m_is) = h.numbered n k n_lt (omega (arith, lt, is, ne)) in (m, omega (arith, before, n_lt), m_is)
-    ]
 
 -- each group's price is small
 pub price_small : (d : Priced) (k : ℕ) → IsPriced d → k < length d.prices → unsigned_abs (get_or d.prices k (pos 0)) ≤ 2 ^ 120

@@ -19,7 +19,7 @@ number_below [] n lt = absurd (omega (arith, lt))
 number_below (k ∷ ks) zero lt = let m = le-max_left (k + 1) (group_count ks) in omega (arith, m)
 number_below (k ∷ ks) (suc n) lt = let m = le-max_right (k + 1) (group_count ks) in let h = number_below ks n (omega (arith, lt)) in omega (arith, m, h)
 
-count_le : (group : List ℕ) (most : ℕ) → ((n : ℕ) → n < length group → group_at group n < most) → group_count group ≤ most
+pub count_le : (group : List ℕ) (most : ℕ) → ((n : ℕ) → n < length group → group_at group n < most) → group_count group ≤ most
 count_le [] most h = omega arith
 count_le (k ∷ ks) most h = max-le (let first = h 0 (omega arith) in omega (arith, first)) (count_le ks most (λ n lt. h (suc n) (omega (arith, lt))))
 

@@ -4,3 +4,4 @@ pub mod VarianceLemmas
 pub mod GroupLemmas
 pub mod FreeLemmas
 pub mod MadeGroups
+pub mod NumberingLaws

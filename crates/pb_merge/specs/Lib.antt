@@ -1,3 +1,4 @@
 pub mod Roots
 pub mod Variance
 pub mod Grouping
+pub mod Laws

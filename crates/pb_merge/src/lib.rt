@@ -5,6 +5,7 @@
 #![tactic(auto)]
 
 mod groups;
+pub mod laws;
 mod numbers;
 mod roots;
 mod variance;

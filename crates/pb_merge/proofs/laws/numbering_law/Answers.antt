@@ -1,0 +1,5 @@
+use Rattle.pb_merge.proofs.NumberingLaws.{numbering_law}
+use Rattle.pb_merge.proofs.laws.numbering_law.Goals as goal
+
+pub returns : goal.returns
+returns c = numbering_law

@@ -1,0 +1,13 @@
+//! What is proved of the definitions alone. The functions are empty: the contract of each is a law.
+
+ghost use Rattle.pb_merge.specs.Laws.{NumberingLaw, FreeLaw};
+
+/// A graph has one list of group numbers; the numbers are in order of the least nodes of the groups, and none is left out.
+pub fn numbering_law()
+    ensures { NumberingLaw }
+{}
+
+/// The test of freedom by numbers is the definition by walks.
+pub fn free_law()
+    ensures { FreeLaw }
+{}
