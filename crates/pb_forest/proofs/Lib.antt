@@ -5,3 +5,4 @@ pub mod PathLemmas
 pub mod LabelLemmas
 pub mod RankLemmas
 pub mod HoldsLemmas
+pub mod FlowLemmas

@@ -4,7 +4,6 @@ use Rattle.pb_graph.specs.declared.records.Step.{Step}
 use Rattle.pb_graph.specs.ProcessGraph.{ProcessGraph, is_measured}
 use Rattle.pb_graph.specs.Walk.{ends_of, Reaches}
 use Rattle.pb_graph.specs.Path.{is_open}
-use Rattle.pb_graph.specs.Neighbours.{IsNeighbours}
 
 -- The order in which streams are taken: the unmeasured ones by id, and then the measured ones by id. Whether the k-th stream
 -- comes before the j-th one, which is measured or not.
@@ -46,8 +45,3 @@ pub record SpanningForest : Type 0 where
 -- the ends of a step along a held stream
 abbrev pub held_ends : SpanningForest → Step → Option (ℕ × ℕ)
 held_ends f = ends_of (is_open f.held) f.graph.streams
-
--- what a spanning forest is kept with: its graph's incidence lists
-pub record IsKept (g : ProcessGraph) (lists : List (List ℕ)) (held : List Bool) : Type 0 where
-  pub near : IsNeighbours g lists
-  pub forest : IsForest g.streams held

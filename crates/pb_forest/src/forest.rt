@@ -1,8 +1,11 @@
-ghost use Rattle.std.specs.Prelude.{◌≡◌, ◌<◌, ◌≤◌, ◌↔◌, false, Some, length, slice_get, IsTrue, IfOk, MatchOption};
+ghost use Rattle.std.specs.Prelude.{◌≡◌, ◌<◌, ◌≤◌, ◌^◌, ◌↔◌, ℤ, false, List as Seq, All, Some, length, slice_get, unsigned_abs, IsTrue, IfOk, MatchOption};
 ghost use Rattle.pb_graph.specs.Walk.{Reaches};
 ghost use Rattle.pb_graph.specs.Path.{IsPath};
+ghost use Rattle.pb_graph.specs.Balance.{IsBalanced};
 ghost use Rattle.pb_forest.specs.Forest.{SpanningForest, IsHeld, IsTied, IsForest, degrees_of_freedom, held_ends};
+ghost use Rattle.pb_forest.specs.Flows.{AgreeOffForest};
 
+use crate::flows::{sides_of, write_flows};
 use crate::labels::held_streams;
 use crate::rank::measured_held;
 use pb_graph::{Graph, List, Neighbours, Step};
@@ -18,16 +21,19 @@ pub struct Forest {
     graph: Graph,
     near: Neighbours,
     held: Vec<bool>,
+    /// For each held stream the side that it cuts off.
+    sides: Vec<List<bool>>,
 }
 
 impl Model for Forest {
-    ghost use Rattle.pb_forest.specs.Forest.{SpanningForest, IsKept};
+    ghost use Rattle.pb_forest.specs.Forest.{SpanningForest};
+    ghost use Rattle.pb_forest.specs.Flows.{IsKept};
 
     ghost Value = { SpanningForest };
 
     ghost view = { λ a. record { graph = a.graph; held = a.held.items } };
 
-    ghost invariant = { λ a. IsKept a.graph a.near a.held.items };
+    ghost invariant = { λ a. IsKept a.graph a.near a.held.items a.sides.items };
 }
 
 impl Forest {
@@ -38,8 +44,14 @@ impl Forest {
     {
         let held = held_streams(alloc, g.nodes(), g.streams())?;
         let near = Neighbours::of(alloc, g)?;
+        let sides = sides_of(alloc, g, &near, &held)?;
         let graph = g.copy(alloc)?;
-        Ok(Forest { graph, near, held })
+        Ok(Forest {
+            graph,
+            near,
+            held,
+            sides,
+        })
     }
 
     /// Whether the forest holds stream j.
@@ -71,5 +83,23 @@ impl Forest {
             (λ steps. IsPath (held_ends self.now) self.now.graph.nodes self.now.graph.streams a steps b)) }
     {
         pb_graph::path(alloc, &self.graph, &self.near, &self.held, a, b)
+    }
+
+    /// Writes the one balanced flow vector that has given flows off the forest, in grams: `off` and `out` have one item for each
+    /// stream, and the items of `off` at held streams count for nothing.
+    ///
+    /// The flow of a held stream is what the streams not held bring into the side that it cuts off, so the work is in proportion
+    /// to held streams times streams. It takes no memory.
+    pub fn flows(&self, g: &Graph, off: &[i128], out: &mut [i128])
+        requires graph { g.now ≡ self.now.graph }
+        requires each { length off.now ≡ length g.now.streams }
+        requires room { length out.old ≡ length g.now.streams }
+        requires small { All (λ v. unsigned_abs v ≤ 2 ^ 57) off.now }
+        ensures balanced { IsBalanced g.now out.new }
+        ensures agrees { AgreeOffForest self.now.held out.new off.now }
+        ensures only { (ys : Seq ℤ) → IsBalanced g.now ys → AgreeOffForest self.now.held ys off.now → ys ≡ out.new }
+        ensures width { All (λ v. unsigned_abs v < 2 ^ 68) out.new }
+    {
+        write_flows(g, &self.held, &self.sides, off, out);
     }
 }

@@ -3,6 +3,7 @@
 //! The laws stand on empty functions, whose contracts state them for the crates above.
 #![tactic(auto)]
 
+mod flows;
 mod forest;
 mod labels;
 mod laws;
