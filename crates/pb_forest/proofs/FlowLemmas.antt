@@ -1,9 +1,9 @@
 -- The flow of a held stream follows from those of the streams not held, over the side that it cuts off.
-use Rattle.std.proofs.Common.{◌≡◌, ◌≢◌, ◌∙◌, ℕ, zero, suc, ◌+◌, ◌<◌, ◌≤◌, ℤ, pos, neg_ℤ, ◌+ℤ◌, ◌-ℤ◌, ◌*ℤ◌, Bool, true, false, not, cond, ◌==◌, List, [], ◌∷◌, length, Option, Some, slice_get, get_or, set, refl, sym, ap, ap₂, subst, inl, inr, arith}
+use Rattle.std.proofs.Common.{◌≡◌, ◌≢◌, ◌∙◌, ℕ, zero, suc, ◌+◌, ◌<◌, ◌≤◌, ℤ, pos, neg_ℤ, ◌+ℤ◌, ◌-ℤ◌, ◌*ℤ◌, Bool, true, false, cond, ◌==◌, List, [], ◌∷◌, length, Some, slice_get, get_or, set, refl, sym, ap, ap₂, subst, inl, inr, arith}
 use Rattle.std.proofs.lemmas.Bool.{cases_Bool, cases_eq, eq-eqb, ne_eqb, not_from_false, and_from}
 use Rattle.std.proofs.lemmas.Int.{ints}
 use Rattle.std.proofs.lemmas.List.{ext_get_or, get_or-set_same, get_or-set_other}
-use Rattle.std.proofs.lemmas.Option.{slice_get_within, slice_get-get_or, get_or_from_slice_get}
+use Rattle.std.proofs.lemmas.Option.{slice_get_within, slice_get-get_or}
 use Rattle.pb_integers.specs.Sums.{sum_below, item}
 use Rattle.pb_integers.proofs.RingLaws.{zero_mul, mul_zero, one_mul}
 use Rattle.pb_integers.proofs.Ring.{var, plus, times, less, ring}
@@ -11,11 +11,11 @@ use Rattle.pb_integers.proofs.Sums.{sum_below-same, sum_below-single}
 use Rattle.pb_graph.specs.declared.records.Stream.{Stream}
 use Rattle.pb_graph.specs.declared.records.Step.{Step}
 use Rattle.pb_graph.specs.ProcessGraph.{ProcessGraph, IsProcessGraph}
-use Rattle.pb_graph.specs.Walk.{along, ends_of, any_stream, is_in, Reaches, IsReach}
+use Rattle.pb_graph.specs.Walk.{along, ends_of, any_stream, is_in, Reaches}
 use Rattle.pb_graph.specs.Path.{is_open}
 use Rattle.pb_graph.specs.Search.{some_stream}
 use Rattle.pb_graph.specs.Balance.{net_of, IsBalanced}
-use Rattle.pb_graph.proofs.WalkLemmas.{some_same, ends_is, stream_of, ends_back, reach_one, reach_both, reach_more, walk_keeps, IsWithin}
+use Rattle.pb_graph.proofs.WalkLemmas.{some_same, ends_is, stream_of, reach_one, reach_both, reach_more, walk_keeps, IsWithin}
 use Rattle.pb_balance.specs.PricedSums.{priced_nodes, priced_streams}
 use Rattle.pb_balance.proofs.Prices.{priced_sums, balanced_sum}
 use Rattle.pb_balance.proofs.Cuts.{unit_price, side_price}
@@ -140,18 +140,18 @@ side_sum ss held j side xs each lt here cut =
     let f : ℕ → ℤ = part (side_price side) ss xs in
     let e : ℕ → ℤ = λ k. entering_of side (get_or ss k some_stream) (free_flow held xs k) in
     let other : (k : ℕ) → k < length ss → k ≢ j → f k -ℤ e k ≡ pos 0 = λ k less ne.
-        let t : Stream = get_or ss k some_stream in
-        let at : slice_get ss k ≡ Some t = slice_get-get_or ss k some_stream less in
-        let is : f k ≡ entering_of side t (item xs k) = enters_is (is_in side t.from) (is_in side t.to) (item xs k) in
-        elim (cases_Bool (get_or held k false)) [
-          | inl ok ↦
-              let none : f k ≡ pos 0 = is ∙ stays (is_in side t.from) (is_in side t.to) (item xs k) (cut.others k t at ok ne) in
-              let free : e k ≡ pos 0 = ap (entering_of side t) (free_held held xs k ok) ∙ enters_none (is_in side t.from) (is_in side t.to) in
-              omega (arith, ints, none, free)
-          | inr out ↦
-              let same : e k ≡ f k = ap (entering_of side t) (free_other held xs k out) ∙ sym is in
-              omega (arith, ints, same)
-        ] in
+    let t : Stream = get_or ss k some_stream in
+    let at : slice_get ss k ≡ Some t = slice_get-get_or ss k some_stream less in
+    let is : f k ≡ entering_of side t (item xs k) = enters_is (is_in side t.from) (is_in side t.to) (item xs k) in
+    elim (cases_Bool (get_or held k false)) [
+      | inl ok ↦
+          let none : f k ≡ pos 0 = is ∙ stays (is_in side t.from) (is_in side t.to) (item xs k) (cut.others k t at ok ne) in
+          let free : e k ≡ pos 0 = ap (entering_of side t) (free_held held xs k ok) ∙ enters_none (is_in side t.from) (is_in side t.to) in
+          omega (arith, ints, none, free)
+      | inr out ↦
+          let same : e k ≡ f k = ap (entering_of side t) (free_other held xs k out) ∙ sym is in
+          omega (arith, ints, same)
+    ] in
     let s : Stream = get_or ss j some_stream in
     let at : slice_get ss j ≡ Some s = slice_get-get_or ss j some_stream lt in
     let own : f j ≡ neg_ℤ (item xs j) = enters_is (is_in side s.from) (is_in side s.to) (item xs j) ∙ ap₂ (λ (a b : Bool). entering a b (item xs j)) (cut.from s at) (cut.to s at) in
@@ -235,6 +235,7 @@ level_all ss held q forest level k t at =
     ways : (s : Stream) (forward : Bool) (x y : ℕ) → along forward s ≡ (x, y) → q s.to ≡ q s.from → q y ≡ q x
     ways s true x y e is = ap (λ (r : ℕ × ℕ). q r.1) (sym e) ∙ is ∙ ap (λ (r : ℕ × ℕ). q r.0) e
     ways s false x y e is = ap (λ (r : ℕ × ℕ). q r.1) (sym e) ∙ sym is ∙ ap (λ (r : ℕ × ℕ). q r.0) e
+
     keep : (w : Step) (x y : ℕ) → ends_of (is_open held) ss w ≡ Some (x, y) → q x ≡ q t.from → q y ≡ q t.from
     keep w x y e is =
         let (s, here, ok, goes) = stream_of (is_open held) ss w (x, y) e in
@@ -248,9 +249,9 @@ balanced_from g held xs sides is forest each even = record {
       let p : ℕ → ℤ = λ m. cond (m == n) (pos 1) (pos 0) in
       let flat : Flat g.streams held xs p (length g.streams) = flatten g.streams held xs sides p (length g.streams) (omega arith) even in
       let none : priced_streams flat.q g.streams xs ≡ pos 0 =
-          priced_level flat.q g.streams xs (level_all g.streams held flat.q forest (λ k t at ok. flat.level k t (slice_get_within g.streams k t at) at ok)) in
+      priced_level flat.q g.streams xs (level_all g.streams held flat.q forest (λ k t at ok. flat.level k t (slice_get_within g.streams k t at) at ok)) in
       let one : priced_nodes p g xs ≡ p n *ℤ net_of n g.streams xs =
-          sum_below-single (λ m. p m *ℤ net_of m g.streams xs) g.nodes n lt (λ k less other. rw (ne_eqb k n other) (zero_mul (net_of k g.streams xs))) in
+      sum_below-single (λ m. p m *ℤ net_of m g.streams xs) g.nodes n lt (λ k less other. rw (ne_eqb k n other) (zero_mul (net_of k g.streams xs))) in
       let own : p n *ℤ net_of n g.streams xs ≡ net_of n g.streams xs = rw (eq-eqb n n refl) (one_mul (net_of n g.streams xs)) in
       sym own ∙ sym one ∙ priced_sums g p xs is ∙ sym flat.same ∙ none;
 }
@@ -276,7 +277,7 @@ pub written_balances : (g : ProcessGraph) (held : List Bool) (sides : List (List
 written_balances g held sides off out graph forest cuts is =
     let ss = g.streams in
     let cut : (j : ℕ) → j < length ss → get_or held j false ≡ true → Crosses ss held j (get_or sides j []) = λ j lt h.
-        crosses g held j (get_or sides j []) forest lt h (cuts.side_at j lt h) in
+    crosses g held j (get_or sides j []) forest lt h (cuts.side_at j lt h) in
     balanced_from g held out sides graph forest is.each (record {
       cut = cut;
       even = λ j lt h.
@@ -288,17 +289,17 @@ written_balances g held sides off out graph forest cuts is =
     })
 
 -- balanced vectors that agree off the forest are one
-pub balanced_one : (g : ProcessGraph) (held : List Bool) (sides : List (List Bool)) (xs ys : List ℤ) → IsProcessGraph g → IsForest g.streams held
-    → AreSides g held sides → IsBalanced g xs → IsBalanced g ys → AgreeOffForest held xs ys → xs ≡ ys
-balanced_one g held sides xs ys graph forest cuts bx by_ agree =
+pub balanced_one : (g : ProcessGraph) (held : List Bool) (xs ys : List ℤ) → IsProcessGraph g → IsForest g.streams held
+    → ((j : ℕ) → j < length g.streams → get_or held j false ≡ true → (side : List Bool) × IsSideOf g held j side) → IsBalanced g xs → IsBalanced g ys → AgreeOffForest held xs ys → xs ≡ ys
+balanced_one g held xs ys graph forest cuts bx by_ agree =
     let ss = g.streams in
     ext_get_or (pos 0) xs ys (bx.each ∙ sym by_.each) (λ j less.
     let lt : j < length ss = omega (arith, less, bx.each) in
     elim (cases_Bool (get_or held j false)) [
       | inr out ↦ agree j (omega (arith, lt, forest.each)) out
       | inl here ↦
-          let side : List Bool = get_or sides j [] in
-          let cut = crosses g held j side forest lt here (cuts.side_at j lt here) in
+          let (side, is) = cuts j lt here in
+          let cut = crosses g held j side forest lt here is in
           let x = side_sum ss held j side xs bx.each lt here cut in
           let y = side_sum ss held j side ys by_.each lt here cut in
           let same = crossing_same side ss held xs ys forest.each agree in
@@ -329,5 +330,5 @@ repaired g f inside held sides kept off out view graph_is forest cuts held_is si
     record {
       balanced = balanced;
       agrees = agrees;
-      only = λ ys b a. balanced_one g f.held kept ys out graph forest_g cuts_g b balanced (λ k lt h. a k lt h ∙ sym (agrees k lt h));
+      only = λ ys b a. balanced_one g f.held ys out graph forest_g (λ j lt h. (get_or kept j [], cuts_g.side_at j lt h)) b balanced (λ k lt h. a k lt h ∙ sym (agrees k lt h));
     }

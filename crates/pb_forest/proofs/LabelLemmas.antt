@@ -39,7 +39,7 @@ along_same s true a c f same e = sym (ap (λ (p : ℕ × ℕ). f p.0) e) ∙ sam
 along_same s false a c f same e = sym (ap (λ (p : ℕ × ℕ). f p.0) e) ∙ sym same ∙ ap (λ (p : ℕ × ℕ). f p.1) e
 
 -- one stream more, whose ends get one label
-labels_more : (ss : List Stream) (nodes : ℕ) (may more : ℕ → Stream → Bool) (labels new : List ℕ) (j : ℕ) (s : Stream)
+pub labels_more : (ss : List Stream) (nodes : ℕ) (may more : ℕ → Stream → Bool) (labels new : List ℕ) (j : ℕ) (s : Stream)
     → slice_get ss j ≡ Some s → ((k : ℕ) (t : Stream) → slice_get ss k ≡ Some t → IsStream nodes t) → more j s ≡ true → IsWithin ss may more
     → IsPartBut ss j more may → length labels ≡ nodes → IsRelabelled (get_or labels s.to 0) (get_or labels s.from 0) labels new
     → IsLabelling ss nodes may labels → IsLabelling ss nodes more new

@@ -6,3 +6,4 @@ pub mod LabelLemmas
 pub mod RankLemmas
 pub mod HoldsLemmas
 pub mod FlowLemmas
+pub mod SideLemmas

@@ -1,18 +1,17 @@
 -- Each held stream of a forest has a side.
-use Rattle.std.proofs.Common.{◌≡◌, ◌∙◌, ℕ, zero, suc, ◌+◌, ◌<◌, ◌≤◌, Bool, true, false, not, ◌&&◌, ◌==◌, nat_lt, List, [], ◌∷◌, length, map, Some, slice_get, get_or, set, ap, sym, refl, subst, inl, inr, arith}
+use Rattle.std.proofs.Common.{◌≡◌, ◌∙◌, ℕ, zero, suc, ◌+◌, ◌<◌, ◌≤◌, Bool, true, false, ◌&&◌, ◌==◌, nat_lt, List, [], ◌∷◌, length, map, Some, slice_get, get_or, set, ap, sym, refl, subst, inl, inr, arith}
 use Rattle.std.proofs.lemmas.Bool.{cases_Bool, cases_eq, and_parts, and_from, eq-eqb, eqb-true, ltb-true, ltb-false, lt-ltb}
 use Rattle.std.proofs.lemmas.List.{length-map, get_or-map, get_or_past}
 use Rattle.std.proofs.lemmas.Option.{slice_get_within, slice_get-get_or, get_or_from_slice_get}
 use Rattle.pb_graph.specs.declared.records.Stream.{Stream}
 use Rattle.pb_graph.specs.declared.records.Step.{Step}
-use Rattle.pb_graph.specs.ProcessGraph.{ProcessGraph, IsProcessGraph, IsStream}
-use Rattle.pb_graph.specs.Walk.{ends_of, is_in, Walks, Reaches, IsReach}
+use Rattle.pb_graph.specs.ProcessGraph.{IsStream}
+use Rattle.pb_graph.specs.Walk.{ends_of, is_in, Walks, IsReach}
 use Rattle.pb_graph.specs.Path.{is_open}
 use Rattle.pb_graph.specs.Search.{some_stream}
 use Rattle.pb_graph.proofs.WalkLemmas.{some_same, stream_of, along_within, walk_keeps}
-use Rattle.pb_forest.specs.Forest.{IsForest}
 use Rattle.pb_forest.specs.Labels.{IsLabelling, relabelled}
-use Rattle.pb_forest.specs.Flows.{IsSideOf, OneBalancedLaw}
+use Rattle.pb_forest.specs.Flows.{OneBalancedLaw}
 use Rattle.pb_forest.proofs.LabelLemmas.{labels_more, labels_same}
 use Rattle.pb_forest.proofs.FlowLemmas.{balanced_one}
 
@@ -33,6 +32,9 @@ count_at : (k n i : ℕ) → i < n → get_or (count_up k n) i 0 ≡ k + i
 count_at k zero i lt = absurd (omega (arith, lt))
 count_at k (suc n) zero lt = omega arith
 count_at k (suc n) (suc i) lt = let e = count_at (suc k) n i (omega (arith, lt)) in omega (arith, e)
+
+count_is : (n i : ℕ) → i < n → get_or (count_up 0 n) i 0 ≡ i
+count_is n i lt = let e = count_at 0 n i lt in omega (arith, e)
 
 below_none : (ss : List Stream) (may : ℕ → Stream → Bool) (a b : ℕ) (steps : List Step) → Walks (ends_of (below may 0) ss) a steps b → a ≡ b
 below_none ss may a b [] w = w
@@ -65,7 +67,7 @@ labelled ss nodes may each zero lt = record {
   labels = count_up 0 nodes;
   each = count_length 0 nodes;
   tell = record {
-    joined = λ a b la lb e. ([], sym (count_at 0 nodes a la) ∙ e ∙ count_at 0 nodes b lb);
+    joined = λ a b la lb e. ([], sym (count_is nodes a la) ∙ e ∙ count_is nodes b lb);
     kept = λ a b r. ap (λ (n : ℕ). get_or (count_up 0 nodes) n 0) (below_none ss may a b r.0 r.1);
   };
 }

@@ -107,13 +107,7 @@ fn flow(g: &Graph, held: &[bool], sides: &[List<bool>], off: &[i128], j: usize) 
 }
 
 /// Writes each stream's flow.
-pub fn write_flows(
-    g: &Graph,
-    held: &[bool],
-    sides: &[List<bool>],
-    off: &[i128],
-    out: &mut [i128],
-)
+pub fn write_flows(g: &Graph, held: &[bool], sides: &[List<bool>], off: &[i128], out: &mut [i128])
     requires marks { length held.now ≡ length g.now.streams }
     requires sides { AreSides g.now held.now sides.now }
     requires each { length off.now ≡ length g.now.streams }

@@ -1,4 +1,5 @@
 ghost use Rattle.pb_forest.specs.Laws.{SpansLaw, AcyclicLaw, UniqueLaw, PartLaw, ChordLaw, OneForestLaw};
+ghost use Rattle.pb_forest.specs.Flows.{OneBalancedLaw};
 
 /// What any streams join, the forest joins.
 pub fn spans_law()
@@ -28,4 +29,9 @@ pub fn chord_law()
 /// A list of streams has one spanning forest.
 pub fn one_forest_law()
     ensures { OneForestLaw }
+{}
+
+/// There is at most one balanced flow vector with given flows off the forest.
+pub fn one_balanced_law()
+    ensures { OneBalancedLaw }
 {}

@@ -1,4 +1,5 @@
-//! The spanning forest of a process graph: which streams it holds, its degrees of freedom, its paths, and its laws.
+//! The spanning forest of a process graph: which streams it holds, its degrees of freedom, its paths, the balanced
+//! flows that it repairs, and its laws.
 //!
 //! The laws stand on empty functions, whose contracts state them for the crates above.
 #![tactic(auto)]
@@ -12,4 +13,6 @@ mod rank;
 mod tests;
 
 pub use forest::Forest;
-pub use laws::{acyclic_law, chord_law, one_forest_law, part_law, spans_law, unique_law};
+pub use laws::{
+    acyclic_law, chord_law, one_balanced_law, one_forest_law, part_law, spans_law, unique_law,
+};

@@ -72,5 +72,8 @@ fn one_unit_three_meters(rt: HostRuntime) -> Result<(), AllocError> {
     for j in 0..g.len() {
         assert_eq!(rt; forest.holds(j), j == 0, "stream {j}");
     }
+    let mut flows = [0; 3];
+    forest.flows(&g, &[999, 7, -20], &mut flows);
+    assert_eq!(rt; flows, [-13, 7, -20]);
     Ok(())
 }

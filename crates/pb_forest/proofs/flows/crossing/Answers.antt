@@ -26,5 +26,5 @@ loop-k-preserved c =
     let is : part ≡ entering_of side (get_or ss k some_stream) free = simp to_z-of_z at c.entering-total.ensures.value in
     let same : part ≡ entering_of side (get_or ss k some_stream) (free_flow held off k) = is ∙ ap (entering_of side (get_or ss k some_stream)) c.free_flow.ensures.value in
     let sum : total +ℤ part ≡ crossing side ss held off (k + 1) =
-        ap₂ (λ (a b : ℤ). a +ℤ b) inv.so_far same ∙ sym (sum_next (λ n. entering_of side (get_or ss n some_stream) (free_flow held off n)) k) in
+    ap₂ (λ (a b : ℤ). a +ℤ b) inv.so_far same ∙ sym (sum_next (λ n. entering_of side (get_or ss n some_stream) (free_flow held off n)) k) in
     simp to_z-of_z (record { so_far = sum; small = within })

@@ -1,4 +1,4 @@
-use Rattle.std.proofs.Common.{◌≡◌, ◌∙◌, ℕ, ◌<◌, Bool, true, false, List, [], length, Some, slice_get, get_or, ap, sym, subst, arith}
+use Rattle.std.proofs.Common.{◌≡◌, ◌∙◌, ℕ, ◌<◌, Bool, List, [], length, get_or, ap, sym, subst, arith}
 use Rattle.std.proofs.lemmas.List.{get_or_default}
 use Rattle.std.proofs.lemmas.Option.{slice_get-get_or}
 use Rattle.pb_graph.specs.declared.records.Stream.{Stream}
@@ -16,6 +16,6 @@ crossing-requires-clause-ends c =
     let in_sides : j < length c.args.sides.now = omega (arith, c.requires.place, c.requires.sides.each) in
     let same : length c.as_slice.result.now ≡ nodes = ap (λ (l : List Bool). length l) (c.as_slice.ensures ∙ c.index-sides-j.is ∙ get_or_default c.args.sides.now j c.index-sides-j.result [] in_sides) ∙ reach.each in
     λ k d lt.
-        let within : k < length ss = subst (λ (l : List Stream). k < length l) c.streams.ensures.value lt in
-        let joins : IsStream nodes (get_or ss k d) = c.streams.ensures.limits.joins k d within in
-        subst (λ (n : ℕ). IsStream n (get_or c.streams.result.now k d)) (sym same) (subst (λ (l : List Stream). IsStream nodes (get_or l k d)) (sym c.streams.ensures.value) joins)
+    let within : k < length ss = subst (λ (l : List Stream). k < length l) c.streams.ensures.value lt in
+    let joins : IsStream nodes (get_or ss k d) = c.streams.ensures.limits.joins k d within in
+    subst (λ (n : ℕ). IsStream n (get_or c.streams.result.now k d)) (sym same) (subst (λ (l : List Stream). IsStream nodes (get_or l k d)) (sym c.streams.ensures.value) joins)

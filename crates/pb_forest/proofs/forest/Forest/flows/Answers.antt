@@ -1,7 +1,6 @@
-use Rattle.std.proofs.Common.{◌≡◌, ◌∙◌, ◌<◌, ◌^◌, length, pos, unsigned_abs, subst, get_or, arith}
+use Rattle.std.proofs.Common.{◌∙◌, ◌<◌, ◌^◌, pos, unsigned_abs, arith}
 use Rattle.std.proofs.lemmas.List.{get_or_default}
 use Rattle.pb_integers.specs.Sums.{item}
-use Rattle.pb_forest.specs.Forest.{SpanningForest}
 use Rattle.pb_forest.proofs.FlowLemmas.{repaired}
 use Rattle.pb_forest.proofs.forest.Forest.flows.Goals as goal
 
