@@ -60,52 +60,94 @@ fn stream(text: &[u8], from: &[u8], to: &[u8]) -> Result<Declared, Fail>
     })
 }
 
-// A plant with a unit, a tank of two points, and a stream between them.
+fn add_unit(site: &mut Site, text: &[u8]) -> Result<(), Fail> {
+    add(site, unit(text)?)
+}
+
+fn add_tank(site: &mut Site, text: &[u8]) -> Result<(), Fail> {
+    add(site, tank(text)?)
+}
+
+fn add_point(site: &mut Site, text: &[u8], mm: u16, ml: u16) -> Result<(), Fail> {
+    add(site, point(text, mm, ml)?)
+}
+
+fn add_stream(site: &mut Site, text: &[u8], from: &[u8], to: &[u8]) -> Result<(), Fail> {
+    add(site, stream(text, from, to)?)
+}
+
+// Adds a unit, a tank of two points, and a stream between them.
+fn build(site: &mut Site) -> Result<(), Fail> {
+    add_unit(site, b"U")?;
+    add_tank(site, b"T")?;
+    add_point(site, b"T", 0, 0)?;
+    add_point(site, b"T", 10, 1_000)?;
+    add_stream(site, b"S", b"U", b"T")
+}
+
 fn small(alloc: Global) -> Result<Site, Fail> {
     let mut site = Site::new(alloc);
-    add(&mut site, unit(b"U")?)?;
-    add(&mut site, tank(b"T")?)?;
-    add(&mut site, point(b"T", 0, 0)?)?;
-    add(&mut site, point(b"T", 10, 1_000)?)?;
-    add(&mut site, stream(b"S", b"U", b"T")?)?;
+    build(&mut site)?;
     Ok(site)
 }
 
+fn unit_fault(site: &Site, text: &[u8]) -> Result<Option<SiteFault>, Fail> {
+    Ok(site.judge(&unit(text)?))
+}
+
+fn point_fault(site: &Site, text: &[u8], mm: u16, ml: u16) -> Result<Option<SiteFault>, Fail> {
+    Ok(site.judge(&point(text, mm, ml)?))
+}
+
+fn stream_fault(site: &Site, text: &[u8], to: &[u8]) -> Result<Option<SiteFault>, Fail> {
+    Ok(site.judge(&stream(text, b"T", to)?))
+}
+
 #[test]
-fn faults(rt: HostRuntime) -> Result<(), Fail> {
+fn faults_of_units(rt: HostRuntime) -> Result<(), Fail> {
     let site = small(rt.alloc())?;
-    for (row, fault) in [
-        (unit(b"V")?, None),
-        (unit(b"env")?, Some(SiteFault::Duplicate)),
-        (unit(b"S")?, Some(SiteFault::Duplicate)),
-        (tank(b"U")?, Some(SiteFault::Duplicate)),
-        (stream(b"T", b"U", b"env")?, Some(SiteFault::Duplicate)),
-        (stream(b"R", b"U", b"S")?, Some(SiteFault::Unknown)),
-        (stream(b"R", b"T", b"T")?, Some(SiteFault::Mismatch)),
-        (point(b"U", 20, 2_000)?, Some(SiteFault::Unknown)),
-        (point(b"T", 10, 2_000)?, Some(SiteFault::Order)),
-        (point(b"T", 11, 999)?, Some(SiteFault::Order)),
-        (point(b"T", 11, 1_000)?, None),
-    ] {
-        assert_eq!(rt; site.judge(&row), fault);
-    }
+    assert_eq!(rt; unit_fault(&site, b"V")?, None);
+    assert_eq!(rt; unit_fault(&site, b"env")?, Some(SiteFault::Duplicate));
+    assert_eq!(rt; unit_fault(&site, b"S")?, Some(SiteFault::Duplicate));
+    Ok(())
+}
+
+#[test]
+fn faults_of_streams(rt: HostRuntime) -> Result<(), Fail> {
+    let site = small(rt.alloc())?;
+    assert_eq!(rt; stream_fault(&site, b"T", b"U")?, Some(SiteFault::Duplicate));
+    assert_eq!(rt; stream_fault(&site, b"R", b"S")?, Some(SiteFault::Unknown));
+    assert_eq!(rt; stream_fault(&site, b"R", b"T")?, Some(SiteFault::Mismatch));
+    Ok(())
+}
+
+#[test]
+fn faults_of_points(rt: HostRuntime) -> Result<(), Fail> {
+    let site = small(rt.alloc())?;
+    assert_eq!(rt; point_fault(&site, b"U", 20, 2_000)?, Some(SiteFault::Unknown));
+    assert_eq!(rt; point_fault(&site, b"T", 10, 2_000)?, Some(SiteFault::Order));
+    assert_eq!(rt; point_fault(&site, b"T", 11, 1_000)?, None);
+    Ok(())
+}
+
+#[test]
+fn looks_up_names(rt: HostRuntime) -> Result<(), Fail> {
+    let site = small(rt.alloc())?;
+    assert_eq!(rt; site.nodes(), 3);
+    assert_eq!(rt; site.arc_of(&name(b"S")?), Some(1));
+    assert_eq!(rt; site.node_of(&name(b"T")?), Some(2));
     Ok(())
 }
 
 #[test]
 fn arcs_in_order(rt: HostRuntime) -> Result<(), Fail> {
     let site = small(rt.alloc())?;
-    assert_eq!(rt; site.nodes(), 3);
-    assert_eq!(rt; site.arc_of(&name(b"S")?), Some(1));
-    assert_eq!(rt; site.node_of(&name(b"T")?), Some(2));
-    assert_eq!(rt; site.node_of(&name(b"env")?), Some(0));
     assert!(rt; site.arcs() == 2);
     let inventory = site.arc(0);
     assert!(rt; inventory.kind == ArcKind::Tank);
     assert_eq!(rt; (inventory.from, inventory.to), (2, 0));
     let feed = site.arc(1);
     assert_eq!(rt; (feed.from, feed.to), (1, 2));
-    assert_eq!(rt; feed.base, 4);
     Ok(())
 }
 
@@ -121,17 +163,17 @@ fn volumes_of_a_tank(rt: HostRuntime) -> Result<(), Fail> {
     Ok(())
 }
 
+// Adds a critical value of each kind.
+fn add_critical(site: &mut Site) -> Result<(), Fail> {
+    add(site, Declared::CritGlobal { dof: 2, value: 5_991 })?;
+    add(site, Declared::CritNodal { value: 1_960 })?;
+    add(site, Declared::CritMeasure { value: 2_576 })
+}
+
 #[test]
 fn critical_values(rt: HostRuntime) -> Result<(), Fail> {
     let mut site = Site::new(rt.alloc());
-    let global = Declared::CritGlobal {
-        dof: 2,
-        value: 5_991,
-    };
-    add(&mut site, global)?;
-    add(&mut site, Declared::CritNodal { value: 1_960 })?;
-    add(&mut site, Declared::CritMeasure { value: 2_576 })?;
-    assert_eq!(rt; site.judge(&global), Some(SiteFault::Duplicate));
+    add_critical(&mut site)?;
     assert_eq!(rt; site.global(2), Some(5_991));
     assert_eq!(rt; site.global(1), None);
     assert_eq!(rt; site.nodal(), Some(1_960));
