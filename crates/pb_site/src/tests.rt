@@ -115,7 +115,10 @@ fn faults_of_units(rt: HostRuntime) -> Result<(), Fail> {
 #[test]
 fn faults_of_streams(rt: HostRuntime) -> Result<(), Fail> {
     let site = small(rt.alloc())?;
-    assert_eq!(rt; stream_fault(&site, b"T", b"U")?, Some(SiteFault::Duplicate));
+    assert_eq!(rt;
+        stream_fault(&site, b"T", b"U")?,
+        Some(SiteFault::Duplicate)
+    );
     assert_eq!(rt; stream_fault(&site, b"R", b"S")?, Some(SiteFault::Unknown));
     assert_eq!(rt; stream_fault(&site, b"R", b"T")?, Some(SiteFault::Mismatch));
     Ok(())
@@ -124,8 +127,14 @@ fn faults_of_streams(rt: HostRuntime) -> Result<(), Fail> {
 #[test]
 fn faults_of_points(rt: HostRuntime) -> Result<(), Fail> {
     let site = small(rt.alloc())?;
-    assert_eq!(rt; point_fault(&site, b"U", 20, 2_000)?, Some(SiteFault::Unknown));
-    assert_eq!(rt; point_fault(&site, b"T", 10, 2_000)?, Some(SiteFault::Order));
+    assert_eq!(rt;
+        point_fault(&site, b"U", 20, 2_000)?,
+        Some(SiteFault::Unknown)
+    );
+    assert_eq!(rt;
+        point_fault(&site, b"T", 10, 2_000)?,
+        Some(SiteFault::Order)
+    );
     assert_eq!(rt; point_fault(&site, b"T", 11, 1_000)?, None);
     Ok(())
 }
@@ -165,7 +174,13 @@ fn volumes_of_a_tank(rt: HostRuntime) -> Result<(), Fail> {
 
 // Adds a critical value of each kind.
 fn add_critical(site: &mut Site) -> Result<(), Fail> {
-    add(site, Declared::CritGlobal { dof: 2, value: 5_991 })?;
+    add(
+        site,
+        Declared::CritGlobal {
+            dof: 2,
+            value: 5_991,
+        },
+    )?;
     add(site, Declared::CritNodal { value: 1_960 })?;
     add(site, Declared::CritMeasure { value: 2_576 })
 }
