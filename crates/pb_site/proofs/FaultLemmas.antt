@@ -1,18 +1,16 @@
 -- What follows where a new declaration has no fault.
-use Rattle.std.specs.Prelude.{◌||◌, ◌&&◌, not, nat_le, is_some, if◌then◌else◌, filter_map}
+use Rattle.std.specs.Prelude.{not, nat_le, filter_map}
 use Rattle.std.specs.Cmp.Lexicographic.{bytes_decides}
-use Rattle.std.specs.HashMap.{get}
-use Rattle.std.specs.List.{list_any}
-use Rattle.std.proofs.Common.{◌≡◌, ◌∙◌, ℕ, ◌+◌, ◌<◌, ◌≤◌, ℤ, List, [], ◌∷◌, length, Bool, true, false, Option, Some, None, codes, refl, sym, ap, arith, inl, inr}
-use Rattle.std.proofs.lemmas.Bool.{and_parts, cases_Bool, leb-false, or_parts}
+use Rattle.std.proofs.Common.{◌≡◌, ◌∙◌, ℕ, ◌+◌, ◌<◌, ◌≤◌, List, [], ◌∷◌, length, Bool, true, false, None, codes, refl, sym, arith, inl, inr}
+use Rattle.std.proofs.lemmas.Bool.{cases_Bool, leb-false, or_parts}
 use Rattle.pb_rows.specs.Name.{same_name}
 use Rattle.pb_site.specs.declared.declared.Declared.{Declared}
 use Rattle.pb_site.specs.declared.declared.Declared.TheVariants.{Unit as UnitRow, Tank, Strap, Stream, CritGlobal, CritNodal, CritMeasure}
 use Rattle.pb_site.specs.declared.index.Index.{Index}
-use Rattle.pb_site.specs.Row.{IsInRange, declares_tank, place_name}
-use Rattle.pb_site.specs.Site.{arc_names, is_tank, links_of, node_names, points_of, table_of}
+use Rattle.pb_site.specs.Row.{IsInRange, place_name}
+use Rattle.pb_site.specs.Site.{arc_names, is_tank, links_of, points_of}
 use Rattle.pb_site.specs.Faults.{fault_of, first_fault, has_most_arcs, has_most_places, is_among, is_duplicate, is_full, is_mismatch, is_node, is_out_of_order, is_taken, is_unknown}
-use Rattle.pb_site.specs.Kept.{CanPush, IsKept, IsNew}
+use Rattle.pb_site.specs.Kept.{IsKept, IsNew}
 
 -- none of the faults holds
 pub record IsFine (declared : List Declared) (row : Declared) : Type 0 where

@@ -4,9 +4,9 @@ use Rattle.std.specs.Option.{option_map}
 use Rattle.pb_site.specs.declared.declared.ArcKind.TheVariants.{Tank as TankArc}
 use Rattle.pb_site.specs.Row.{arc_kind}
 use Rattle.std.specs.Cmp.Lexicographic.{bytes_decides}
-use Rattle.std.specs.List.{cons_option, list_any}
-use Rattle.std.proofs.Common.{◌≡◌, ◌∙◌, ℕ, ◌+◌, ◌≤◌, ℤ, List, [], ◌∷◌, ◌++◌, length, All, Bool, true, false, Option, Some, None, slice_get, codes, refl, sym, ap, subst, arith, inl, inr, length-append}
-use Rattle.std.proofs.lemmas.Bool.{cases_Bool, eqb-true, or_from, or_parts}
+use Rattle.std.specs.List.{cons_option}
+use Rattle.std.proofs.Common.{◌≡◌, ◌∙◌, ℕ, ℤ, List, [], ◌∷◌, ◌++◌, All, Bool, true, false, Option, Some, None, slice_get, codes, refl, sym, ap, subst, inl, inr, length-append}
+use Rattle.std.proofs.lemmas.Bool.{cases_Bool, eqb-true, or_parts}
 use Rattle.std.proofs.lemmas.List.{append-nil, map-append}
 use Rattle.std.proofs.lemmas.List.Elements.{All-append, All-cons, All-nil, All-weaker, filter_map-append}
 use Rattle.std.proofs.lemmas.List.Folds.{list_any-append}
@@ -18,9 +18,9 @@ use Rattle.pb_site.specs.declared.declared.Declared.TheVariants.{Unit as UnitRow
 use Rattle.pb_site.specs.declared.index.Index.{Index}
 use Rattle.pb_site.specs.Row.{IsInRange, declares_tank, global_value, link_of, measure_value, nodal_value, place_name, point_of}
 use Rattle.pb_site.specs.Site.{arc_names, global_of, is_tank, links_of, measure_of, nodal_of, node_names, points_of, table_of}
-use Rattle.pb_site.specs.Faults.{fault_of, is_among, is_node, is_unknown}
-use Rattle.pb_site.specs.Kept.{IsKept, IsLink, IsNew, Notes, SameIndex, table_with, value_with}
-use Rattle.pb_site.proofs.FaultLemmas.{IsFine, fine, free, new_row, no_tank, not_false, room_arcs, room_places, same_self, same_sym}
+use Rattle.pb_site.specs.Faults.{is_among, is_node}
+use Rattle.pb_site.specs.Kept.{IsKept, IsLink, Notes, SameIndex, table_with, value_with}
+use Rattle.pb_site.proofs.FaultLemmas.{IsFine, free, no_tank, not_false, room_arcs, room_places, same_self}
 
 -- an index that gives the same is kept
 pub kept_same : (declared : List Declared) (old new : Index) → IsKept declared old → SameIndex old new → IsKept declared new

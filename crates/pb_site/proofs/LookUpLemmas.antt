@@ -1,17 +1,16 @@
 -- Nodes, arcs and tables, as they are looked up.
-use Rattle.std.specs.Prelude.{◌||◌, if◌then◌else◌, map, option_and_then, position}
+use Rattle.std.specs.Prelude.{◌||◌, option_and_then, position}
 use Rattle.std.specs.Cmp.Lexicographic.{bytes_decides}
 use Rattle.std.specs.HashMap.{get}
 use Rattle.std.specs.List.{list_any, position_or_len}
 use Rattle.std.specs.Option.{IsSome}
-use Rattle.std.proofs.Common.{◌≡◌, ◌≢◌, ◌∙◌, ℕ, zero, suc, ◌<◌, List, [], ◌∷◌, length, All, get_or, slice_get, Bool, true, false, true≢false, Option, Some, None, codes, refl, sym, ap, subst, arith, inl, inr}
+use Rattle.std.proofs.Common.{◌≡◌, ◌≢◌, ◌∙◌, ℕ, zero, suc, ◌<◌, List, [], ◌∷◌, length, get_or, slice_get, Bool, true, false, true≢false, Option, Some, None, refl, sym, ap, subst, arith, inl, inr}
 use Rattle.std.proofs.lemmas.Bool.{cases_Bool, lt-ltb}
 use Rattle.std.proofs.lemmas.List.{get_or-map, length-map}
 use Rattle.std.proofs.lemmas.List.Quantifiers.{position-Some}
 use Rattle.std.proofs.lemmas.Option.{slice_get-get_or}
 use Rattle.pb_rows.specs.Name.{same_name}
 use Rattle.pb_strap.specs.declared.point.Point.{Point}
-use Rattle.pb_site.specs.declared.declared.Arc.{Arc}
 use Rattle.pb_site.specs.declared.declared.Kind.{Kind}
 use Rattle.pb_site.specs.declared.declared.Kind.TheVariants.{Metered, Batch, Plain}
 use Rattle.pb_site.specs.declared.declared.ArcKind.{ArcKind}
@@ -21,7 +20,7 @@ use Rattle.pb_site.specs.declared.declared.Declared.{Declared}
 use Rattle.pb_site.specs.declared.declared.Declared.TheVariants.{Unit as UnitRow, Tank, Strap, Stream, CritGlobal, CritNodal, CritMeasure}
 use Rattle.pb_site.specs.declared.index.Index.{Index}
 use Rattle.pb_site.specs.Row.{arc_kind}
-use Rattle.pb_site.specs.Site.{arc_between, arcs_of, is_tank, links_of, node_at, node_names, points_of, table_of, table_of_arc, table_of_kind}
+use Rattle.pb_site.specs.Site.{arc_between, arcs_of, is_tank, links_of, node_at, node_names, points_of, table_of_arc, table_of_kind}
 use Rattle.pb_site.specs.Faults.{is_among}
 use Rattle.pb_site.specs.Kept.{IsArc, IsKept, IsLink}
 use Rattle.pb_site.proofs.FaultLemmas.{same_self}

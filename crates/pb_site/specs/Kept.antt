@@ -1,5 +1,5 @@
 -- What a site keeps beside the declarations, so that no look-up walks them.
-use Rattle.std.specs.Prelude.{◌≡◌, ◌≢◌, ℕ, ◌-◌, ◌≤◌, ◌<◌, ◌^◌, nat_eq, ℤ, pos, ◌≤ℤ◌, true, false, List, [], ◌∷◌, ◌++◌, length, filter_map, All, Option, Some, None, IsSomeAnd, if◌then◌else◌, vec_len, vec_capacity}
+use Rattle.std.specs.Prelude.{◌≡◌, ◌≢◌, ℕ, ◌≤◌, ◌<◌, ◌^◌, nat_eq, ℤ, pos, ◌≤ℤ◌, true, false, List, [], ◌∷◌, ◌++◌, length, filter_map, All, Option, Some, None, IsSomeAnd, if◌then◌else◌, vec_len, vec_capacity}
 use Rattle.std.specs.Option.{option_map}
 use Rattle.std.specs.HashMap.{get, spare}
 use Rattle.indexmap.specs.IndexSet as set

@@ -1,5 +1,5 @@
 -- The declared plant: its nodes, its arcs, the tables of its tanks and its critical values, all in order of declaration.
-use Rattle.std.specs.Prelude.{ℕ, ℤ, Bool, List, ◌∷◌, map, filter_map, Option, Some, None, if◌then◌else◌, option_and_then, slice_get, codes}
+use Rattle.std.specs.Prelude.{ℕ, ℤ, Bool, List, ◌∷◌, map, filter_map, Option, Some, None, if◌then◌else◌, slice_get, codes}
 use Rattle.std.specs.List.{list_any, position_or_len}
 use Rattle.pb_rows.specs.Name.{same_name}
 use Rattle.pb_rows.specs.declared.name.Names.{Names}

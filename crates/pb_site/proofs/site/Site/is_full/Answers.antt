@@ -1,7 +1,7 @@
 use Rattle.std.specs.Prelude.{nat_le}
 use Rattle.std.proofs.Common.{◌∙◌, List, length, ap}
 use Rattle.pb_strap.specs.declared.point.Point.{Point}
-use Rattle.pb_site.proofs.LookUpLemmas.{points_in, table_points}
+use Rattle.pb_site.proofs.LookUpLemmas.{table_points}
 use Rattle.pb_site.proofs.site.Site.is_full.Goals as goal
 
 pub returns-in-Some : goal.returns-in-Some

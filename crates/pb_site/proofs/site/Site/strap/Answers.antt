@@ -1,5 +1,3 @@
-use Rattle.std.proofs.Common.{◌∙◌, ap, sym, Some}
-use Rattle.std.specs.Option.{option_copied}
 use Rattle.pb_site.proofs.LookUpLemmas.{arc_table, is_at, no_table}
 use Rattle.pb_site.proofs.site.Site.strap.Goals as goal
 
