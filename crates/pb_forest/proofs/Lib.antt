@@ -7,3 +7,5 @@ pub mod RankLemmas
 pub mod HoldsLemmas
 pub mod FlowLemmas
 pub mod SideLemmas
+pub mod TreeLemmas
+pub mod NetLemmas

@@ -1,4 +1,5 @@
 pub mod Forest
 pub mod Laws
 pub mod Labels
+pub mod Trees
 pub mod Flows

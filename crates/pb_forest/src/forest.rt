@@ -5,9 +5,10 @@ ghost use Rattle.pb_graph.specs.Balance.{IsBalanced};
 ghost use Rattle.pb_forest.specs.Forest.{SpanningForest, IsHeld, IsTied, IsForest, degrees_of_freedom, held_ends};
 ghost use Rattle.pb_forest.specs.Flows.{AgreeOffForest};
 
-use crate::flows::{sides_of, write_flows};
+use crate::flows::write_flows;
 use crate::labels::held_streams;
 use crate::rank::measured_held;
+use crate::trees::Trees;
 use pb_graph::{Graph, List, Neighbours, Step};
 use std::alloc::{AllocError, Global};
 use std::marker::Model;
@@ -21,8 +22,8 @@ pub struct Forest {
     graph: Graph,
     near: Neighbours,
     held: Vec<bool>,
-    /// For each held stream the side that it cuts off.
-    sides: Vec<List<bool>>,
+    /// The trees of the held streams, each from a root.
+    trees: Trees,
 }
 
 impl Model for Forest {
@@ -33,7 +34,7 @@ impl Model for Forest {
 
     ghost view = { λ a. record { graph = a.graph; held = a.held.items } };
 
-    ghost invariant = { λ a. IsKept a.graph a.near a.held.items a.sides.items };
+    ghost invariant = { λ a. IsKept a.graph a.near a.held.items a.trees };
 }
 
 impl Forest {
@@ -44,13 +45,13 @@ impl Forest {
     {
         let held = held_streams(alloc, g.nodes(), g.streams())?;
         let near = Neighbours::of(alloc, g)?;
-        let sides = sides_of(alloc, g, &near, &held)?;
+        let trees = Trees::of(alloc, g, &near, &held)?;
         let graph = g.copy(alloc)?;
         Ok(Forest {
             graph,
             near,
             held,
-            sides,
+            trees,
         })
     }
 
@@ -88,8 +89,8 @@ impl Forest {
     /// Writes the one balanced flow vector that has given flows off the forest, in grams: `off` and `out` have one item for each
     /// stream, and the items of `off` at held streams count for nothing.
     ///
-    /// The flow of a held stream is what the streams not held bring into the side that it cuts off, so the work is in proportion
-    /// to held streams times streams. It takes no memory.
+    /// From the leaves of each tree to its root, the flow of the held stream to a node's parent is the one that balances the node.
+    /// The work is in proportion to nodes and streams. It takes no memory.
     pub fn flows(&self, g: &Graph, off: &[i128], out: &mut [i128])
         requires graph { g.now ≡ self.now.graph }
         requires each { length off.now ≡ length g.now.streams }
@@ -100,6 +101,6 @@ impl Forest {
         ensures only { (ys : Seq ℤ) → IsBalanced g.now ys → AgreeOffForest self.now.held ys off.now → ys ≡ out.new }
         ensures width { All (λ v. unsigned_abs v < 2 ^ 68) out.new }
     {
-        write_flows(g, &self.held, &self.sides, off, out);
+        write_flows(g, &self.held, &self.trees, off, out);
     }
 }

@@ -11,6 +11,7 @@ mod laws;
 mod rank;
 #[cfg(test)]
 mod tests;
+mod trees;
 
 pub use forest::Forest;
 pub use laws::{

@@ -77,3 +77,52 @@ fn one_unit_three_meters(rt: HostRuntime) -> Result<(), AllocError> {
     assert_eq!(rt; flows, [-13, 7, -20]);
     Ok(())
 }
+
+/// A unit with two streams out of it, whose ends have three streams more: each branch takes what its lower end's balance asks.
+#[test]
+fn branches_from_the_leaves(rt: HostRuntime) -> Result<(), AllocError> {
+    let alloc = rt.alloc();
+    let g = graph_of(
+        &rt,
+        alloc,
+        4,
+        &[
+            stream(0, 1, None),
+            stream(1, 2, None),
+            stream(1, 3, None),
+            stream(3, 2, METER),
+            stream(2, 0, METER),
+            stream(3, 0, METER),
+        ],
+    )?;
+    let forest = Forest::of(alloc, &g)?;
+    assert_eq!(rt; g.len(), 6);
+    let mut flows = [0; 6];
+    forest.flows(&g, &[0, 0, 0, 7, 11, -4], &mut flows);
+    assert_eq!(rt; flows, [7, 4, 3, 7, 11, -4]);
+    Ok(())
+}
+
+/// A cycle of units that the environment has no part in, two streams between the environment and a unit, and a unit alone.
+#[test]
+fn several_trees(rt: HostRuntime) -> Result<(), AllocError> {
+    let alloc = rt.alloc();
+    let g = graph_of(
+        &rt,
+        alloc,
+        6,
+        &[
+            stream(3, 1, None),
+            stream(4, 3, None),
+            stream(1, 4, METER),
+            stream(2, 0, METER),
+            stream(0, 2, METER),
+        ],
+    )?;
+    let forest = Forest::of(alloc, &g)?;
+    assert_eq!(rt; g.len(), 5);
+    let mut flows = [0; 5];
+    forest.flows(&g, &[1, 1, 5, 1, -8], &mut flows);
+    assert_eq!(rt; flows, [5, 5, 5, -8, -8]);
+    Ok(())
+}
