@@ -4,11 +4,9 @@ use Rattle.std.proofs.Common.{◌≡◌, ◌∙◌, ℕ, ◌+◌, ◌<◌, ◌==
 use Rattle.std.proofs.lemmas.Bool.{ne_eqb}
 use Rattle.pb_integers.proofs.Lists.{drop_next}
 use Rattle.std.proofs.lemmas.Option.{slice_get_within, get_or_from_slice_get}
-use Rattle.pb_rows.specs.declared.name.Names.{Names}
 use Rattle.pb_rows.specs.Written.{line_of, text_of_rows}
-use Rattle.pb_graph.specs.declared.records.Stream.{Stream}
-use Rattle.pb_graph.specs.declared.records.Classified.{Classified}
-use Rattle.pb_report.specs.Design.{spaced, names_in, class_row, class_rows}
+use Rattle.pb_report.specs.Rows.{rows_with}
+use Rattle.pb_report.specs.Design.{spaced, names_in}
 
 -- the text of pieces that are left, of which the first has a space before it unless it is the first of all
 abbrev pub rest_of : {A : Type 0} → (A → List ℕ) → Bool → List A → List ℕ
@@ -52,19 +50,19 @@ pub side_outside : (whole text : List ℕ) (side : List Bool) (nodes : List (Lis
 side_outside whole text side nodes n first ls ln out so_far =
     so_far ∙ ap (λ (names : List (List ℕ)). text ++ rest_of (λ (name : List ℕ). name) first names) (names_outside side nodes n ls ln out)
 
--- the rows of streams from place j on
-class_rows_more : (names : Names) (ss : List Stream) (cs : List Classified) (j : ℕ) (d : Stream) (c : Classified) → j < length ss → slice_get cs j ≡ Some c
-    → class_rows names j (drop j ss) (drop j cs) ≡ class_row names j (get_or ss j d) c ∷ class_rows names (j + 1) (drop (j + 1) ss) (drop (j + 1) cs)
-class_rows_more names ss cs j d c lt at =
-    let within : j < length cs = slice_get_within cs j c at in
-    let is_c : get_or cs j c ≡ c = get_or_from_slice_get cs j c c at in
-    rw (drop_next ss j d lt, drop_next cs j c within, is_c) refl
+-- the rows of two lists from place j on
+rows_more : {A B : Type 0} (row : ℕ → A → B → List (List ℕ)) (xs : List A) (ys : List B) (j : ℕ) (d : A) (y : B) → j < length xs → slice_get ys j ≡ Some y
+    → rows_with row j (drop j xs) (drop j ys) ≡ row j (get_or xs j d) y ∷ rows_with row (j + 1) (drop (j + 1) xs) (drop (j + 1) ys)
+rows_more row xs ys j d y lt at =
+    let within : j < length ys = slice_get_within ys j y at in
+    let is_y : get_or ys j y ≡ y = get_or_from_slice_get ys j y y at in
+    rw (drop_next xs j d lt, drop_next ys j y within, is_y) refl
 
--- one more row of a stream is written
-pub class_text_more : (names : Names) (whole text : List ℕ) (items ss : List Stream) (cs : List Classified) (j : ℕ) (d : Stream) (c : Classified) → items ≡ ss → j < length ss → slice_get cs j ≡ Some c
-    → whole ≡ text ++ text_of_rows (class_rows names j (drop j ss) (drop j cs))
-    → whole ≡ (text ++ line_of (class_row names j (get_or items j d) c)) ++ text_of_rows (class_rows names (j + 1) (drop (j + 1) ss) (drop (j + 1) cs))
-class_text_more names whole text items ss cs j d c same lt at so_far =
+-- one more such row is written
+pub row_text_more : {A B : Type 0} (row : ℕ → A → B → List (List ℕ)) (whole text : List ℕ) (items xs : List A) (ys : List B) (j : ℕ) (d : A) (y : B) → items ≡ xs → j < length xs → slice_get ys j ≡ Some y
+    → whole ≡ text ++ text_of_rows (rows_with row j (drop j xs) (drop j ys))
+    → whole ≡ (text ++ line_of (row j (get_or items j d) y)) ++ text_of_rows (rows_with row (j + 1) (drop (j + 1) xs) (drop (j + 1) ys))
+row_text_more row whole text items xs ys j d y same lt at so_far =
     rw same
-    (so_far ∙ ap (λ (rows : List (List (List ℕ))). text ++ text_of_rows rows) (class_rows_more names ss cs j d c lt at)
-    ∙ sym (append_assoc text (line_of (class_row names j (get_or ss j d) c)) (text_of_rows (class_rows names (j + 1) (drop (j + 1) ss) (drop (j + 1) cs)))))
+    (so_far ∙ ap (λ (rows : List (List (List ℕ))). text ++ text_of_rows rows) (rows_more row xs ys j d y lt at)
+    ∙ sym (append_assoc text (line_of (row j (get_or xs j d) y)) (text_of_rows (rows_with row (j + 1) (drop (j + 1) xs) (drop (j + 1) ys)))))

@@ -1,5 +1,5 @@
 -- The rows of a design: one for the graph, and one for each stream, with its class and its certificate.
-use Rattle.std.specs.Prelude.{◌≡◌, ℕ, ◌+◌, ◌<◌, ◌⊎◌, ℤ, pos, negsuc, Bool, true, false, List, [], ◌∷◌, length, All, slice_index_or, codes, ◌++◌}
+use Rattle.std.specs.Prelude.{◌≡◌, ℕ, ◌<◌, ◌⊎◌, ℤ, pos, negsuc, Bool, true, false, List, [], ◌∷◌, length, All, slice_index_or, codes, ◌++◌}
 use Rattle.std.specs.List.{join_by}
 use Rattle.pb_rows.specs.declared.name.Names.{Names}
 use Rattle.pb_rows.specs.Number.{whole_text}
@@ -12,6 +12,7 @@ use Rattle.pb_graph.specs.declared.records.Witness.{Witness}
 use Rattle.pb_graph.specs.declared.records.Witness.TheVariants.{Cut, Cycle}
 use Rattle.pb_graph.specs.declared.records.Classified.{Classified}
 use Rattle.pb_graph.specs.ProcessGraph.{ProcessGraph, is_measured}
+use Rattle.pb_report.specs.Rows.{rows_with}
 
 -- one name for each node, and one for each stream
 pub record IsNamed (names : Names) (g : ProcessGraph) : Type 0 where
@@ -88,21 +89,23 @@ abbrev pub parts_text : List (List ℕ) → Witness → List ℕ
 parts_text streams (Cut side members) = spaced (member_text streams) members
 parts_text streams (Cycle steps) = spaced (step_text streams) steps
 
+-- the columns of a certificate
+abbrev pub certificate_columns : Names → Witness → List (List ℕ)
+certificate_columns names witness = shape_word witness ∷ side_text names.nodes witness ∷ parts_text names.streams witness ∷ []
+
 -- the row of the j-th stream
 abbrev pub class_row : Names → ℕ → Stream → Classified → List (List ℕ)
 class_row names j s c =
-    codes "class" ∷ name_at names.streams j ∷ name_at names.nodes s.from ∷ name_at names.nodes s.to ∷ measured_word (is_measured s) ∷ class_word c.class ∷ shape_word c.witness ∷
-    side_text names.nodes c.witness ∷ parts_text names.streams c.witness ∷ []
+    codes "class" ∷ name_at names.streams j ∷ name_at names.nodes s.from ∷ name_at names.nodes s.to ∷ measured_word (is_measured s) ∷ class_word c.class ∷
+    certificate_columns names c.witness
 
--- the rows of streams from the j-th on
-abbrev pub class_rows : Names → ℕ → List Stream → List Classified → List (List (List ℕ))
-class_rows names j [] cs = []
-class_rows names j (s ∷ ss) [] = []
-class_rows names j (s ∷ ss) (c ∷ cs) = class_row names j s c ∷ class_rows names (j + 1) ss cs
+-- the rows of streams
+abbrev pub class_rows : Names → List Stream → List Classified → List (List (List ℕ))
+class_rows names ss cs = rows_with (class_row names) 0 ss cs
 
 -- the row of the graph: how many nodes, the environment among them, and how many streams
 abbrev pub graph_row : ProcessGraph → List (List ℕ)
 graph_row g = codes "design" ∷ whole_text (pos g.nodes) ∷ whole_text (pos (length g.streams)) ∷ []
 
 abbrev pub design_rows : Names → ProcessGraph → List Classified → List (List (List ℕ))
-design_rows names g cs = graph_row g ∷ class_rows names 0 g.streams cs
+design_rows names g cs = graph_row g ∷ class_rows names g.streams cs

@@ -1,3 +1,9 @@
 pub mod Form
+pub mod Rows
 pub mod Refusal
+pub mod Over
 pub mod Design
+pub mod Block
+pub mod Tests
+pub mod Stage
+pub mod Study

@@ -1,14 +1,14 @@
 // The rows of a design.
 
-ghost use Rattle.std.specs.Prelude.{◌≡◌, ◌+◌, ◌<◌, ◌∷◌, ◌++◌, [], pos, length, All, slice_get, OnOk, OnErr, IfOk};
+ghost use Rattle.std.specs.Prelude.{◌≡◌, ◌<◌, ◌++◌, [], length, All, OnOk, OnErr, IfOk};
 ghost use Rattle.pb_rows.specs.Written.{line_of, text_of_rows};
 ghost use Rattle.pb_report.specs.Form.{text_in};
 ghost use Rattle.pb_graph.specs.ProcessGraph.{IsStream, is_measured};
-ghost use Rattle.pb_report.specs.Design.{IsNamed, IsWithin, IsWitnessWithin, design_rows, graph_row, class_row, class_rows, class_word, measured_word, shape_word, side_text, parts_text};
+ghost use Rattle.pb_report.specs.Design.{IsNamed, IsWithin, design_rows, graph_row, class_row, class_rows, measured_word};
 
+use crate::certificate::{certificate_columns, class_word};
 use crate::form::Form;
-use crate::parts;
-use pb_graph::{Class, Classified, Graph, List, Stream, Witness};
+use pb_graph::{Classified, Graph, List, Stream};
 use pb_rows::{Names, RowWriter};
 use std::alloc::{AllocError, Global};
 
@@ -78,7 +78,7 @@ fn class_lines(
     requires named { IsNamed names.now g.now }
     requires each { length classes.now ≡ length g.now.streams }
     requires within { All (IsWithin g.now) classes.now }
-    ensures { OnOk result (writer.new ≡ record { text = writer.old.text ++ text_of_rows (class_rows names.now 0 g.now.streams classes.now); row = [] }) }
+    ensures { OnOk result (writer.new ≡ record { text = writer.old.text ++ text_of_rows (class_rows names.now g.now.streams classes.now); row = [] }) }
 {
     for (j, s) in g.streams().iter().enumerate() {
         class_line(alloc, names, g, j, s, classes.at(j), writer)?;
@@ -109,9 +109,7 @@ fn class_line(
     writer.field(names.nodes.at(s.to as usize).bytes())?;
     writer.field(measured_word(s))?;
     writer.field(class_word(c.class))?;
-    writer.field(shape_word(&c.witness))?;
-    writer.field(side_text(alloc, names, g, &c.witness)?.as_slice())?;
-    writer.field(parts_text(alloc, names, g, &c.witness)?.as_slice())?;
+    certificate_columns(alloc, names, g, &c.witness, writer)?;
     writer.end_row()
 }
 
@@ -121,59 +119,5 @@ fn measured_word(s: &Stream) -> &'static [u8]
     match s.meas {
         Some(_) => b"yes",
         None => b"no",
-    }
-}
-
-fn class_word(class: Class) -> &'static [u8]
-    ensures { result.now ≡ class_word class }
-{
-    match class {
-        Class::Observable => b"observable",
-        Class::Unobservable => b"unobservable",
-        Class::Redundant => b"redundant",
-        Class::Nonredundant => b"nonredundant",
-    }
-}
-
-fn shape_word(witness: &Witness) -> &'static [u8]
-    ensures { result.now ≡ shape_word witness.now }
-{
-    match witness {
-        Witness::Cut { .. } => b"cut",
-        Witness::Cycle { .. } => b"cycle",
-    }
-}
-
-fn side_text(
-    alloc: Global,
-    names: &Names,
-    g: &Graph,
-    witness: &Witness,
-) -> Result<Vec<u8>, AllocError>
-    requires named { IsNamed names.now g.now }
-    requires within { IsWitnessWithin g.now witness.now }
-    ensures { IfOk result (λ text. text.items ≡ side_text names.now.nodes witness.now) }
-{
-    match witness {
-        Witness::Cut { side, .. } => parts::side_text(alloc, &names.nodes, side.as_slice()),
-        Witness::Cycle { .. } => Ok(Vec::new(alloc)),
-    }
-}
-
-fn parts_text(
-    alloc: Global,
-    names: &Names,
-    g: &Graph,
-    witness: &Witness,
-) -> Result<Vec<u8>, AllocError>
-    requires named { IsNamed names.now g.now }
-    requires within { IsWitnessWithin g.now witness.now }
-    ensures { IfOk result (λ text. text.items ≡ parts_text names.now.streams witness.now) }
-{
-    match witness {
-        Witness::Cut { members, .. } => {
-            parts::members_text(alloc, &names.streams, members.as_slice())
-        }
-        Witness::Cycle { steps } => parts::steps_text(alloc, &names.streams, steps.as_slice()),
     }
 }

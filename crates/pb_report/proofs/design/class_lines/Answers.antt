@@ -1,6 +1,7 @@
 use Rattle.std.proofs.Common.{length, ap, ◌<◌, rules}
 use Rattle.pb_rows.specs.Written.{Written}
-use Rattle.pb_report.proofs.TextLemmas.{class_text_more}
+use Rattle.pb_report.specs.Design.{class_row}
+use Rattle.pb_report.proofs.TextLemmas.{row_text_more}
 use Rattle.pb_report.proofs.design.class_lines.Goals as goal
 
 pub loop-j-preserved : goal.loop-j-preserved
@@ -11,5 +12,5 @@ loop-j-preserved c =
       streams = search rules;
       text =
           rw (ap (λ (w : Written). w.text) c.in_ok-class_line.ensures)
-          (class_text_more c.args.names.now _ c.loop-j.writer.text c.streams-s-items.result.now c.args.g.now.streams c.args.classes.now c.loop-j.j _ c.at.result.now c.streams-s-items.ensures.value within c.at.ensures c.loop-j.invariant.text);
+          (row_text_more (class_row c.args.names.now) _ c.loop-j.writer.text c.streams-s-items.result.now c.args.g.now.streams c.args.classes.now c.loop-j.j _ c.at.result.now c.streams-s-items.ensures.value within c.at.ensures c.loop-j.invariant.text);
     }

@@ -1,0 +1,13 @@
+use Rattle.std.proofs.Common.{◌≡◌, ◌++◌, [], drop}
+use Rattle.pb_rows.specs.Written.{text_of_rows}
+use Rattle.pb_report.specs.Rows.{rows_with}
+use Rattle.pb_report.specs.Stage.{result_row, result_rows}
+use Rattle.pb_report.proofs.stage.result_lines.Given as goal
+
+abbrev pub invariant-loop-j : goal.invariant-loop-j
+invariant-loop-j l =
+    record {
+      begun : l.writer.row ≡ [];
+      streams : l.s-items ≡ l.g.streams;
+      text : l.fn.writer.text ++ text_of_rows (result_rows l.names l.g.streams l.results) ≡ l.writer.text ++ text_of_rows (rows_with (result_row l.names) l.j (drop l.j l.g.streams) (drop l.j l.results));
+    }
