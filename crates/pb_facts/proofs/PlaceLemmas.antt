@@ -37,16 +37,16 @@ list_any-or p q (x ∷ xs) = rw (list_any-or p q xs) (by (p x) (q x) (list_any p
     by false true false d = refl
     by false false c d = refl
 
--- a fact without a fault is no duplicate, and there is room for it
-no_fault : (kept : List KeptFact) (fact : Fact) → fault_of kept fact ≡ None → (is_duplicate kept fact ≡ false) × (is_full kept ≡ false)
+-- a fact without a fault is no duplicate and not too long, and there is room for it
+no_fault : (kept : List KeptFact) (fact : Fact) → fault_of kept fact ≡ None → (is_duplicate kept fact ≡ false) × (is_full kept ≡ false) × (is_too_long fact ≡ false)
 no_fault kept fact fine = by (is_duplicate kept fact) (is_out_of_order fact) (is_too_long fact) (is_full kept) fine
   where
-    by : (a b c d : Bool) → first_fault a b c d ≡ None → (a ≡ false) × (d ≡ false)
+    by : (a b c d : Bool) → first_fault a b c d ≡ None → (a ≡ false) × (d ≡ false) × (c ≡ false)
     by true b c d e = cc e
     by false true c d e = cc e
     by false false true d e = cc e
     by false false false true e = cc e
-    by false false false false e = (refl, refl)
+    by false false false false e = (refl, refl, refl)
 
 -- ---- the maps after a new fact
 
@@ -98,6 +98,7 @@ kept_more kept old mid new fact place right same notes fine ranges at =
           ∙ noted (is_live_dip_on key.0 key.1) kept item place (get same_key mid.dips key) (same.dips key ∙ right.dips key) (fresh_dip kept fact key.0 key.1 apart.1) at;
       no_repeats = all_pairs_push (λ (earlier later : KeptFact). is_repeat later.fact earlier ≡ false) kept item right.no_repeats (λ k d lt. any_absent (is_repeat fact) kept free.0 k d lt);
       in_range = All-push (λ (k : KeptFact). IsInRange k.fact) kept item right.in_range ranges;
+      short = All-push (λ (k : KeptFact). is_too_long k.fact ≡ false) kept item right.short free.2;
       few = few kept item free.1;
     }
   where

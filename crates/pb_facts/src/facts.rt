@@ -3,7 +3,7 @@
 ghost use Rattle.std.specs.Prelude.{◌≡◌, ◌<◌, ◌≤◌, ◌∷◌, ◌++◌, [], length, Option, Some, None, IfSome, OnOk, OnErr, position, slice_get, option_and_then, vec_len, vec_capacity, false, if◌then◌else◌, IsTrue, ◌↔◌};
 ghost use Rattle.std.specs.HashMap.{get, spare};
 ghost use Rattle.std.specs.List.{list_any};
-ghost use Rattle.pb_facts.specs.Fact.{IsInRange};
+ghost use Rattle.pb_facts.specs.Fact.{IsInRange, is_too_long};
 ghost use Rattle.pb_facts.specs.Facts.{NoRepeats, fault_of, has_id, is_duplicate, is_live_dip_on, is_live_reading_on, is_repeat_by_day, live_fact, live_place_of};
 ghost use Rattle.pb_facts.specs.Places.{HasRoom, Notes, SamePlaces};
 
@@ -120,6 +120,7 @@ impl Facts {
         requires { i < length self.now }
         ensures value { result ≡ option_and_then live_fact (slice_get self.now i) }
         ensures in_range { IfSome result IsInRange }
+        ensures short { IfSome result (λ fact. is_too_long fact ≡ false) }
     {
         let kept = &self.kept[i as usize];
         if kept.struck { None } else { Some(kept.fact) }

@@ -5,11 +5,12 @@ use Rattle.pb_site.specs.declared.declared.ArcKind.TheVariants.{Tank as TankArc}
 use Rattle.pb_site.specs.Row.{arc_kind}
 use Rattle.std.specs.Cmp.Lexicographic.{bytes_decides}
 use Rattle.std.specs.List.{cons_option}
-use Rattle.std.proofs.Common.{◌≡◌, ◌∙◌, ℕ, ℤ, List, [], ◌∷◌, ◌++◌, All, Bool, true, false, Option, Some, None, slice_get, codes, refl, sym, ap, subst, inl, inr, length-append}
+use Rattle.std.proofs.Common.{◌≡◌, ◌∙◌, ◌<◌, ℕ, ℤ, List, [], ◌∷◌, ◌++◌, length, get_or, All, Bool, true, false, Option, Some, None, slice_get, codes, refl, sym, ap, subst, inl, inr, length-append}
 use Rattle.std.proofs.lemmas.Bool.{cases_Bool, eqb-true, or_parts}
 use Rattle.std.proofs.lemmas.List.{append-nil, map-append}
 use Rattle.std.proofs.lemmas.List.Elements.{All-append, All-cons, All-nil, All-weaker, filter_map-append}
-use Rattle.std.proofs.lemmas.List.Folds.{list_any-append}
+use Rattle.std.proofs.lemmas.List.Folds.{list_any-append, list_any_at}
+use Rattle.std.proofs.lemmas.List.Quantifiers.{all_pairs_push}
 use Rattle.pb_rows.specs.Name.{same_name}
 use Rattle.pb_strap.specs.declared.point.Point.{Point}
 use Rattle.pb_site.specs.declared.declared.Link.{Link}
@@ -17,10 +18,10 @@ use Rattle.pb_site.specs.declared.declared.Declared.{Declared}
 use Rattle.pb_site.specs.declared.declared.Declared.TheVariants.{Unit as UnitRow, Tank, Strap, Stream, CritGlobal, CritNodal, CritMeasure}
 use Rattle.pb_site.specs.declared.index.Index.{Index}
 use Rattle.pb_site.specs.Row.{IsInRange, declares_tank, global_value, link_of, measure_value, nodal_value, place_name, point_of}
-use Rattle.pb_site.specs.Site.{arc_names, global_of, is_tank, links_of, measure_of, nodal_of, node_names, points_of, table_of}
+use Rattle.pb_site.specs.Site.{AreDistinct, arc_names, global_of, is_tank, links_of, measure_of, nodal_of, node_names, points_of, table_of}
 use Rattle.pb_site.specs.Faults.{is_among, is_node}
 use Rattle.pb_site.specs.Kept.{IsKept, IsLink, Notes, SameIndex, table_with, value_with}
-use Rattle.pb_site.proofs.FaultLemmas.{IsFine, free, no_tank, not_false, room_arcs, room_places, same_self}
+use Rattle.pb_site.proofs.FaultLemmas.{IsFine, free, no_tank, not_false, room_arcs, room_places, same_self, same_sym}
 
 -- an index that gives the same is kept
 pub kept_same : (declared : List Declared) (old new : Index) → IsKept declared old → SameIndex old new → IsKept declared new
@@ -32,6 +33,7 @@ kept_same declared old new kept same = record {
   global = λ dof. same.global dof ∙ kept.global dof;
   nodal = same.nodal ∙ kept.nodal;
   measure = same.measure ∙ kept.measure;
+  distinct = kept.distinct;
   joined = kept.joined;
   no_points = kept.no_points;
   few_places = kept.few_places;
@@ -211,6 +213,34 @@ joined_more declared row good ranges joined =
     rw (filter_map-append place_name declared (row ∷ []), filter_map-append link_of declared (row ∷ []))
     (All-append (IsLink nodes) (links_of declared) (links_of (row ∷ [])) before (new_link declared row good ranges))
 
+-- ---- names of arcs
+
+-- where no item passes, the item at each place fails
+absent : (names : List (List ℕ)) (name : List ℕ) → is_among names name ≡ false → (k : ℕ) (d : List ℕ) → k < length names → same_name (get_or names k d) name ≡ false
+absent names name none k d within = elim (cases_Bool (same_name name (get_or names k d))) [
+  | inl same ↦ cc (sym none ∙ list_any_at (same_name name) names k d within same)
+  | inr other ↦ same_sym name (get_or names k d) other
+]
+
+-- one more name, which is new
+distinct_push : (names : List (List ℕ)) (name : List ℕ) → AreDistinct names → is_among names name ≡ false → AreDistinct (names ++ name ∷ [])
+distinct_push names name apart new = all_pairs_push (λ (a b : List ℕ). same_name a b ≡ false) names name apart (absent names name new)
+
+distinct_same : (names : List (List ℕ)) → AreDistinct names → AreDistinct (names ++ [])
+distinct_same names apart = subst AreDistinct (sym (append-nil names)) apart
+
+distinct_more : (declared : List Declared) (row : Declared) → IsFine declared row → AreDistinct (arc_names declared) → AreDistinct (arc_names (declared ++ row ∷ []))
+distinct_more declared row good apart = subst AreDistinct (sym (arc_names-append declared (row ∷ []))) (by row good)
+  where
+    by : (row : Declared) → IsFine declared row → AreDistinct (arc_names declared ++ arc_names (row ∷ []))
+    by (UnitRow name) good = distinct_same (arc_names declared) apart
+    by (Tank name base) good = distinct_push (arc_names declared) name apart (free declared name good.new).arcs
+    by (Strap tank mm ml) good = distinct_same (arc_names declared) apart
+    by (Stream name from to kind base) good = distinct_push (arc_names declared) name apart (free declared name good.new).arcs
+    by (CritGlobal dof value) good = distinct_same (arc_names declared) apart
+    by (CritNodal value) good = distinct_same (arc_names declared) apart
+    by (CritMeasure value) good = distinct_same (arc_names declared) apart
+
 -- ---- one more declaration
 
 pub kept_more : (declared : List Declared) (old new : Index) (row : Declared) → IsKept declared old → Notes old new row → IsFine declared row → IsInRange row → IsKept (declared ++ row ∷ []) new
@@ -224,6 +254,7 @@ kept_more declared old new row kept notes good ranges =
       global = λ dof. notes.global dof ∙ ap (value_with (global_value dof row)) (kept.global dof) ∙ sym (value_more (global_value dof) declared row (fresh_global declared row dof good));
       nodal = notes.nodal ∙ ap (value_with (nodal_value row)) kept.nodal ∙ sym (value_more nodal_value declared row (fresh_nodal declared row good));
       measure = notes.measure ∙ ap (value_with (measure_value row)) kept.measure ∙ sym (value_more measure_value declared row (fresh_measure declared row good));
+      distinct = distinct_more declared row good kept.distinct;
       joined = joined_more declared row good ranges kept.joined;
       no_points = λ name undeclared. none_more declared row name good kept.no_points undeclared;
       few_places = rw (filter_map-append place_name declared last, length-append (filter_map place_name declared) (filter_map place_name last)) (room_places declared row good kept.few_places);

@@ -14,7 +14,7 @@ use Rattle.pb_site.specs.declared.declared.Link.{Link}
 use Rattle.pb_site.specs.declared.declared.Declared.{Declared}
 use Rattle.pb_site.specs.declared.declared.Declared.TheVariants.{Unit as UnitRow, Tank, Strap, Stream, CritGlobal, CritNodal, CritMeasure}
 use Rattle.pb_site.specs.Row.{IsArcBase, global_value, place_name, nodal_value, measure_value}
-use Rattle.pb_site.specs.Site.{arc_names, global_of, is_tank, links_of, measure_of, nodal_of, node_names, points_of, table_of}
+use Rattle.pb_site.specs.Site.{AreDistinct, arc_names, global_of, is_tank, links_of, measure_of, nodal_of, node_names, points_of, table_of}
 use Rattle.pb_site.specs.Faults.{is_among}
 
 -- an arc leads from a node to another one, and its base variance is within the limits
@@ -24,8 +24,9 @@ pub record IsLink (nodes : List (List ℕ)) (link : Link) : Type 0 where
   pub apart : same_name link.from link.to ≡ false
   pub limits : IsArcBase link.kind link.base
 
--- The index gives the names, arcs, tables and critical values of the declarations; each arc leads from a node to another one, no
--- table is of a tank that isn't declared, and there are at most 1,000 units and tanks, and at most 2,000 streams and tanks.
+-- The index gives the names, arcs, tables and critical values of the declarations; no two arcs have one name, each leads from a
+-- node to another one, no table is of a tank that isn't declared, and there are at most 1,000 units and tanks, and at most 2,000
+-- streams and tanks.
 pub record IsKept (declared : List Declared) (index : Index) : Type 0 where
   pub places : index.places.keys ≡ filter_map place_name declared
   pub arcs : index.arcs.keys ≡ arc_names declared
@@ -34,6 +35,7 @@ pub record IsKept (declared : List Declared) (index : Index) : Type 0 where
   pub global : (dof : ℕ) → get nat_eq index.global dof ≡ global_of declared dof
   pub nodal : index.nodal ≡ nodal_of declared
   pub measure : index.measure ≡ measure_of declared
+  pub distinct : AreDistinct (arc_names declared)
   pub joined : All (IsLink (node_names declared)) (links_of declared)
   pub no_points : (name : List ℕ) → is_tank declared name ≡ false → points_of declared name ≡ []
   pub few_places : length (filter_map place_name declared) ≤ MOST_PLACES

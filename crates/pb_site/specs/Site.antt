@@ -1,5 +1,5 @@
 -- The declared plant: its nodes, its arcs, the tables of its tanks and its critical values, all in order of declaration.
-use Rattle.std.specs.Prelude.{ℕ, ℤ, Bool, List, ◌∷◌, map, filter_map, Option, Some, None, if◌then◌else◌, slice_get, codes}
+use Rattle.std.specs.Prelude.{◌≡◌, ℕ, ℤ, Bool, false, List, ◌∷◌, map, filter_map, AllPairs, Option, Some, None, if◌then◌else◌, slice_get, codes}
 use Rattle.std.specs.List.{list_any, position_or_len}
 use Rattle.pb_rows.specs.Name.{same_name}
 use Rattle.pb_rows.specs.declared.name.Names.{Names}
@@ -22,6 +22,10 @@ links_of declared = filter_map link_of declared
 -- the names of the arcs: those of the streams and tanks
 abbrev pub arc_names : List Declared → List (List ℕ)
 arc_names declared = map (λ link. link.name) (links_of declared)
+
+-- no two of these names are the same
+abbrev pub AreDistinct : List (List ℕ) → Type 0
+AreDistinct names = AllPairs (λ a b. same_name a b ≡ false) names
 
 -- the node of a name: its place among the names of the nodes
 abbrev pub node_at : List (List ℕ) → List ℕ → ℕ

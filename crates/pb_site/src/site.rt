@@ -3,7 +3,7 @@
 ghost use Rattle.std.specs.Prelude.{◌≡◌, ℕ, ◌<◌, ◌≤◌, ◌∷◌, ◌++◌, [], length, Option, Some, None, IfOk, OnOk, OnErr, is_some, position, slice_get, option_and_then, option_copied, codes, vec_len, vec_capacity};
 ghost use Rattle.pb_rows.specs.Name.{same_name};
 ghost use Rattle.pb_site.specs.Row.{IsInRange};
-ghost use Rattle.pb_site.specs.Site.{arc_names, arcs_of, global_of, is_tank, measure_of, names_of, nodal_of, node_names, table_of_arc};
+ghost use Rattle.pb_site.specs.Site.{AreDistinct, arc_names, arcs_of, global_of, is_tank, measure_of, names_of, nodal_of, node_names, table_of_arc};
 ghost use Rattle.pb_site.specs.Faults.{fault_of, has_most_arcs, has_most_places, is_duplicate, is_full, is_mismatch, is_node, is_out_of_order, is_taken, is_unknown};
 ghost use Rattle.pb_site.specs.Kept.{IsArc};
 
@@ -152,9 +152,10 @@ impl Site {
         }
     }
 
-    /// The arc of a name; `None` exactly where no arc has it.
+    /// The arc of a name; `None` exactly where no arc has it. No two arcs have one name.
     pub fn arc_of(&self, name: &Name) -> Option<u32>
-        ensures { result ≡ position (same_name name.now) (arc_names self.now) }
+        ensures value { result ≡ position (same_name name.now) (arc_names self.now) }
+        ensures distinct { AreDistinct (arc_names self.now) }
     {
         match self.index.arcs.get_index_of(name) {
             Some(i) => Some(i as u32),
