@@ -6,3 +6,10 @@ pub mod Enclosure
 pub mod Statistic
 pub mod StreamSums
 pub mod Gaps
+pub mod States
+pub mod Widths
+pub mod Columns
+pub mod MemberLists
+pub mod Iterates
+pub mod Deviants
+pub mod StateLaws

@@ -3,4 +3,7 @@ pub mod Gap
 pub mod Bounds
 pub mod Statistic
 pub mod StreamBounds
+pub mod State
+pub mod Solution
+pub mod Iterate
 pub mod Laws

@@ -1,48 +1,24 @@
-//! The gap between flows and prices, the bounds that it gives, and the statistic.
+//! The solver: flows that belong to prices, the gap between them, the bounds that it gives, and the statistic.
 //!
 //! Prices that fit give a lower bound on the weighted squares of every balanced vector, their dual value. Flows whose weighted squares
 //! are near it are near the least vector, and so is every vector no worse than they are: the gap says how near, and the bounds and the
-//! statistic follow from it. The functions are empty: the contract of each is a law.
+//! statistic follow from it. The laws stand on empty functions, whose contracts state them for the crates above.
 #![tactic(auto)]
 
-ghost use Rattle.pb_gap.specs.Laws.{WeightLaw, IdentityLaw, DualityLaw, MemberSchwarzLaw, AreGaps, EnclosureLaw, StreamSumLaw, StreamLaw, LowLaw, HighLaw};
+mod adjustments;
+mod arithmetic;
+mod deviations;
+mod flows;
+mod iterate;
+mod laws;
+mod numbers;
+mod solver;
+mod sums;
+#[cfg(test)]
+mod tests;
 
-/// The product of the variances over each of them is a whole number.
-pub fn weight_law()
-    ensures { WeightLaw }
-{}
-
-/// The weighted squares of balanced flows are the dual value of any prices that fit and the weighted squares of the residuals, so
-/// the dual value is never above them.
-pub fn duality_law()
-    ensures identity { IdentityLaw }
-    ensures weak { DualityLaw }
-{}
-
-/// The inequality of Cauchy and Schwarz for a signed list of measured streams, none twice.
-pub fn schwarz_law()
-    ensures { MemberSchwarzLaw }
-{}
-
-/// The gap of a list of deviations is what its two numbers are said to be, and the only one.
-pub fn gap_law()
-    ensures { AreGaps }
-{}
-
-/// Each balanced vector no worse than some balanced whole flows is within the bounds that any prices that fit give.
-pub fn enclosure_law()
-    ensures { EnclosureLaw }
-{}
-
-/// A stream that has bounds is the signed sum of measured streams, and it is within its bounds in each balanced vector no worse than
-/// some balanced whole flows.
-pub fn stream_law()
-    ensures sum { StreamSumLaw }
-    ensures within { StreamLaw }
-{}
-
-/// The weighted squares of each balanced vector are at least the low end of the statistic, and those of the flows at most its high end.
-pub fn statistic_law()
-    ensures low { LowLaw }
-    ensures high { HighLaw }
-{}
+pub use laws::{
+    duality_law, enclosure_law, gap_law, one_solution_law, one_state_law, schwarz_law,
+    statistic_law, stream_law, weight_law,
+};
+pub use solver::Solver;

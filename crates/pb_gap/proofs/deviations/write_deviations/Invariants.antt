@@ -1,0 +1,14 @@
+use Rattle.std.proofs.Common.{◌≡◌, ℕ, ◌<◌, length}
+use Rattle.pb_integers.specs.Sums.{item}
+use Rattle.pb_fixed.specs.Blocks.{IsBlockItem}
+use Rattle.pb_dual.specs.Priced.{price_of}
+use Rattle.pb_gap.specs.Gap.{deviations_of}
+use Rattle.pb_gap.proofs.deviations.write_deviations.Given as goal
+
+-- the deviations so far are written
+abbrev pub invariant-loop-j : goal.invariant-loop-j
+invariant-loop-j l = record {
+  room : length l.out ≡ length l.streams;
+  value : (k : ℕ) → k < l.j → item l.out k ≡ item (deviations_of (price_of l.dual) l.streams l.flows) k;
+  within : (k : ℕ) → k < l.j → IsBlockItem (item l.out k);
+}

@@ -1,5 +1,0 @@
-use Rattle.pb_gap.proofs.Enclosure.{enclosure}
-use Rattle.pb_gap.proofs.enclosure_law.Goals as goal
-
-pub returns : goal.returns
-returns c = enclosure

@@ -1,5 +1,0 @@
-use Rattle.pb_gap.proofs.Gaps.{gaps}
-use Rattle.pb_gap.proofs.gap_law.Goals as goal
-
-pub returns : goal.returns
-returns c = gaps

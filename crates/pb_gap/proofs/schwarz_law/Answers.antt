@@ -1,5 +1,0 @@
-use Rattle.pb_gap.proofs.Members.{member_schwarz}
-use Rattle.pb_gap.proofs.schwarz_law.Goals as goal
-
-pub returns : goal.returns
-returns c = member_schwarz

@@ -1,5 +1,0 @@
-use Rattle.pb_gap.proofs.Weights.{have_weights}
-use Rattle.pb_gap.proofs.weight_law.Goals as goal
-
-pub returns : goal.returns
-returns c = have_weights

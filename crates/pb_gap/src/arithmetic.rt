@@ -1,0 +1,120 @@
+ghost use Rattle.std.specs.Prelude.{◌≡◌, ◌⊎◌, ◌*◌, ◌^◌, ◌<◌, ◌≤◌, pos, negsuc, ◌+ℤ◌, ◌-ℤ◌, ◌*ℤ◌, ◌≤ℤ◌, ◌<ℤ◌, unsigned_abs};
+ghost use Rattle.std.specs.Int.{int_max, int_min};
+ghost use Rattle.pb_fixed.specs.Quotients.{floor_div, ceil_div, nearest_div};
+ghost use Rattle.pb_fixed.specs.Blocks.{IsBlockItem};
+ghost use Rattle.pb_dual.specs.DualValue.{scale};
+ghost use Rattle.pb_gap.specs.Statistic.{most_adjustment};
+
+use pb_fixed::{div_ceil, div_floor, div_nearest};
+
+/// The units of dual flow in a gram, 2^56.
+pub const SCALE: i128 = 72_057_594_037_927_936;
+
+/// The most that an adjustment counts, 2^52.
+pub const MOST_ADJUSTMENT: i128 = 4_503_599_627_370_496;
+
+/// A dual flow to the nearest gram.
+pub fn nearest_gram(dual_flow: i128) -> i128
+    requires { unsigned_abs dual_flow < 2 ^ 113 }
+    ensures value { result ≡ nearest_div dual_flow scale }
+    ensures within { unsigned_abs result ≤ 2 ^ 57 }
+{
+    div_nearest(dual_flow, SCALE)
+}
+
+/// How far a flow is from a dual flow, in units of 2^-56 gram.
+pub fn distance(flow: i128, dual_flow: i128) -> i128
+    requires flow { unsigned_abs flow < 2 ^ 68 }
+    requires dual_flow { unsigned_abs dual_flow < 2 ^ 113 }
+    ensures value { result ≡ pos (unsigned_abs ((flow *ℤ scale) -ℤ dual_flow)) }
+    ensures nonneg { pos 0 ≤ℤ result }
+    ensures within { result <ℤ pos (2 ^ 125) }
+{
+    (flow * SCALE - dual_flow).abs()
+}
+
+/// How far a flow is from a dual flow, in standard deviations, in units of 2^-20, rounded up. `root` is the standard deviation in
+/// units of 2^-20 gram.
+pub fn deviation(flow: i128, dual_flow: i128, root: i128) -> i128
+    requires flow { unsigned_abs flow < 2 ^ 68 }
+    requires dual_flow { unsigned_abs dual_flow < 2 ^ 113 }
+    requires root_from { pos (2 ^ 20) ≤ℤ root }
+    requires root_to { root <ℤ pos (2 ^ 63) }
+    ensures value { result ≡ ceil_div (pos (unsigned_abs ((flow *ℤ scale) -ℤ dual_flow))) (root *ℤ pos (2 ^ 16)) }
+    ensures within { IsBlockItem result }
+{
+    div_ceil(distance(flow, dual_flow), root * 65_536)
+}
+
+/// How far a flow is from a measured value, in units of 2^-40 gram.
+pub fn adjustment(flow: i128, value: i128) -> i128
+    requires flow { unsigned_abs flow < 2 ^ 68 }
+    requires value { unsigned_abs value ≤ 10 ^ 15 }
+    ensures value { result ≡ pos (unsigned_abs (flow -ℤ value)) *ℤ pos (2 ^ 40) }
+    ensures nonneg { pos 0 ≤ℤ result }
+    ensures within { result <ℤ pos (2 ^ 109) }
+{
+    (flow - value).abs() * 1_099_511_627_776
+}
+
+/// An adjustment, counted up to the most.
+pub fn capped(adjustment: i128) -> i128
+    requires { pos 0 ≤ℤ adjustment }
+    ensures value { result ≡ int_min adjustment most_adjustment }
+    ensures nonneg { pos 0 ≤ℤ result }
+    ensures within { result ≤ℤ most_adjustment }
+{
+    adjustment.min(MOST_ADJUSTMENT)
+}
+
+/// The square of an adjustment.
+pub fn square(adjustment: i128) -> i128
+    requires nonneg { pos 0 ≤ℤ adjustment }
+    requires within { adjustment ≤ℤ most_adjustment }
+    ensures value { result ≡ adjustment *ℤ adjustment }
+    ensures nonneg { pos 0 ≤ℤ result }
+    ensures within { result ≤ℤ pos (2 ^ 104) }
+{
+    adjustment * adjustment
+}
+
+/// A number with a sign.
+pub fn signed(sign: i8, x: i128) -> i128
+    requires sign { (sign ≡ pos 1) ⊎ (sign ≡ negsuc 0) }
+    requires x { unsigned_abs x < 2 ^ 113 }
+    ensures value { result ≡ sign *ℤ x }
+    ensures within { unsigned_abs result < 2 ^ 113 }
+{
+    if sign > 0 { x } else { -x }
+}
+
+/// A thousand times a sum of squares in units of 2^-40.
+pub fn thousandths(squares: i128) -> i128
+    requires { unsigned_abs squares ≤ 2001 * 2 ^ 104 }
+    ensures value { result ≡ pos 1000 *ℤ squares }
+{
+    1_000 * squares
+}
+
+/// The square of the size of a gap.
+pub fn size_square(size: u128) -> i128
+    requires { size ≤ 2 ^ 57 }
+    ensures value { result ≡ pos size *ℤ pos size }
+    ensures nonneg { pos 0 ≤ℤ result }
+    ensures within { result ≤ℤ pos (2 ^ 114) }
+{
+    (size * size) as i128
+}
+
+/// A thousand times the squares of adjustments less that of the gap, in whole numbers, rounded down, and at least 0.
+pub fn low_end(squares: i128, size_square: i128) -> i128
+    requires squares_from { pos 0 ≤ℤ squares }
+    requires squares_to { squares ≤ℤ pos (2000 * 2 ^ 104) }
+    requires size_from { pos 0 ≤ℤ size_square }
+    requires size_to { size_square ≤ℤ pos (2 ^ 114) }
+    ensures value { result ≡ int_max (pos 0) (floor_div (pos 1000 *ℤ (squares -ℤ size_square)) (pos (2 ^ 40))) }
+    ensures nonneg { pos 0 ≤ℤ result }
+    ensures within { unsigned_abs result ≤ 2 ^ 126 }
+{
+    div_floor(thousandths(squares - size_square), 1 << 40).max(0)
+}

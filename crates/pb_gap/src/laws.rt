@@ -1,0 +1,54 @@
+//! What is proved of the definitions alone. The functions are empty: the contract of each is a law.
+
+ghost use Rattle.pb_gap.specs.Laws.{WeightLaw, IdentityLaw, DualityLaw, MemberSchwarzLaw, AreGaps, EnclosureLaw, StreamSumLaw, StreamLaw, LowLaw, HighLaw};
+ghost use Rattle.pb_gap.specs.Solution.{OneStateLaw, OneSolutionLaw};
+
+/// The product of the variances over each of them is a whole number.
+pub fn weight_law()
+    ensures { WeightLaw }
+{}
+
+/// The weighted squares of balanced flows are the dual value of any prices that fit and the weighted squares of the residuals, so
+/// the dual value is never above them.
+pub fn duality_law()
+    ensures identity { IdentityLaw }
+    ensures weak { DualityLaw }
+{}
+
+/// The inequality of Cauchy and Schwarz for a signed list of measured streams, none twice.
+pub fn schwarz_law()
+    ensures { MemberSchwarzLaw }
+{}
+
+/// The gap of a list of deviations is what its two numbers are said to be, and the only one.
+pub fn gap_law()
+    ensures { AreGaps }
+{}
+
+/// Each balanced vector no worse than some balanced whole flows is within the bounds that any prices that fit give.
+pub fn enclosure_law()
+    ensures { EnclosureLaw }
+{}
+
+/// A stream that has bounds is the signed sum of measured streams, and it is within its bounds in each balanced vector no worse than
+/// some balanced whole flows.
+pub fn stream_law()
+    ensures sum { StreamSumLaw }
+    ensures within { StreamLaw }
+{}
+
+/// The weighted squares of each balanced vector are at least the low end of the statistic, and those of the flows at most its high end.
+pub fn statistic_law()
+    ensures low { LowLaw }
+    ensures high { HighLaw }
+{}
+
+/// A graph has one state after each number of sweeps.
+pub fn one_state_law()
+    ensures { OneStateLaw }
+{}
+
+/// A graph has one solution at each gap and greatest number of sweeps.
+pub fn one_solution_law()
+    ensures { OneSolutionLaw }
+{}

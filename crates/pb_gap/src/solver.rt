@@ -1,0 +1,138 @@
+ghost use Rattle.std.specs.Prelude.{◌≡◌, ℕ, ◌<◌, ◌≤◌, ◌^◌, pos, ◌*ℤ◌, ◌≤ℤ◌, Bool, List as Seq, Some, length, slice_get, unsigned_abs, IfOk, IfSome};
+ghost use Rattle.pb_graph.specs.Balance.{IsBalanced};
+ghost use Rattle.pb_graph.specs.Squares.{Fractional, IsBalancedFractional, IsNoWorse, weighted_squares, squares_unit, whole_flows};
+ghost use Rattle.pb_graph.specs.Prices.{PricesFit};
+ghost use Rattle.pb_forest.specs.Forest.{IsForest, degrees_of_freedom};
+ghost use Rattle.pb_gap.specs.Bounds.{AreSigned, IsWithin, bounds_of};
+ghost use Rattle.pb_gap.specs.Statistic.{statistic_of};
+ghost use Rattle.pb_gap.specs.State.{IsState, IsStateAfter, price_in, gap_in};
+ghost use Rattle.pb_gap.specs.Solution.{IsSolution};
+
+use crate::iterate::Iterate;
+use crate::numbers::GapNumbers;
+use pb_graph::{Bounds, Graph, Member, Solved};
+use std::alloc::{AllocError, Global};
+use std::marker::Model;
+
+/// The prices of a graph and the flows that belong to them, after some sweeps from prices of 0.
+///
+/// Prices are in units of 2^-56 per gram, flows in grams. All memory is taken when a solver is made.
+#[derive(Drop)]
+pub struct Solver {
+    iterate: Iterate,
+    gap: GapNumbers,
+}
+
+impl Model for Solver {
+    ghost use Rattle.pb_gap.specs.State.{State, gap_in};
+    ghost use Rattle.pb_gap.specs.Iterate.{IsGapOf};
+
+    ghost Value = { State };
+
+    ghost view = { λ a. a.iterate };
+
+    ghost invariant = { λ a. IsGapOf (gap_in a.iterate) a.gap.g a.gap.h };
+}
+
+impl Solver {
+    /// The state of a graph after 0 sweeps.
+    pub fn new(alloc: Global, g: &Graph) -> Result<Solver, AllocError>
+        ensures graph { IfOk result (λ s. s.graph ≡ g.now) }
+        ensures state { IfOk result IsState }
+        ensures after { IfOk result (λ s. IsStateAfter g.now 0 (price_in s) s.flows) }
+    {
+        let mut iterate = Iterate::new(alloc, g)?;
+        let gap = iterate.gap();
+        Ok(Solver { iterate, gap })
+    }
+
+    /// Sweeps from prices of 0 until the gap is met, and at most so many times. The gap is in thousandths of a standard deviation,
+    /// from 1 to 1,000,000; there are at most 100,000 sweeps.
+    pub fn solve(&mut self, gap: u32, sweeps: u32) -> Solved
+        requires gap_from { 1 ≤ gap }
+        requires gap_to { gap ≤ 1000000 }
+        requires sweeps { sweeps ≤ 100000 }
+        ensures graph { self.new.graph ≡ self.old.graph }
+        ensures group { self.new.group ≡ self.old.group }
+        ensures state { IsState self.new }
+        ensures solution { IsSolution self.old.graph gap sweeps result (price_in self.new) self.new.flows }
+    {
+        let solved = self.iterate.solve(gap, sweeps);
+        self.gap = self.iterate.gap();
+        solved
+    }
+
+    /// The price of a node, at most 2^120 either way.
+    pub fn price(&self, node: u32) -> i128
+        requires { node < self.now.graph.nodes }
+        ensures value { result ≡ price_in self.now node }
+        ensures within { unsigned_abs result ≤ 2 ^ 120 }
+        ensures fit { PricesFit self.now.graph (price_in self.now) }
+        ensures outside { (n : ℕ) → self.now.graph.nodes ≤ n → price_in self.now n ≡ pos 0 }
+    {
+        self.iterate.price(node)
+    }
+
+    /// The flow of a stream.
+    pub fn flow(&self, j: u32) -> i128
+        requires { j < length self.now.graph.streams }
+        ensures value { slice_get self.now.flows j ≡ Some result }
+        ensures within { unsigned_abs result < 2 ^ 68 }
+        ensures balanced { IsBalanced self.now.graph self.now.flows }
+    {
+        self.iterate.flow(j)
+    }
+
+    /// How many blocks of 2^h the gap is of, at most 2^63.
+    pub fn g(&self) -> u64
+        ensures value { result ≡ (gap_in self.now).g }
+        ensures most { result ≤ 2 ^ 63 }
+    {
+        self.gap.g
+    }
+
+    /// The exponent of the gap's blocks of 2^h, in units of 2^-20 standard deviation.
+    pub fn h(&self) -> u32
+        ensures value { result ≡ (gap_in self.now).h }
+        ensures most { result ≤ 32 }
+    {
+        self.gap.h
+    }
+
+    /// The degrees of freedom of the graph.
+    pub fn dof(&self) -> u32
+        ensures value { (held : Seq Bool) → IsForest self.now.graph.streams held → result ≡ degrees_of_freedom self.now.graph.streams held }
+        ensures most { result ≤ length self.now.graph.streams }
+    {
+        self.iterate.dof()
+    }
+
+    /// Bounds of a signed sum of measured flows, in grams: every balanced fractional vector that is no worse than the present flows
+    /// is within them. They are at most 2^126 either way.
+    pub fn bounds(&self, members: &[Member]) -> Bounds
+        requires { AreSigned self.now.graph members.now }
+        ensures value { result ≡ bounds_of (price_in self.now) self.now.graph.streams (gap_in self.now) members.now }
+        ensures lo { unsigned_abs result.lo ≤ 2 ^ 126 }
+        ensures hi { unsigned_abs result.hi ≤ 2 ^ 126 }
+        ensures enclosure { (x : Fractional) → IsBalancedFractional self.now.graph x → IsNoWorse self.now.graph x (whole_flows self.now.flows)
+            → IsWithin x members.now result }
+    {
+        self.iterate.bounds(members, self.gap)
+    }
+
+    /// The ends of the statistic in thousandths: the weighted squares of every balanced fractional vector are at least the low one,
+    /// and those of the present flows at most the high one. There is no high end where an adjustment is above 2^32 standard
+    /// deviations. They are at most 2^126.
+    pub fn statistic(&self) -> (i128, Option<i128>)
+        ensures value { result ≡ statistic_of self.now.graph.streams self.now.flows (gap_in self.now) }
+        ensures least { pos 0 ≤ℤ result.0 }
+        ensures low_within { unsigned_abs result.0 ≤ 2 ^ 126 }
+        ensures high_within { IfSome result.1 (λ v. unsigned_abs v ≤ 2 ^ 126) }
+        ensures low { (x : Fractional) → IsBalancedFractional self.now.graph x
+            → (result.0 *ℤ squares_unit self.now.graph x) ≤ℤ (pos 1000 *ℤ weighted_squares self.now.graph x) }
+        ensures high { IfSome result.1 (λ high. (pos 1000 *ℤ weighted_squares self.now.graph (whole_flows self.now.flows))
+            ≤ℤ (high *ℤ squares_unit self.now.graph (whole_flows self.now.flows))) }
+    {
+        self.iterate.statistic(self.gap)
+    }
+}
