@@ -1,0 +1,140 @@
+-- What a stage is collected from.
+use Rattle.std.proofs.Common.{◌≡◌, ◌∙◌, ℕ, ◌+◌, ◌<◌, ◌≤◌, ◌^◌, ℤ, pos, Bool, List, [], ◌∷◌, ◌++◌, length, All, Option, None, get_or, map, sym, ap, subst, inl, inr, arith, unsigned_abs}
+use Rattle.std.specs.Prelude.{IfSome}
+use Rattle.std.proofs.lemmas.Bool.{cases_eq}
+use Rattle.std.proofs.lemmas.List.{get_or_append_left, get_or_push, length-map}
+use Rattle.std.proofs.lemmas.Option.{slice_get_within, slice_get-get_or}
+use Rattle.pb_integers.specs.Sums.{item}
+use Rattle.pb_graph.specs.declared.records.Classified.{Classified}
+use Rattle.pb_graph.specs.declared.results.Solved.{Solved}
+use Rattle.pb_graph.specs.declared.results.Solved.TheVariants.{Converged, Unconverged}
+use Rattle.pb_graph.specs.declared.results.StreamResult.{StreamResult}
+use Rattle.pb_graph.specs.declared.results.Tests.{Tests}
+use Rattle.pb_graph.specs.declared.results.Stage.{Stage}
+use Rattle.pb_graph.specs.declared.results.Options.{Options}
+use Rattle.pb_graph.specs.ProcessGraph.{ProcessGraph}
+use Rattle.pb_graph.specs.Certificates.{IsCertified}
+use Rattle.pb_graph.proofs.WalkLemmas.{some_same}
+use Rattle.pb_forest.specs.Forest.{IsForest, degrees_of_freedom}
+use Rattle.pb_classify.specs.Classification.{IsClassification}
+use Rattle.pb_gap.specs.Gap.{gap_of}
+use Rattle.pb_gap.specs.StreamBounds.{stream_bounds}
+use Rattle.pb_gap.specs.Statistic.{low_of, high_of}
+use Rattle.pb_gap.specs.State.{State, IsState, price_in, gap_in}
+use Rattle.pb_gap.specs.Solution.{IsSolution}
+use Rattle.pb_elim.specs.Options.{AreOptions}
+use Rattle.pb_elim.specs.Printed.{printed_price, printed_flows, printed_classes, printed_gap}
+use Rattle.pb_elim.specs.Stage.{IsStageOf}
+use Rattle.pb_elim.specs.WellFormed.{sweeps_of, IsWide, IsResultWithin, AreTestsWithin, IsWellFormed}
+use Rattle.pb_elim.specs.Results.{AreResultsOf}
+use Rattle.pb_elim.proofs.Lists.{from_map, same_items, some_at}
+use Rattle.pb_elim.proofs.Forms.{witness_within}
+
+-- one node more has its price
+pub price_more : (price : ℕ → ℤ) (before : List ℤ) (p : ℤ) (n : ℕ) → length before ≡ n → ((k : ℕ) → k < n → item before k ≡ price k) → p ≡ price n
+    → (k : ℕ) → k < n + 1 → item (before ++ p ∷ []) k ≡ price k
+price_more price before p n each so_far is k lt = elim (cases_eq k n) [
+  | inl same ↦ get_or_push before p (pos 0) k (omega (arith, each, same)) ∙ is ∙ ap price (sym same)
+  | inr other ↦
+      let less : k < n = omega (arith, lt, other) in
+      get_or_append_left before (p ∷ []) (pos 0) k (omega (arith, less, each)) ∙ so_far k less
+]
+
+-- a state, the class of each stream, and what was made of them
+pub record AreParts (options : Options) (s : State) (classes : List Classified) (stage : Stage) : Type 0 where
+  pub state : IsState s
+  pub graph : stage.graph ≡ s.graph
+  pub classified : IsClassification s.graph classes
+  pub results : AreResultsOf s classes stage.streams
+  pub each : length stage.prices ≡ s.graph.nodes
+  pub price : (n : ℕ) → item stage.prices n ≡ price_in s n
+  pub solution : IsSolution s.graph options.gap options.sweeps stage.solved (price_in s) s.flows
+  pub g : stage.g ≡ (gap_in s).g
+  pub h : stage.h ≡ (gap_in s).h
+  pub dof : (held : List Bool) → IsForest s.graph.streams held → stage.dof ≡ degrees_of_freedom s.graph.streams held
+  pub low : stage.low ≡ low_of s.graph.streams s.flows (gap_in s)
+  pub high : stage.high ≡ high_of s.graph.streams s.flows
+
+classes_same : (s : State) (classes : List Classified) (results : List StreamResult) → AreResultsOf s classes results → map (λ (r : StreamResult). r.classified) results ≡ classes
+classes_same s classes results are =
+    let classified : StreamResult → Classified = λ r. r.classified in
+    same_items (map classified results) classes (length-map results classified ∙ are.each) (λ k x y at there.
+    let (r, here, is) = from_map classified results k x at in
+    sym is ∙ (are.right k y r there here).classified)
+
+flows_same : (s : State) (classes : List Classified) (results : List StreamResult) → AreResultsOf s classes results → length s.flows ≡ length classes
+    → map (λ (r : StreamResult). r.flow) results ≡ s.flows
+flows_same s classes results are each =
+    let flow : StreamResult → ℤ = λ r. r.flow in
+    same_items (map flow results) s.flows (length-map results flow ∙ are.each ∙ sym each) (λ k x y at there.
+    let (r, here, is) = from_map flow results k x at in
+    let within : k < length classes = omega (arith, slice_get_within s.flows k y there, each) in
+    let (c, classed) = some_at classes k within in
+    sym is ∙ some_same (sym (are.right k c r classed here).flow ∙ there))
+
+pub stage_is : (options : Options) (s : State) (classes : List Classified) (stage : Stage) → AreParts options s classes stage → IsStageOf s.graph options stage
+stage_is options s classes stage parts =
+    let ss = s.graph.streams in
+    let each : length s.flows ≡ length classes = parts.state.rounded.balanced.each ∙ sym parts.classified.each in
+    let price : printed_price stage ≡ price_in s = λ i n. parts.price n i in
+    let flows : printed_flows stage ≡ s.flows = flows_same s classes stage.streams parts.results each in
+    let same_classes : printed_classes stage ≡ classes = classes_same s classes stage.streams parts.results in
+    let gap : printed_gap stage ≡ gap_in s = λ i. record { g = parts.g i; h = parts.h i } in
+    record {
+      graph = parts.graph;
+      classes = subst (IsClassification s.graph) (sym same_classes) parts.classified;
+      priced = parts.each;
+      solution =
+          subst (λ (p : ℕ → ℤ). IsSolution s.graph options.gap options.sweeps stage.solved p (printed_flows stage)) (sym price)
+          (subst (IsSolution s.graph options.gap options.sweeps stage.solved (price_in s)) (sym flows) parts.solution);
+      gap = gap ∙ (λ i. gap_of (sym price i) ss (sym flows i));
+      bounds = λ j r at.
+          let within : j < length classes = omega (arith, slice_get_within stage.streams j r at, parts.results.each) in
+          let (c, there) = some_at classes j within in
+          let is = parts.results.right j c r there at in
+          is.bounds ∙ (λ i. stream_bounds (sym price i) ss (sym gap i) j (sym is.classified i));
+      freedom = record { held = parts.state.rounded.held; forest = parts.state.rounded.forest; count = parts.dof parts.state.rounded.held parts.state.rounded.forest };
+      low = parts.low ∙ (λ i. low_of ss (sym flows i) (sym gap i));
+      high = parts.high ∙ (λ i. high_of ss (sym flows i));
+    }
+
+-- the ranges of the numbers
+pub record AreNarrow (stage : Stage) : Type 0 where
+  pub prices : All (λ p. unsigned_abs p ≤ 2 ^ 120) stage.prices
+  pub g : stage.g ≤ 2 ^ 63
+  pub h : stage.h ≤ 32
+  pub dof : stage.dof ≤ length stage.graph.streams
+  pub low : IsWide stage.low
+  pub high : IfSome stage.high IsWide
+  pub untested : stage.tests ≡ None
+
+sweeps_within : (g : ProcessGraph) (gap sweeps : ℕ) (solved : Solved) (price : ℕ → ℤ) (flows : List ℤ) → IsSolution g gap sweeps solved price flows → sweeps ≤ 100000 → sweeps_of solved ≤ 100000
+sweeps_within g gap sweeps (Converged k) price flows is most = omega (arith, is.within, most)
+sweeps_within g gap sweeps (Unconverged k) price flows is most = omega (arith, is.all, most)
+
+results_within : (s : State) (classes : List Classified) (results : List StreamResult) → IsClassification s.graph classes → AreResultsOf s classes results → All (IsResultWithin s.graph) results
+results_within s classes results classified are k d lt =
+    let at = slice_get-get_or results k d lt in
+    let (c, there) = some_at classes k (omega (arith, lt, are.each)) in
+    let r = get_or results k d in
+    let is = are.right k c r there at in
+    record {
+      witness = witness_within s.graph k r.classified (subst (IsCertified s.graph k) (sym is.classified) (classified.right k c there).certified);
+      flow = is.narrow;
+      bounds = is.within;
+    }
+
+pub stage_formed : (options : Options) (s : State) (classes : List Classified) (stage : Stage) → AreOptions options → AreParts options s classes stage → AreNarrow stage → IsWellFormed stage
+stage_formed options s classes stage limits parts narrow = record {
+  each_price = parts.each ∙ ap (λ (g : ProcessGraph). g.nodes) (sym parts.graph);
+  each_stream = parts.results.each ∙ parts.classified.each ∙ ap (λ (g : ProcessGraph). length g.streams) (sym parts.graph);
+  results = subst (λ (g : ProcessGraph). All (IsResultWithin g) stage.streams) (sym parts.graph) (results_within s classes stage.streams parts.classified parts.results);
+  prices = narrow.prices;
+  sweeps = sweeps_within s.graph options.gap options.sweeps stage.solved (price_in s) s.flows parts.solution limits.most_sweeps;
+  g = narrow.g;
+  h = narrow.h;
+  dof = omega (arith, narrow.dof, ap (λ (g : ProcessGraph). length g.streams) parts.graph, parts.state.limits.few_streams);
+  low = narrow.low;
+  high = narrow.high;
+  tests = subst (λ (o : Option Tests). IfSome o (AreTestsWithin stage.graph)) (sym narrow.untested) tt;
+}

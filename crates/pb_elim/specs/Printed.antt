@@ -1,0 +1,27 @@
+-- What stands in a stage, as it is printed.
+use Rattle.std.specs.Prelude.{◌≡◌, ℕ, ℤ, List, map, Some, slice_get}
+use Rattle.pb_integers.specs.Sums.{item}
+use Rattle.pb_graph.specs.declared.records.Classified.{Classified}
+use Rattle.pb_graph.specs.declared.results.StreamResult.{StreamResult}
+use Rattle.pb_graph.specs.declared.results.Stage.{Stage}
+use Rattle.pb_gap.specs.Gap.{Gap}
+
+-- the price of each node
+abbrev pub printed_price : Stage → ℕ → ℤ
+printed_price stage n = item stage.prices n
+
+-- the flow of each stream, in order
+abbrev pub printed_flows : Stage → List ℤ
+printed_flows stage = map (λ (r : StreamResult). r.flow) stage.streams
+
+-- the class of each stream with its certificate, in order
+abbrev pub printed_classes : Stage → List Classified
+printed_classes stage = map (λ (r : StreamResult). r.classified) stage.streams
+
+-- the two numbers of the gap
+abbrev pub printed_gap : Stage → Gap
+printed_gap stage = record { g = stage.g; h = stage.h }
+
+-- what holds of each stream and its result
+abbrev pub EachStream : Stage → (ℕ → StreamResult → Type 0) → Type 0
+EachStream stage P = (j : ℕ) (r : StreamResult) → slice_get stage.streams j ≡ Some r → P j r
