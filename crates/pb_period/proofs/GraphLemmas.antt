@@ -1,0 +1,104 @@
+-- Streams of a graph, arc by arc, and the first of them that is over the limits.
+use Rattle.std.specs.Prelude.{◌^◌, nat_lt, int_lt, option_map, unwrap_or, map, position, IfSome, All}
+use Rattle.std.proofs.Common.{◌≡◌, ◌∙◌, ◌+◌, ◌≤◌, ◌≤ℤ◌, ℕ, zero, suc, pos, unsigned_abs, List, [], ◌∷◌, ◌++◌, length, drop, slice_get, true, false, Option, Some, None, Ok, Err, inl, inr, refl, sym, ap, ap₂, append_assoc, arith, length-append}
+use Rattle.std.proofs.lemmas.Bool.{cases_Bool, or_parts, ltb-false, ltb-true}
+use Rattle.std.proofs.lemmas.Int.{ints}
+use Rattle.std.proofs.lemmas.List.{append-nil}
+use Rattle.std.proofs.Math.ListN.{drop_of_length-le, get_or-append}
+use Rattle.std.proofs.Math.Seq.{get_or-append_seam}
+use Rattle.pb_graph.specs.declared.records.Meas.{Meas}
+use Rattle.pb_graph.specs.declared.records.Stream.{Stream}
+use Rattle.pb_graph.specs.ProcessGraph.{IsMeasurement, IsWithinLimits, ProcessGraph}
+use Rattle.pb_site.specs.Site.{arcs_of, node_names}
+use Rattle.pb_book.specs.declared.rows.Period.{Period}
+use Rattle.pb_book.specs.declared.rows.StoredRow.{StoredRow}
+use Rattle.pb_book.specs.Rows.{declared_of, facts_of}
+use Rattle.pb_period.specs.declared.graph.Assembly.TheVariants.{Over}
+use Rattle.pb_period.specs.Amount.{live_facts}
+use Rattle.pb_period.specs.Measurement.{measured}
+use Rattle.pb_facts.proofs.PositionLemmas.{position_at, position_none}
+use Rattle.pb_period.specs.PeriodGraph.{assembly_of, is_over, is_over_limits, period_graph, stream_with, unless_over}
+
+some_is : {B : Type 0} (a b : B) → Some a ≡ Some b → a ≡ b
+some_is a b is = ap (λ o. unwrap_or o a) is
+
+-- what is left from a place on, with the item at the place first
+pub next : {A B : Type 0} (f : A → B) (xs : List A) (j : ℕ) (s : B) → Some s ≡ option_map f (slice_get xs j) → map f (drop j xs) ≡ s ∷ map f (drop (j + 1) xs)
+next f [] j s is = cc is
+next f (x ∷ xs) zero s is = ap (λ b. b ∷ map f xs) (sym (some_is s (f x) is))
+next f (x ∷ xs) (suc j) s is =
+    let later : suc (j + 1) ≡ suc j + 1 = omega arith in
+    next f xs j s is ∙ ap (λ (n : ℕ). s ∷ map f (drop n (x ∷ xs))) later
+
+-- nothing is left behind the last place
+pub nothing_left : {A B : Type 0} (f : A → B) (whole made : List B) (xs : List A) (j : ℕ) → length xs ≤ j → whole ≡ made ++ map f (drop j xs) → whole ≡ made
+nothing_left f whole made xs j past so_far = so_far ∙ ap (λ rest. made ++ map f rest) (drop_of_length-le xs past) ∙ append-nil made
+
+-- what is made joined to what is left is the whole: one more item
+pub one_more : {A B : Type 0} (f : A → B) (whole made : List B) (xs : List A) (j : ℕ) (s : B) → Some s ≡ option_map f (slice_get xs j) → whole ≡ made ++ map f (drop j xs)
+    → whole ≡ (made ++ s ∷ []) ++ map f (drop (j + 1) xs)
+one_more f whole made xs j s is so_far = so_far ∙ ap (λ rest. made ++ rest) (next f xs j s is) ∙ sym (append_assoc made (s ∷ []) (map f (drop (j + 1) xs)))
+
+-- ---- the limits
+
+within_limits : (meas : Meas) → is_over_limits meas ≡ false → pos 1 ≤ℤ meas.variance → IsMeasurement meas
+within_limits meas not_over least =
+    let parts = or_parts (nat_lt (10 ^ 15) (unsigned_abs meas.value)) (int_lt (pos (10 ^ 22)) meas.variance) not_over in
+    record { value = omega (arith, ltb-false (10 ^ 15) (unsigned_abs meas.value) parts.0); least = least; greatest = omega (arith, ints, parts.1) }
+
+not_over_limits : (meas : Meas) → IsMeasurement meas → is_over_limits meas ≡ false
+not_over_limits meas fits = elim (cases_Bool (is_over_limits meas)) [
+  | inl over ↦ elim (cases_Bool (nat_lt (10 ^ 15) (unsigned_abs meas.value))) [
+    | inl above ↦ absurd (omega (arith, ltb-true (10 ^ 15) (unsigned_abs meas.value) above, fits.value))
+    | inr below ↦ absurd (omega (arith, ints, rw below at over, fits.greatest))
+  ]
+  | inr not_over ↦ not_over
+]
+
+pub within : (s : Stream) → is_over s ≡ false → IfSome s.meas (λ meas. pos 1 ≤ℤ meas.variance) → IsWithinLimits s
+within s = by s.meas
+  where
+    by : (meas : Option Meas) → Rattle.std.specs.Option.option_map_or is_over_limits meas false ≡ false → IfSome meas (λ m. pos 1 ≤ℤ m.variance) → IfSome meas IsMeasurement
+    by None not_over least = tt
+    by (Some meas) not_over least = within_limits meas not_over least
+
+pub not_over : (s : Stream) → IsWithinLimits s → is_over s ≡ false
+not_over s = by s.meas
+  where
+    by : (meas : Option Meas) → IfSome meas IsMeasurement → Rattle.std.specs.Option.option_map_or is_over_limits meas false ≡ false
+    by None fits = refl
+    by (Some meas) fits = not_over_limits meas fits
+
+-- ---- the first stream that is over the limits
+
+abbrev pub AllWithin : List Stream → Type 0
+AllWithin streams = All (λ (s : Stream). is_over s ≡ false) streams
+
+pub none_over : (streams : List Stream) → AllWithin streams → position is_over streams ≡ None
+none_over streams fits = position_none is_over streams fits
+
+pub first_over : (made rest : List Stream) (s : Stream) → AllWithin made → is_over s ≡ true → position is_over (made ++ s ∷ rest) ≡ Some (length made)
+first_over made rest s fits over =
+    let long = length-append made (s ∷ rest) in
+    position_at is_over (made ++ s ∷ rest) (length made) s (omega (arith, long))
+    (λ k lt. rw (get_or-append made (s ∷ rest) s k lt) (fits k s lt))
+    (rw (get_or-append_seam made s rest s) over)
+
+-- ---- the graph of a period
+
+abbrev pub streams_of : List StoredRow → Period → List Stream
+streams_of rows period = map (stream_with (measured (declared_of rows) (live_facts (facts_of rows)) period)) (arcs_of (declared_of rows))
+
+-- a stream that is over the limits, behind those that aren't
+pub over_at : (rows : List StoredRow) (period : Period) (made rest : List Stream) (s : Stream) (j : ℕ) → streams_of rows period ≡ made ++ s ∷ rest → AllWithin made → is_over s ≡ true
+    → length made ≡ j → Err (Over j) ≡ assembly_of rows period
+over_at rows period made rest s j split fits over is_j =
+    sym (ap (unless_over (period_graph rows period)) (ap (position is_over) split ∙ first_over made rest s fits over ∙ ap (λ (n : ℕ). Some n) is_j))
+
+-- no stream is over the limits
+pub finished : (rows : List StoredRow) (period : Period) (graph : ProcessGraph) → graph.nodes ≡ length (node_names (declared_of rows)) → streams_of rows period ≡ graph.streams
+    → AllWithin graph.streams → Ok graph ≡ assembly_of rows period
+finished rows period graph nodes all fits =
+    let none : position is_over (streams_of rows period) ≡ None = ap (position is_over) all ∙ none_over graph.streams fits in
+    let whole : graph ≡ period_graph rows period = ap₂ (λ (n : ℕ) (streams : List Stream). let g : ProcessGraph = record { nodes = n; streams = streams } in g) nodes (sym all) in
+    ap (λ (g : ProcessGraph). unless_over g None) whole ∙ sym (ap (unless_over (period_graph rows period)) none)

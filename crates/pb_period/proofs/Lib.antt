@@ -1,0 +1,5 @@
+pub mod LiveLemmas
+pub mod AmountLemmas
+pub mod DayLemmas
+pub mod TotalLemmas
+pub mod GraphLemmas

@@ -1,0 +1,18 @@
+use Rattle.std.proofs.Common.{◌∙◌, FitsSigned}
+use mir.Syntax.{w32}
+use Rattle.std.proofs.lemmas.Int.{to_z-of_z}
+use Rattle.pb_facts.specs.Fact.{is_reading_on}
+use Rattle.pb_period.proofs.LiveLemmas.{found}
+use Rattle.pb_period.proofs.readings.reading_on.Goals as goal
+
+pub returns-in_err-reading_on-clause-found : goal.returns-in_err-reading_on-clause-found
+returns-in_err-reading_on-clause-found c =
+    let fits : FitsSigned w32 c.args.day = c.ranges.day in
+    let place = simp to_z-of_z at c.in_err-reading_on.ensures in
+    c.from_residual.ensures ∙ found (is_reading_on c.args.stream.now c.args.day) c.args.facts.now _ place
+
+pub returns-clause-found : goal.returns-clause-found
+returns-clause-found c =
+    let fits : FitsSigned w32 c.args.day = c.ranges.day in
+    let place = simp to_z-of_z at c.in_ok-reading_on.ensures in
+    c.live.ensures.value ∙ found (is_reading_on c.args.stream.now c.args.day) c.args.facts.now _ place

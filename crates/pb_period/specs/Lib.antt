@@ -1,0 +1,6 @@
+pub mod Days
+pub mod Amount
+pub mod Bounds
+pub mod Totals
+pub mod Measurement
+pub mod PeriodGraph

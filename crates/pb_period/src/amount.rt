@@ -1,0 +1,53 @@
+// Amounts of mass, and the measurements that they make.
+
+ghost use Rattle.std.specs.Prelude.{◌≡◌, ◌≤ℤ◌, ◌+ℤ◌, pos, ◌^◌};
+ghost use Rattle.pb_period.specs.Bounds.{IsAmount, IsSmall};
+ghost use Rattle.pb_period.specs.Measurement.{measurement};
+ghost use Rattle.pb_period.specs.Totals.{no_amount, sum_of_two};
+
+use pb_graph::Meas;
+
+/// An amount of mass in grams, with its variance in squared grams.
+#[derive(Clone, Copy)]
+pub struct Amount {
+    pub grams: i128,
+    pub variance: i128,
+}
+
+impl Amount {
+    /// No mass.
+    pub fn zero() -> Amount
+        ensures { result ≡ no_amount }
+    {
+        Amount {
+            grams: 0,
+            variance: 0,
+        }
+    }
+
+    /// Two amounts together.
+    pub fn plus(self, other: Amount) -> Amount
+        requires small { IsSmall self }
+        requires other { IsSmall other }
+        ensures { result ≡ sum_of_two self other }
+    {
+        Amount {
+            grams: self.grams + other.grams,
+            variance: self.variance + other.variance,
+        }
+    }
+
+    /// The measurement of this amount: its grams, and the base variance with its own variance.
+    pub fn measured(self, base: i128) -> Meas
+        requires small { IsSmall self }
+        requires from { pos 1 ≤ℤ base }
+        requires to { base ≤ℤ pos (10 ^ 19) }
+        ensures value { result ≡ measurement base self }
+        ensures least { pos 1 ≤ℤ result.variance }
+    {
+        Meas {
+            value: self.grams,
+            variance: base + self.variance,
+        }
+    }
+}

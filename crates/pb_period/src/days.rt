@@ -1,0 +1,24 @@
+// Days of a period and of a transfer.
+
+ghost use Rattle.std.specs.Prelude.{◌≡◌, ◌≤ℤ◌, ◌-ℤ◌, ◌+ℤ◌, pos};
+ghost use Rattle.std.specs.Int.{int_gap};
+ghost use Rattle.pb_facts.specs.Fact.{IsDay};
+ghost use Rattle.pb_period.specs.Days.{day_count};
+
+/// How many days there are from one day up to another, which isn't counted and doesn't come first.
+pub fn days_until(first: i32, end: i32) -> u32
+    requires order { first ≤ℤ end }
+    ensures { result ≡ int_gap first end }
+{
+    end.abs_diff(first)
+}
+
+/// How many days there are from one day to another, both included, of which the second doesn't come first.
+pub fn days_through(first: i32, last: i32) -> u32
+    requires first { IsDay first }
+    requires last { IsDay last }
+    requires order { first ≤ℤ last }
+    ensures { result ≡ day_count first last }
+{
+    days_until(first, last + 1)
+}
