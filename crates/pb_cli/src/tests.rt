@@ -76,7 +76,12 @@ fn writes_worked_sessions(rt: HostRuntime) -> Result<(), AllocError> {
             Status::DoneRefused,
             "refused,1,6,unknown\n",
         ),
-        ("tank,K,1\n", Status::DoneRefused, "refused,1,1,kind\n"),
+        ("turbine,K,1\n", Status::DoneRefused, "refused,1,1,kind\n"),
+        (
+            "unit,U\nstream,A,env,U,metered,1\nstream,B,U,env,metered,1\nperiod,d1,2024-03-01,2024-03-01\nreading,r1,A,2024-03-01,102000000,999999999999\nreading,r2,B,2024-03-01,100000000,999999999999\nreport,d1\nreport,d2\n",
+            Status::DoneRefused,
+            "report,d1,0,2,2,10,5000\nnode,env,0\nnode,U,-72057594038\nstream,A,env,U,102000000,1000000000000,redundant,101000000,100999997,101000002,cut,env,-A +B\nstream,B,U,env,100000000,1000000000000,redundant,101000000,100999998,101000003,cut,U,+A -B\nsolved,1,converged,2,0,1,1999,2000\nend,d1,0\nrefused,8,6,unknown\n",
+        ),
         (
             ",,,\nunit,U,,,\n\"unit\n",
             Status::DoneRefused,

@@ -4,21 +4,31 @@ ghost use Rattle.pb_io.specs.Source.{TakesExactly, TakesAtMost};
 ghost use Rattle.pb_io.specs.Sink.{Puts, PutsPrefix};
 ghost use Rattle.pb_cli.specs.declared.status.Status.TheVariants.{Done, DoneRefused, Usage, ReadFault, WriteFault, TooLarge, NoMemory};
 ghost use Rattle.pb_rows.specs.Records.{records_of};
-ghost use Rattle.pb_session.specs.Stored.{answer_of, is_refused, refuses_some, after};
-ghost use Rattle.pb_session.specs.Session.{Adds, IsSessionText};
+ghost use Rattle.pb_book.specs.Answer.{answer_of, is_refused};
+ghost use Rattle.pb_session.specs.Session.{Adds, IsSessionText, held_after, refuses_some};
 ghost use Rattle.pb_cli.specs.Status.{done_status};
-ghost use Rattle.pb_cli.specs.Prefix.{after_all, AreTextsOfSome, AreTextsCutShort};
-ghost use Rattle.pb_cli.specs.Run.{AreAccepted, IsTextOfRun, RunsWhole, RunsCutShort, RunsPart, refuses};
+ghost use Rattle.pb_cli.specs.Prefix.{AreTextsOfSome, AreTextsCutShort};
+ghost use Rattle.pb_cli.specs.Run.{AreAccepted, IsTextOfRun, RunsWhole, RunsCutShort, RunsPart, new_session, refuses};
 
 use crate::status::Status;
 use crate::words::Words;
+use pb_graph::Options;
 use pb_io::{ReadEnd, Sink, SinkFailed, Source, read_all, write_all};
+use pb_report::Form;
 use pb_rows::{Row, Rows};
 use pb_session::Session;
 use std::alloc::{AllocError, Global};
 
 /// The most bytes that an input may have.
 pub const MOST_BYTES: usize = 67_108_864;
+
+/// What the word `run` asks of a study: a gap of 10 thousandths of a standard deviation and at most 5,000 sweeps.
+const USUAL: Options = Options {
+    gap: 10,
+    sweeps: 5_000,
+    tests: false,
+    eliminate: 0,
+};
 
 /// Why the answer to a record was not written.
 #[derive(Clone, Copy)]
@@ -55,8 +65,8 @@ fn answer_record<W: Sink>(
     fields: &Row,
     sink: &mut W,
 ) -> Result<bool, Stopped>
-    ensures stored { OnOk result (session.new ≡ after session.old fields.now) }
-    ensures refused { IfOk result (λ refused. refused ≡ is_refused (answer_of session.old fields.now)) }
+    ensures stored { OnOk result (session.new ≡ held_after session.old at fields.now) }
+    ensures refused { IfOk result (λ refused. refused ≡ is_refused (answer_of session.old.rows fields.now)) }
     ensures whole { OnOk result ((text : List ℕ) × Adds session.old at fields.now text × Puts W.held W.written sink.old sink.new text) }
     ensures no_memory { IfErr result (λ e. e ≡ Stopped.OutOfMemory → sink.new ≡ sink.old) }
     ensures cut { IfErr result (λ e. e ≡ Stopped.SinkFault → (text : List ℕ) × Adds session.old at fields.now text × PutsPrefix W.held W.written sink.old sink.new text) }
@@ -72,14 +82,14 @@ fn answer_record<W: Sink>(
 /// Takes the records in order and writes what each adds before it takes the next. True exactly where some record was refused.
 fn answer_records<W: Sink>(alloc: Global, rows: &Rows, sink: &mut W) -> Result<bool, Stopped>
     requires { length rows.now < 2 ^ 32 }
-    ensures refused { IfOk result (λ refused. refused ≡ refuses_some [] rows.now) }
-    ensures whole { OnOk result ((text : List ℕ) × IsSessionText [] 1 rows.now text × Puts W.held W.written sink.old sink.new text) }
-    ensures cut { IfErr result (λ e. e ≡ Stopped.SinkFault → (bytes : List ℕ) × AreTextsCutShort rows.now bytes × Puts W.held W.written sink.old sink.new bytes) }
-    ensures some { IfErr result (λ e. e ≡ Stopped.OutOfMemory → (bytes : List ℕ) × AreTextsOfSome rows.now bytes × Puts W.held W.written sink.old sink.new bytes) }
+    ensures refused { IfOk result (λ refused. refused ≡ refuses_some new_session 1 rows.now) }
+    ensures whole { OnOk result ((text : List ℕ) × IsSessionText new_session 1 rows.now text × Puts W.held W.written sink.old sink.new text) }
+    ensures cut { IfErr result (λ e. e ≡ Stopped.SinkFault → (bytes : List ℕ) × AreTextsCutShort new_session rows.now bytes × Puts W.held W.written sink.old sink.new bytes) }
+    ensures some { IfErr result (λ e. e ≡ Stopped.OutOfMemory → (bytes : List ℕ) × AreTextsOfSome new_session rows.now bytes × Puts W.held W.written sink.old sink.new bytes) }
     ensures cause { IfErr result (λ e. e ≡ Stopped.SinkFault → Rose (W.faults sink.old) (W.faults sink.new)) }
     ensures faults_stay { W.faults sink.old ≤ W.faults sink.new }
 {
-    let mut session = Session::new(alloc);
+    let mut session = Session::new(alloc, USUAL, Form::Csv);
     let mut some_refused = false;
     for i in 0..rows.len() {
         match answer_record(alloc, &mut session, i as u32 + 1, rows.at(i), sink) {
@@ -144,8 +154,8 @@ fn write_output<W: Sink>(alloc: Global, input: &[u8], sink: &mut W) -> Status
     requires { length input.now ≤ MOST_BYTES }
     ensures one_of { (result ≡ done_status (refuses input.now)) ⊎ (result ≡ WriteFault) ⊎ (result ≡ NoMemory) }
     ensures done { (result ≡ done_status (refuses input.now)) → (text : List ℕ) × IsTextOfRun input.now text × Puts W.held W.written sink.old sink.new text }
-    ensures write_fault { result ≡ WriteFault → Rose (W.faults sink.old) (W.faults sink.new) × ((bytes : List ℕ) × AreTextsCutShort (records_of input.now) bytes × Puts W.held W.written sink.old sink.new bytes) }
-    ensures no_memory { result ≡ NoMemory → (bytes : List ℕ) × AreTextsOfSome (records_of input.now) bytes × Puts W.held W.written sink.old sink.new bytes }
+    ensures write_fault { result ≡ WriteFault → Rose (W.faults sink.old) (W.faults sink.new) × ((bytes : List ℕ) × AreTextsCutShort new_session (records_of input.now) bytes × Puts W.held W.written sink.old sink.new bytes) }
+    ensures no_memory { result ≡ NoMemory → (bytes : List ℕ) × AreTextsOfSome new_session (records_of input.now) bytes × Puts W.held W.written sink.old sink.new bytes }
     ensures faults_stay { W.faults sink.old ≤ W.faults sink.new }
 {
     let Ok(rows) = Rows::of(alloc, input) else {

@@ -1,5 +1,6 @@
 pub mod CertificateLemmas
-pub mod DesignLemmas
-pub mod FormLemmas
-pub mod KeptLemmas
+pub mod NamedLemmas
 pub mod TextLemmas
+pub mod RowLemmas
+pub mod ReportLemmas
+pub mod StudyLemmas

@@ -1,31 +1,52 @@
 -- What a record adds to the output is one text.
-use Rattle.std.proofs.Common.{◌≡◌, ◌∙◌, ℕ, ◌+◌, List, [], ◌∷◌, ◌++◌, sym, ap}
+use Rattle.std.proofs.Common.{◌≡◌, ◌∙◌, ℕ, ◌+◌, List, [], ◌∷◌, ◌++◌, Option, Some, None, Result, Ok, Err, slice_get, sym, ap}
 use Rattle.pb_graph.specs.declared.records.Classified.{Classified}
-use Rattle.pb_rows.specs.Written.{text_of_rows}
+use Rattle.pb_graph.specs.ProcessGraph.{ProcessGraph}
 use Rattle.pb_classify.specs.Laws.{OneClassificationLaw}
+use Rattle.pb_graph.specs.declared.results.Study.{Study}
+use Rattle.pb_elim.specs.Laws.{OneStudyLaw}
+use Rattle.pb_site.specs.Site.{names_of}
+use Rattle.pb_book.specs.declared.rows.Answer.{Answer}
+use Rattle.pb_book.specs.declared.rows.Answer.TheVariants.{Blank, Refused, Stored, Design, Report}
+use Rattle.pb_book.specs.declared.rows.Period.{Period}
+use Rattle.pb_book.specs.Rows.{declared_of, periods_of}
+use Rattle.pb_book.specs.Answer.{answer_of}
+use Rattle.pb_period.specs.declared.graph.Assembly.{Assembly}
+use Rattle.pb_period.specs.declared.graph.Assembly.TheVariants.{Over, NoMemory}
+use Rattle.pb_period.specs.PeriodGraph.{assembly_of, design_graph}
+use Rattle.pb_report.specs.Form.{text_in}
 use Rattle.pb_report.specs.Design.{design_rows}
-use Rattle.pb_session.specs.declared.form.Declared.{Declared}
-use Rattle.pb_session.specs.declared.form.Answer.{Answer}
-use Rattle.pb_session.specs.declared.form.Answer.TheVariants.{Blank, Refused, Stored, Design}
-use Rattle.pb_session.specs.Stored.{after, answer_of}
-use Rattle.pb_session.specs.DesignGraph.{design_graph, design_names}
-use Rattle.pb_session.specs.Session.{AddsBy}
+use Rattle.pb_report.specs.Study.{study_rows}
+use Rattle.pb_session.specs.Session.{AddsBy, Held, no_critical, Reports, ReportsBy, held_after}
 use Rattle.pb_session.specs.Laws.{OneTextLaw, OneSessionTextLaw}
 
-answer_text : OneClassificationLaw → (stored : List Declared) (at : ℕ) (answer : Answer) (one other : List ℕ) → AddsBy stored at answer one → AddsBy stored at answer other → one ≡ other
-answer_text law stored at Blank one other a b = a ∙ sym b
-answer_text law stored at (Refused refusal) one other a b = a ∙ sym b
-answer_text law stored at (Stored row) one other a b = a ∙ sym b
-answer_text law stored at Design one other (cs, is_c, a) (ds, is_d, b) =
-    let text : List Classified → List ℕ = λ classes. text_of_rows (design_rows (design_names stored) (design_graph stored) classes) in
-    a ∙ ap text (law (design_graph stored) cs ds is_c is_d) ∙ sym b
+reports_by_text : OneStudyLaw → (held : Held) (period : Period) (assembly : Result ProcessGraph Assembly) (one other : List ℕ)
+    → ReportsBy held period assembly one → ReportsBy held period assembly other → one ≡ other
+reports_by_text law held period (Ok graph) one other a b =
+    let text : Study → List ℕ = λ study. text_in held.form (study_rows (names_of (declared_of held.rows)) period.name held.options study) in
+    a.rows ∙ ap text (law graph held.options no_critical a.study b.study a.limits a.is_study b.is_study) ∙ sym b.rows
+reports_by_text law held period (Err (Over j)) one other a b = a ∙ sym b
+reports_by_text law held period (Err NoMemory) one other a b = absurd a
 
-pub record_text : OneClassificationLaw → OneTextLaw
-record_text law stored at fields one other a b = answer_text law stored at (answer_of stored fields) one other a b
+report_text : OneStudyLaw → (held : Held) (period : Option Period) (one other : List ℕ) → Reports held period one → Reports held period other → one ≡ other
+report_text law held (Some period) one other a b = reports_by_text law held period (assembly_of held.rows period) one other a b
+report_text law held None one other a b = absurd a
 
-pub session_text : OneClassificationLaw → OneSessionTextLaw
-session_text law stored at [] one other a b = a ∙ sym b
-session_text law stored at (fields ∷ records) one other (first, rest, adds, more, whole) (first2, rest2, adds2, more2, whole2) =
-    let same_first = record_text law stored at fields first first2 adds adds2 in
-    let same_rest = session_text law (after stored fields) (at + 1) records rest rest2 more more2 in
+answer_text : OneClassificationLaw → OneStudyLaw → (held : Held) (at : ℕ) (answer : Answer) (one other : List ℕ) → AddsBy held at answer one → AddsBy held at answer other → one ≡ other
+answer_text law studies held at Blank one other a b = a ∙ sym b
+answer_text law studies held at (Refused cause) one other a b = a ∙ sym b
+answer_text law studies held at (Stored row) one other a b = a ∙ sym b
+answer_text law studies held at Design one other (cs, is_c, a) (ds, is_d, b) =
+    let text : List Classified → List ℕ = λ classes. text_in held.form (design_rows (names_of (declared_of held.rows)) (design_graph held.rows) classes) in
+    a ∙ ap text (law (design_graph held.rows) cs ds is_c is_d) ∙ sym b
+answer_text law studies held at (Report i) one other a b = report_text studies held (slice_get (periods_of held.rows) i) one other a b
+
+pub record_text : OneClassificationLaw → OneStudyLaw → OneTextLaw
+record_text law studies held at fields one other a b = answer_text law studies held at (answer_of held.rows fields) one other a b
+
+pub session_text : OneClassificationLaw → OneStudyLaw → OneSessionTextLaw
+session_text law studies held at [] one other a b = a ∙ sym b
+session_text law studies held at (fields ∷ records) one other (first, rest, adds, more, whole) (first2, rest2, adds2, more2, whole2) =
+    let same_first = record_text law studies held at fields first first2 adds adds2 in
+    let same_rest = session_text law studies (held_after held at fields) (at + 1) records rest rest2 more more2 in
     whole ∙ ap (λ (t : List ℕ). t ++ rest) same_first ∙ ap (λ (t : List ℕ). first2 ++ t) same_rest ∙ sym whole2

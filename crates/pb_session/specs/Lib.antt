@@ -1,7 +1,3 @@
-pub mod RowForm
-pub mod Refusals
-pub mod Stored
-pub mod DesignGraph
 pub mod Session
+pub mod Accepted
 pub mod Laws
-pub mod Kept

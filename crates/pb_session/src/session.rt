@@ -1,239 +1,183 @@
 // The state of a session.
 
-ghost use Rattle.std.specs.Prelude.{◌≡◌, ℕ, ◌++◌, ◌∷◌, [], List, OnOk, OnErr, IfOk, vec_len, vec_capacity, ◌<◌};
+ghost use Rattle.std.specs.Prelude.{◌≡◌, ◌≢◌, ◌<◌, ℕ, ◌++◌, ◌∷◌, [], List as Seq, length, slice_get, OnOk, OnErr, IfOk};
+ghost use Rattle.pb_book.specs.declared.rows.Accepted.TheVariants.{Stored};
+ghost use Rattle.pb_book.specs.declared.rows.Refused.TheVariants.{NoMemory};
+ghost use Rattle.pb_book.specs.Answer.{code_of};
+ghost use Rattle.pb_report.specs.Form.{text_in};
+ghost use Rattle.pb_report.specs.Refusal.{refused_row};
+ghost use Rattle.pb_book.specs.Rows.{declared_of, periods_of};
 
-use crate::design;
-use crate::form::{Answer, Declared, Kind, Refusal, RowForm};
-use crate::name_index::NameIndex;
-use crate::read::read_form;
-use pb_graph::MOST_STREAMS;
-use pb_report::{Form, write_refused};
-use pb_rows::{Name, Row};
+use pb_book::{Accepted, Book, Refused};
+use pb_classify::classify;
+use pb_elim::study;
+use pb_graph::{Critical, Graph, List, Options};
+use pb_period::{Assembly, assemble, design};
+use pb_report::{Form, write_design, write_over, write_refused, write_study};
+use pb_rows::{Name, Names, Row};
 use std::alloc::{AllocError, Global};
 use std::marker::Model;
 
-/// The greatest number of units.
-pub const MOST_UNITS: usize = 1_000;
-
-/// What a session has stored: the declared units and streams, in order.
+/// A session: what is asked of its studies, the form of its output, and the book of its rows.
 #[derive(Drop)]
 pub struct Session {
     alloc: Global,
-    stored: Vec<Declared>,
-    units: NameIndex,
-    streams: NameIndex,
+    options: Options,
+    form: Form,
+    book: Book,
 }
 
 impl Model for Session {
-    ghost use Rattle.std.specs.Prelude.{List};
-    ghost use Rattle.pb_session.specs.declared.form.Declared.{Declared};
-    ghost use Rattle.pb_session.specs.Kept.{IsKept};
+    ghost use Rattle.pb_session.specs.Session.{Held};
 
-    ghost Value = { List Declared };
+    ghost Value = { Held };
 
-    ghost view = { λ a. a.stored.items };
+    ghost use Rattle.pb_session.specs.Accepted.{CanAsk};
 
-    ghost invariant = { λ a. IsKept a.stored.items a.units a.streams };
+    ghost view = { λ a. record { options = a.options; form = a.form; rows = a.book } };
+
+    ghost invariant = { λ a. CanAsk a.options };
 }
 
 impl Session {
-    ghost use Rattle.pb_session.specs.declared.form.Declared.TheVariants.{Unit as UnitRow, Stream as StreamRow};
-    ghost use Rattle.pb_session.specs.declared.form.RowForm.TheVariants.{Declares};
-    ghost use Rattle.pb_session.specs.Stored.{answer_of, answer_to, is_node, is_refused, is_taken, after};
-    ghost use Rattle.pb_session.specs.Session.{Adds, IsDesignText};
-    ghost use Rattle.pb_session.specs.Kept.{CanStore, CanStoreUnit, CanStoreStream, IsDeclaration, IsForm, IsStreamForm, StoresWell};
+    ghost use Rattle.pb_book.specs.Answer.{answer_of, is_refused};
+    ghost use Rattle.pb_elim.specs.Options.{AreOptions, AsksOneStage};
+    ghost use Rattle.pb_graph.specs.ProcessGraph.{IsProcessGraph};
+    ghost use Rattle.pb_site.specs.Site.{names_of};
+    ghost use Rattle.pb_period.specs.PeriodGraph.{assembly_of};
+    ghost use Rattle.pb_session.specs.Accepted.{AddsAccepted, IsGraphOf, IsOfPeriods};
+    ghost use Rattle.pb_session.specs.Session.{Adds, IsDesignText, IsReport, Reports, held_after};
 
-    /// A session that has stored nothing.
-    pub fn new(alloc: Global) -> Session
-        ensures { result ≡ [] }
+    /// A session that has stored nothing. So far neither tests nor elimination may be asked of its studies.
+    pub fn new(alloc: Global, options: Options, form: Form) -> Session
+        requires limits { AreOptions options }
+        requires asked { AsksOneStage options }
+        ensures options { result.options ≡ options }
+        ensures form { result.form ≡ form }
+        ensures rows { result.rows ≡ [] }
     {
         Session {
             alloc,
-            stored: Vec::new(alloc),
-            units: NameIndex::new(alloc),
-            streams: NameIndex::new(alloc),
+            options,
+            form,
+            book: Book::new(alloc),
         }
+    }
+
+    /// The book of the rows stored so far.
+    pub fn book(&self) -> &Book
+        ensures { result.now ≡ self.now.rows }
+    {
+        &self.book
     }
 
     /// Takes the record with the number `at`, counted from 1, and appends to `out` what it adds to the output. True exactly
     /// where the record was refused. After an `Err`, want of memory, the session and `out` are as they were.
     pub fn row(&mut self, at: u32, row: &Row, out: &mut Vec<u8>) -> Result<bool, AllocError>
-        ensures adds { OnOk result ((text : List ℕ) × (out.new.items ≡ out.old.items ++ text) × Adds self.old at row.now text) }
-        ensures refused { IfOk result (λ refused. refused ≡ is_refused (answer_of self.old row.now)) }
-        ensures stored { OnOk result (self.new ≡ after self.old row.now) }
+        ensures adds { OnOk result ((text : Seq ℕ) × (out.new.items ≡ out.old.items ++ text) × Adds self.old at row.now text) }
+        ensures refused { IfOk result (λ refused. refused ≡ is_refused (answer_of self.old.rows row.now)) }
+        ensures stored { OnOk result (self.new ≡ held_after self.old at row.now) }
         ensures unchanged { OnErr result (self.new ≡ self.old) }
         ensures out_unchanged { OnErr result (out.new.items ≡ out.old.items) }
     {
-        match self.answer(read_form(row)) {
-            Answer::Blank => Ok(false),
-            Answer::Refused(refusal) => {
-                write_refused(self.alloc, at, refusal.code(), Form::Csv, out)?;
-                Ok(true)
-            }
-            Answer::Stored(declared) => {
-                self.store(declared)?;
-                Ok(false)
-            }
-            Answer::Design => {
-                self.write_design(out)?;
-                Ok(false)
-            }
+        match self.book.accept(at, row) {
+            Ok(accepted) => match self.write(accepted, out) {
+                Ok(()) => Ok(false),
+                Err(error) => Err(error),
+            },
+            Err(Refused::NoMemory) => Err(AllocError),
+            Err(cause) => match self.refuse(at, cause, out) {
+                Ok(()) => return Ok(true),
+                Err(error) => return Err(error),
+            },
         }
     }
 
-    // The answer to a record of a form.
-    fn answer(&self, form: RowForm) -> Answer
-        requires { IsForm form }
-        ensures value { result ≡ answer_to self.now form }
-        ensures stores { StoresWell self.now result }
+    // Appends the row of a refusal.
+    fn refuse(&self, at: u32, cause: Refused, out: &mut Vec<u8>) -> Result<(), AllocError>
+        requires { cause ≢ NoMemory }
+        ensures ok { OnOk result (out.new.items ≡ out.old.items ++ text_in self.now.form (refused_row at (code_of cause) ∷ [])) }
+        ensures err { OnErr result (out.new.items ≡ out.old.items) }
+        ensures cause { cause ≢ NoMemory }
     {
-        match form {
-            RowForm::Blank => Answer::Blank,
-            RowForm::Design => Answer::Design,
-            RowForm::Other => Answer::Refused(Refusal::Kind),
-            RowForm::Declares(declared) => self.answer_to_declared(declared),
+        write_refused(self.alloc, at, cause.code(), self.form, out)
+    }
+
+    // Appends what an accepted record adds.
+    fn write(&self, accepted: Accepted, out: &mut Vec<u8>) -> Result<(), AllocError>
+        requires { IsOfPeriods self.now.rows accepted }
+        ensures ok { OnOk result ((text : Seq ℕ) × (out.new.items ≡ out.old.items ++ text) × AddsAccepted self.now accepted text) }
+        ensures err { OnErr result (out.new.items ≡ out.old.items) }
+        ensures sure { OnErr result (accepted ≢ Stored) }
+    {
+        match accepted {
+            Accepted::Blank => Ok(()),
+            Accepted::Stored => Ok(()),
+            Accepted::Design => self.write_design(out),
+            Accepted::Report(i) => self.write_report(i, out),
         }
-    }
-
-    // The answer to a declaration.
-    fn answer_to_declared(&self, declared: Declared) -> Answer
-        requires { IsDeclaration declared }
-        ensures value { result ≡ answer_to self.now (Declares declared) }
-        ensures stores { StoresWell self.now result }
-    {
-        match declared {
-            Declared::Unit { name } => self.answer_to_unit(name),
-            Declared::Stream {
-                name,
-                from,
-                to,
-                kind,
-                base,
-            } => self.answer_to_stream(name, from, to, kind, base),
-        }
-    }
-
-    // The answer to the declaration of a unit.
-    fn answer_to_unit(&self, name: Name) -> Answer
-        ensures value { result ≡ answer_to self.now (Declares (UnitRow name)) }
-        ensures stores { StoresWell self.now result }
-    {
-        if self.is_taken(&name) {
-            Answer::Refused(Refusal::Duplicate)
-        } else if self.units.len() >= MOST_UNITS {
-            Answer::Refused(Refusal::Full)
-        } else {
-            Answer::Stored(Declared::Unit { name })
-        }
-    }
-
-    // The answer to the declaration of a stream.
-    fn answer_to_stream(&self, name: Name, from: Name, to: Name, kind: Kind, base: i128) -> Answer
-        requires { IsStreamForm from to kind base }
-        ensures value { result ≡ answer_to self.now (Declares (StreamRow name from to kind base)) }
-        ensures stores { StoresWell self.now result }
-    {
-        if !self.is_node(&from) || !self.is_node(&to) {
-            Answer::Refused(Refusal::Unknown)
-        } else if self.is_taken(&name) {
-            Answer::Refused(Refusal::Duplicate)
-        } else if self.streams.len() >= MOST_STREAMS {
-            Answer::Refused(Refusal::Full)
-        } else {
-            Answer::Stored(Declared::Stream {
-                name,
-                from,
-                to,
-                kind,
-                base,
-            })
-        }
-    }
-
-    // Whether a name is the environment's, or a stored unit has it.
-    fn is_node(&self, name: &Name) -> bool
-        ensures { result ≡ is_node self.now name.now }
-    {
-        design::is_env(name) || self.units.contains(name)
-    }
-
-    // Whether a name is the environment's, or a stored unit or stream has it.
-    fn is_taken(&self, name: &Name) -> bool
-        ensures { result ≡ is_taken self.now name.now }
-    {
-        self.is_node(name) || self.streams.contains(name)
-    }
-
-    // Stores a declaration.
-    fn store(&mut self, declared: Declared) -> Result<(), AllocError>
-        requires { CanStore self.old declared }
-        ensures ok { OnOk result (self.new ≡ self.old ++ declared ∷ []) }
-        ensures err { OnErr result (self.new ≡ self.old) }
-    {
-        match declared {
-            Declared::Unit { name } => self.store_unit(name),
-            Declared::Stream {
-                name,
-                from,
-                to,
-                kind,
-                base,
-            } => self.store_stream(name, from, to, kind, base),
-        }
-    }
-
-    fn store_unit(&mut self, name: Name) -> Result<(), AllocError>
-        requires { CanStoreUnit self.old name }
-        ensures ok { OnOk result (self.new ≡ self.old ++ UnitRow name ∷ []) }
-        ensures err { OnErr result (self.new ≡ self.old) }
-    {
-        self.stored.try_reserve(1)?;
-        self.units.push(name)?;
-        push_within(&mut self.stored, Declared::Unit { name });
-        Ok(())
-    }
-
-    fn store_stream(
-        &mut self,
-        name: Name,
-        from: Name,
-        to: Name,
-        kind: Kind,
-        base: i128,
-    ) -> Result<(), AllocError>
-        requires { CanStoreStream self.old name from to kind base }
-        ensures ok { OnOk result (self.new ≡ self.old ++ StreamRow name from to kind base ∷ []) }
-        ensures err { OnErr result (self.new ≡ self.old) }
-    {
-        self.stored.try_reserve(1)?;
-        self.streams.push(name)?;
-        let declared = Declared::Stream {
-            name,
-            from,
-            to,
-            kind,
-            base,
-        };
-        push_within(&mut self.stored, declared);
-        Ok(())
     }
 
     // Appends the rows of the design of what is stored.
     fn write_design(&self, out: &mut Vec<u8>) -> Result<(), AllocError>
-        ensures ok { OnOk result ((text : List ℕ) × (out.new.items ≡ out.old.items ++ text) × IsDesignText self.now text) }
+        ensures ok { OnOk result ((text : Seq ℕ) × (out.new.items ≡ out.old.items ++ text) × IsDesignText self.now text) }
         ensures err { OnErr result (out.new.items ≡ out.old.items) }
     {
-        design::write(self.alloc, &self.stored, &self.units, out)
+        let names = self.book.site().names()?;
+        let graph = design(self.alloc, &self.book)?;
+        let classes = classify(self.alloc, &graph)?;
+        write_design(self.alloc, &names, &graph, &classes, self.form, out)
     }
-}
 
-// Appends a row for which there is room.
-fn push_within(stored: &mut Vec<Declared>, declared: Declared)
-    requires { vec_len stored.old < vec_capacity stored.old }
-    ensures { stored.new.items ≡ stored.old.items ++ declared ∷ [] }
-{
-    match stored.push(declared) {
-        Ok(()) => {}
-        Err(_) => unreachable!(),
+    // Appends the report of a period, or the row that names the first stream beyond the limits.
+    fn write_report(&self, i: u32, out: &mut Vec<u8>) -> Result<(), AllocError>
+        requires { i < length (periods_of self.now.rows) }
+        ensures ok { OnOk result ((text : Seq ℕ) × (out.new.items ≡ out.old.items ++ text) × Reports self.now (slice_get (periods_of self.now.rows) i) text) }
+        ensures err { OnErr result (out.new.items ≡ out.old.items) }
+    {
+        let names = self.book.site().names()?;
+        let period = self.book.period(i).name;
+        match assemble(self.alloc, &self.book, i) {
+            Ok(graph) => self.write_graph(&names, &period, &graph, out),
+            Err(Assembly::Over(j)) => write_over(
+                self.alloc,
+                &period,
+                names.streams.at(j as usize),
+                self.form,
+                out,
+            ),
+            Err(Assembly::NoMemory) => Err(AllocError),
+        }
+    }
+
+    // Appends the report of a period of this name, whose graph this is.
+    fn write_graph(
+        &self,
+        names: &Names,
+        period: &Name,
+        graph: &Graph,
+        out: &mut Vec<u8>,
+    ) -> Result<(), AllocError>
+        requires names { names.now ≡ names_of (declared_of self.now.rows) }
+        requires graph { IsGraphOf self.now.rows graph.now }
+        requires limits { IsProcessGraph graph.now }
+        ensures ok { OnOk result ((text : Seq ℕ) × (out.new.items ≡ out.old.items ++ text) × IsReport self.now period.now graph.now text) }
+        ensures err { OnErr result (out.new.items ≡ out.old.items) }
+    {
+        let critical = Critical {
+            global: List::new(self.alloc),
+            nodal: None,
+            measure: None,
+        };
+        let study = study(self.alloc, graph, &self.options, &critical)?;
+        write_study(
+            self.alloc,
+            names,
+            period,
+            &self.options,
+            &study,
+            self.form,
+            out,
+        )
     }
 }
