@@ -8,16 +8,19 @@ use Rattle.pb_book.specs.declared.rows.BookRow.TheVariants.{Declaration, Period 
 use Rattle.pb_book.specs.declared.rows.StoredRow.{StoredRow}
 use Rattle.pb_book.specs.declared.rows.Period.{Period}
 
+-- the declaration that a row is, if it is one
 abbrev pub declaration_in : BookRow → Option Declared
 declaration_in (Declaration declared) = Some declared
 declaration_in (PeriodRow name first last) = None
 declaration_in (FactRow fact) = None
 
+-- the period, which nothing closes so far
 abbrev pub period_in : BookRow → Option Period
 period_in (Declaration declared) = None
 period_in (PeriodRow name first last) = Some (record { name = name; first = first; last = last; closed = false })
 period_in (FactRow fact) = None
 
+-- the fact, which nothing strikes so far
 abbrev pub fact_in : BookRow → Option KeptFact
 fact_in (Declaration declared) = None
 fact_in (PeriodRow name first last) = None

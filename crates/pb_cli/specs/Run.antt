@@ -21,7 +21,8 @@ usual_options = record { gap = 10; sweeps = 5000; tests = false; eliminate = 0 }
 abbrev pub new_session : Held
 new_session = record { options = usual_options; form = Csv; rows = [] }
 
--- The text of a run: the texts of the records of the input, in order, from a session that has stored nothing.
+-- The text of a run: the texts of the records of the input, in order, from a session that has stored nothing. Each report in it is
+-- that of the rows before it, and each of its stages is certified and the solution of its graph.
 abbrev pub IsTextOfRun : List ℕ → List ℕ → Type 0
 IsTextOfRun input text = IsSessionText new_session 1 (records_of input) text
 
@@ -29,8 +30,7 @@ IsTextOfRun input text = IsSessionText new_session 1 (records_of input) text
 abbrev pub refuses : List ℕ → Bool
 refuses input = refuses_some new_session 1 (records_of input)
 
--- The source was read to its end, and all of the text of its bytes was put: the records' rows in order, each class with its
--- certificate.
+-- The source was read to its end, and all of the text of its bytes was put.
 pub record RunsWhole {S W : Type 0} (left : S → Option (List ℕ)) (taken calls : S → ℕ) (held : W → Option (List ℕ)) (written : W → ℕ)
     (source source2 : S) (sink sink2 : W) (refused : Bool) : Type 0 where
   pub input : List ℕ

@@ -104,7 +104,10 @@ fn answer_records<W: Sink>(alloc: Global, rows: &Rows, sink: &mut W) -> Result<b
 ///
 /// The whole input is read before anything is written, and what each record adds is written before the next is taken.
 pub fn run<R: Source, W: Sink>(alloc: Global, words: &Words, source: &mut R, sink: &mut W) -> Status
-    // Whatever rows come in, the bytes written are the rows of the records in order.
+    // Whatever rows come in, the bytes written are the reports of the rows before them, in order. In each report every stream's class
+    // stands with a true cutset or cycle, the flows balance at every node, every balanced fractional vector whose weighted squares
+    // don't exceed those of the printed flows lies within the printed bounds, and unconverged comes only where none of the allowed
+    // sweeps of best prices meets the gap: so says the text of a run.
     ensures done { result ≡ Done → RunsWhole R.left R.taken R.calls W.held W.written source.old source.new sink.old sink.new false }
     ensures done_refused { result ≡ DoneRefused → RunsWhole R.left R.taken R.calls W.held W.written source.old source.new sink.old sink.new true }
 

@@ -87,8 +87,8 @@ impl Session {
             },
             Err(Refused::NoMemory) => Err(AllocError),
             Err(cause) => match self.refuse(at, cause, out) {
-                Ok(()) => return Ok(true),
-                Err(error) => return Err(error),
+                Ok(()) => Ok(true),
+                Err(error) => Err(error),
             },
         }
     }
