@@ -1,5 +1,7 @@
 // What no clause says: that records are answered where memory is ample, and outputs from outside.
 
+ghost use Rattle.std.specs.Prelude.{◌≡◌, ◌≤◌, false};
+
 use crate::Session;
 use pb_graph::Options;
 use pb_report::Form;
@@ -7,17 +9,25 @@ use pb_rows::Rows;
 use std::alloc::Global;
 use std::test::Fail;
 
-const USUAL: Options = Options {
-    gap: 10,
-    sweeps: 5_000,
-    tests: false,
-    eliminate: 0,
-};
+// What is asked of the studies: a gap, and at most 5,000 sweeps.
+fn asked(gap: u32) -> Options
+    ensures { result ≡ record { gap = gap; sweeps = 5000; tests = false; eliminate = 0 } }
+{
+    Options {
+        gap,
+        sweeps: 5_000,
+        tests: false,
+        eliminate: 0,
+    }
+}
 
 // The output of a session, and how many of its records were refused.
-fn output(alloc: Global, options: Options, text: &[u8]) -> Result<(Vec<u8>, u32), Fail> {
+fn output(alloc: Global, gap: u32, text: &[u8]) -> Result<(Vec<u8>, u32), Fail>
+    requires gap_from { 1 ≤ gap }
+    requires gap_to { gap ≤ 1000000 }
+{
     let rows = Rows::of(alloc, text)?;
-    let mut session = Session::new(alloc, options, Form::Csv);
+    let mut session = Session::new(alloc, asked(gap), Form::Csv);
     let mut out = Vec::new(alloc);
     let mut at = 0u32;
     let mut refused = 0u32;
@@ -56,7 +66,7 @@ fn writes_designs(rt: HostRuntime) -> Result<(), Fail> {
         ),
     ];
     for (text, want) in table {
-        let (out, _) = output(rt.alloc(), USUAL, text)?;
+        let (out, _) = output(rt.alloc(), 10, text)?;
         assert!(rt; out.as_slice() == want);
     }
     Ok(())
@@ -99,7 +109,7 @@ fn writes_reports(rt: HostRuntime) -> Result<(), Fail> {
         ),
     ];
     for (text, want) in table {
-        let (out, refused) = output(rt.alloc(), USUAL, text)?;
+        let (out, refused) = output(rt.alloc(), 10, text)?;
         assert!(rt; out.as_slice() == want);
         assert_eq!(rt; refused, 0);
     }
@@ -115,16 +125,10 @@ fn asks_what_the_options_say(rt: HostRuntime) -> Result<(), Fail> {
         b"report,d1,0,2,2,1000,5000\nnode,env,0\nnode,U,0\nstream,A,env,U,1,1,redundant,0,-1,3,cut,env,-A +B\nstream,B,U,env,0,1,redundant,0,-2,2,cut,U,+A -B\nsolved,0,converged,1048576,0,1,0,1000\nend,d1,0\n";
     let narrow: &[u8] =
         b"report,d1,0,2,2,999,5000\nnode,env,0\nnode,U,-36028797018963968\nstream,A,env,U,1,1,redundant,1,-1,2,cut,env,-A +B\nstream,B,U,env,0,1,redundant,1,-1,2,cut,U,+A -B\nsolved,1,converged,741456,0,1,499,1000\nend,d1,0\n";
-    for (gap, want) in [(1_000, wide), (999, narrow)] {
-        let options = Options {
-            gap,
-            sweeps: 5_000,
-            tests: false,
-            eliminate: 0,
-        };
-        let (out, _) = output(rt.alloc(), options, text)?;
-        assert!(rt; out.as_slice() == want);
-    }
+    let (out, _) = output(rt.alloc(), 1_000, text)?;
+    assert!(rt; out.as_slice() == wide);
+    let (out, _) = output(rt.alloc(), 999, text)?;
+    assert!(rt; out.as_slice() == narrow);
     Ok(())
 }
 
@@ -145,7 +149,7 @@ fn tells_a_total_too_great(rt: HostRuntime) -> Result<(), Fail> {
     )?;
     let want: &[u8] =
         b"report,d1,0,2,2,10,5000\nnode,env,0\nnode,U,0\nstream,T,env,U,1000000000000000,1,nonredundant,1000000000000000,1000000000000000,1000000000000000,cycle,,+T +O\nstream,O,U,env,,,observable,1000000000000000,1000000000000000,1000000000000000,cut,U,+T -O\nsolved,0,converged,0,0,0,0,0\nend,d1,0\nover,d1,T\n";
-    let (out, refused) = output(rt.alloc(), USUAL, text.as_slice())?;
+    let (out, refused) = output(rt.alloc(), 10, text.as_slice())?;
     assert!(rt; out.as_slice() == want);
     assert_eq!(rt; refused, 0);
     Ok(())
@@ -217,7 +221,7 @@ fn answers_records(rt: HostRuntime) -> Result<(), Fail> {
             b"unit,U\nstream,A,env,U,metered,1\nstream,B,U,env,plain,0\nperiod,d1,2024-03-01,2024-03-01\ncritical,global,1,3841\nreading,r1,A,2024-03-01,1,0\n",
         )?;
         text.extend_from_slice(record)?;
-        let (out, count) = output(rt.alloc(), USUAL, text.as_slice())?;
+        let (out, count) = output(rt.alloc(), 10, text.as_slice())?;
         assert!(rt; out.as_slice() == want);
         assert_eq!(rt; count, refused);
     }
@@ -230,7 +234,7 @@ fn keeps_the_book(rt: HostRuntime) -> Result<(), Fail> {
         rt.alloc(),
         b"unit,U\nunit,U\nperiod,d1,2024-03-01,2024-03-02\n",
     )?;
-    let mut session = Session::new(rt.alloc(), USUAL, Form::Csv);
+    let mut session = Session::new(rt.alloc(), asked(10), Form::Csv);
     let mut out = Vec::new(rt.alloc());
     for i in 0..rows.len() {
         session.row(1, rows.at(i), &mut out)?;
