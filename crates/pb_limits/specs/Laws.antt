@@ -1,0 +1,33 @@
+-- Statement. A constant of the code is the number of its definition.
+use Rattle.std.specs.Prelude.{◌≡◌, pos}
+use Rattle.pb_limits.specs.Limits.{most_units_and_tanks, most_nodes, most_streams, most_points, most_periods, most_facts, most_days_of_period, most_days_of_transfer, most_bytes, most_level, most_volume, most_density, most_grams, most_row_variance, most_critical, most_freedom, most_value, most_variance, most_gap, most_sweeps}
+use Rattle.pb_limits.specs.declared.TheConstants.{MOST_UNITS_AND_TANKS, MOST_NODES, MOST_STREAMS, MOST_POINTS, MOST_PERIODS, MOST_FACTS, MOST_DAYS_OF_PERIOD, MOST_DAYS_OF_TRANSFER, MOST_BYTES, MOST_LEVEL, MOST_VOLUME, MOST_DENSITY, MOST_GRAMS, MOST_ROW_VARIANCE, MOST_CRITICAL, MOST_FREEDOM, MOST_VALUE, MOST_VARIANCE, MOST_GAP, MOST_SWEEPS}
+
+-- how much there may be of each thing
+pub record AreCounts : Type 0 where
+  pub units_and_tanks : MOST_UNITS_AND_TANKS ≡ most_units_and_tanks
+  pub nodes : MOST_NODES ≡ most_nodes
+  pub streams : MOST_STREAMS ≡ most_streams
+  pub points : MOST_POINTS ≡ most_points
+  pub periods : MOST_PERIODS ≡ most_periods
+  pub facts : MOST_FACTS ≡ most_facts
+  pub days_of_period : MOST_DAYS_OF_PERIOD ≡ pos most_days_of_period
+  pub days_of_transfer : MOST_DAYS_OF_TRANSFER ≡ pos most_days_of_transfer
+  pub bytes : MOST_BYTES ≡ most_bytes
+
+-- how great the numbers of rows may be
+pub record AreRanges : Type 0 where
+  pub level : MOST_LEVEL ≡ pos most_level
+  pub volume : MOST_VOLUME ≡ pos most_volume
+  pub density : MOST_DENSITY ≡ pos most_density
+  pub grams : MOST_GRAMS ≡ pos most_grams
+  pub variance : MOST_ROW_VARIANCE ≡ pos most_row_variance
+  pub critical : MOST_CRITICAL ≡ pos most_critical
+  pub freedom : MOST_FREEDOM ≡ most_freedom
+
+-- how great the numbers of a graph may be, and what may be asked of its study
+pub record AreGraphRanges : Type 0 where
+  pub value : MOST_VALUE ≡ most_value
+  pub variance : MOST_VARIANCE ≡ pos most_variance
+  pub gap : MOST_GAP ≡ most_gap
+  pub sweeps : MOST_SWEEPS ≡ most_sweeps

@@ -1,0 +1,4 @@
+-- Statement
+pub mod Limits
+pub mod Ranges
+pub mod Laws

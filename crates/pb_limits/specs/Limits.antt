@@ -1,0 +1,82 @@
+-- Statement. The limits of a plant, of its book and of a run, each one number.
+use Rattle.std.specs.Prelude.{ℕ, ◌^◌}
+
+-- how many units and tanks a plant has at the most
+abbrev pub most_units_and_tanks : ℕ
+most_units_and_tanks = 1000
+
+-- how many nodes a process graph has at the most: units, tanks and the environment
+abbrev pub most_nodes : ℕ
+most_nodes = 1001
+
+-- how many streams a process graph has at the most: declared streams and inventories of tanks
+abbrev pub most_streams : ℕ
+most_streams = 2000
+
+-- how many points the strapping table of a tank has at the most
+abbrev pub most_points : ℕ
+most_points = 2000
+
+-- how many periods a book has at the most
+abbrev pub most_periods : ℕ
+most_periods = 1000
+
+-- how many facts (readings, transfers and dips) a book has at the most
+abbrev pub most_facts : ℕ
+most_facts = 200000
+
+-- how many days a period has at the most
+abbrev pub most_days_of_period : ℕ
+most_days_of_period = 100
+
+-- how many days a transfer lasts at the most
+abbrev pub most_days_of_transfer : ℕ
+most_days_of_transfer = 366
+
+-- how many bytes the input of a run has at the most
+abbrev pub most_bytes : ℕ
+most_bytes = 67108864
+
+-- the highest level of a tank, in millimetres
+abbrev pub most_level : ℕ
+most_level = 100000
+
+-- the greatest volume of a strapping table, in millilitres
+abbrev pub most_volume : ℕ
+most_volume = 10 ^ 12
+
+-- the greatest density, in grams per cubic metre
+abbrev pub most_density : ℕ
+most_density = 20000000
+
+-- the greatest amount of a row, in grams, either way
+abbrev pub most_grams : ℕ
+most_grams = 10 ^ 13
+
+-- the greatest variance of a row, in squared grams
+abbrev pub most_row_variance : ℕ
+most_row_variance = 10 ^ 19
+
+-- the greatest critical value, in thousandths
+abbrev pub most_critical : ℕ
+most_critical = 10 ^ 12
+
+-- the most degrees of freedom that a critical value can be of
+abbrev pub most_freedom : ℕ
+most_freedom = 2000
+
+-- the greatest measured value of a process graph, in grams, either way
+abbrev pub most_value : ℕ
+most_value = 10 ^ 15
+
+-- the greatest variance of a process graph, in squared grams
+abbrev pub most_variance : ℕ
+most_variance = 10 ^ 22
+
+-- the widest gap that may be asked of a study, in thousandths of a standard deviation
+abbrev pub most_gap : ℕ
+most_gap = 1000000
+
+-- the most sweeps that may be allowed to a study
+abbrev pub most_sweeps : ℕ
+most_sweeps = 100000

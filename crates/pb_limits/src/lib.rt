@@ -1,0 +1,72 @@
+//! The limits of a plant, of its book and of a run: each is one number in a definition, which clauses cite,
+//! and a constant of the code that is that number.
+#![tactic(auto)]
+
+ghost use Rattle.pb_limits.specs.Laws.{AreCounts, AreGraphRanges, AreRanges};
+
+/// The most units and tanks of a plant.
+pub const MOST_UNITS_AND_TANKS: usize = 1_000;
+
+/// The most nodes of a process graph: units, tanks and the environment.
+pub const MOST_NODES: u32 = 1_001;
+
+/// The most streams of a process graph: declared streams and inventories of tanks.
+pub const MOST_STREAMS: usize = 2_000;
+
+/// The most points of the strapping table of a tank.
+pub const MOST_POINTS: usize = 2_000;
+
+/// The most periods of a book.
+pub const MOST_PERIODS: usize = 1_000;
+
+/// The most facts of a book: readings, transfers and dips.
+pub const MOST_FACTS: usize = 200_000;
+
+/// The most days of a period.
+pub const MOST_DAYS_OF_PERIOD: i32 = 100;
+
+/// The most days of a transfer.
+pub const MOST_DAYS_OF_TRANSFER: i32 = 366;
+
+/// The most bytes of the input of a run.
+pub const MOST_BYTES: usize = 67_108_864;
+
+/// The highest level of a tank, in millimetres.
+pub const MOST_LEVEL: i64 = 100_000;
+
+/// The greatest volume of a strapping table, in millilitres.
+pub const MOST_VOLUME: i64 = 1_000_000_000_000;
+
+/// The greatest density, in grams per cubic metre.
+pub const MOST_DENSITY: i64 = 20_000_000;
+
+/// The greatest amount of a row, in grams, either way.
+pub const MOST_GRAMS: i64 = 10_000_000_000_000;
+
+/// The greatest variance of a row, in squared grams.
+pub const MOST_ROW_VARIANCE: i128 = 10_000_000_000_000_000_000;
+
+/// The greatest critical value, in thousandths.
+pub const MOST_CRITICAL: i64 = 1_000_000_000_000;
+
+/// The most degrees of freedom that a critical value can be of.
+pub const MOST_FREEDOM: u32 = 2_000;
+
+/// The greatest measured value of a process graph, in grams, either way.
+pub const MOST_VALUE: u128 = 1_000_000_000_000_000;
+
+/// The greatest variance of a process graph, in squared grams.
+pub const MOST_VARIANCE: i128 = 10_000_000_000_000_000_000_000;
+
+/// The widest gap that may be asked of a study, in thousandths of a standard deviation.
+pub const MOST_GAP: u32 = 1_000_000;
+
+/// The most sweeps that may be allowed to a study.
+pub const MOST_SWEEPS: u32 = 100_000;
+
+/// Each constant is the number of its definition.
+pub fn limits_law()
+    ensures counts { AreCounts }
+    ensures ranges { AreRanges }
+    ensures graph_ranges { AreGraphRanges }
+{}
