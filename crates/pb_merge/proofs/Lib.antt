@@ -5,3 +5,4 @@ pub mod GroupLemmas
 pub mod FreeLemmas
 pub mod MadeGroups
 pub mod NumberingLaws
+pub mod SomeGroupsLemmas

@@ -5,17 +5,17 @@ use Rattle.std.proofs.lemmas.List.{get_or_append_left, get_or_push}
 use Rattle.pb_graph.specs.Groups.{group_at}
 use Rattle.pb_merge.specs.Roots.{AreNumbered, number_of}
 
-length_push : {X : Type 0} (xs : List X) (y : X) → length (xs ++ y ∷ []) ≡ length xs + 1
+pub length_push : {X : Type 0} (xs : List X) (y : X) → length (xs ++ y ∷ []) ≡ length xs + 1
 length_push xs y = length-append xs (y ∷ [])
 
-push_below : (xs : List ℕ) (y i : ℕ) → i < length xs → group_at (xs ++ y ∷ []) i ≡ group_at xs i
+pub push_below : (xs : List ℕ) (y i : ℕ) → i < length xs → group_at (xs ++ y ∷ []) i ≡ group_at xs i
 push_below xs y i lt = get_or_append_left xs (y ∷ []) 0 i lt
 
-push_at : (xs : List ℕ) (y i : ℕ) → length xs ≡ i → group_at (xs ++ y ∷ []) i ≡ y
+pub push_at : (xs : List ℕ) (y i : ℕ) → length xs ≡ i → group_at (xs ++ y ∷ []) i ≡ y
 push_at xs y i e = get_or_push xs y 0 i e
 
 -- of the places below n + 1, the last one and the others
-last_or : (P : ℕ → Type 0) (n a : ℕ) → a < n + 1 → P n → (a < n → P a) → P a
+pub last_or : (P : ℕ → Type 0) (n a : ℕ) → a < n + 1 → P n → (a < n → P a) → P a
 last_or P n a lt last early = elim (cases_eq a n) [ inl e ↦ subst P (sym e) last | inr ne ↦ early (omega (arith, lt, ne)) ]
 
 -- a node that is its own root begins a group

@@ -4,6 +4,10 @@ use Rattle.pb_graph.specs.ProcessGraph.{ProcessGraph, IsProcessGraph}
 use Rattle.pb_graph.specs.Groups.{AreGroups, IsFreeGroup, is_free_group, group_at, group_count}
 use Rattle.pb_merge.specs.Grouping.{IsLeastNode}
 
+-- each graph has groups
+abbrev pub SomeGroupsLaw : Type 0
+SomeGroupsLaw = (graph : ProcessGraph) → IsProcessGraph graph → (group : List ℕ) × AreGroups graph group
+
 -- a graph has one list of group numbers
 abbrev pub OneNumbering : Type 0
 OneNumbering = (g : ProcessGraph) (group other : List ℕ) → AreGroups g group → AreGroups g other → group ≡ other

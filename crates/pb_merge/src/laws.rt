@@ -1,6 +1,11 @@
 //! What is proved of the definitions alone. The functions are empty: the contract of each is a law.
 
-ghost use Rattle.pb_merge.specs.Laws.{NumberingLaw, FreeLaw};
+ghost use Rattle.pb_merge.specs.Laws.{SomeGroupsLaw, NumberingLaw, FreeLaw};
+
+/// Each graph has groups.
+pub fn some_groups_law()
+    ensures { SomeGroupsLaw }
+{}
 
 /// A graph has one list of group numbers; the numbers are in order of the least nodes of the groups, and none is left out.
 pub fn numbering_law()
