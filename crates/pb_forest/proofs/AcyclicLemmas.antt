@@ -13,62 +13,7 @@ use Rattle.pb_forest.specs.Forest.{is_before, IsDecided, IsForest}
 use Rattle.pb_forest.specs.Laws.{held_before, except, IsAcyclic, IsPart, AcyclicLaw, OneForestLaw}
 use Rattle.pb_forest.proofs.OrderLemmas.{before_earlier, before_other}
 use Rattle.pb_forest.proofs.SpansLemmas.{before_unmeasured}
-
--- a walk that may take stream s too: without it, or through it forward, or through it backward
-abbrev Cases : (Step → Option (ℕ × ℕ)) → Stream → ℕ → ℕ → Type 0
-Cases ends s a b = Reaches ends a b ⊎ ((Reaches ends a s.from × Reaches ends s.to b) ⊎ (Reaches ends a s.to × Reaches ends s.from b))
-
-prefix : (ends : Step → Option (ℕ × ℕ)) (s : Stream) (a c b : ℕ) → Reaches ends a c → Cases ends s c b → Cases ends s a b
-prefix ends s a c b r tail = elim tail [
-  | inl q ↦ inl (reach_both ends a c b r q)
-  | inr more ↦ elim more [
-    | inl (p, q) ↦ inr (inl (reach_both ends a c s.from r p, q))
-    | inr (p, q) ↦ inr (inr (reach_both ends a c s.to r p, q))
-  ]
-]
-
-over_forward : (ends : Step → Option (ℕ × ℕ)) (s : Stream) (b : ℕ) → Cases ends s s.to b → Cases ends s s.from b
-over_forward ends s b tail = elim tail [
-  | inl q ↦ inr (inl (reach_none ends s.from, q))
-  | inr more ↦ elim more [
-    | inl (p, q) ↦ inr (inl (reach_none ends s.from, q))
-    | inr (p, q) ↦ inl q
-  ]
-]
-
-over_backward : (ends : Step → Option (ℕ × ℕ)) (s : Stream) (b : ℕ) → Cases ends s s.from b → Cases ends s s.to b
-over_backward ends s b tail = elim tail [
-  | inl q ↦ inr (inr (reach_none ends s.to, q))
-  | inr more ↦ elim more [
-    | inl (p, q) ↦ inl q
-    | inr (p, q) ↦ inr (inr (reach_none ends s.to, q))
-  ]
-]
-
--- a step along the stream itself
-over : (ends : Step → Option (ℕ × ℕ)) (s : Stream) (forward : Bool) (a c b : ℕ) → along forward s ≡ (a, c) → Cases ends s c b → Cases ends s a b
-over ends s true a c b e tail =
-    subst (λ (n : ℕ). Cases ends s n b) (ap (λ (p : ℕ × ℕ). p.0) e) (over_forward ends s b (subst (λ (n : ℕ). Cases ends s n b) (sym (ap (λ (p : ℕ × ℕ). p.1) e)) tail))
-over ends s false a c b e tail =
-    subst (λ (n : ℕ). Cases ends s n b) (ap (λ (p : ℕ × ℕ). p.0) e) (over_backward ends s b (subst (λ (n : ℕ). Cases ends s n b) (sym (ap (λ (p : ℕ × ℕ). p.1) e)) tail))
-
--- all streams of the one test but the j-th pass the other
-abbrev pub IsPartBut : List Stream → ℕ → (ℕ → Stream → Bool) → (ℕ → Stream → Bool) → Type 0
-IsPartBut ss j more may = (k : ℕ) (t : Stream) → slice_get ss k ≡ Some t → k ≢ j → more k t ≡ true → may k t ≡ true
-
-pub more_cases : (ss : List Stream) (may more : ℕ → Stream → Bool) (j : ℕ) (s : Stream) (a b : ℕ) (steps : List Step) → slice_get ss j ≡ Some s
-    → IsPartBut ss j more may → Walks (ends_of more ss) a steps b → Cases (ends_of may ss) s a b
-more_cases ss may more j s a b [] at but w = inl ([], w)
-more_cases ss may more j s a b (t ∷ rest) at but (c, e, w) =
-    let ends = ends_of may ss in
-    let (u, here, ok, goes) = stream_of more ss t (a, c) e in
-    let tail = more_cases ss may more j s c b rest at but w in
-    elim (cases_eq t.stream j) [
-      | inl same ↦
-          let is : u ≡ s = some_same (sym here ∙ ap (λ (i : ℕ). slice_get ss i) same ∙ at) in
-          over ends s t.forward a c b (ap (along t.forward) (sym is) ∙ goes) tail
-      | inr other ↦ prefix ends s a c b (reach_one ends a c t (ends_is may ss t.stream u t.forward here (but t.stream u here other ok) ∙ ap (λ (q : ℕ × ℕ). Some q) goes)) tail
-    ]
+use Rattle.pb_forest.proofs.ReachLemmas.{IsPartBut, more_cases}
 
 -- a part of a set without cycle has none
 pub acyclic_part : (ss : List Stream) (some may : ℕ → Stream → Bool) → IsPart ss some may → IsAcyclic ss may → IsAcyclic ss some

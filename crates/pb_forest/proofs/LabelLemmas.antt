@@ -12,7 +12,7 @@ use Rattle.pb_forest.specs.Forest.{is_before, IsDecided}
 use Rattle.pb_forest.specs.Labels.{IsLabelling, relabelled, IsRelabelled}
 use Rattle.pb_forest.proofs.OrderLemmas.{before_earlier, before_later, before_other, before_here}
 use Rattle.pb_forest.proofs.SpansLemmas.{before_unmeasured}
-use Rattle.pb_forest.proofs.AcyclicLemmas.{IsPartBut}
+use Rattle.pb_forest.proofs.ReachLemmas.{IsPartBut}
 
 -- two new labels are one where the old ones were, or where one was each of the two that became one
 relabel_cases : (t f x y : ℕ) → relabelled t f x ≡ relabelled t f y → (x ≡ y) ⊎ (((x ≡ t) × (y ≡ f)) ⊎ ((x ≡ f) × (y ≡ t)))

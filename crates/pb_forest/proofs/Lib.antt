@@ -1,5 +1,6 @@
 pub mod OrderLemmas
 pub mod SpansLemmas
+pub mod ReachLemmas
 pub mod AcyclicLemmas
 pub mod PathLemmas
 pub mod LabelLemmas
@@ -9,3 +10,4 @@ pub mod FlowLemmas
 pub mod SideLemmas
 pub mod TreeLemmas
 pub mod NetLemmas
+pub mod SomeForestLemmas

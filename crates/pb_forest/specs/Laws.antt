@@ -54,6 +54,10 @@ abbrev pub ChordLaw : Type 0
 ChordLaw = (ss : List Stream) (held : List Bool) (j : ℕ) (s : Stream) → IsForest ss held → slice_get ss j ≡ Some s
     → is_measured s ≡ false → get_or held j false ≡ false → Reaches (ends_of (held_unmeasured held) ss) s.from s.to
 
+-- each list of streams has a spanning forest
+abbrev pub SomeForestLaw : Type 0
+SomeForestLaw = (streams : List Stream) → (held : List Bool) × IsForest streams held
+
 -- a list of streams has one spanning forest
 abbrev pub OneForestLaw : Type 0
 OneForestLaw = (ss : List Stream) (held other : List Bool) → IsForest ss held → IsForest ss other → held ≡ other

@@ -1,4 +1,4 @@
-ghost use Rattle.pb_forest.specs.Laws.{SpansLaw, AcyclicLaw, UniqueLaw, PartLaw, ChordLaw, OneForestLaw};
+ghost use Rattle.pb_forest.specs.Laws.{SpansLaw, AcyclicLaw, UniqueLaw, PartLaw, ChordLaw, SomeForestLaw, OneForestLaw};
 ghost use Rattle.pb_forest.specs.Flows.{OneBalancedLaw};
 
 /// What any streams join, the forest joins.
@@ -24,6 +24,11 @@ pub fn part_law()
 /// An unmeasured stream outside the forest has its ends joined by held unmeasured streams.
 pub fn chord_law()
     ensures { ChordLaw }
+{}
+
+/// Each list of streams has a spanning forest.
+pub fn some_forest_law()
+    ensures { SomeForestLaw }
 {}
 
 /// A list of streams has one spanning forest.
