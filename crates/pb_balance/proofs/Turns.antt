@@ -169,3 +169,9 @@ taken_once ss k (t ∷ rest) lt once some = elim (cases_eq t.stream k) [
       λ e. taken_once ss k rest lt (and_parts (not (takes t.stream rest)) (is_distinct (λ (u : Step). u.stream) rest) once).1 more
       (sym (item_add_other t.stream k (turn t.forward) (turns ss rest) (λ z. other (sym z))) ∙ e)
 ]
+
+-- a first step forward along a stream that the rest does not take brings one unit there
+pub first_unit : (ss : List Stream) (k : ℕ) (rest : List Step) → k < length ss → takes k rest ≡ false
+    → item (turns ss (record { stream = k; forward = true } ∷ rest)) k ≡ pos 1
+first_unit ss k rest lt none =
+    item_add_same k (pos 1) (turns ss rest) (omega (arith, lt, length_turns ss rest)) ∙ ap (λ (z : ℤ). pos 1 +ℤ z) (not_taken ss k rest none)

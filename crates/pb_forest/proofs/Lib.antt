@@ -11,3 +11,4 @@ pub mod SideLemmas
 pub mod TreeLemmas
 pub mod NetLemmas
 pub mod SomeForestLemmas
+pub mod SomeBalancedLemmas

@@ -14,6 +14,11 @@ use Rattle.pb_forest.specs.Trees.{RootedTrees, AreWhole, node_at, up_of, end_fro
 abbrev pub AgreeOffForest : List Bool → List ℤ → List ℤ → Type 0
 AgreeOffForest held xs ys = (k : ℕ) → k < length held → get_or held k false ≡ false → item xs k ≡ item ys k
 
+-- there is a balanced flow vector with given flows off the forest
+abbrev pub SomeBalancedLaw : Type 0
+SomeBalancedLaw = (graph : ProcessGraph) (held : List Bool) (off : List ℤ) → IsForest graph.streams held
+    → (flows : List ℤ) × IsBalanced graph flows × AgreeOffForest held flows off
+
 -- there is at most one balanced flow vector with given flows off the forest
 abbrev pub OneBalancedLaw : Type 0
 OneBalancedLaw = (g : ProcessGraph) (held : List Bool) (xs ys : List ℤ) → IsProcessGraph g → IsForest g.streams held

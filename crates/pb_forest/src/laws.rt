@@ -1,5 +1,5 @@
 ghost use Rattle.pb_forest.specs.Laws.{SpansLaw, AcyclicLaw, UniqueLaw, PartLaw, ChordLaw, SomeForestLaw, OneForestLaw};
-ghost use Rattle.pb_forest.specs.Flows.{OneBalancedLaw};
+ghost use Rattle.pb_forest.specs.Flows.{SomeBalancedLaw, OneBalancedLaw};
 
 /// What any streams join, the forest joins.
 pub fn spans_law()
@@ -34,6 +34,11 @@ pub fn some_forest_law()
 /// A list of streams has one spanning forest.
 pub fn one_forest_law()
     ensures { OneForestLaw }
+{}
+
+/// There is a balanced flow vector with given flows off the forest.
+pub fn some_balanced_law()
+    ensures { SomeBalancedLaw }
 {}
 
 /// There is at most one balanced flow vector with given flows off the forest.
