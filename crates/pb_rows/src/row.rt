@@ -1,6 +1,6 @@
 // The records of a text, each a list of fields, and each field its bytes.
 
-ghost use Rattle.std.specs.Prelude.{◌≡◌, ◌<◌, ◌≤◌, ◌∷◌, ◌++◌, [], length, take, slice_index_or, IfOk, OnOk, OnErr, IsTrue, ◌↔◌};
+ghost use Rattle.std.specs.Prelude.{◌≡◌, ◌<◌, ◌≤◌, ◌∷◌, ◌++◌, [], length, take, slice_index_or, IfOk, OnOk, OnErr, IsTrue, ◌↔◌, map};
 ghost use Rattle.csv.specs.Reading.{NotLengths, error_kind};
 ghost use Rattle.csv.specs.Records.{fields_of};
 ghost use Rattle.pb_rows.specs.Records.{records_of, without_trailing_empty};
@@ -63,6 +63,13 @@ impl Row {
         ensures { result.now ≡ slice_index_or self.now i [] }
     {
         self.fields[i].as_slice()
+    }
+
+    /// The fields up to the last one that isn't empty.
+    pub fn filled_fields(&self) -> &[Vec<u8>]
+        ensures { map (λ field. field.items) result.now ≡ without_trailing_empty self.now }
+    {
+        &self.fields[..self.filled()]
     }
 
     /// The number of fields up to the last one that isn't empty: spreadsheets pad rows with empty fields.
