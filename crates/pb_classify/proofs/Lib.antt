@@ -6,3 +6,4 @@ pub mod CutLemmas
 pub mod CycleLemmas
 pub mod MarkLemmas
 pub mod Items
+pub mod SomeClassificationLemmas

@@ -1,8 +1,12 @@
 -- What is proved of classifications.
 use Rattle.std.specs.Prelude.{◌≡◌, List}
 use Rattle.pb_graph.specs.declared.records.Classified.{Classified}
-use Rattle.pb_graph.specs.ProcessGraph.{ProcessGraph}
+use Rattle.pb_graph.specs.ProcessGraph.{ProcessGraph, IsProcessGraph}
 use Rattle.pb_classify.specs.Classification.{IsClassification}
+
+-- each process graph has a classification
+abbrev pub SomeClassificationLaw : Type 0
+SomeClassificationLaw = (graph : ProcessGraph) → IsProcessGraph graph → (classes : List Classified) × IsClassification graph classes
 
 -- a graph has one classification, certificates and all
 abbrev pub OneClassificationLaw : Type 0

@@ -1,4 +1,9 @@
-ghost use Rattle.pb_classify.specs.Laws.{OneClassificationLaw};
+ghost use Rattle.pb_classify.specs.Laws.{SomeClassificationLaw, OneClassificationLaw};
+
+/// Each process graph has a classification.
+pub fn some_classification_law()
+    ensures { SomeClassificationLaw }
+{}
 
 /// A graph has one classification, so a text made of it is determined by the graph.
 pub fn one_classification_law()

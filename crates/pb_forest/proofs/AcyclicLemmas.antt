@@ -1,14 +1,13 @@
 -- The forest has no cycle, and there is one.
-use Rattle.std.proofs.Common.{◌≡◌, ◌≢◌, ◌⊎◌, ◌∙◌, ℕ, zero, suc, ◌+◌, ◌<◌, ◌≤◌, Bool, true, false, not, ◌==◌, nat_lt, List, [], ◌∷◌, length, Option, Some, None, slice_get, get_or, ap, sym, refl, subst, inl, inr, arith}
+use Rattle.std.proofs.Common.{◌≡◌, ◌⊎◌, ◌∙◌, ℕ, zero, suc, ◌+◌, ◌<◌, ◌≤◌, Bool, true, false, not, ◌==◌, nat_lt, List, length, Some, None, slice_get, get_or, ap, sym, refl, subst, inl, inr, arith}
 use Rattle.std.proofs.lemmas.Bool.{cases_Bool, cases_eq, and_parts, and_from, or_right, not-true, eq-eqb, ltb-true, lt-ltb}
 use Rattle.std.proofs.lemmas.Option.{slice_get_within, slice_get-get_or}
 use Rattle.std.proofs.lemmas.List.{ext_get_or}
 use Rattle.pb_graph.specs.declared.records.Stream.{Stream}
-use Rattle.pb_graph.specs.declared.records.Step.{Step}
 use Rattle.pb_graph.specs.ProcessGraph.{is_measured}
-use Rattle.pb_graph.specs.Walk.{along, ends_of, Walks, Reaches}
+use Rattle.pb_graph.specs.Walk.{ends_of, Reaches}
 use Rattle.pb_graph.specs.Path.{is_open}
-use Rattle.pb_graph.proofs.WalkLemmas.{some_same, ends_is, stream_of, reach_none, reach_one, reach_both, reach_back, reach_more}
+use Rattle.pb_graph.proofs.WalkLemmas.{some_same, ends_is, reach_one, reach_both, reach_back, reach_more}
 use Rattle.pb_forest.specs.Forest.{is_before, IsDecided, IsForest}
 use Rattle.pb_forest.specs.Laws.{held_before, except, IsAcyclic, IsPart, AcyclicLaw, OneForestLaw}
 use Rattle.pb_forest.proofs.OrderLemmas.{before_earlier, before_other}

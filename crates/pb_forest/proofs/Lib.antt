@@ -12,3 +12,4 @@ pub mod TreeLemmas
 pub mod NetLemmas
 pub mod SomeForestLemmas
 pub mod SomeBalancedLemmas
+pub mod SomePathLemmas

@@ -12,11 +12,11 @@ use Rattle.pb_forest.specs.Laws.{except, IsAcyclic, IsPart, UniqueLaw, PartLaw}
 use Rattle.pb_forest.proofs.SpansLemmas.{joins_ends}
 
 -- a step begins where it does, whatever else may be taken
-begin_is : (may : ℕ → Stream → Bool) (nodes : ℕ) (ss : List Stream) (t : Step) (a c : ℕ) → ends_of may ss t ≡ Some (a, c) → begin_of nodes ss t ≡ a
+pub begin_is : (may : ℕ → Stream → Bool) (nodes : ℕ) (ss : List Stream) (t : Step) (a c : ℕ) → ends_of may ss t ≡ Some (a, c) → begin_of nodes ss t ≡ a
 begin_is may nodes ss t a c e = ap (first_or nodes) (ends_more may any_stream ss t (a, c) (λ k s at ok. refl) e)
 
 -- behind the first step of a path is a path
-path_rest : (ends : Step → Option (ℕ × ℕ)) (nodes : ℕ) (ss : List Stream) (a b : ℕ) (t : Step) (rest : List Step) → IsPath ends nodes ss a (t ∷ rest) b
+pub path_rest : (ends : Step → Option (ℕ × ℕ)) (nodes : ℕ) (ss : List Stream) (a b : ℕ) (t : Step) (rest : List Step) → IsPath ends nodes ss a (t ∷ rest) b
     → (c : ℕ) × (ends t ≡ Some (a, c)) × IsPath ends nodes ss c rest b
 path_rest ends nodes ss a b t rest path =
     let (c, e, w) = path.walk in (

@@ -6,7 +6,7 @@ use Rattle.std.proofs.lemmas.Option.{slice_get_within, slice_get-get_or}
 use Rattle.pb_graph.specs.declared.records.Stream.{Stream}
 use Rattle.pb_graph.specs.declared.records.Step.{Step}
 use Rattle.pb_graph.specs.ProcessGraph.{IsStream}
-use Rattle.pb_graph.specs.Walk.{along, ends_of, is_in, Walks, Reaches, IsReach}
+use Rattle.pb_graph.specs.Walk.{along, ends_of, Walks, Reaches, IsReach}
 use Rattle.pb_graph.proofs.WalkLemmas.{some_same, ends_is, stream_of, along_within, reach_none, reach_one, reach_both, reach_back, IsWithin, reach_more, walk_keeps}
 
 -- a walk that may take stream s too: without it, or through it forward, or through it backward

@@ -1,7 +1,6 @@
 -- Each forest has a balanced flow vector with given flows off it: the flow of each chord circulates along the chord's own cycle.
 use Rattle.std.proofs.Common.{◌≡◌, ◌≢◌, ◌∙◌, ℕ, zero, suc, ◌<◌, ◌≤◌, ℤ, pos, ◌+ℤ◌, ◌-ℤ◌, ◌*ℤ◌, Bool, true, false, cond, ◌==◌, List, [], ◌∷◌, length, Some, None, slice_get, get_or, refl, sym, ap, ap₂, subst, inl, inr, arith}
-use Rattle.std.proofs.lemmas.Bool.{cases_Bool, cases_eq, ne_eqb, eq-eqb}
-use Rattle.std.proofs.lemmas.Int.{ints}
+use Rattle.std.proofs.lemmas.Bool.{cases_Bool, cases_eq, ne_eqb}
 use Rattle.std.proofs.lemmas.Option.{slice_get-get_or, slice_get_within}
 use Rattle.pb_integers.specs.Sums.{item}
 use Rattle.pb_integers.proofs.RingLaws.{mul_zero, add_zero}

@@ -1,5 +1,5 @@
 -- Each list of streams has a spanning forest: for each stream it is decided whether streams before it join its ends.
-use Rattle.std.proofs.Common.{◌≡◌, ◌∙◌, ℕ, zero, suc, ◌+◌, ◌<◌, ◌≤◌, Bool, true, false, List, [], ◌∷◌, ◌++◌, length, Some, None, slice_get, get_or, sym, refl, subst, inl, inr, arith, length-append}
+use Rattle.std.proofs.Common.{◌≡◌, ◌∙◌, ℕ, zero, suc, ◌<◌, ◌≤◌, Bool, true, false, List, [], ◌∷◌, ◌++◌, length, Some, None, slice_get, get_or, sym, refl, subst, inl, inr, arith, length-append}
 use Rattle.std.proofs.lemmas.Bool.{cases_eq}
 use Rattle.std.proofs.lemmas.List.{get_or_append_left, get_or_push}
 use Rattle.std.proofs.lemmas.Option.{slice_get-get_or}
@@ -7,7 +7,7 @@ use Rattle.pb_graph.specs.declared.records.Stream.{Stream}
 use Rattle.pb_graph.specs.ProcessGraph.{is_measured}
 use Rattle.pb_graph.specs.Walk.{ends_of, Reaches}
 use Rattle.pb_graph.proofs.WalkLemmas.{some_same}
-use Rattle.pb_forest.specs.Forest.{is_before, IsDecided, IsForest}
+use Rattle.pb_forest.specs.Forest.{is_before, IsDecided}
 use Rattle.pb_forest.specs.Laws.{SomeForestLaw}
 use Rattle.pb_forest.proofs.ReachLemmas.{IsDecidable, reach_decided}
 

@@ -35,6 +35,11 @@ IsAcyclic ss may = (j : ℕ) (s : Stream) → slice_get ss j ≡ Some s → may 
 abbrev pub AcyclicLaw : Type 0
 AcyclicLaw = (ss : List Stream) (held : List Bool) → IsForest ss held → IsAcyclic ss (is_open held)
 
+-- where a walk leads from one node to another, a walk without a node twice does
+abbrev pub SomePathLaw : Type 0
+SomePathLaw = (streams : List Stream) (may : ℕ → Stream → Bool) (nodes a b : ℕ) → Reaches (ends_of may streams) a b
+    → (path : List Step) × IsPath (ends_of may streams) nodes streams a path b
+
 -- where there is no cycle, two walks without a node twice from one node to another are one
 abbrev pub UniqueLaw : Type 0
 UniqueLaw = (ss : List Stream) (may : ℕ → Stream → Bool) (nodes a b : ℕ) (p q : List Step) → IsAcyclic ss may

@@ -1,4 +1,4 @@
-ghost use Rattle.pb_forest.specs.Laws.{SpansLaw, AcyclicLaw, UniqueLaw, PartLaw, ChordLaw, SomeForestLaw, OneForestLaw};
+ghost use Rattle.pb_forest.specs.Laws.{SpansLaw, AcyclicLaw, SomePathLaw, UniqueLaw, PartLaw, ChordLaw, SomeForestLaw, OneForestLaw};
 ghost use Rattle.pb_forest.specs.Flows.{SomeBalancedLaw, OneBalancedLaw};
 
 /// What any streams join, the forest joins.
@@ -9,6 +9,11 @@ pub fn spans_law()
 /// The forest has no cycle.
 pub fn acyclic_law()
     ensures { AcyclicLaw }
+{}
+
+/// Where a walk leads from one node to another, a walk without a node twice does.
+pub fn some_path_law()
+    ensures { SomePathLaw }
 {}
 
 /// Where there is no cycle, two walks without a node twice from one node to another are one.

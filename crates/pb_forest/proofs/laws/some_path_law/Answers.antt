@@ -1,0 +1,5 @@
+use Rattle.pb_forest.proofs.SomePathLemmas.{some_path_law}
+use Rattle.pb_forest.proofs.laws.some_path_law.Goals as goal
+
+pub returns : goal.returns
+returns c = some_path_law
