@@ -15,18 +15,18 @@ use Rattle.pb_graph.specs.declared.results.Options.{Options}
 use Rattle.pb_graph.specs.ProcessGraph.{ProcessGraph, IsProcessGraph}
 use Rattle.pb_graph.specs.Balance.{IsBalanced}
 use Rattle.pb_graph.specs.Certificates.{Shows}
-use Rattle.pb_graph.specs.Squares.{Fractional, whole_flows}
+use Rattle.pb_graph.specs.Squares.{Fractional, AreSquaresAtLeast, AreSquaresAtMost, whole_flows}
 use Rattle.pb_graph.specs.Prices.{PricesFit}
 use Rattle.pb_gap.specs.Gap.{Gap, IsGap, deviations_of, gap_of}
-use Rattle.pb_gap.specs.StreamBounds.{stream_bounds}
+use Rattle.pb_gap.specs.StreamBounds.{IsStreamWithin, stream_bounds}
 use Rattle.pb_gap.specs.Statistic.{low_of}
-use Rattle.pb_gap.specs.Laws.{IsDualPair, IsStreamWithin}
+use Rattle.pb_gap.specs.Laws.{IsDualPair}
 use Rattle.pb_gap.proofs.Gaps.{gaps}
 use Rattle.pb_gap.proofs.Statistic.{low, high}
 use Rattle.pb_gap.proofs.StreamSums.{stream_within}
 use Rattle.pb_elim.specs.Printed.{printed_price, printed_flows, printed_gap}
 use Rattle.pb_elim.specs.Stage.{IsStageOf}
-use Rattle.pb_elim.specs.Certified.{AreSquaresAtLeast, AreSquaresAtMost, IsCertifiedStage}
+use Rattle.pb_elim.specs.Certified.{IsCertifiedStage}
 use Rattle.pb_elim.specs.Laws.{CertifiedLaw, IsSolved, SolutionLaw}
 use Rattle.pb_elim.proofs.Lists.{at_map}
 use Rattle.pb_elim.proofs.Solutions.{state_of, state_fits}

@@ -7,12 +7,11 @@ use Rattle.pb_graph.specs.ProcessGraph.{ProcessGraph}
 use Rattle.pb_graph.specs.Balance.{IsBalanced}
 use Rattle.pb_graph.specs.Classes.{IsClassOf}
 use Rattle.pb_graph.specs.Certificates.{IsCertified}
-use Rattle.pb_graph.specs.Squares.{Fractional, IsBalancedFractional, IsNoWorse, whole_flows, weighted_squares, squares_unit}
+use Rattle.pb_graph.specs.Squares.{Fractional, IsBalancedFractional, IsNoWorse, AreSquaresAtLeast, AreSquaresAtMost, whole_flows}
 use Rattle.pb_graph.specs.Prices.{PricesFit}
 use Rattle.pb_gap.specs.Gap.{IsGap, deviations_of}
-use Rattle.pb_gap.specs.StreamBounds.{stream_bounds}
+use Rattle.pb_gap.specs.StreamBounds.{IsStreamWithin, stream_bounds}
 use Rattle.pb_gap.specs.Statistic.{low_of, high_of}
-use Rattle.pb_gap.specs.Laws.{IsStreamWithin}
 use Rattle.pb_elim.specs.Stage.{HasFreedom}
 use Rattle.pb_elim.specs.Printed.{printed_price, printed_flows, printed_gap, EachStream}
 
@@ -33,13 +32,6 @@ pub record AreNumbersOf (stage : Stage) : Type 0 where
 -- x keeps a stream within its printed bounds; only an unobservable stream has none
 abbrev pub IsEnclosed : Fractional → ℕ → StreamResult → Type 0
 IsEnclosed x j r = MatchOption r.bounds (r.classified.class ≡ Unobservable) (IsStreamWithin x j)
-
--- the weighted squares of x are at least, and at most, so many thousandths
-abbrev pub AreSquaresAtLeast : ProcessGraph → Fractional → ℤ → Type 0
-AreSquaresAtLeast g x low = (low *ℤ squares_unit g x) ≤ℤ (pos 1000 *ℤ weighted_squares g x)
-
-abbrev pub AreSquaresAtMost : ProcessGraph → Fractional → ℤ → Type 0
-AreSquaresAtMost g x high = (pos 1000 *ℤ weighted_squares g x) ≤ℤ (high *ℤ squares_unit g x)
 
 -- balanced fractional flows that are no worse than the printed ones
 pub record IsAsGood (stage : Stage) (x : Fractional) : Type 0 where

@@ -20,13 +20,14 @@ use Rattle.pb_graph.specs.Squares.{Fractional, IsNoWorse, variance_product, weig
 use Rattle.pb_graph.specs.Prices.{rise_of}
 use Rattle.pb_balance.specs.PricedSums.{signed_sum}
 use Rattle.pb_dual.specs.DualValue.{scale, flow_at, dual_value}
-use Rattle.pb_gap.specs.Residuals.{residual_square_at, residuals_from, residual_squares}
-use Rattle.pb_gap.specs.Gap.{Gap, deviation_at, deviations_of, gap_of, gap_size}
+use Rattle.pb_gap.specs.Residuals.{residual_squares, residuals_of, residual_of}
+use Rattle.pb_gap.specs.Gap.{deviation_at, deviations_of, gap_of, gap_size}
 use Rattle.pb_gap.specs.Bounds.{AreSigned, dual_flow_sum, variance_sum, half_width_in}
-use Rattle.pb_gap.specs.Laws.{IsDualPair, EnclosureLaw, sum_residual}
+use Rattle.pb_gap.specs.Laws.{IsDualPair, EnclosureLaw, GapLaw, gap_square}
 use Rattle.pb_gap.proofs.Weights.{Weighs, WeighAll, product_of, weigh_all}
 use Rattle.pb_gap.proofs.Identity.{identity}
-use Rattle.pb_gap.proofs.Members.{member_schwarz, variances_nonneg}
+use Rattle.pb_gap.proofs.InnerProductLemmas.{residual_square_at, residuals_from, by_stream_length}
+use Rattle.pb_gap.proofs.SchwarzLemmas.{error_schwarz, sum_residual, variances_nonneg}
 use Rattle.pb_gap.proofs.Rounding.{bound, bound_add, bound_mono, bound_nonneg, square_in_blocks, HasHalfWidth, from_above, from_below}
 
 pub power_positive : (h : ℕ) → pos 0 <ℤ pos (2 ^ h)
@@ -91,13 +92,9 @@ in_all_blocks l h price (s ∷ ss) (y ∷ ps) l_pos w =
 below_root : (b : ℤ) → b ≤ℤ (pos (root_ceil_of (unsigned_abs b)) *ℤ pos (root_ceil_of (unsigned_abs b)))
 below_root b = let up = (root_ceil_is (unsigned_abs b)).above in omega (arith, ints, up)
 
--- the square of a gap, over the units of the residuals
-abbrev pub gap_square : ℤ → Gap → ℤ
-gap_square l gap = l *ℤ (pos (2 ^ 72) *ℤ (pos (gap_size gap) *ℤ pos (gap_size gap)))
-
 -- the weighted squares of the residuals of whole flows are at most the square of the gap
 pub within_gap : (g : ProcessGraph) (price : ℕ → ℤ) (ps : List ℤ) → pos 1 ≤ℤ variance_product g.streams → WeighAll (variance_product g.streams) price g.streams
-    → residual_squares price g (whole_flows ps) ≤ℤ gap_square (variance_product g.streams) (gap_of price g.streams ps)
+    → residual_squares price g (whole_flows ps) ≤ℤ (variance_product g.streams *ℤ gap_square (gap_of price g.streams ps))
 within_gap g price ps l_pos w =
     let l = variance_product g.streams in
     let gap = gap_of price g.streams ps in
@@ -138,10 +135,20 @@ no_worse_residuals g price ps x h even better =
     (residual_squares price g x) (residual_squares price g (whole_flows ps)) (product_of g h.limits) (omega (arith, ints)) better
     (identity g price x h) (identity g price (whole_flows ps) (whole_pair g price ps x h even))
 
+-- the residual of a signed sum, over the sum of the variances
+member_schwarz : (g : ProcessGraph) (price : ℕ → ℤ) (x : Fractional) (ms : List Member) → IsDualPair g price x → AreSigned g ms
+    → (variance_product g.streams *ℤ (((signed_sum ms x.numerators *ℤ scale) -ℤ (x.denominator *ℤ dual_flow_sum price g.streams ms)) *ℤ ((signed_sum ms x.numerators *ℤ scale) -ℤ (x.denominator *ℤ dual_flow_sum price g.streams ms))))
+    ≤ℤ (variance_sum g.streams ms *ℤ residual_squares price g x)
+member_schwarz g price x ms h is =
+    let each = h.balanced.balanced.each in
+    let errors = residuals_of price g.streams x in
+    subst (λ (z : ℤ). (variance_product g.streams *ℤ (z *ℤ z)) ≤ℤ (variance_sum g.streams ms *ℤ residual_squares price g x)) (sum_residual g price x ms each is.each)
+    (error_schwarz g errors ms h.limits (by_stream_length (residual_of x.denominator price) g.streams x.numerators each) is)
+
 -- the half width of a list that is not empty
 half_width : (g : ProcessGraph) (price : ℕ → ℤ) (ps : List ℤ) (x : Fractional) (m : Member) (ms : List Member) → IsDualPair g price x → IsBalanced g ps
     → IsNoWorse g x (whole_flows ps) → AreSigned g (m ∷ ms)
-    → HasHalfWidth (variance_product g.streams) x.denominator (sum_residual price g x (m ∷ ms)) (variance_sum g.streams (m ∷ ms)) (residual_squares price g x)
+    → HasHalfWidth (variance_product g.streams) x.denominator ((signed_sum (m ∷ ms) x.numerators *ℤ scale) -ℤ (x.denominator *ℤ dual_flow_sum price g.streams (m ∷ ms))) (variance_sum g.streams (m ∷ ms)) (residual_squares price g x)
     (pos (gap_size (gap_of price g.streams ps))) (scaled_root_of (variance_sum g.streams (m ∷ ms))) (half_width_in g.streams (gap_of price g.streams ps) (m ∷ ms))
 half_width g price ps x m ms h even better is =
     let l = variance_product g.streams in
@@ -149,10 +156,10 @@ half_width g price ps x m ms h even better is =
     let gap = gap_of price g.streams ps in
     let s = variance_sum g.streams (m ∷ ms) in
     let l_pos = product_of g h.limits in
-    let s_nonneg = variances_nonneg g price x (m ∷ ms) h is in
+    let s_nonneg = variances_nonneg g (m ∷ ms) h.limits is in
     let root = scaled_root_is s s_nonneg in
     let own = within_gap g price ps l_pos (weigh_all g price h.limits h.fit) in
-    let scaled = mul_mono (residual_squares price g (whole_flows ps)) (gap_square l gap) (q *ℤ q) own (square_pos q) in
+    let scaled = mul_mono (residual_squares price g (whole_flows ps)) (l *ℤ gap_square gap) (q *ℤ q) own (square_pos q) in
     let half = ceiling_is ((scaled_root_of s +ℤ pos 1) *ℤ pos (gap_size gap)) (pos (2 ^ 40)) (omega (arith, ints)) in
     record {
       l_pos = l_pos;
@@ -161,7 +168,7 @@ half_width g price ps x m ms h even better is =
       g_nonneg = omega (arith, ints);
       root_nonneg = root.nonneg;
       schwarz = member_schwarz g price x (m ∷ ms) h is;
-      squares = le_trans _ _ _ (no_worse_residuals g price ps x h even better) (le_by_eq _ _ _ _ (mul_comm (q *ℤ q) (residual_squares price g (whole_flows ps))) (mul_comm (q *ℤ q) (gap_square l gap)) scaled);
+      squares = le_trans _ _ _ (no_worse_residuals g price ps x h even better) (le_by_eq _ _ _ _ (mul_comm (q *ℤ q) (residual_squares price g (whole_flows ps))) (mul_comm (q *ℤ q) (l *ℤ gap_square gap)) scaled);
       root_above = strict_le _ _ root.next;
       half_above = half.above;
     }
@@ -188,3 +195,15 @@ enclosure g price ps x (m ∷ ms) h even better is =
       from = from_below l q s b gg (scaled_root_of s) half y t (floor_div t scale) has down.below;
       to = from_above l q s b gg (scaled_root_of s) half y t (ceil_div t scale) has up.above;
     }
+
+-- the weighted squares of whole flows exceed the dual value by at most the square of the gap
+in_gap : (l k w v r gg : ℤ) → k *ℤ w ≡ (((pos 1 *ℤ pos 1) *ℤ l) *ℤ v) +ℤ r → r ≤ℤ (l *ℤ gg) → (k *ℤ w) ≤ℤ (((pos 1 *ℤ pos 1) *ℤ l) *ℤ (v +ℤ gg))
+in_gap l k w v r gg own within =
+    let split : ((pos 1 *ℤ pos 1) *ℤ l) *ℤ (v +ℤ gg) ≡ (((pos 1 *ℤ pos 1) *ℤ l) *ℤ v) +ℤ (l *ℤ gg) =
+    ring (l ∷ v ∷ gg ∷ []) (times (times (square (lit (pos 1))) (var 0)) (plus (var 1) (var 2))) (plus (times (times (square (lit (pos 1))) (var 0)) (var 1)) (times (var 0) (var 2))) refl in
+    le_by_eq _ _ _ _ own split (add_mono _ _ _ _ (le_of_eq _ _ refl) within)
+
+pub gap_excess : GapLaw
+gap_excess g price ps h =
+    in_gap (variance_product g.streams) (scale *ℤ scale) (weighted_squares g (whole_flows ps)) (dual_value price g.streams) (residual_squares price g (whole_flows ps)) (gap_square (gap_of price g.streams ps))
+    (identity g price (whole_flows ps) h) (within_gap g price ps (product_of g h.limits) (weigh_all g price h.limits h.fit))

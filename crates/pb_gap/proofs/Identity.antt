@@ -3,18 +3,18 @@ use Rattle.std.proofs.Common.{◌≡◌, ◌∙◌, ℕ, ℤ, pos, neg_ℤ, ◌+
 use Rattle.std.specs.Int.{int_div_euclid}
 use Rattle.std.proofs.lemmas.Int.{ints}
 use Rattle.pb_integers.specs.Sums.{sum_over}
-use Rattle.pb_integers.proofs.Order.{mul_nonneg, square_pos}
 use Rattle.pb_integers.proofs.Ring.{var, lit, plus, times, minus, less, square, ring}
 use Rattle.pb_graph.specs.declared.records.Meas.{Meas}
 use Rattle.pb_graph.specs.declared.records.Stream.{Stream}
-use Rattle.pb_graph.specs.Squares.{square_at, squares_from, variance_product, weighted_squares, squares_unit}
+use Rattle.pb_graph.specs.Squares.{variance_product, weighted_squares, squares_unit}
 use Rattle.pb_graph.specs.Prices.{rise_of}
 use Rattle.pb_balance.specs.PricedSums.{priced_streams}
 use Rattle.pb_balance.proofs.Prices.{balanced_sum}
 use Rattle.pb_dual.specs.DualValue.{scale, cost_at}
-use Rattle.pb_gap.specs.Residuals.{residual_at, residual_square_at, residuals_from, residual_squares}
+use Rattle.pb_gap.specs.Residuals.{residual_squares, residuals_of}
 use Rattle.pb_gap.specs.Laws.{IdentityLaw, DualityLaw}
-use Rattle.pb_gap.proofs.Weights.{Weighs, WeighAll, weigh_all}
+use Rattle.pb_gap.proofs.Weights.{Weighs, WeighAll, weigh_all, weights_of}
+use Rattle.pb_gap.proofs.InnerProductLemmas.{square_at, squares_from, residual_square_at, residuals_from, squares_nonneg}
 
 -- one stream: its square and its cost make its residual and what its rise of the price adds
 abbrev One : ℤ → ℤ → ℤ → Option Meas → ℤ → Type 0
@@ -93,21 +93,9 @@ identity g price x h =
     (priced_streams price g.streams x.numerators) (any_vector l q price g.streams x.numerators (weigh_all g price h.limits h.fit) h.balanced.balanced.each)
     (balanced_sum g price x.numerators h.limits h.balanced.balanced)
 
-pub square_nonneg : (l q d : ℤ) (o : Option Meas) (y : ℤ) → Weighs l o d → pos 0 ≤ℤ residual_square_at l q o d y
-square_nonneg l q d None y h = omega (arith, ints)
-square_nonneg l q d (Some m) y h = mul_nonneg (int_div_euclid l m.variance) _ h.nonneg (square_pos (residual_at q (Some m) d y))
-
-pub residuals_nonneg : (l q : ℤ) (price : ℕ → ℤ) (ss : List Stream) (ys : List ℤ) → WeighAll l price ss → pos 0 ≤ℤ residuals_from l q price ss ys
-residuals_nonneg l q price [] ys h = omega (arith, ints)
-residuals_nonneg l q price (s ∷ ss) [] h = omega (arith, ints)
-residuals_nonneg l q price (s ∷ ss) (y ∷ ys) h =
-    let first = square_nonneg l q (rise_of price s) s.meas y h.0 in
-    let rest = residuals_nonneg l q price ss ys h.1 in
-    omega (arith, ints, first, rest)
-
 at_least : (x a b : ℤ) → x ≡ a +ℤ b → pos 0 ≤ℤ b → a ≤ℤ x
 at_least x a b e h = omega (arith, ints, e, h)
 
 pub weak_duality : DualityLaw
 weak_duality g price x h =
-    at_least _ _ _ (identity g price x h) (residuals_nonneg (variance_product g.streams) x.denominator price g.streams x.numerators (weigh_all g price h.limits h.fit))
+    at_least _ _ _ (identity g price x h) (squares_nonneg (variance_product g.streams) g.streams (residuals_of price g.streams x) (weights_of g h.limits))

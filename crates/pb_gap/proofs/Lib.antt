@@ -1,6 +1,7 @@
 pub mod Weights
+pub mod InnerProductLemmas
 pub mod Identity
-pub mod Members
+pub mod SchwarzLemmas
 pub mod Rounding
 pub mod Enclosure
 pub mod Statistic
@@ -13,3 +14,4 @@ pub mod MemberLists
 pub mod Iterates
 pub mod Deviants
 pub mod StateLaws
+pub mod LeastLemmas

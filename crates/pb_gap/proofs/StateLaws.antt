@@ -1,8 +1,8 @@
 -- The laws of the enclosure and of the statistic, at a state.
-use Rattle.std.proofs.Common.{pos, ◌*ℤ◌, ◌≤ℤ◌, List}
+use Rattle.std.proofs.Common.{List}
 use Rattle.std.specs.Prelude.{IfSome}
 use Rattle.pb_graph.specs.declared.records.Member.{Member}
-use Rattle.pb_graph.specs.Squares.{Fractional, IsBalancedFractional, IsNoWorse, squares_unit, weighted_squares, whole_flows}
+use Rattle.pb_graph.specs.Squares.{Fractional, IsBalancedFractional, IsNoWorse, AreSquaresAtLeast, AreSquaresAtMost, whole_flows}
 use Rattle.pb_gap.specs.Bounds.{AreSigned, IsWithin, bounds_of}
 use Rattle.pb_gap.specs.Statistic.{low_of, high_of}
 use Rattle.pb_gap.specs.State.{State, IsState, gap_in, price_in}
@@ -18,9 +18,9 @@ pub state_enclosed : (s : State) (x : Fractional) (members : List Member) → Is
 state_enclosed s x members is balanced no_worse signed = enclosure s.graph (price_in s) s.flows x members (dual_pair s x is balanced) is.rounded.balanced no_worse signed
 
 pub state_low : (s : State) (x : Fractional) → IsState s → IsBalancedFractional s.graph x
-    → (low_of s.graph.streams s.flows (gap_in s) *ℤ squares_unit s.graph x) ≤ℤ (pos 1000 *ℤ weighted_squares s.graph x)
+    → AreSquaresAtLeast s.graph x (low_of s.graph.streams s.flows (gap_in s))
 state_low s x is balanced = low s.graph (price_in s) s.flows x (dual_pair s x is balanced) is.rounded.balanced
 
 pub state_high : (s : State) → IsState s
-    → IfSome (high_of s.graph.streams s.flows) (λ high. (pos 1000 *ℤ weighted_squares s.graph (whole_flows s.flows)) ≤ℤ (high *ℤ squares_unit s.graph (whole_flows s.flows)))
+    → IfSome (high_of s.graph.streams s.flows) (AreSquaresAtMost s.graph (whole_flows s.flows))
 state_high s is = high s.graph s.flows is.limits

@@ -13,13 +13,14 @@ use Rattle.pb_fixed.proofs.QuotientLaws.{ceiling_is, floor_is, floor_from}
 use Rattle.pb_fixed.proofs.RootLaws.{scaled_root_is}
 use Rattle.pb_graph.specs.declared.records.Meas.{Meas}
 use Rattle.pb_graph.specs.declared.records.Stream.{Stream}
-use Rattle.pb_graph.specs.Squares.{square_at, squares_from, variance_product, weighted_squares, squares_unit, whole_flows}
+use Rattle.pb_graph.specs.Squares.{variance_product, weighted_squares, squares_unit, whole_flows, errors_of}
 use Rattle.pb_dual.specs.DualValue.{scale, dual_value}
 use Rattle.pb_gap.specs.Residuals.{residual_squares}
 use Rattle.pb_gap.specs.Gap.{gap_of, gap_size}
 use Rattle.pb_gap.specs.Statistic.{adjustment_at, adjustment_below, adjustment_above, adjustments_by, most_adjustment, capped_squares, full_squares}
 use Rattle.pb_gap.specs.Laws.{LowLaw, HighLaw}
 use Rattle.pb_gap.proofs.Weights.{MayWeigh, product_of, weights_of, weigh_all}
+use Rattle.pb_gap.proofs.InnerProductLemmas.{square_at, squares_from, squares_nonneg}
 use Rattle.pb_gap.proofs.Identity.{identity, weak_duality}
 use Rattle.pb_gap.proofs.Enclosure.{root_below, root_positive, whole_pair, within_gap}
 
@@ -75,18 +76,6 @@ one_low l (Some m) y h =
     subst (λ (z : ℤ). (l *ℤ (c *ℤ c)) ≤ℤ (z *ℤ pos (2 ^ 40))) (sym (one_times w y m.value))
     (square_below l w v c r x h.weight h.nonneg (above_strict _ _ (scaled_root_is v (omega (arith, ints, v_pos))).next) (mul_nonneg c r cap.0 r_nonneg)
     (le_trans _ _ _ (mul_mono c b r cap.1 r_nonneg) down.below))
-
-square_nonneg : (l : ℤ) (q : ℤ) (o : Option Meas) (y : ℤ) → MayWeigh l o → pos 0 ≤ℤ square_at l q o y
-square_nonneg l q None y h = omega (arith, ints)
-square_nonneg l q (Some m) y h = mul_nonneg (int_div_euclid l m.variance) _ h.nonneg (square_pos (y -ℤ (q *ℤ m.value)))
-
-squares_nonneg : (l q : ℤ) (ss : List Stream) (ys : List ℤ) → AllByRecursion (λ s. MayWeigh l s.meas) ss → pos 0 ≤ℤ squares_from l q ss ys
-squares_nonneg l q [] ys h = omega (arith, ints)
-squares_nonneg l q (s ∷ ss) [] h = omega (arith, ints)
-squares_nonneg l q (s ∷ ss) (y ∷ ys) h =
-    let first = square_nonneg l q s.meas y h.0 in
-    let rest = squares_nonneg l q ss ys h.1 in
-    omega (arith, ints, first, rest)
 
 add_two : (a b x y p q : ℤ) → p ≡ a +ℤ b → q ≡ x +ℤ y → a ≤ℤ x → b ≤ℤ y → p ≤ℤ q
 add_two a b x y p q e f h k = omega (arith, ints, e, f, h, k)
@@ -194,7 +183,7 @@ low g price ps x h even =
     let down = floor_is (pos 1000 *ℤ (b -ℤ gg)) (pos (2 ^ 40)) (omega (arith, ints)) in
     let whole = whole_pair g price ps x h even in
     let zero : pass (pos 0) =
-    le_by_eq _ _ _ _ (zero_mul (squares_unit g x)) refl (mul_nonneg (pos 1000) (weighted_squares g x) (omega (arith, ints)) (squares_nonneg l x.denominator ss x.numerators weights)) in
+    le_by_eq _ _ _ _ (zero_mul (squares_unit g x)) refl (mul_nonneg (pos 1000) (weighted_squares g x) (omega (arith, ints)) (squares_nonneg l ss (errors_of ss x) weights)) in
     let floor : pass (floor_div (pos 1000 *ℤ (b -ℤ gg)) (pos (2 ^ 40))) =
     lowest (floor_div (pos 1000 *ℤ (b -ℤ gg)) (pos (2 ^ 40))) x.denominator l (dual_value price ss) (weighted_squares g x) (weighted_squares g (whole_flows ps))
     (residual_squares price g (whole_flows ps)) b gg l_pos (weak_duality g price x h) (identity g price (whole_flows ps) whole)

@@ -23,8 +23,8 @@ use Rattle.pb_balance.specs.PricedSums.{signed_sum}
 use Rattle.pb_balance.proofs.Cuts.{boundary_sum}
 use Rattle.pb_gap.specs.Gap.{gap_of}
 use Rattle.pb_gap.specs.Bounds.{IsSigned, bounds_of}
-use Rattle.pb_gap.specs.StreamBounds.{sign_in, others_times, sum_for}
-use Rattle.pb_gap.specs.Laws.{IsDualPair, SumsTo, StreamSumLaw, StreamLaw, IsStreamWithin}
+use Rattle.pb_gap.specs.StreamBounds.{IsStreamWithin, sign_in, others_times, sum_for}
+use Rattle.pb_gap.specs.Laws.{IsDualPair, SumsTo, StreamSumLaw, StreamLaw}
 use Rattle.pb_gap.proofs.Enclosure.{enclosure}
 
 abbrev IsSign : ℤ → Type 0

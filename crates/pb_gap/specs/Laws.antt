@@ -1,94 +1,100 @@
--- What is proved of the gap, the bounds and the statistic, for any prices that fit.
-use Rattle.std.specs.Prelude.{◌≡◌, ℕ, ℤ, pos, ◌+ℤ◌, ◌-ℤ◌, ◌*ℤ◌, ◌≤ℤ◌, List, All, IfSome}
+-- Statement. What is proved of the weighted squares, the gap, the bounds and the statistic, for any prices that fit.
+use Rattle.std.specs.Prelude.{◌≡◌, ◌^◌, ℕ, ℤ, pos, ◌+ℤ◌, ◌*ℤ◌, ◌≤ℤ◌, List, length, All, IfSome}
 use Rattle.std.specs.Int.{int_div_euclid}
+use Rattle.pb_integers.specs.Sums.{item}
 use Rattle.pb_graph.specs.declared.records.Member.{Member}
 use Rattle.pb_graph.specs.declared.records.Classified.{Classified}
-use Rattle.pb_graph.specs.declared.results.Bounds.{Bounds}
 use Rattle.pb_graph.specs.ProcessGraph.{ProcessGraph, IsProcessGraph}
 use Rattle.pb_graph.specs.Balance.{IsBalanced}
-use Rattle.pb_graph.specs.Squares.{Fractional, IsBalancedFractional, IsNoWorse, variance_product, weighted_squares, squares_unit, whole_flows}
+use Rattle.pb_graph.specs.Squares.{Fractional, IsBalancedFractional, IsNoWorse, AreSquaresAtLeast, AreSquaresAtMost, variance_product, weighted_sum_of_squares, weighted_squares, squares_unit, whole_flows}
 use Rattle.pb_graph.specs.Prices.{PricesFit}
 use Rattle.pb_graph.specs.Certificates.{IsCertified}
-use Rattle.pb_integers.specs.Sums.{item}
 use Rattle.pb_balance.specs.PricedSums.{signed_sum}
 use Rattle.pb_dual.specs.DualValue.{scale, dual_value}
 use Rattle.pb_gap.specs.Residuals.{residual_squares}
-use Rattle.pb_gap.specs.Gap.{Gap, IsGap, gap_from, gap_of}
-use Rattle.pb_gap.specs.Bounds.{AreSigned, IsWithin, bounds_of, dual_flow_sum, variance_sum}
-use Rattle.pb_gap.specs.StreamBounds.{sum_for, stream_bounds}
+use Rattle.pb_gap.specs.Gap.{Gap, IsGap, gap_from, gap_of, gap_size}
+use Rattle.pb_gap.specs.Bounds.{AreSigned, IsWithin, bounds_of, variance_sum}
+use Rattle.pb_gap.specs.StreamBounds.{IsStreamWithin, sum_for, stream_bounds}
 use Rattle.pb_gap.specs.Statistic.{low_of, high_of}
 
 -- the product of the variances over each of them is a whole number: the weight of a measurement
-pub record HasWeights (g : ProcessGraph) : Type 0 where
-  pub positive : pos 1 ≤ℤ variance_product g.streams
-  pub each : All (λ s. IfSome s.meas (λ m. int_div_euclid (variance_product g.streams) m.variance *ℤ m.variance ≡ variance_product g.streams)) g.streams
+pub record HasWeights (graph : ProcessGraph) : Type 0 where
+  pub positive : pos 1 ≤ℤ variance_product graph.streams
+  pub each : All (λ s. IfSome s.meas (λ m. int_div_euclid (variance_product graph.streams) m.variance *ℤ m.variance ≡ variance_product graph.streams)) graph.streams
 
 abbrev pub WeightLaw : Type 0
-WeightLaw = (g : ProcessGraph) → IsProcessGraph g → HasWeights g
+WeightLaw = (graph : ProcessGraph) → IsProcessGraph graph → HasWeights graph
+
+-- The inequality of Cauchy and Schwarz: the square of a signed sum of errors of measured streams, none twice, over the sum of their
+-- variances, is at most the weighted sum of squares of all errors.
+abbrev pub SchwarzLaw : Type 0
+SchwarzLaw = (graph : ProcessGraph) (errors : List ℤ) (members : List Member)
+    → IsProcessGraph graph → length errors ≡ length graph.streams → AreSigned graph members
+    → (variance_product graph.streams *ℤ (signed_sum members errors *ℤ signed_sum members errors))
+    ≤ℤ (variance_sum graph.streams members *ℤ weighted_sum_of_squares (variance_product graph.streams) graph.streams errors)
 
 -- prices of a graph that fit, and balanced fractional flows
-pub record IsDualPair (g : ProcessGraph) (price : ℕ → ℤ) (x : Fractional) : Type 0 where
-  pub limits : IsProcessGraph g
-  pub fit : PricesFit g price
-  pub balanced : IsBalancedFractional g x
+pub record IsDualPair (graph : ProcessGraph) (price : ℕ → ℤ) (x : Fractional) : Type 0 where
+  pub limits : IsProcessGraph graph
+  pub fit : PricesFit graph price
+  pub balanced : IsBalancedFractional graph x
 
 -- The weighted squares of balanced flows are the dual value of any prices that fit and the weighted squares of the residuals
 -- (Rockafellar, Network Flows and Monotropic Optimization, on the duality gap).
 abbrev pub IdentityLaw : Type 0
-IdentityLaw = (g : ProcessGraph) (price : ℕ → ℤ) (x : Fractional) → IsDualPair g price x
-    → (scale *ℤ scale) *ℤ weighted_squares g x ≡ (squares_unit g x *ℤ dual_value price g.streams) +ℤ residual_squares price g x
+IdentityLaw = (graph : ProcessGraph) (price : ℕ → ℤ) (x : Fractional) → IsDualPair graph price x
+    → (scale *ℤ scale) *ℤ weighted_squares graph x
+    ≡ (squares_unit graph x *ℤ dual_value price graph.streams) +ℤ residual_squares price graph x
 
 -- Weak duality: the dual value of prices that fit is at most the weighted squares of any balanced flows.
 abbrev pub DualityLaw : Type 0
-DualityLaw = (g : ProcessGraph) (price : ℕ → ℤ) (x : Fractional) → IsDualPair g price x
-    → (squares_unit g x *ℤ dual_value price g.streams) ≤ℤ ((scale *ℤ scale) *ℤ weighted_squares g x)
-
--- the residual of a signed sum of fractional flows
-abbrev pub sum_residual : (ℕ → ℤ) → ProcessGraph → Fractional → List Member → ℤ
-sum_residual price g x members = (signed_sum members x.numerators *ℤ scale) -ℤ (x.denominator *ℤ dual_flow_sum price g.streams members)
-
--- The inequality of Cauchy and Schwarz: the square of the residual of a signed sum, over the sum of the variances, is at most the
--- weighted squares of the residuals.
-abbrev pub MemberSchwarzLaw : Type 0
-MemberSchwarzLaw = (g : ProcessGraph) (price : ℕ → ℤ) (x : Fractional) (members : List Member) → IsDualPair g price x → AreSigned g members
-    → (variance_product g.streams *ℤ (sum_residual price g x members *ℤ sum_residual price g x members))
-    ≤ℤ (variance_sum g.streams members *ℤ residual_squares price g x)
+DualityLaw = (graph : ProcessGraph) (price : ℕ → ℤ) (x : Fractional) → IsDualPair graph price x
+    → (squares_unit graph x *ℤ dual_value price graph.streams) ≤ℤ ((scale *ℤ scale) *ℤ weighted_squares graph x)
 
 -- each list of deviations has a gap, and only one
 pub record AreGaps : Type 0 where
   pub is : (deviations : List ℤ) → IsGap deviations (gap_from deviations)
   pub only : (deviations : List ℤ) (gap : Gap) → IsGap deviations gap → gap ≡ gap_from deviations
 
+-- the square of a gap, in units of 2^-112, as the dual value
+abbrev pub gap_square : Gap → ℤ
+gap_square gap = pos (2 ^ 72) *ℤ (pos (gap_size gap) *ℤ pos (gap_size gap))
+
+-- The gap of balanced whole flows bounds by how much their weighted squares exceed the dual value of any prices that fit.
+abbrev pub GapLaw : Type 0
+GapLaw = (graph : ProcessGraph) (price : ℕ → ℤ) (flows : List ℤ) → IsDualPair graph price (whole_flows flows)
+    → ((scale *ℤ scale) *ℤ weighted_squares graph (whole_flows flows))
+    ≤ℤ (squares_unit graph (whole_flows flows) *ℤ (dual_value price graph.streams +ℤ gap_square (gap_of price graph.streams flows)))
+
 -- The enclosure: for any prices that fit and any balanced whole flows, each balanced fractional vector no worse than the flows has
 -- the signed sum of any list of measured streams, none twice, within its bounds.
 abbrev pub EnclosureLaw : Type 0
-EnclosureLaw = (g : ProcessGraph) (price : ℕ → ℤ) (ps : List ℤ) (x : Fractional) (members : List Member) → IsDualPair g price x → IsBalanced g ps
-    → IsNoWorse g x (whole_flows ps) → AreSigned g members → IsWithin x members (bounds_of price g.streams (gap_of price g.streams ps) members)
+EnclosureLaw = (graph : ProcessGraph) (price : ℕ → ℤ) (flows : List ℤ) (x : Fractional) (members : List Member)
+    → IsDualPair graph price x → IsBalanced graph flows → IsNoWorse graph x (whole_flows flows) → AreSigned graph members
+    → IsWithin x members (bounds_of price graph.streams (gap_of price graph.streams flows) members)
 
 -- a signed list of measured streams, none twice, whose signed sum is the flow of stream j in all balanced flows
-pub record SumsTo (g : ProcessGraph) (j : ℕ) (members : List Member) : Type 0 where
-  pub signed : AreSigned g members
-  pub sum : (xs : List ℤ) → IsBalanced g xs → signed_sum members xs ≡ item xs j
+pub record SumsTo (graph : ProcessGraph) (j : ℕ) (members : List Member) : Type 0 where
+  pub signed : AreSigned graph members
+  pub sum : (flows : List ℤ) → IsBalanced graph flows → signed_sum members flows ≡ item flows j
 
 abbrev pub StreamSumLaw : Type 0
-StreamSumLaw = (g : ProcessGraph) (j : ℕ) (c : Classified) → IsProcessGraph g → IsCertified g j c → IfSome (sum_for j c.class c.witness) (SumsTo g j)
-
--- the flow of stream j is within the bounds
-pub record IsStreamWithin (x : Fractional) (j : ℕ) (bounds : Bounds) : Type 0 where
-  pub from : (x.denominator *ℤ bounds.lo) ≤ℤ item x.numerators j
-  pub to : item x.numerators j ≤ℤ (x.denominator *ℤ bounds.hi)
+StreamSumLaw = (graph : ProcessGraph) (j : ℕ) (c : Classified) → IsProcessGraph graph → IsCertified graph j c
+    → IfSome (sum_for j c.class c.witness) (SumsTo graph j)
 
 -- The enclosure of each stream that has bounds: for any prices that fit, any balanced whole flows and any class with its certificate.
 abbrev pub StreamLaw : Type 0
-StreamLaw = (g : ProcessGraph) (price : ℕ → ℤ) (ps : List ℤ) (x : Fractional) (j : ℕ) (c : Classified) → IsDualPair g price x → IsBalanced g ps
-    → IsNoWorse g x (whole_flows ps) → IsCertified g j c → IfSome (stream_bounds price g.streams (gap_of price g.streams ps) j c) (IsStreamWithin x j)
+StreamLaw = (graph : ProcessGraph) (price : ℕ → ℤ) (flows : List ℤ) (x : Fractional) (j : ℕ) (c : Classified)
+    → IsDualPair graph price x → IsBalanced graph flows → IsNoWorse graph x (whole_flows flows) → IsCertified graph j c
+    → IfSome (stream_bounds price graph.streams (gap_of price graph.streams flows) j c) (IsStreamWithin x j)
 
--- a thousand times the weighted squares of each balanced vector is at least the low end of the statistic of any balanced whole flows
+-- the weighted squares of each balanced vector are at least the low end of the statistic of any balanced whole flows
 abbrev pub LowLaw : Type 0
-LowLaw = (g : ProcessGraph) (price : ℕ → ℤ) (ps : List ℤ) (x : Fractional) → IsDualPair g price x → IsBalanced g ps
-    → (low_of g.streams ps (gap_of price g.streams ps) *ℤ squares_unit g x) ≤ℤ (pos 1000 *ℤ weighted_squares g x)
+LowLaw = (graph : ProcessGraph) (price : ℕ → ℤ) (flows : List ℤ) (x : Fractional)
+    → IsDualPair graph price x → IsBalanced graph flows
+    → AreSquaresAtLeast graph x (low_of graph.streams flows (gap_of price graph.streams flows))
 
--- a thousand times the weighted squares of the flows themselves is at most the high end, where there is one
+-- the weighted squares of the flows themselves are at most the high end, where there is one
 abbrev pub HighLaw : Type 0
-HighLaw = (g : ProcessGraph) (ps : List ℤ) → IsProcessGraph g
-    → IfSome (high_of g.streams ps) (λ high. (pos 1000 *ℤ weighted_squares g (whole_flows ps)) ≤ℤ (high *ℤ squares_unit g (whole_flows ps)))
+HighLaw = (graph : ProcessGraph) (flows : List ℤ) → IsProcessGraph graph
+    → IfSome (high_of graph.streams flows) (AreSquaresAtMost graph (whole_flows flows))

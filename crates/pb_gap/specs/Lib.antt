@@ -7,3 +7,4 @@ pub mod State
 pub mod Solution
 pub mod Iterate
 pub mod Laws
+pub mod Least

@@ -1,5 +1,6 @@
 -- The bounds of one stream, by its class and its certificate.
-use Rattle.std.specs.Prelude.{◌==◌, ℕ, ℤ, pos, neg_ℤ, ◌*ℤ◌, List, [], ◌∷◌, Option, Some, None, option_map, if◌then◌else◌}
+use Rattle.std.specs.Prelude.{◌==◌, ℕ, ℤ, pos, neg_ℤ, ◌*ℤ◌, ◌≤ℤ◌, List, [], ◌∷◌, Option, Some, None, option_map, if◌then◌else◌}
+use Rattle.pb_integers.specs.Sums.{item}
 use Rattle.pb_graph.specs.declared.records.Stream.{Stream}
 use Rattle.pb_graph.specs.declared.records.Member.{Member}
 use Rattle.pb_graph.specs.declared.records.Class.{Class}
@@ -8,6 +9,7 @@ use Rattle.pb_graph.specs.declared.records.Witness.{Witness}
 use Rattle.pb_graph.specs.declared.records.Witness.TheVariants.{Cut, Cycle}
 use Rattle.pb_graph.specs.declared.records.Classified.{Classified}
 use Rattle.pb_graph.specs.declared.results.Bounds.{Bounds}
+use Rattle.pb_graph.specs.Squares.{Fractional}
 use Rattle.pb_gap.specs.Gap.{Gap}
 use Rattle.pb_gap.specs.Bounds.{bounds_of}
 
@@ -33,3 +35,8 @@ sum_for j Unobservable witness = None
 -- the bounds of the flow of stream j, none where it is unobservable
 abbrev pub stream_bounds : (ℕ → ℤ) → List Stream → Gap → ℕ → Classified → Option Bounds
 stream_bounds price ss gap j c = option_map (bounds_of price ss gap) (sum_for j c.class c.witness)
+
+-- the flow of stream j is within the bounds
+pub record IsStreamWithin (x : Fractional) (j : ℕ) (bounds : Bounds) : Type 0 where
+  pub from : (x.denominator *ℤ bounds.lo) ≤ℤ item x.numerators j
+  pub to : item x.numerators j ≤ℤ (x.denominator *ℤ bounds.hi)

@@ -1,6 +1,7 @@
 //! What is proved of the definitions alone. The functions are empty: the contract of each is a law.
 
-ghost use Rattle.pb_gap.specs.Laws.{WeightLaw, IdentityLaw, DualityLaw, MemberSchwarzLaw, AreGaps, EnclosureLaw, StreamSumLaw, StreamLaw, LowLaw, HighLaw};
+ghost use Rattle.pb_gap.specs.Laws.{WeightLaw, SchwarzLaw, IdentityLaw, DualityLaw, AreGaps, GapLaw, EnclosureLaw, StreamSumLaw, StreamLaw, LowLaw, HighLaw};
+ghost use Rattle.pb_gap.specs.Least.{OrthogonalityLaw, ExcessLaw, DistanceLaw};
 ghost use Rattle.pb_gap.specs.Solution.{OneStateLaw, OneSolutionLaw};
 
 /// The product of the variances over each of them is a whole number.
@@ -15,14 +16,24 @@ pub fn duality_law()
     ensures weak { DualityLaw }
 {}
 
-/// The inequality of Cauchy and Schwarz for a signed list of measured streams, none twice.
+/// The inequality of Cauchy and Schwarz for errors of the streams, summed with signs over some measured ones, none twice.
 pub fn schwarz_law()
-    ensures { MemberSchwarzLaw }
+    ensures { SchwarzLaw }
 {}
 
-/// The gap of a list of deviations is what its two numbers are said to be, and the only one.
+/// The gap of a list of deviations is what its two numbers are said to be, and the only one. It bounds by how much the weighted
+/// squares of balanced whole flows exceed the dual value.
 pub fn gap_law()
-    ensures { AreGaps }
+    ensures numbers { AreGaps }
+    ensures excess { GapLaw }
+{}
+
+/// At a least vector the errors are orthogonal to every balanced vector. So the weighted squares of a balanced vector exceed those of
+/// a least one by the square of their distance, and balanced whole flows are at most their gap from a least vector.
+pub fn least_law()
+    ensures orthogonal { OrthogonalityLaw }
+    ensures excess { ExcessLaw }
+    ensures distance { DistanceLaw }
 {}
 
 /// Each balanced vector no worse than some balanced whole flows is within the bounds that any prices that fit give.

@@ -18,7 +18,7 @@ mod sums;
 mod tests;
 
 pub use laws::{
-    duality_law, enclosure_law, gap_law, one_solution_law, one_state_law, schwarz_law,
+    duality_law, enclosure_law, gap_law, least_law, one_solution_law, one_state_law, schwarz_law,
     statistic_law, stream_law, weight_law,
 };
 pub use solver::Solver;

@@ -1,6 +1,6 @@
-ghost use Rattle.std.specs.Prelude.{◌≡◌, ℕ, ◌<◌, ◌≤◌, ◌^◌, pos, ◌*ℤ◌, ◌≤ℤ◌, Bool, List as Seq, Some, length, slice_get, unsigned_abs, IfOk, IfSome};
+ghost use Rattle.std.specs.Prelude.{◌≡◌, ℕ, ◌<◌, ◌≤◌, ◌^◌, pos, ◌≤ℤ◌, Bool, List as Seq, Some, length, slice_get, unsigned_abs, IfOk, IfSome};
 ghost use Rattle.pb_graph.specs.Balance.{IsBalanced};
-ghost use Rattle.pb_graph.specs.Squares.{Fractional, IsBalancedFractional, IsNoWorse, weighted_squares, squares_unit, whole_flows};
+ghost use Rattle.pb_graph.specs.Squares.{Fractional, IsBalancedFractional, IsNoWorse, AreSquaresAtLeast, AreSquaresAtMost, whole_flows};
 ghost use Rattle.pb_graph.specs.Prices.{PricesFit};
 ghost use Rattle.pb_forest.specs.Forest.{IsForest, degrees_of_freedom};
 ghost use Rattle.pb_gap.specs.Bounds.{AreSigned, IsWithin, bounds_of};
@@ -129,9 +129,8 @@ impl Solver {
         ensures low_within { unsigned_abs result.0 ≤ 2 ^ 126 }
         ensures high_within { IfSome result.1 (λ v. unsigned_abs v ≤ 2 ^ 126) }
         ensures low { (x : Fractional) → IsBalancedFractional self.now.graph x
-            → (result.0 *ℤ squares_unit self.now.graph x) ≤ℤ (pos 1000 *ℤ weighted_squares self.now.graph x) }
-        ensures high { IfSome result.1 (λ high. (pos 1000 *ℤ weighted_squares self.now.graph (whole_flows self.now.flows))
-            ≤ℤ (high *ℤ squares_unit self.now.graph (whole_flows self.now.flows))) }
+            → AreSquaresAtLeast self.now.graph x result.0 }
+        ensures high { IfSome result.1 (AreSquaresAtMost self.now.graph (whole_flows self.now.flows)) }
     {
         self.iterate.statistic(self.gap)
     }

@@ -1,6 +1,6 @@
-use Rattle.std.proofs.Common.{◌∙◌, ℤ, pos, ◌*ℤ◌, ◌≤ℤ◌, Option, subst, sym, ap}
+use Rattle.std.proofs.Common.{◌∙◌, ℤ, Option, subst, sym, ap}
 use Rattle.std.specs.Prelude.{IfSome}
-use Rattle.pb_graph.specs.Squares.{squares_unit, weighted_squares, whole_flows}
+use Rattle.pb_graph.specs.Squares.{AreSquaresAtLeast, AreSquaresAtMost, whole_flows}
 use Rattle.pb_gap.specs.Statistic.{statistic_of}
 use Rattle.pb_gap.specs.State.{State, IsState, gap_in}
 use Rattle.pb_gap.proofs.StateLaws.{state_high, state_low}
@@ -11,12 +11,12 @@ returns-clause-value c = c.statistic.ensures.value ∙ ap (λ (s : State). stati
 
 pub returns-clause-low : goal.returns-clause-low
 returns-clause-low c x balanced =
-    subst (λ (r : ℤ × Option ℤ). (r.0 *ℤ squares_unit c.args.self.now.graph x) ≤ℤ (pos 1000 *ℤ weighted_squares c.args.self.now.graph x)) (sym (returns-clause-value c))
+    subst (λ (r : ℤ × Option ℤ). AreSquaresAtLeast c.args.self.now.graph x r.0) (sym (returns-clause-value c))
     (state_low c.args.self.now x (subst IsState c.self.view_is c.statistic.ensures.state) balanced)
 
 pub returns-clause-high : goal.returns-clause-high
 returns-clause-high c =
     let g = c.args.self.now.graph in
     let flows = whole_flows c.args.self.now.flows in
-    subst (λ (r : ℤ × Option ℤ). IfSome r.1 (λ high. (pos 1000 *ℤ weighted_squares g flows) ≤ℤ (high *ℤ squares_unit g flows))) (sym (returns-clause-value c))
+    subst (λ (r : ℤ × Option ℤ). IfSome r.1 (AreSquaresAtMost g flows)) (sym (returns-clause-value c))
     (state_high c.args.self.now (subst IsState c.self.view_is c.statistic.ensures.state))
