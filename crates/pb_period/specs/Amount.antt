@@ -3,7 +3,7 @@ use Rattle.std.specs.Prelude.{ℕ, ℤ, List, filter_map, find, Option, Some, No
 use Rattle.std.specs.Int.{int_gap, int_max, int_min}
 use Rattle.pb_integers.specs.Sums.{sum_over}
 use Rattle.pb_rows.specs.Name.{same_name}
-use Rattle.pb_strap.specs.declared.point.Point.{Point}
+use Rattle.pb_strap.specs.declared.strap.Point.{Point}
 use Rattle.pb_strap.specs.Table.{grams_of}
 use Rattle.pb_facts.specs.declared.fact.Fact.{Fact}
 use Rattle.pb_facts.specs.declared.fact.Fact.TheVariants.{Reading, Transfer, Dip}

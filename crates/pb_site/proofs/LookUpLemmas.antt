@@ -10,7 +10,7 @@ use Rattle.std.proofs.lemmas.List.{get_or-map, length-map}
 use Rattle.std.proofs.lemmas.List.Quantifiers.{position-Some}
 use Rattle.std.proofs.lemmas.Option.{slice_get-get_or}
 use Rattle.pb_rows.specs.Name.{same_name}
-use Rattle.pb_strap.specs.declared.point.Point.{Point}
+use Rattle.pb_strap.specs.declared.strap.Point.{Point}
 use Rattle.pb_site.specs.declared.declared.Kind.{Kind}
 use Rattle.pb_site.specs.declared.declared.Kind.TheVariants.{Metered, Batch, Plain}
 use Rattle.pb_site.specs.declared.declared.ArcKind.{ArcKind}

@@ -3,7 +3,7 @@ use Rattle.std.specs.Prelude.{ℕ, Bool, false, ◌&&◌, ◌||◌, not, nat_le,
 use Rattle.std.specs.List.{list_any}
 use Rattle.pb_rows.specs.Name.{same_name}
 use Rattle.pb_strap.specs.Table.{rises}
-use Rattle.pb_strap.specs.declared.strap.TheConstants.{MOST_POINTS}
+use Rattle.pb_limits.specs.declared.TheConstants.{MOST_POINTS}
 use Rattle.pb_site.specs.declared.site.TheConstants.{MOST_ARCS, MOST_PLACES}
 use Rattle.pb_site.specs.declared.declared.Declared.{Declared}
 use Rattle.pb_site.specs.declared.declared.Declared.TheVariants.{Unit as UnitRow, Tank, Strap, Stream, CritGlobal, CritNodal, CritMeasure}

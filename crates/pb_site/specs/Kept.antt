@@ -4,8 +4,8 @@ use Rattle.std.specs.Option.{option_map}
 use Rattle.std.specs.HashMap.{get, spare}
 use Rattle.indexmap.specs.IndexSet as set
 use Rattle.pb_rows.specs.Name.{same_name}
-use Rattle.pb_strap.specs.declared.point.Point.{Point}
-use Rattle.pb_strap.specs.declared.strap.TheConstants.{MOST_POINTS}
+use Rattle.pb_strap.specs.declared.strap.Point.{Point}
+use Rattle.pb_limits.specs.declared.TheConstants.{MOST_POINTS}
 use Rattle.pb_strap.specs.Table.{rises}
 use Rattle.pb_site.specs.declared.declared.Arc.{Arc}
 use Rattle.pb_site.specs.declared.index.Index.{Index}

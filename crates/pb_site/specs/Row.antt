@@ -1,7 +1,7 @@
 -- What one declaration says: its ranges, the unit or tank, the arc, the point and the critical value that it declares.
 use Rattle.std.specs.Prelude.{◌≡◌, ℕ, ◌^◌, ◌==◌, ℤ, pos, ◌≤ℤ◌, ◌≤◌, Bool, false, List, Option, Some, None, if◌then◌else◌, codes}
 use Rattle.pb_rows.specs.Name.{same_name}
-use Rattle.pb_strap.specs.declared.point.Point.{Point}
+use Rattle.pb_strap.specs.declared.strap.Point.{Point}
 use Rattle.pb_site.specs.declared.declared.Kind.{Kind}
 use Rattle.pb_site.specs.declared.declared.Kind.TheVariants.{Metered, Batch, Plain}
 use Rattle.pb_site.specs.declared.declared.ArcKind.{ArcKind}

@@ -3,7 +3,7 @@ use Rattle.std.specs.Prelude.{◌≡◌, ℕ, ℤ, Bool, false, List, ◌∷◌,
 use Rattle.std.specs.List.{list_any, position_or_len}
 use Rattle.pb_rows.specs.Name.{same_name}
 use Rattle.pb_rows.specs.declared.name.Names.{Names}
-use Rattle.pb_strap.specs.declared.point.Point.{Point}
+use Rattle.pb_strap.specs.declared.strap.Point.{Point}
 use Rattle.pb_site.specs.declared.declared.Arc.{Arc}
 use Rattle.pb_site.specs.declared.declared.ArcKind.{ArcKind}
 use Rattle.pb_site.specs.declared.declared.ArcKind.TheVariants.{Metered, Batch, Plain, Tank}

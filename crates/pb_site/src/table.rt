@@ -3,7 +3,8 @@
 ghost use Rattle.std.specs.Prelude.{◌≡◌, ◌≤◌, ◌<◌, ◌^◌, ◌∷◌, ◌++◌, [], pos, ◌≤ℤ◌, nat_le, true, length, OnOk, OnErr};
 ghost use Rattle.pb_strap.specs.Table.{rises};
 
-use pb_strap::{MOST_POINTS, Point, Strap, StrapRefused};
+use pb_limits::MOST_POINTS;
+use pb_strap::{Point, Strap, StrapRefused};
 use std::alloc::{AllocError, Global};
 use std::marker::Model;
 
@@ -17,7 +18,7 @@ pub struct Table {
 
 impl Model for Table {
     ghost use Rattle.std.specs.Prelude.{List};
-    ghost use Rattle.pb_strap.specs.declared.point.Point.{Point};
+    ghost use Rattle.pb_strap.specs.declared.strap.Point.{Point};
     ghost use Rattle.pb_site.specs.AtHand.{IsAtHand};
 
     ghost Value = { List Point };
@@ -28,7 +29,7 @@ impl Model for Table {
 }
 
 impl Table {
-    ghost use Rattle.pb_strap.specs.declared.point.Point.{Point};
+    ghost use Rattle.pb_strap.specs.declared.strap.Point.{Point};
 
     /// A table without points.
     pub fn new(alloc: Global) -> Table

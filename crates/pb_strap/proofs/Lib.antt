@@ -1,1 +1,2 @@
-pub mod TableLaws
+mod TableLemmas
+pub mod VolumeLemmas

@@ -1,1 +1,4 @@
+-- Statement
 pub mod Table
+-- Inside
+pub mod Kept

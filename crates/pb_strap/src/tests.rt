@@ -1,4 +1,4 @@
-//! Values from outside: worked rows, and the least and the greatest arguments.
+// Values from outside: worked rows, and the least and the greatest arguments.
 
 use super::*;
 use std::test::Fail;
@@ -51,9 +51,15 @@ fn greatest(rt: HostRuntime) -> Result<(), Fail> {
 #[test]
 fn refusals(rt: HostRuntime) -> Result<(), Fail> {
     let mut strap = Strap::new(rt.alloc());
+    assert!(rt; strap.is_empty());
     for level in 0..2_000u32 {
+        assert!(rt; !strap.is_full(), "{level}");
         strap.push(i64::from(level), 7)?;
     }
+    assert!(rt; strap.is_full());
+    assert_eq!(rt; strap.len(), 2_000);
+    assert!(rt; strap.rises(2_000, 7));
+    assert!(rt; !strap.rises(1_999, 7));
     for (mm, ml, want) in [
         (1_999, 7, StrapRefused::NotRising),
         (2_000, 6, StrapRefused::NotRising),

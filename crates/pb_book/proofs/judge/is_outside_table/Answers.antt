@@ -2,7 +2,7 @@ use Rattle.std.specs.Prelude.{is_some, not}
 use Rattle.std.proofs.Common.{◌≡◌, ◌∙◌, List, Option, Some, Bool, true, false, ℤ, FitsSigned, rules, sym, refl, ap}
 use mir.Syntax.{w64}
 use Rattle.std.proofs.lemmas.Int.{to_z-of_z}
-use Rattle.pb_strap.specs.declared.point.Point.{Point}
+use Rattle.pb_strap.specs.declared.strap.Point.{Point}
 use Rattle.pb_strap.specs.Table.{volume_of}
 use Rattle.pb_site.specs.Site.{points_of}
 use Rattle.pb_book.specs.Rows.{declared_of}

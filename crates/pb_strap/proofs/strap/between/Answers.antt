@@ -3,9 +3,9 @@ use Rattle.std.proofs.Common.{◌≡◌, ℤ, ◌-ℤ◌, ◌*ℤ◌, ◌<ℤ◌
 use mir.Syntax.{w64}
 use Rattle.std.proofs.lemmas.Int.{ints, to_z-of_z}
 use Rattle.pb_fixed.specs.Quotients.{floor_div}
-use Rattle.pb_strap.specs.declared.point.Point.{Point}
-use Rattle.pb_strap.specs.Table.{IsPoint}
-use Rattle.pb_strap.proofs.TableLaws.{line_from, line_to, rise_fits}
+use Rattle.pb_strap.specs.declared.strap.Point.{Point}
+use Rattle.pb_strap.specs.Kept.{IsPoint}
+use Rattle.pb_strap.proofs.TableLemmas.{line_from, line_to, rise_fits}
 use Rattle.pb_strap.proofs.strap.between.Goals as goal
 
 -- a number that went to bits and back
@@ -16,16 +16,16 @@ quotient : (p q : Point) (mm n : ℤ) → IsPoint p → IsPoint q → p.mm <ℤ 
     → n ≡ int_div_euclid (back (back (back q.ml -ℤ back p.ml) *ℤ back (back mm -ℤ back p.mm))) (back (back q.mm -ℤ back p.mm))
     → n ≡ floor_div ((q.ml -ℤ p.ml) *ℤ (mm -ℤ p.mm)) (q.mm -ℤ p.mm)
 quotient p q mm n hp hq from to is =
-    let p_ml : FitsSigned w64 p.ml = omega (arith, ints, hp.volume_from, hp.volume_to) in
-    let q_ml : FitsSigned w64 q.ml = omega (arith, ints, hq.volume_from, hq.volume_to) in
-    let p_mm : FitsSigned w64 p.mm = omega (arith, ints, hp.level_from, hp.level_to) in
-    let q_mm : FitsSigned w64 q.mm = omega (arith, ints, hq.level_from, hq.level_to) in
-    let at_mm : FitsSigned w64 mm = omega (arith, ints, hp.level_from, hq.level_to, from, to) in
-    let rise : FitsSigned w64 (q.ml -ℤ p.ml) = omega (arith, ints, hp.volume_from, hp.volume_to, hq.volume_from, hq.volume_to) in
-    let run : FitsSigned w64 (mm -ℤ p.mm) = omega (arith, ints, hp.level_from, hq.level_to, from, to) in
-    let whole : FitsSigned w64 (q.mm -ℤ p.mm) = omega (arith, ints, hp.level_from, hp.level_to, hq.level_from, hq.level_to) in
+    let p_ml : FitsSigned w64 p.ml = omega (arith, ints, hp.volume.0, hp.volume.1) in
+    let q_ml : FitsSigned w64 q.ml = omega (arith, ints, hq.volume.0, hq.volume.1) in
+    let p_mm : FitsSigned w64 p.mm = omega (arith, ints, hp.level.0, hp.level.1) in
+    let q_mm : FitsSigned w64 q.mm = omega (arith, ints, hq.level.0, hq.level.1) in
+    let at_mm : FitsSigned w64 mm = omega (arith, ints, hp.level.0, hq.level.1, from, to) in
+    let rise : FitsSigned w64 (q.ml -ℤ p.ml) = omega (arith, ints, hp.volume.0, hp.volume.1, hq.volume.0, hq.volume.1) in
+    let run : FitsSigned w64 (mm -ℤ p.mm) = omega (arith, ints, hp.level.0, hq.level.1, from, to) in
+    let whole : FitsSigned w64 (q.mm -ℤ p.mm) = omega (arith, ints, hp.level.0, hp.level.1, hq.level.0, hq.level.1) in
     let product : FitsSigned w64 ((q.ml -ℤ p.ml) *ℤ (mm -ℤ p.mm)) = rise_fits (q.ml -ℤ p.ml) (mm -ℤ p.mm)
-    (omega (arith, ints, hp.volume_from, hp.volume_to, hq.volume_from, hq.volume_to)) (omega (arith, ints, hp.level_from, hq.level_to, from, to)) in
+    (omega (arith, ints, hp.volume.0, hp.volume.1, hq.volume.0, hq.volume.1)) (omega (arith, ints, hp.level.0, hq.level.1, from, to)) in
     simp to_z-of_z at is
 
 pub overflow_mul-rise : goal.overflow_mul-rise
@@ -33,8 +33,8 @@ overflow_mul-rise c =
     let p = c.requires.lower in
     let q = c.requires.upper in
     rise_fits (back (back c.args.upper.ml -ℤ back c.args.lower.ml)) (back (back c.args.mm -ℤ back c.args.lower.mm))
-    (omega (arith, ints, p.volume_from, p.volume_to, q.volume_from, q.volume_to))
-    (omega (arith, ints, p.level_from, p.level_to, q.level_from, q.level_to, c.requires.from, c.requires.to))
+    (omega (arith, ints, p.volume.0, p.volume.1, q.volume.0, q.volume.1))
+    (omega (arith, ints, p.level.0, p.level.1, q.level.0, q.level.1, c.requires.from, c.requires.to))
 
 pub overflow_add-result : goal.overflow_add-result
 overflow_add-result c =
@@ -44,7 +44,7 @@ overflow_add-result c =
     let less : c.args.lower.mm <ℤ c.args.upper.mm = omega (arith, ints, c.requires.from, c.requires.to) in
     let low = line_from c.args.lower c.args.upper c.args.mm less c.requires.rise (omega (arith, ints, c.requires.from)) in
     let high = line_to c.args.lower c.args.upper c.args.mm less c.requires.rise (omega (arith, ints, c.requires.to)) in
-    omega (arith, ints, value, low, high, p.volume_from, p.volume_to, q.volume_from, q.volume_to)
+    omega (arith, ints, value, low, high, p.volume.0, p.volume.1, q.volume.0, q.volume.1)
 
 pub returns : goal.returns
 returns c =
@@ -54,8 +54,8 @@ returns c =
     let less : c.args.lower.mm <ℤ c.args.upper.mm = omega (arith, ints, c.requires.from, c.requires.to) in
     let low = line_from c.args.lower c.args.upper c.args.mm less c.requires.rise (omega (arith, ints, c.requires.from)) in
     let high = line_to c.args.lower c.args.upper c.args.mm less c.requires.rise (omega (arith, ints, c.requires.to)) in
-    omega (arith, ints, value, low, high, p.volume_from, p.volume_to, q.volume_from, q.volume_to)
+    omega (arith, ints, value, low, high, p.volume.0, p.volume.1, q.volume.0, q.volume.1)
 
 pub div_euclid-requires-clause-no_overflow : goal.div_euclid-requires-clause-no_overflow
 div_euclid-requires-clause-no_overflow c minus_one least =
-    absurd (omega (arith, ints, minus_one, c.requires.lower.level_from, c.requires.lower.level_to, c.requires.upper.level_from, c.requires.upper.level_to, c.requires.from, c.requires.to))
+    absurd (omega (arith, ints, minus_one, c.requires.lower.level.0, c.requires.lower.level.1, c.requires.upper.level.0, c.requires.upper.level.1, c.requires.from, c.requires.to))

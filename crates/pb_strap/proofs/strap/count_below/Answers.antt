@@ -2,7 +2,7 @@ use Rattle.std.specs.Prelude.{int_lt}
 use Rattle.std.proofs.Common.{rules, of_calls, arith}
 use Rattle.std.proofs.lemmas.Int.{ints}
 use Rattle.std.proofs.lemmas.Fn.{always_returns_same}
-use Rattle.pb_strap.proofs.TableLaws.{is_partitioned}
+use Rattle.pb_strap.proofs.TableLemmas.{is_partitioned}
 use Rattle.pb_strap.proofs.strap.count_below.Goals as goal
 
 pub returns-clause-below : goal.returns-clause-below

@@ -2,9 +2,9 @@ use Rattle.std.specs.Prelude.{get_or, length}
 use Rattle.std.proofs.Common.{◌≡◌, ◌∙◌, ◌≢◌, ℕ, suc, ◌-◌, ◌<◌, pos, ◌≤ℤ◌, FitsSigned, Some, ap, subst, sym, to_z, of_z, arith}
 use mir.Syntax.{w64}
 use Rattle.std.proofs.lemmas.Int.{ints, to_z-of_z}
-use Rattle.pb_strap.specs.declared.point.Point.{Point}
+use Rattle.pb_strap.specs.declared.strap.Point.{Point}
 use Rattle.pb_strap.specs.Table.{volume_between, volume_of}
-use Rattle.pb_strap.proofs.TableLaws.{none_before, none_past, some_at, some_between, volumes_rise}
+use Rattle.pb_strap.proofs.TableLemmas.{none_before, none_past, some_at, some_between, volumes_rise}
 use Rattle.pb_strap.proofs.strap.volume_at.Goals as goal
 
 abbrev origin : Point
@@ -21,8 +21,8 @@ returns-then-above-mm c =
     let place = c.count_below-place.result in
     let within : place < length points = omega (arith, c.count_below-place.ensures.bound, c.if-place-points.false) in
     let p = c.requires.each place origin within in
-    let same : (get_or points place origin).mm ≡ c.args.mm = omega (arith, ints, c.if-above-mm.true, p.level_from, p.level_to) in
-    let exact : to_z w64 (of_z w64 (get_or points place origin).ml) ≡ (get_or points place origin).ml = omega (arith, ints, p.volume_from, p.volume_to) in
+    let same : (get_or points place origin).mm ≡ c.args.mm = omega (arith, ints, c.if-above-mm.true, p.level.0, p.level.1) in
+    let exact : to_z w64 (of_z w64 (get_or points place origin).ml) ≡ (get_or points place origin).ml = omega (arith, ints, p.volume.0, p.volume.1) in
     ap Some exact ∙ sym (some_at points place origin c.args.mm c.requires.rising within same)
 
 pub returns-then-place-eq0 : goal.returns-then-place-eq0
@@ -33,7 +33,7 @@ returns-then-place-eq0 c =
     let p = c.requires.each 0 origin within in
     let from = c.count_below-place.ensures.rest 0 origin (omega (arith, c.if-place-eq0.true)) within in
     let other : of_z w64 (get_or points 0 origin).mm ≢ of_z w64 c.args.mm = subst (λ (k : ℕ). of_z w64 (get_or points k origin).mm ≢ of_z w64 c.args.mm) c.if-place-eq0.true c.if-above-mm.false in
-    sym (none_before points origin c.args.mm within (omega (arith, ints, from, other, p.level_from, p.level_to)))
+    sym (none_before points origin c.args.mm within (omega (arith, ints, from, other, p.level.0, p.level.1)))
 
 pub between-requires-clause-rise : goal.between-requires-clause-rise
 between-requires-clause-rise c =
@@ -53,7 +53,7 @@ between-requires-clause-to c =
     let within : place < length points = omega (arith, c.count_below-place.ensures.bound, c.if-place-points.false) in
     let p = c.requires.each place origin within in
     let from = c.count_below-place.ensures.rest place origin (omega arith) within in
-    omega (arith, ints, from, c.if-above-mm.false, p.level_from, p.level_to)
+    omega (arith, ints, from, c.if-above-mm.false, p.level.0, p.level.1)
 
 pub returns : goal.returns
 returns c =

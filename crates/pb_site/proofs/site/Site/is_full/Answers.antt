@@ -1,6 +1,6 @@
 use Rattle.std.specs.Prelude.{nat_le}
 use Rattle.std.proofs.Common.{◌∙◌, List, length, ap}
-use Rattle.pb_strap.specs.declared.point.Point.{Point}
+use Rattle.pb_strap.specs.declared.strap.Point.{Point}
 use Rattle.pb_site.proofs.LookUpLemmas.{table_points}
 use Rattle.pb_site.proofs.site.Site.is_full.Goals as goal
 

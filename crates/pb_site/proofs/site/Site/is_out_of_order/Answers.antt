@@ -1,7 +1,7 @@
 use Rattle.std.specs.Prelude.{not}
 use Rattle.std.proofs.Common.{List, ap}
 use Rattle.pb_strap.specs.Table.{rises}
-use Rattle.pb_strap.specs.declared.point.Point.{Point}
+use Rattle.pb_strap.specs.declared.strap.Point.{Point}
 use Rattle.pb_site.proofs.LookUpLemmas.{table_points}
 use Rattle.pb_site.proofs.site.Site.is_out_of_order.Goals as goal
 

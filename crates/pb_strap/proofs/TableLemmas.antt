@@ -3,7 +3,7 @@ use Rattle.std.specs.Prelude.{is_some, IfSome, FitsSigned, ⊤, ◌++◌, get_or
 use Rattle.std.specs.List.{AllByRecursion}
 use Rattle.std.specs.List.Sorted.{IsPartitionedBy}
 use Rattle.pb_integers.proofs.Lists.{AllByRecursion-from_all}
-use Rattle.std.proofs.Common.{◌≡◌, ◌∙◌, ℕ, zero, suc, ◌+◌, ◌-◌, ◌*◌, ◌<◌, ◌≤◌, ◌^◌, ℤ, pos, ◌+ℤ◌, ◌-ℤ◌, ◌*ℤ◌, ◌≤ℤ◌, ◌<ℤ◌, unsigned_abs, List, [], ◌∷◌, length, Option, Some, None, refl, sym, ap, subst, inl, inr, arith}
+use Rattle.std.proofs.Common.{◌≡◌, ◌∙◌, ℕ, zero, suc, ◌+◌, ◌-◌, ◌<◌, ◌≤◌, ◌^◌, ℤ, pos, ◌+ℤ◌, ◌-ℤ◌, ◌*ℤ◌, ◌≤ℤ◌, ◌<ℤ◌, unsigned_abs, List, [], ◌∷◌, length, Option, Some, None, refl, sym, ap, subst, inl, inr, arith}
 use mir.Syntax.{w64}
 use Rattle.std.proofs.lemmas.Bool.{and_parts, cases_Bool}
 use Rattle.std.proofs.lemmas.Option.{slice_get-get_or}
@@ -15,26 +15,29 @@ use Rattle.pb_integers.proofs.Order.{mul_mono_both, mul_mono_left, mul_nonneg}
 use Rattle.pb_integers.proofs.Ring.{var, lit, plus, times, minus, ring}
 use Rattle.pb_fixed.specs.Quotients.{IsFloor, floor_div}
 use Rattle.pb_fixed.proofs.QuotientLaws.{floor_from, floor_is, floor_multiple, floor_shift, floor_to}
-use Rattle.pb_strap.specs.declared.point.Point.{Point}
-use Rattle.pb_strap.specs.Table.{IsExactAtPoints, IsLinear, IsOnLine, IsOutside, IsPoint, IsRising, IsVolume, IsTable, is_above, rises, volume_between, volume_of}
+use Rattle.pb_strap.specs.declared.strap.Point.{Point}
+use Rattle.pb_limits.specs.Limits.{most_density, most_level, most_points, most_volume}
+use Rattle.pb_limits.specs.Ranges.{IsVolume}
+use Rattle.pb_strap.specs.Table.{IsExactAtPoints, IsLinear, IsOnLine, IsOutside, IsRising, is_above, most_content, rises, volume_between, volume_of}
+use Rattle.pb_strap.specs.Kept.{IsPoint, IsTable}
 
-lt_true : (a b : ℤ) → a <ℤ b → int_lt a b ≡ true
+pub lt_true : (a b : ℤ) → a <ℤ b → int_lt a b ≡ true
 lt_true a b h = grind (arith, ints)
 
-lt_false : (a b : ℤ) → b ≤ℤ a → int_lt a b ≡ false
+pub lt_false : (a b : ℤ) → b ≤ℤ a → int_lt a b ≡ false
 lt_false a b h = grind (arith, ints)
 
 le_true : (a b : ℤ) → a ≤ℤ b → int_le a b ≡ true
 le_true a b h = grind (arith, ints)
 
-le_false : (a b : ℤ) → b <ℤ a → int_le a b ≡ false
+pub le_false : (a b : ℤ) → b <ℤ a → int_le a b ≡ false
 le_false a b h = grind (arith, ints)
 
 some_same : (p q : Point) → Some p ≡ Some q → p ≡ q
 some_same p q e = cc e
 
 -- ---- the line through two points
-at_lower : (p q : Point) → p.mm <ℤ q.mm → volume_between p q p.mm ≡ p.ml
+pub at_lower : (p q : Point) → p.mm <ℤ q.mm → volume_between p q p.mm ≡ p.ml
 at_lower p q less =
     let d = q.mm -ℤ p.mm in
     let d_pos : pos 0 <ℤ d = omega (arith, ints, less) in
@@ -86,24 +89,24 @@ neighbours_rise (r ∷ rest) zero p q h e f = subst (λ (x : Point). x.mm <ℤ q
 neighbours_rise (r ∷ rest) (suc i) p q h e f = neighbours_rise rest i p q (rising-rest r rest h) e f
 
 -- ---- one step of the walk
-walk-below : (p : Point) (rest : List Point) (mm : ℤ) → mm <ℤ p.mm → volume_of (p ∷ rest) mm ≡ None
+pub walk-below : (p : Point) (rest : List Point) (mm : ℤ) → mm <ℤ p.mm → volume_of (p ∷ rest) mm ≡ None
 walk-below p [] mm h = rw (lt_true mm p.mm h) refl
 walk-below p (q ∷ rest) mm h = rw (lt_true mm p.mm h) refl
 
-walk-here : (p q : Point) (rest : List Point) (mm : ℤ) → p.mm ≤ℤ mm → mm ≤ℤ q.mm → volume_of (p ∷ q ∷ rest) mm ≡ Some (volume_between p q mm)
+pub walk-here : (p q : Point) (rest : List Point) (mm : ℤ) → p.mm ≤ℤ mm → mm ≤ℤ q.mm → volume_of (p ∷ q ∷ rest) mm ≡ Some (volume_between p q mm)
 walk-here p q rest mm from to = rw (lt_false mm p.mm from) (rw (le_true mm q.mm to) refl)
 
-walk-on : (p q : Point) (rest : List Point) (mm : ℤ) → p.mm <ℤ q.mm → q.mm <ℤ mm → volume_of (p ∷ q ∷ rest) mm ≡ volume_of (q ∷ rest) mm
+pub walk-on : (p q : Point) (rest : List Point) (mm : ℤ) → p.mm <ℤ q.mm → q.mm <ℤ mm → volume_of (p ∷ q ∷ rest) mm ≡ volume_of (q ∷ rest) mm
 walk-on p q rest mm less above = rw (lt_false mm p.mm (omega (arith, ints, less, above))) (rw (le_false mm q.mm above) refl)
 
-last-at : (p : Point) → volume_of (p ∷ []) p.mm ≡ Some p.ml
+pub last-at : (p : Point) → volume_of (p ∷ []) p.mm ≡ Some p.ml
 last-at p = rw (lt_false p.mm p.mm (omega (arith, ints))) refl
 
-last-above : (p : Point) (mm : ℤ) → p.mm <ℤ mm → volume_of (p ∷ []) mm ≡ None
+pub last-above : (p : Point) (mm : ℤ) → p.mm <ℤ mm → volume_of (p ∷ []) mm ≡ None
 last-above p mm h = rw (lt_false mm p.mm (omega (arith, ints, h))) (rw (lt_true p.mm mm h) refl)
 
 -- ---- at the first point, at any point, between neighbours
-first_at : (p : Point) (rest : List Point) → IsRising (p ∷ rest) → volume_of (p ∷ rest) p.mm ≡ Some p.ml
+pub first_at : (p : Point) (rest : List Point) → IsRising (p ∷ rest) → volume_of (p ∷ rest) p.mm ≡ Some p.ml
 first_at p [] h = last-at p
 first_at p (q ∷ rest) h =
     let less = h.0 in
@@ -236,14 +239,14 @@ rising-push (r ∷ q ∷ rest) p h above =
     let same = subst (λ (k : ℕ). option_map_or (is_above p.mm p.ml) (slice_get (r ∷ q ∷ rest) k) true ≡ true) last above in
     (h.0, h.1, rising-push (q ∷ rest) p h.2 same)
 
-pub table-push : (points : List Point) (p : Point) → IsTable points → IsPoint p → length points < 2000 → rises points p.mm p.ml ≡ true → IsTable (points ++ p ∷ [])
+pub table-push : (points : List Point) (p : Point) → IsTable points → IsPoint p → length points < most_points → rises points p.mm p.ml ≡ true → IsTable (points ++ p ∷ [])
 table-push points p t fits few above = record {
   few = let e = length-append points (p ∷ []) in omega (arith, e, few);
   each = All-push IsPoint points p t.each fits;
   rising = rising-push points p t.rising above;
 }
 
--- ---- the volumes of a table are from 0 to 10^12
+-- ---- the volumes of a table are in range
 pub line_from : (p q : Point) (mm : ℤ) → p.mm <ℤ q.mm → p.ml ≤ℤ q.ml → p.mm ≤ℤ mm → p.ml ≤ℤ volume_between p q mm
 line_from p q mm less rise from =
     let n = (q.ml -ℤ p.ml) *ℤ (mm -ℤ p.mm) in
@@ -259,8 +262,8 @@ line_to p q mm less rise to =
     let h = floor_to (q.ml -ℤ p.ml) n d (omega (arith, ints, less)) n_le in
     omega (arith, ints, h)
 
-pub rise_fits : (a b : ℤ) → unsigned_abs a ≤ 10 ^ 12 → unsigned_abs b ≤ 10 ^ 5 → FitsSigned w64 (a *ℤ b)
-rise_fits a b h k = fits_signed_mul w64 a b (10 ^ 12) (10 ^ 5) h k (omega arith)
+pub rise_fits : (a b : ℤ) → unsigned_abs a ≤ most_volume → unsigned_abs b ≤ most_level → FitsSigned w64 (a *ℤ b)
+rise_fits a b h k = fits_signed_mul w64 a b most_volume most_level h k (omega arith)
 
 -- ---- where the volume is looked up
 pub levels_rise : (points : List Point) (i j : ℕ) (d : Point) → IsRising points → i ≤ j → j < length points → (get_or points i d).mm ≤ℤ (get_or points j d).mm
@@ -304,7 +307,7 @@ volume_of-width_from : (points : List Point) (mm : ℤ) → IsRising points → 
 volume_of-width_from [] mm h each = tt
 volume_of-width_from (p ∷ []) mm h each = elim (cases_Bool (int_lt mm p.mm || int_lt p.mm mm)) [
   | inl out ↦ rw out tt
-  | inr at ↦ rw at (each.0.volume_from, each.0.volume_to)
+  | inr at ↦ rw at (each.0.volume.0, each.0.volume.1)
 ]
 volume_of-width_from (p ∷ q ∷ rest) mm h each = by_lt_z mm p.mm
     (λ below. subst (λ (o : Option ℤ). IfSome o IsVolume) (sym (walk-below p (q ∷ rest) mm below)) tt)
@@ -313,8 +316,8 @@ volume_of-width_from (p ∷ q ∷ rest) mm h each = by_lt_z mm p.mm
     (λ to.
     let low = line_from p q mm h.0 h.1 from in
     let high = line_to p q mm h.0 h.1 to in
-    let least = each.0.volume_from in
-    let most = each.1.0.volume_to in
+    let least = each.0.volume.0 in
+    let most = each.1.0.volume.1 in
     let within : IsVolume (volume_between p q mm) = (omega (arith, ints, low, least), omega (arith, ints, high, most)) in
     subst (λ (o : Option ℤ). IfSome o IsVolume) (sym (walk-here p q rest mm from to)) within))
 
@@ -326,6 +329,6 @@ pub mass_from : (ml density : ℤ) → pos 0 ≤ℤ ml → pos 0 ≤ℤ density 
 mass_from ml density ml_pos density_pos =
     floor_from (pos 0) (ml *ℤ density) (pos (10 ^ 6)) (omega (arith, ints)) (mul_nonneg ml density ml_pos density_pos)
 
-pub mass_to : (ml density : ℤ) → ml ≤ℤ pos (10 ^ 12) → density ≤ℤ pos (2 * 10 ^ 7) → pos 0 ≤ℤ density → floor_div (ml *ℤ density) (pos (10 ^ 6)) ≤ℤ pos (2 * 10 ^ 13)
+pub mass_to : (ml density : ℤ) → ml ≤ℤ pos most_volume → density ≤ℤ pos most_density → pos 0 ≤ℤ density → floor_div (ml *ℤ density) (pos (10 ^ 6)) ≤ℤ pos most_content
 mass_to ml density ml_le density_le density_pos =
-    floor_to (pos (2 * 10 ^ 13)) (ml *ℤ density) (pos (10 ^ 6)) (omega (arith, ints)) (mul_mono_both ml (pos (10 ^ 12)) density (pos (2 * 10 ^ 7)) ml_le density_le density_pos (omega (arith, ints)))
+    floor_to (pos most_content) (ml *ℤ density) (pos (10 ^ 6)) (omega (arith, ints)) (mul_mono_both ml (pos most_volume) density (pos most_density) ml_le density_le density_pos (omega (arith, ints)))
