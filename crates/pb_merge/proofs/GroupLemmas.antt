@@ -8,8 +8,8 @@ use Rattle.pb_graph.specs.ProcessGraph.{ProcessGraph, is_measured}
 use Rattle.pb_graph.specs.Walk.{along, ends_of, unmeasured}
 use Rattle.pb_graph.specs.Groups.{SameGroup, AreGroups, group_at, group_count}
 use Rattle.pb_graph.proofs.WalkLemmas.{stream_of, walk_keeps}
-use Rattle.pb_merge.specs.Roots.{AreRoots, AreNumbered}
-use Rattle.pb_merge.specs.Grouping.{IsLeastNode}
+use Rattle.pb_merge.specs.Roots.{AreRoots, AreNumbered, root_at}
+use Rattle.pb_merge.specs.Grouping.{IsLeastNode, least_at}
 use Rattle.pb_merge.proofs.RootLemmas.{same_sym, same_trans}
 use Rattle.std.proofs.lemmas.Option.{slice_get_within}
 
@@ -32,14 +32,14 @@ count_is root n group least h =
           let k = length least - 1 in
           let within : k < length least = omega (arith, some) in
           let before = h.before k within in
-          let last = number_below group (group_at least k) (omega (arith, h.each, before)) in
+          let last = number_below group (least_at least k) (omega (arith, h.each, before)) in
           let is = h.member k within in
           omega (arith, most, last, is, some)
       | inr none ↦ omega (arith, most, none)
     ]
 
 -- one step of unmeasured streams keeps the root
-step_root : (nodes : ℕ) (ss : List Stream) (root : List ℕ) → AreRoots nodes ss (length ss) root → (t : Step) (x y : ℕ) → ends_of unmeasured ss t ≡ Some (x, y) → group_at root x ≡ group_at root y
+step_root : (nodes : ℕ) (ss : List Stream) (root : List ℕ) → AreRoots nodes ss (length ss) root → (t : Step) (x y : ℕ) → ends_of unmeasured ss t ≡ Some (x, y) → root_at root x ≡ root_at root y
 step_root nodes ss root h t x y e =
     let (s, at, plain, is) = stream_of unmeasured ss t (x, y) e in
     let joins = h.joins t.stream s (slice_get_within ss t.stream s at) at (not_true (is_measured s) plain) in
@@ -49,13 +49,13 @@ step_root nodes ss root h t x y e =
     not_true true e = cc e
     not_true false e = refl
 
-    along_root : (s : Stream) (forward : Bool) → group_at root s.from ≡ group_at root s.to → along forward s ≡ (x, y) → group_at root x ≡ group_at root y
-    along_root s true joins is = ap (group_at root) (sym (ap (λ (p : ℕ × ℕ). p.0) is)) ∙ joins ∙ ap (group_at root) (ap (λ (p : ℕ × ℕ). p.1) is)
-    along_root s false joins is = ap (group_at root) (sym (ap (λ (p : ℕ × ℕ). p.0) is)) ∙ sym joins ∙ ap (group_at root) (ap (λ (p : ℕ × ℕ). p.1) is)
+    along_root : (s : Stream) (forward : Bool) → root_at root s.from ≡ root_at root s.to → along forward s ≡ (x, y) → root_at root x ≡ root_at root y
+    along_root s true joins is = ap (root_at root) (sym (ap (λ (p : ℕ × ℕ). p.0) is)) ∙ joins ∙ ap (root_at root) (ap (λ (p : ℕ × ℕ). p.1) is)
+    along_root s false joins is = ap (root_at root) (sym (ap (λ (p : ℕ × ℕ). p.0) is)) ∙ sym joins ∙ ap (root_at root) (ap (λ (p : ℕ × ℕ). p.1) is)
 
-walk_root : (nodes : ℕ) (ss : List Stream) (root : List ℕ) (a b : ℕ) → AreRoots nodes ss (length ss) root → SameGroup ss a b → group_at root a ≡ group_at root b
+walk_root : (nodes : ℕ) (ss : List Stream) (root : List ℕ) (a b : ℕ) → AreRoots nodes ss (length ss) root → SameGroup ss a b → root_at root a ≡ root_at root b
 walk_root nodes ss root a b h (steps, w) =
-    walk_keeps (ends_of unmeasured ss) (λ n. group_at root a ≡ group_at root n) a b steps (λ t x y e so_far. so_far ∙ step_root nodes ss root h t x y e) w refl
+    walk_keeps (ends_of unmeasured ss) (λ n. root_at root a ≡ root_at root n) a b steps (λ t x y e so_far. so_far ∙ step_root nodes ss root h t x y e) w refl
 
 -- the numbers are those of the groups
 pub groups_are : (g : ProcessGraph) (root group least : List ℕ) → AreRoots g.nodes g.streams (length g.streams) root → AreNumbered root g.nodes group least → AreGroups g group
@@ -63,9 +63,9 @@ groups_are g root group least r h = record {
   each = h.each;
   same = λ a b a_lt b_lt. (
     (λ e.
-        let one : group_at root a ≡ group_at root b = sym (h.root_of a a_lt) ∙ ap (group_at least) e ∙ h.root_of b b_lt in
-        same_trans g.streams a (group_at root a) b (r.sound a a_lt)
-        (subst (λ (x : ℕ). SameGroup g.streams x b) (sym one) (same_sym g.streams b (group_at root b) (r.sound b b_lt)))),
+        let one : root_at root a ≡ root_at root b = sym (h.root_of a a_lt) ∙ ap (least_at least) e ∙ h.root_of b b_lt in
+        same_trans g.streams a (root_at root a) b (r.sound a a_lt)
+        (subst (λ (x : ℕ). SameGroup g.streams x b) (sym one) (same_sym g.streams b (root_at root b) (r.sound b b_lt)))),
     (λ same. by_root a a_lt ∙ ap (group_at group) (walk_root g.nodes g.streams root a b r same) ∙ sym (by_root b b_lt)),
   );
   numbered = λ n k lt below.
@@ -73,15 +73,15 @@ groups_are g root group least r h = record {
       let rises = h.rising k (group_at group n) below mine in
       let is = h.root_of n lt in
       let low = r.low n lt in
-      (group_at least k, omega (arith, rises, is, low), h.member k (omega (arith, below, mine)));
+      (least_at least k, omega (arith, rises, is, low), h.member k (omega (arith, below, mine)));
 }
   where
-    by_root : (a : ℕ) → a < g.nodes → group_at group a ≡ group_at group (group_at root a)
+    by_root : (a : ℕ) → a < g.nodes → group_at group a ≡ group_at group (root_at root a)
     by_root a lt = sym (h.member (group_at group a) (h.below a lt)) ∙ ap (group_at group) (h.root_of a lt)
 
 -- the least nodes are least
 pub least_are : (g : ProcessGraph) (root group least : List ℕ) → AreRoots g.nodes g.streams (length g.streams) root → AreNumbered root g.nodes group least → (k : ℕ) → k < length least
-    → IsLeastNode group k (group_at least k)
+    → IsLeastNode group k (least_at least k)
 least_are g root group least r h k lt = record {
   node = let b = h.before k lt in omega (arith, b, h.each);
   member = h.member k lt;
@@ -90,6 +90,6 @@ least_are g root group least r h k lt = record {
       let m_lt : m < g.nodes = omega (arith, before, b) in
       let is = h.root_of m m_lt in
       let low = r.low m m_lt in
-      let same = ap (group_at least) e in
+      let same = ap (least_at least) e in
       absurd (omega (arith, before, is, low, same));
 }

@@ -1,8 +1,9 @@
-pub mod RootLemmas
-pub mod NumberLemmas
-pub mod VarianceLemmas
-pub mod GroupLemmas
-pub mod FreeLemmas
-pub mod MadeGroups
-pub mod NumberingLaws
-pub mod SomeGroupsLemmas
+mod RootLemmas
+mod NumberLemmas
+mod VarianceLemmas
+mod GroupLemmas
+mod FreeLemmas
+mod MadeLemmas
+mod NumberingLemmas
+mod SomeGroupsLemmas
+pub mod GroupLaws

@@ -3,7 +3,8 @@ use Rattle.std.proofs.Common.{◌≡◌, ◌≢◌, ◌∙◌, ℕ, ◌+◌, ◌
 use Rattle.std.proofs.lemmas.Bool.{cases_eq, eq-eqb, ne_eqb}
 use Rattle.std.proofs.lemmas.List.{get_or_append_left, get_or_push}
 use Rattle.pb_graph.specs.Groups.{group_at}
-use Rattle.pb_merge.specs.Roots.{AreNumbered, number_of}
+use Rattle.pb_merge.specs.Grouping.{least_at}
+use Rattle.pb_merge.specs.Roots.{AreNumbered, number_of, root_at}
 
 pub length_push : {X : Type 0} (xs : List X) (y : X) → length (xs ++ y ∷ []) ≡ length xs + 1
 length_push xs y = length-append xs (y ∷ [])
@@ -19,7 +20,7 @@ pub last_or : (P : ℕ → Type 0) (n a : ℕ) → a < n + 1 → P n → (a < n 
 last_or P n a lt last early = elim (cases_eq a n) [ inl e ↦ subst P (sym e) last | inr ne ↦ early (omega (arith, lt, ne)) ]
 
 -- a node that is its own root begins a group
-pub numbered_new : (root : List ℕ) (n : ℕ) (group least : List ℕ) → AreNumbered root n group least → group_at root n ≡ n
+pub numbered_new : (root : List ℕ) (n : ℕ) (group least : List ℕ) → AreNumbered root n group least → root_at root n ≡ n
     → AreNumbered root (n + 1) (group ++ length least ∷ []) (least ++ n ∷ [])
 numbered_new root n group least h own =
     let size = length least in
@@ -27,33 +28,33 @@ numbered_new root n group least h own =
     let group_end = push_at group size n h.each in
     let least_end = push_at least n size refl in
     let group_is : (a : ℕ) → a < n → group_at (group ++ size ∷ []) a ≡ group_at group a = λ a lt. push_below group size a (omega (arith, h.each, lt)) in
-    let least_is : (k : ℕ) → k < size → group_at (least ++ n ∷ []) k ≡ group_at least k = λ k lt. push_below least n k lt in
+    let least_is : (k : ℕ) → k < size → least_at (least ++ n ∷ []) k ≡ least_at least k = λ k lt. push_below least n k lt in
     record {
       each = omega (arith, length_push group size, h.each);
       few = omega (arith, more, h.few);
       below = λ a lt. last_or (λ a. group_at (group ++ size ∷ []) a < length (least ++ n ∷ [])) n a lt
           (omega (arith, group_end, more))
           (λ l. let b = h.below a l in omega (arith, group_is a l, more, b));
-      root_of = λ a lt. last_or (λ a. group_at (least ++ n ∷ []) (group_at (group ++ size ∷ []) a) ≡ group_at root a) n a lt
-          (ap (group_at (least ++ n ∷ [])) group_end ∙ least_end ∙ sym own)
-          (λ l. ap (group_at (least ++ n ∷ [])) (group_is a l) ∙ least_is (group_at group a) (h.below a l) ∙ h.root_of a l);
-      before = λ k lt. last_or (λ k. group_at (least ++ n ∷ []) k < n + 1) size k (omega (arith, lt, more))
+      root_of = λ a lt. last_or (λ a. least_at (least ++ n ∷ []) (group_at (group ++ size ∷ []) a) ≡ root_at root a) n a lt
+          (ap (least_at (least ++ n ∷ [])) group_end ∙ least_end ∙ sym own)
+          (λ l. ap (least_at (least ++ n ∷ [])) (group_is a l) ∙ least_is (group_at group a) (h.below a l) ∙ h.root_of a l);
+      before = λ k lt. last_or (λ k. least_at (least ++ n ∷ []) k < n + 1) size k (omega (arith, lt, more))
           (omega (arith, least_end))
           (λ l. let b = h.before k l in omega (arith, least_is k l, b));
-      member = λ k lt. last_or (λ k. group_at (group ++ size ∷ []) (group_at (least ++ n ∷ []) k) ≡ k) size k (omega (arith, lt, more))
+      member = λ k lt. last_or (λ k. group_at (group ++ size ∷ []) (least_at (least ++ n ∷ []) k) ≡ k) size k (omega (arith, lt, more))
           (ap (group_at (group ++ size ∷ [])) least_end ∙ group_end)
-          (λ l. ap (group_at (group ++ size ∷ [])) (least_is k l) ∙ group_is (group_at least k) (h.before k l) ∙ h.member k l);
-      rising = λ j k lt within. last_or (λ k. j < k → group_at (least ++ n ∷ []) j < group_at (least ++ n ∷ []) k) size k (omega (arith, within, more))
+          (λ l. ap (group_at (group ++ size ∷ [])) (least_is k l) ∙ group_is (least_at least k) (h.before k l) ∙ h.member k l);
+      rising = λ j k lt within. last_or (λ k. j < k → least_at (least ++ n ∷ []) j < least_at (least ++ n ∷ []) k) size k (omega (arith, within, more))
           (λ lt. let b = h.before j lt in omega (arith, least_end, least_is j lt, b))
           (λ l lt. let r = h.rising j k lt l in omega (arith, least_is k l, least_is j (omega (arith, lt, l)), r))
           lt;
     }
 
 -- another node has the number of its root
-pub numbered_old : (root : List ℕ) (n : ℕ) (group least : List ℕ) → AreNumbered root n group least → group_at root n < n → group_at root (group_at root n) ≡ group_at root n
-    → AreNumbered root (n + 1) (group ++ group_at group (group_at root n) ∷ []) least
+pub numbered_old : (root : List ℕ) (n : ℕ) (group least : List ℕ) → AreNumbered root n group least → root_at root n < n → root_at root (root_at root n) ≡ root_at root n
+    → AreNumbered root (n + 1) (group ++ group_at group (root_at root n) ∷ []) least
 numbered_old root n group least h low own =
-    let r = group_at root n in
+    let r = root_at root n in
     let k = group_at group r in
     let group_end = push_at group k n h.each in
     let group_is : (a : ℕ) → a < n → group_at (group ++ k ∷ []) a ≡ group_at group a = λ a lt. push_below group k a (omega (arith, h.each, lt)) in
@@ -63,11 +64,11 @@ numbered_old root n group least h low own =
       below = λ a lt. last_or (λ a. group_at (group ++ k ∷ []) a < length least) n a lt
           (let b = h.below r low in omega (arith, group_end, b))
           (λ l. let b = h.below a l in omega (arith, group_is a l, b));
-      root_of = λ a lt. last_or (λ a. group_at least (group_at (group ++ k ∷ []) a) ≡ group_at root a) n a lt
-          (ap (group_at least) group_end ∙ h.root_of r low ∙ own)
-          (λ l. ap (group_at least) (group_is a l) ∙ h.root_of a l);
+      root_of = λ a lt. last_or (λ a. least_at least (group_at (group ++ k ∷ []) a) ≡ root_at root a) n a lt
+          (ap (least_at least) group_end ∙ h.root_of r low ∙ own)
+          (λ l. ap (least_at least) (group_is a l) ∙ h.root_of a l);
       before = λ k lt. let b = h.before k lt in omega (arith, b);
-      member = λ j lt. group_is (group_at least j) (h.before j lt) ∙ h.member j lt;
+      member = λ j lt. group_is (least_at least j) (h.before j lt) ∙ h.member j lt;
       rising = h.rising;
     }
 

@@ -6,7 +6,7 @@ use Rattle.std.proofs.lemmas.Option.{slice_get-get_or}
 use Rattle.pb_graph.specs.declared.records.Stream.{Stream}
 use Rattle.pb_graph.specs.ProcessGraph.{IsStream}
 use Rattle.pb_graph.specs.Groups.{group_at}
-use Rattle.pb_merge.specs.Roots.{AreRoots, AreNumbered, joined_by}
+use Rattle.pb_merge.specs.Roots.{AreRoots, AreNumbered, joined_by, root_at}
 use Rattle.pb_merge.specs.Laws.{SomeGroupsLaw}
 use Rattle.pb_merge.proofs.RootLemmas.{roots_none, roots_more}
 use Rattle.pb_merge.proofs.NumberLemmas.{length_push, push_below, push_at, last_or, numbered_none, numbered_new, numbered_old}
@@ -16,7 +16,7 @@ use Rattle.pb_merge.proofs.GroupLemmas.{groups_are}
 record AreOwn (nodes : ℕ) : Type 0 where
   root : List ℕ
   each : length root ≡ nodes
-  own : (n : ℕ) → n < nodes → group_at root n ≡ n
+  own : (n : ℕ) → n < nodes → root_at root n ≡ n
 
 own_roots : (nodes : ℕ) → AreOwn nodes
 own_roots zero = record { root = []; each = refl; own = λ n lt. absurd (omega (arith, lt)) }
@@ -25,7 +25,7 @@ own_roots (suc nodes) =
     record {
       root = less.root ++ nodes ∷ [];
       each = omega (arith, length_push less.root nodes, less.each);
-      own = λ n lt. last_or (λ n. group_at (less.root ++ nodes ∷ []) n ≡ n) nodes n (omega (arith, lt))
+      own = λ n lt. last_or (λ n. root_at (less.root ++ nodes ∷ []) n ≡ n) nodes n (omega (arith, lt))
           (push_at less.root nodes nodes less.each)
           (λ l. let is = push_below less.root nodes n (omega (arith, l, less.each)) in let e = less.own n l in omega (arith, is, e));
     }
@@ -52,12 +52,12 @@ some_numbers nodes ss root (suc n) are le =
     let least = so_far.least in
     let next : n + 1 ≡ suc n = omega arith in
     let lt : n < nodes = omega (arith, le) in
-    subst (HasNumbers root) next (elim (cases_eq (group_at root n) n) [
+    subst (HasNumbers root) next (elim (cases_eq (root_at root n) n) [
       | inl own ↦ record { group = group ++ length least ∷ []; least = least ++ n ∷ []; numbered = numbered_new root n group least so_far.numbered own }
       | inr other ↦
           let low = are.low n lt in
           record {
-            group = group ++ group_at group (group_at root n) ∷ [];
+            group = group ++ group_at group (root_at root n) ∷ [];
             least = least;
             numbered = numbered_old root n group least so_far.numbered (omega (arith, low, other)) (are.own n lt);
           }

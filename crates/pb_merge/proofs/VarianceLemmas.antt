@@ -6,13 +6,14 @@ use Rattle.std.proofs.lemmas.Bool.{cases_Bool, cases_eq, eq-eqb, ne_eqb}
 use Rattle.std.proofs.lemmas.Grind.{get_or-set_at}
 use Rattle.std.proofs.lemmas.Int.{ints}
 use Rattle.std.proofs.lemmas.List.{get_or-set_other}
+use Rattle.pb_limits.specs.Limits.{most_streams, most_variance}
 use Rattle.pb_integers.proofs.Lists.{AllByRecursion-from_all, AllByRecursion-map}
 use Rattle.pb_integers.proofs.Sums.{sum_over-bound, sum_over-take_more}
 use Rattle.pb_graph.specs.declared.records.Meas.{Meas}
 use Rattle.pb_graph.specs.declared.records.Stream.{Stream}
 use Rattle.pb_graph.specs.ProcessGraph.{IsWithinLimits, IsMeasurement}
 use Rattle.pb_graph.specs.Groups.{has_one_end, is_one_end}
-use Rattle.pb_merge.specs.Variance.{crossing_variance, group_variance, variance_of}
+use Rattle.pb_merge.specs.Variance.{crossing_variance, group_variance, variance_of, most_group_variance}
 
 -- a variance added at both ends
 pub crossing_at : (totals : List ℤ) (from to k : ℕ) (v x y : ℤ) → from ≢ to → from < length totals → to < length totals
@@ -32,13 +33,13 @@ crossing_at totals from to k v x y apart from_lt to_lt x_is y_is = elim (cases_e
       ]
 ]
 
-crossing_within : (group : List ℕ) (k : ℕ) (s : Stream) → IsWithinLimits s → unsigned_abs (crossing_variance group k s) ≤ 10 ^ 22
+crossing_within : (group : List ℕ) (k : ℕ) (s : Stream) → IsWithinLimits s → unsigned_abs (crossing_variance group k s) ≤ most_variance
 crossing_within group k s h = elim (cases_Bool (has_one_end group k s)) [
   | inl one ↦ rw one (variance_within s.meas h)
   | inr none ↦ rw none (omega arith)
 ]
   where
-    variance_within : (m : Option Meas) → IfSome m IsMeasurement → unsigned_abs (variance_of m) ≤ 10 ^ 22
+    variance_within : (m : Option Meas) → IfSome m IsMeasurement → unsigned_abs (variance_of m) ≤ most_variance
     variance_within None h = omega arith
     variance_within (Some m) h = omega (arith, ints, h.least, h.greatest)
 
@@ -48,10 +49,11 @@ all_take P [] (suc n) h = tt
 all_take P (x ∷ xs) (suc n) h = (h.0, all_take P xs n h.1)
 
 -- the variance of a group over the first streams has room for the others
-pub variance_room : (group : List ℕ) (k j : ℕ) (ss : List Stream) → All IsWithinLimits ss → length ss ≤ 2000 → unsigned_abs (group_variance group k (take j ss)) ≤ 2000 * 10 ^ 22
+pub variance_room : (group : List ℕ) (k j : ℕ) (ss : List Stream) → All IsWithinLimits ss → length ss ≤ most_streams
+    → unsigned_abs (group_variance group k (take j ss)) ≤ most_group_variance
 variance_room group k j ss h few =
-    let each = AllByRecursion-map IsWithinLimits (λ s. unsigned_abs (crossing_variance group k s) ≤ 10 ^ 22) (take j ss) (crossing_within group k) (all_take IsWithinLimits ss j (AllByRecursion-from_all IsWithinLimits ss h)) in
-    let bound = sum_over-bound (crossing_variance group k) (10 ^ 22) (take j ss) each in
+    let each = AllByRecursion-map IsWithinLimits (λ s. unsigned_abs (crossing_variance group k s) ≤ most_variance) (take j ss) (crossing_within group k) (all_take IsWithinLimits ss j (AllByRecursion-from_all IsWithinLimits ss h)) in
+    let bound = sum_over-bound (crossing_variance group k) most_variance (take j ss) each in
     let size = length-take j ss in
     omega (arith, bound, size, few)
 

@@ -1,4 +1,6 @@
-pub mod Roots
+-- Statement
 pub mod Variance
 pub mod Grouping
 pub mod Laws
+-- Inside
+pub mod Roots

@@ -1,10 +1,13 @@
-ghost use Rattle.std.specs.Prelude.{◌≡◌, ℕ, ◌<◌, ◌≤◌, ◌*◌, ◌^◌, false, pos, ◌≤ℤ◌, length, get_or, IfOk};
+// The groups of the nodes of a graph.
+
+ghost use Rattle.std.specs.Prelude.{◌≡◌, ℕ, ◌<◌, ◌≤◌, false, pos, ◌≤ℤ◌, length, get_or, IfOk};
 ghost use Rattle.pb_graph.specs.Groups.{group_at, group_count};
-ghost use Rattle.pb_merge.specs.Grouping.{AreGroupsOf};
+ghost use Rattle.pb_merge.specs.Variance.{most_group_variance};
+ghost use Rattle.pb_merge.specs.Grouping.{AreGroupsOf, least_at};
 
 use crate::numbers::{Numbers, number_all};
 use crate::roots::roots;
-use crate::variance::{free, variances};
+use crate::variance::{free_groups, variances};
 use pb_graph::Graph;
 use std::alloc::{AllocError, Global};
 use std::marker::Model;
@@ -31,13 +34,13 @@ impl Model for Groups {
 
 impl Groups {
     /// The groups of a graph.
-    pub fn of(alloc: Global, g: &Graph) -> Result<Groups, AllocError>
-        ensures { IfOk result (AreGroupsOf g.now) }
+    pub fn of(alloc: Global, graph: &Graph) -> Result<Groups, AllocError>
+        ensures { IfOk result (AreGroupsOf graph.now) }
     {
-        let root = roots(alloc, g.nodes(), g.streams())?;
+        let root = roots(alloc, graph.nodes(), graph.streams())?;
         let Numbers { group, least } = number_all(alloc, &root)?;
-        let variance = variances(alloc, least.len(), &group, g.streams())?;
-        let free = free(alloc, &variance)?;
+        let variance = variances(alloc, least.len(), &group, graph.streams())?;
+        let free = free_groups(alloc, &variance)?;
         Ok(Groups {
             group,
             least,
@@ -72,7 +75,7 @@ impl Groups {
     /// The least node of a group.
     pub fn least(&self, group: u32) -> u32
         requires { group < group_count self.now.group }
-        ensures { result ≡ group_at self.now.least group }
+        ensures { result ≡ least_at self.now.least group }
     {
         self.least[group as usize]
     }
@@ -90,7 +93,7 @@ impl Groups {
         requires { group < group_count self.now.group }
         ensures value { result ≡ get_or self.now.variance group (pos 0) }
         ensures least { pos 0 ≤ℤ result }
-        ensures greatest { result ≤ℤ pos (2000 * 10 ^ 22) }
+        ensures greatest { result ≤ℤ pos most_group_variance }
     {
         self.variance[group as usize]
     }

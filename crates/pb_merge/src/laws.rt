@@ -1,6 +1,6 @@
-//! What is proved of the definitions alone. The functions are empty: the contract of each is a law.
+// What is proved of the definitions alone. The functions are empty: the contract of each is a law.
 
-ghost use Rattle.pb_merge.specs.Laws.{SomeGroupsLaw, NumberingLaw, FreeLaw};
+ghost use Rattle.pb_merge.specs.Laws.{SomeGroupsLaw, NumberingLaw, FreeLaw, CrossingLaw};
 
 /// Each graph has groups.
 pub fn some_groups_law()
@@ -15,4 +15,9 @@ pub fn numbering_law()
 /// The test of freedom by numbers is the definition by walks.
 pub fn free_law()
     ensures { FreeLaw }
+{}
+
+/// A stream with exactly one end in a group is measured, and a group has such a stream exactly where it has some variance.
+pub fn crossing_law()
+    ensures { CrossingLaw }
 {}

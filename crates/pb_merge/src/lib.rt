@@ -5,12 +5,13 @@
 #![tactic(auto)]
 
 mod groups;
-pub mod laws;
+mod laws;
 mod numbers;
 mod roots;
 mod variance;
 
 pub use groups::Groups;
+pub use laws::{crossing_law, free_law, numbering_law, some_groups_law};
 
 #[cfg(test)]
 mod tests;

@@ -1,6 +1,7 @@
-ghost use Rattle.std.specs.Prelude.{◌≡◌, ◌≢◌, ℕ, ◌<◌, ◌≤◌, ◌^◌, length, All, vec_len, IfOk};
-ghost use Rattle.pb_graph.specs.Groups.{group_at};
-ghost use Rattle.pb_merge.specs.Roots.{number_of, AreNumbered};
+// The numbers of the groups, in order of their least nodes.
+
+ghost use Rattle.std.specs.Prelude.{◌≡◌, ◌≢◌, ℕ, ◌<◌, ◌≤◌, ◌^◌, length, IfOk};
+ghost use Rattle.pb_merge.specs.Roots.{root_at, number_of, AreNumbered};
 
 use std::alloc::{AllocError, Global};
 
@@ -11,7 +12,7 @@ pub struct Numbers {
     pub least: Vec<u32>,
 }
 
-/// The number of the group of node `n`, where those of the nodes before it are known.
+// The number of the group of node `n`, where those of the nodes before it are known.
 fn number(group: &[u32], groups: u32, n: u32, root: u32) -> u32
     requires { root ≢ n → root < length group.now }
     ensures { result ≡ number_of group.now groups n root }
@@ -26,16 +27,16 @@ fn number(group: &[u32], groups: u32, n: u32, root: u32) -> u32
 /// Numbers the groups in order of their least node, where `root` has for each node the least node of its group.
 pub fn number_all(alloc: Global, root: &[u32]) -> Result<Numbers, AllocError>
     requires few { length root.now < 2 ^ 32 }
-    requires low { (n : ℕ) → n < length root.now → group_at root.now n ≤ n }
-    requires own { (n : ℕ) → n < length root.now → group_at root.now (group_at root.now n) ≡ group_at root.now n }
-    ensures { IfOk result (λ r. AreNumbered root.now (length root.now) r.group.items r.least.items) }
+    requires low { (n : ℕ) → n < length root.now → root_at root.now n ≤ n }
+    requires own { (n : ℕ) → n < length root.now → root_at root.now (root_at root.now n) ≡ root_at root.now n }
+    ensures { IfOk result (λ numbers. AreNumbered root.now (length root.now) numbers.group.items numbers.least.items) }
 {
     let mut group = Vec::new(alloc);
     let mut least = Vec::new(alloc);
-    for (n, r) in root.iter().enumerate() {
-        let k = number(&group, least.len() as u32, n as u32, *r);
-        group.push(k)?;
-        if *r == n as u32 {
+    for (n, root_of) in root.iter().enumerate() {
+        let group_of = number(&group, least.len() as u32, n as u32, *root_of);
+        group.push(group_of)?;
+        if *root_of == n as u32 {
             least.push(n as u32)?;
         }
     }

@@ -1,28 +1,29 @@
-ghost use Rattle.std.specs.Prelude.{◌≡◌, ℕ, ◌<◌, ◌≤◌, map, length, All, vec_len, IfOk};
+// The least node of each node's group.
+
+ghost use Rattle.std.specs.Prelude.{◌≡◌, ℕ, ◌<◌, map, length, All, vec_len, IfOk};
 ghost use Rattle.pb_graph.specs.ProcessGraph.{IsStream};
-ghost use Rattle.pb_graph.specs.Groups.{group_at};
-ghost use Rattle.pb_merge.specs.Roots.{moved, joined, joined_by, AreRoots};
+ghost use Rattle.pb_merge.specs.Roots.{root_at, lowered, joined, joined_by, AreRoots};
 
 use pb_graph::Stream;
 use std::alloc::{AllocError, Global};
 
-/// A root, where `high` gives way to `low`.
+// A root, where `high` gives way to `low`.
 fn lower(root: u32, high: u32, low: u32) -> u32
-    ensures { result ≡ moved high low root }
+    ensures { result ≡ lowered high low root }
 {
     if root == high { low } else { root }
 }
 
-/// Every node whose root is `high` gets the root `low`.
+// Every node whose root is `high` gets the root `low`.
 fn lower_all(root: &mut [u32], high: u32, low: u32)
-    ensures { root.new ≡ map (moved high low) root.old }
+    ensures { root.new ≡ map (lowered high low) root.old }
 {
-    for r in root.iter_mut() {
-        *r = lower(*r, high, low);
+    for root_of in root.iter_mut() {
+        *root_of = lower(*root_of, high, low);
     }
 }
 
-/// Joins the groups of two nodes: the lower of their roots is that of both.
+// Joins the groups of two nodes: the lower of their roots is that of both.
 fn join(root: &mut [u32], a: u32, b: u32)
     requires a { a < length root.old }
     requires b { b < length root.old }
@@ -35,31 +36,31 @@ fn join(root: &mut [u32], a: u32, b: u32)
     }
 }
 
-/// Joins the ends of a stream, where it is unmeasured.
-fn join_by(root: &mut [u32], s: &Stream)
-    requires { IsStream (length root.old) s.now }
-    ensures { root.new ≡ joined_by root.old s.now }
+// Joins the ends of a stream, where it is unmeasured.
+fn join_by(root: &mut [u32], stream: &Stream)
+    requires { IsStream (length root.old) stream.now }
+    ensures { root.new ≡ joined_by root.old stream.now }
 {
-    if s.meas.is_none() {
-        join(root, s.from, s.to);
+    if stream.meas.is_none() {
+        join(root, stream.from, stream.to);
     }
 }
 
-/// Joins the ends of all unmeasured streams.
+// Joins the ends of all unmeasured streams.
 fn join_all(root: &mut [u32], streams: &[Stream])
     requires ends { All (IsStream (length root.old)) streams.now }
     requires roots { AreRoots (length root.old) streams.now 0 root.old }
     ensures { AreRoots (length root.old) streams.now (length streams.now) root.new }
 {
-    for s in streams {
-        join_by(root, s);
+    for stream in streams {
+        join_by(root, stream);
     }
 }
 
-/// For each node itself.
+// For each node itself.
 fn own_roots(alloc: Global, nodes: u32) -> Result<Vec<u32>, AllocError>
     ensures each { IfOk result (λ root. vec_len root ≡ nodes) }
-    ensures own { IfOk result (λ root. (n : ℕ) → n < nodes → group_at root.items n ≡ n) }
+    ensures own { IfOk result (λ root. (n : ℕ) → n < nodes → root_at root.items n ≡ n) }
 {
     let mut root = Vec::new(alloc);
     for n in 0..nodes {

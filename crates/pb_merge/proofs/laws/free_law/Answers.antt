@@ -1,4 +1,4 @@
-use Rattle.pb_merge.proofs.NumberingLaws.{free_law}
+use Rattle.pb_merge.proofs.GroupLaws.{free_law}
 use Rattle.pb_merge.proofs.laws.free_law.Goals as goal
 
 pub returns : goal.returns

@@ -1,4 +1,4 @@
-use Rattle.pb_merge.proofs.NumberingLaws.{numbering_law}
+use Rattle.pb_merge.proofs.GroupLaws.{numbering_law}
 use Rattle.pb_merge.proofs.laws.numbering_law.Goals as goal
 
 pub returns : goal.returns

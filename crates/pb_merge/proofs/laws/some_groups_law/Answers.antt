@@ -1,4 +1,4 @@
-use Rattle.pb_merge.proofs.SomeGroupsLemmas.{some_groups_law}
+use Rattle.pb_merge.proofs.GroupLaws.{some_groups_law}
 use Rattle.pb_merge.proofs.laws.some_groups_law.Goals as goal
 
 pub returns : goal.returns

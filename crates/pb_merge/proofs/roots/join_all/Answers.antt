@@ -8,9 +8,9 @@ abbrev some_stream : Stream
 some_stream = record { from = 0; to = 0; meas = None }
 
 -- the ends of one stream more have one root
-pub loop-s-preserved : goal.loop-s-preserved
-loop-s-preserved c =
+pub loop-stream-preserved : goal.loop-stream-preserved
+loop-stream-preserved c =
     let nodes = length c.args.root.now in
     let ss = c.args.streams.now in
-    let j = c.loop-s.s-index in
-    rw c.join_by.ensures (roots_more nodes ss j c.loop-s.root (get_or ss j some_stream) c.requires.ends c.loop-s.invariant (slice_get-get_or ss j some_stream c.loop-s-test.true))
+    let j = c.loop-stream.stream-index in
+    rw c.join_by.ensures (roots_more nodes ss j c.loop-stream.root (get_or ss j some_stream) c.requires.ends c.loop-stream.invariant (slice_get-get_or ss j some_stream c.loop-stream-test.true))

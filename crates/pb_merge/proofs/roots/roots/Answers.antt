@@ -1,8 +1,7 @@
 use Rattle.std.proofs.Common.{◌≡◌, ℕ, refl, length, arith, ap, subst, sym, drop, ◌∙◌}
 use Rattle.std.proofs.lemmas.List.{take_at}
 use Rattle.pb_graph.specs.ProcessGraph.{IsStream}
-use Rattle.pb_graph.specs.Groups.{group_at}
-use Rattle.pb_merge.specs.Roots.{AreRoots}
+use Rattle.pb_merge.specs.Roots.{AreRoots, root_at}
 use Rattle.pb_merge.proofs.RootLemmas.{roots_none}
 use Rattle.pb_merge.proofs.roots.roots.Goals as goal
 use Rattle.pb_merge.proofs.roots.roots.Goals.{After-deref_mut}
@@ -18,7 +17,7 @@ join_all-requires c =
     let root = c.deref_mut.result.now in
     record {
       ends = λ k d lt. subst (λ (n : ℕ). IsStream n (get_or ss k d)) (sym (each c)) (c.requires k d lt);
-      roots = roots_none (length root) ss root refl (λ n lt. ap (λ xs. group_at xs n) c.deref_mut.ensures.value ∙ c.in_ok-root.ensures.own n (omega (arith, lt, each c)));
+      roots = roots_none (length root) ss root refl (λ n lt. ap (λ xs. root_at xs n) c.deref_mut.ensures.value ∙ c.in_ok-root.ensures.own n (omega (arith, lt, each c)));
     }
 
 -- the vector has what the slice over it has

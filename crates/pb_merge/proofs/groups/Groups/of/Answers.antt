@@ -3,15 +3,15 @@ use Rattle.std.specs.Prelude.{◌&&◌, int_lt}
 use Rattle.pb_graph.specs.declared.records.Stream.{Stream}
 use Rattle.pb_merge.specs.Roots.{AreRoots, AreNumbered}
 use Rattle.pb_merge.specs.Variance.{group_variance}
-use Rattle.pb_merge.proofs.MadeGroups.{IsMade, made_groups, made_grouping}
+use Rattle.pb_merge.proofs.MadeLemmas.{IsMade, made_groups, made_grouping}
 use Rattle.pb_merge.proofs.groups.Groups.of.Goals.{In_ok-free}
 use Rattle.pb_merge.proofs.groups.Groups.of.Goals as goal
 
 -- the parts as the calls made them
 made : (c : In_ok-free)
-    → IsMade c.args.g.now c.in_ok-root.root.items (record { group = c.in_ok-group.field-0.group.items; least = c.in_ok-group.field-0.least.items; free = c.in_ok-free.free.items; variance = c.in_ok-variance.variance.items })
+    → IsMade c.args.graph.now c.in_ok-root.root.items (record { group = c.in_ok-group.field-0.group.items; least = c.in_ok-group.field-0.least.items; free = c.in_ok-free.free.items; variance = c.in_ok-variance.variance.items })
 made c =
-    let g = c.args.g.now in
+    let g = c.args.graph.now in
     let root = c.in_ok-root.root.items in
     let group = c.in_ok-group.field-0.group.items in
     let least = c.in_ok-group.field-0.least.items in
@@ -33,7 +33,7 @@ made c =
     }
 
 pub invariant_of-result : goal.invariant_of-result
-invariant_of-result c = made_grouping c.args.g.now c.in_ok-root.root.items _ (made c)
+invariant_of-result c = made_grouping c.args.graph.now c.in_ok-root.root.items _ (made c)
 
 pub returns : goal.returns
-returns c = let front = (goal.at.returns c).In_ok-free in made_groups c.args.g.now c.in_ok-root.root.items _ (made front)
+returns c = let front = (goal.at.returns c).In_ok-free in made_groups c.args.graph.now c.in_ok-root.root.items _ (made front)

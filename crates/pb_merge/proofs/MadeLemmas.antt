@@ -6,7 +6,7 @@ use Rattle.std.proofs.lemmas.List.{get_or_default, take_all}
 use Rattle.pb_graph.specs.ProcessGraph.{ProcessGraph, IsProcessGraph}
 use Rattle.pb_graph.specs.Groups.{group_at, group_count, is_free_group, AreGroups}
 use Rattle.pb_merge.specs.Roots.{AreRoots, AreNumbered}
-use Rattle.pb_merge.specs.Variance.{group_variance}
+use Rattle.pb_merge.specs.Variance.{group_variance, most_group_variance}
 use Rattle.pb_merge.specs.Grouping.{Grouping, IsGrouping, AreGroupsOf}
 use Rattle.pb_merge.proofs.GroupLemmas.{count_is, groups_are, least_are, number_below}
 use Rattle.pb_merge.proofs.FreeLemmas.{crossings_add, free_is, free_means, variance_nonneg}
@@ -22,17 +22,17 @@ pub record IsMade (g : ProcessGraph) (root : List ℕ) (gs : Grouping) : Type 0 
   pub frees : length gs.free ≡ length gs.variance
   pub free : (k : ℕ) → k < length gs.variance → get_or gs.free k false ≡ (not (0 == k) && int_lt (pos 0) (get_or gs.variance k (pos 0)))
 
-range_from : (x : ℤ) → pos 0 ≤ℤ x → unsigned_abs x ≤ 2000 * 10 ^ 22 → (pos 0 ≤ℤ x) × (x ≤ℤ pos (2000 * 10 ^ 22))
+range_from : (x : ℤ) → pos 0 ≤ℤ x → unsigned_abs x ≤ most_group_variance → (pos 0 ≤ℤ x) × (x ≤ℤ pos most_group_variance)
 range_from x low high = (low, omega (arith, ints, low, high))
 
 variance_range : (g : ProcessGraph) (group : List ℕ) (k : ℕ) → AreGroups g group → IsProcessGraph g
-    → (pos 0 ≤ℤ group_variance group k g.streams) × (group_variance group k g.streams ≤ℤ pos (2000 * 10 ^ 22))
+    → (pos 0 ≤ℤ group_variance group k g.streams) × (group_variance group k g.streams ≤ℤ pos most_group_variance)
 variance_range g group k h limits =
     let whole = variance_room group k (length g.streams) g.streams limits.limits limits.few_streams in
     let all = take_all (length g.streams) g.streams (omega arith) in
     range_from (group_variance group k g.streams)
     (variance_nonneg group k g.streams (crossings_add g group k h limits.joins limits.limits))
-    (subst (λ ss. unsigned_abs (group_variance group k ss) ≤ 2000 * 10 ^ 22) all whole)
+    (subst (λ ss. unsigned_abs (group_variance group k ss) ≤ most_group_variance) all whole)
 
 pub made_groups : (g : ProcessGraph) (root : List ℕ) (gs : Grouping) → IsMade g root gs → AreGroupsOf g gs
 made_groups g root gs h =
@@ -50,7 +50,6 @@ made_groups g root gs h =
           let is = is_free (group_at gs.group n) within in
           let means = free_means g gs.group n groups h.limits.env h.limits.joins lt in
           ((λ t. means.0 (sym is ∙ true_is (get_or gs.free (group_at gs.group n) false) t)), (λ f. is_true (get_or gs.free (group_at gs.group n) false) (is ∙ means.1 f)));
-      is_free = is_free;
       variance = λ k lt. h.variance k (omega (arith, count, lt));
     }
   where
@@ -71,5 +70,5 @@ made_grouping g root gs h =
       each_variance = omega (arith, h.variances, count);
       range = λ k d lt.
           let is = get_or_default gs.variance k d (pos 0) lt ∙ h.variance k (omega (arith, h.variances, lt)) in
-          subst (λ v. (pos 0 ≤ℤ v) × (v ≤ℤ pos (2000 * 10 ^ 22))) (sym is) (variance_range g gs.group k groups h.limits);
+          subst (λ v. (pos 0 ≤ℤ v) × (v ≤ℤ pos most_group_variance)) (sym is) (variance_range g gs.group k groups h.limits);
     }

@@ -1,12 +1,16 @@
 -- A graph has one list of group numbers, in order of least nodes.
-use Rattle.std.proofs.Common.{◌≡◌, ◌∙◌, ℕ, zero, suc, ◌+◌, ◌-◌, ◌<◌, ◌≤◌, List, [], ◌∷◌, length, sym, inl, inr, arith}
+use Rattle.std.proofs.Common.{◌≡◌, ◌∙◌, ℕ, zero, suc, ◌+◌, ◌-◌, ◌<◌, ◌≤◌, List, [], ◌∷◌, length, true, ℤ, pos, ◌<ℤ◌, sym, inl, inr, arith}
+use Rattle.std.specs.Prelude.{int_lt}
 use Rattle.std.specs.List.{All}
 use Rattle.std.proofs.lemmas.Bool.{cases_eq, cases_lt}
+use Rattle.std.proofs.lemmas.Int.{ints}
 use Rattle.std.proofs.lemmas.List.{ext_get_or, get_or_default}
-use Rattle.pb_graph.specs.ProcessGraph.{ProcessGraph}
+use Rattle.pb_graph.specs.ProcessGraph.{ProcessGraph, IsStream}
 use Rattle.pb_graph.specs.Groups.{AreGroups, group_at, group_count}
-use Rattle.pb_merge.specs.Laws.{FreeLaw, NumberingLaw}
-use Rattle.pb_merge.proofs.FreeLemmas.{free_means}
+use Rattle.pb_merge.specs.Laws.{FreeLaw, CrossingLaw, NumberingLaw}
+use Rattle.pb_merge.specs.Variance.{group_variance}
+use Rattle.pb_merge.proofs.RootLemmas.{all_at}
+use Rattle.pb_merge.proofs.FreeLemmas.{first_number, crossing_measured, crossings_add, crossed_is, free_means}
 use Rattle.pb_merge.proofs.GroupLemmas.{count_le, number_below}
 
 -- the number of a node's group is at most the node
@@ -89,11 +93,30 @@ numbering_law = record {
               absurd (second.first m (omega (arith, before, lt)) is)
         ]
       ];
-  all = λ g group k h. (
-    (λ lt. number_node g group k h lt),
-    (λ (n, lt, is). let below = number_below group n (omega (arith, lt, h.each)) in omega (arith, below, is)),
-  );
+  all = λ g group h. record {
+    exactly = λ k. (
+      (λ lt. number_node g group k h lt),
+      (λ (n, lt, is). let below = number_below group n (omega (arith, lt, h.each)) in omega (arith, below, is)),
+    );
+    few = count_few g group h;
+    env = λ is. first_number g group h is.env;
+  };
 }
 
 pub free_law : FreeLaw
 free_law g group n limits h lt = free_means g group n h limits.env limits.joins lt
+
+pub crossing_law : CrossingLaw
+crossing_law g group k limits h = record {
+  measured = λ j s at one. crossing_measured g group k j s h (all_at (IsStream g.nodes) g.streams j s limits.joins at) at one;
+  varied =
+      let is = crossed_is group k g.streams (crossings_add g group k h limits.joins limits.limits) in
+      let variance = group_variance group k g.streams in
+      ((λ any. positive variance (sym is ∙ any)), (λ above. is ∙ more variance above));
+}
+  where
+    positive : (x : ℤ) → int_lt (pos 0) x ≡ true → pos 0 <ℤ x
+    positive x h = grind (arith, ints, h)
+
+    more : (x : ℤ) → pos 0 <ℤ x → int_lt (pos 0) x ≡ true
+    more x h = grind (arith, ints, h)

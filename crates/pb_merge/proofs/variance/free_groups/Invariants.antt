@@ -1,6 +1,6 @@
 use Rattle.std.proofs.Common.{◌≡◌, ℕ, ◌<◌, ◌==◌, not, false, pos, get_or, vec_len}
 use Rattle.std.specs.Prelude.{◌&&◌, int_lt}
-use Rattle.pb_merge.proofs.variance.free.Given as goal
+use Rattle.pb_merge.proofs.variance.free_groups.Given as goal
 
 abbrev pub invariant-loop-k : goal.invariant-loop-k
 invariant-loop-k l = record {
