@@ -16,9 +16,9 @@ use Rattle.pb_graph.specs.ProcessGraph.{ProcessGraph, IsProcessGraph, IsWithinLi
 use Rattle.pb_graph.specs.Groups.{AreGroups, group_at, group_count, has_one_end, is_free_group}
 use Rattle.pb_graph.specs.Prices.{PricesFit, IsInBox}
 use Rattle.pb_merge.specs.Variance.{group_variance}
-use Rattle.pb_merge.proofs.GroupLemmas.{number_below}
-use Rattle.pb_merge.proofs.NumberingLaws.{number_node, numbers_below}
-use Rattle.pb_merge.proofs.FreeLemmas.{first_number, crossing_measured, crossings_add, crossed_is}
+use Rattle.pb_merge.proofs.GroupLaws.{number_below}
+use Rattle.pb_merge.proofs.GroupLaws.{number_node, numbers_below}
+use Rattle.pb_merge.proofs.GroupLaws.{first_number, crossing_measured, crossings_add, crossed_is}
 use Rattle.pb_dual.specs.declared.arcs.Arc.{Arc}
 use Rattle.pb_dual.specs.DualValue.{dual_value}
 use Rattle.pb_dual.specs.Moves.{with_price, group_flow, FallsAlong}

@@ -10,7 +10,7 @@ use Rattle.pb_graph.specs.declared.records.Stream.{Stream}
 use Rattle.pb_graph.specs.ProcessGraph.{ProcessGraph, IsProcessGraph, IsStream, IsWithinLimits}
 use Rattle.pb_graph.specs.Groups.{group_at, has_one_end, is_free_group}
 use Rattle.pb_graph.specs.Prices.{PricesFit, IsInBox}
-use Rattle.pb_merge.proofs.FreeLemmas.{first_number, one_end_cases, free_means}
+use Rattle.pb_merge.proofs.GroupLaws.{first_number, one_end_cases, free_means}
 use Rattle.pb_dual.specs.DualValue.{dual_value}
 use Rattle.pb_dual.specs.Moves.{with_price}
 use Rattle.pb_dual.specs.Candidates.{least_candidate, greatest_candidate, best_price}

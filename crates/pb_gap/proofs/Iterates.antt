@@ -20,7 +20,7 @@ use Rattle.pb_dual.specs.DualValue.{scale}
 use Rattle.pb_dual.specs.Sweeps.{prices_after}
 use Rattle.pb_gap.specs.Gap.{Gap}
 use Rattle.pb_gap.specs.Bounds.{bounds_of, dual_flow_sum, half_width_in}
-use Rattle.pb_merge.proofs.NumberingLaws.{numbering_law}
+use Rattle.pb_merge.proofs.GroupLaws.{numbering_law}
 use Rattle.pb_gap.specs.State.{State, IsState, IsStateAfter, gap_in, price_in}
 use Rattle.pb_gap.specs.Iterate.{AreFlowsOf, IsIterate, roots_of}
 

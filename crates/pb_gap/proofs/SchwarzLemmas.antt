@@ -19,7 +19,7 @@ use Rattle.pb_graph.specs.Squares.{Fractional, variance_product, weighted_produc
 use Rattle.pb_graph.proofs.WalkLemmas.{some_same}
 use Rattle.pb_balance.specs.PricedSums.{signed_sum}
 use Rattle.pb_merge.specs.Variance.{variance_of}
-use Rattle.pb_merge.proofs.RootLemmas.{all_at}
+use Rattle.pb_merge.proofs.GroupLaws.{all_at}
 use Rattle.pb_dual.specs.DualValue.{scale}
 use Rattle.pb_gap.specs.Residuals.{residual_of, residuals_of}
 use Rattle.pb_gap.specs.Bounds.{IsSigned, AreSigned, dual_flow_in, variance_in, dual_flow_sum, variance_sum}

@@ -4,7 +4,7 @@ use Rattle.std.specs.Prelude.{IsTrue, ◌↔◌}
 use Rattle.std.proofs.lemmas.Bool.{cases_lt}
 use Rattle.pb_graph.specs.declared.results.Solved.TheVariants.{Converged, Unconverged}
 use Rattle.pb_graph.specs.ProcessGraph.{ProcessGraph, IsProcessGraph}
-use Rattle.pb_merge.proofs.NumberingLaws.{numbering_law}
+use Rattle.pb_merge.proofs.GroupLaws.{numbering_law}
 use Rattle.pb_forest.specs.Flows.{AgreeOffForest}
 use Rattle.pb_forest.proofs.AcyclicLemmas.{one_forest_law}
 use Rattle.pb_forest.proofs.SideLemmas.{one_balanced_law}

@@ -15,7 +15,7 @@ use Rattle.pb_graph.specs.declared.records.Stream.{Stream}
 use Rattle.pb_graph.specs.ProcessGraph.{ProcessGraph, IsProcessGraph, IsMeasurement, IsWithinLimits, is_measured}
 use Rattle.pb_graph.specs.Squares.{variance_or_one, variance_product}
 use Rattle.pb_graph.specs.Prices.{PricesFit, rise_of}
-use Rattle.pb_merge.proofs.RootLemmas.{stream_joins}
+use Rattle.pb_merge.proofs.GroupLaws.{stream_joins}
 use Rattle.pb_gap.specs.Laws.{WeightLaw}
 
 -- a variance, and the weight that l over it is

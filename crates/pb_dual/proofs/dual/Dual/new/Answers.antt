@@ -1,6 +1,6 @@
 use Rattle.std.proofs.Common.{◌≡◌, ◌∙◌, ℤ, pos, List, get_or, replicate, ap, arith}
 use Rattle.pb_dual.specs.Arcs.{arcs_of}
-use Rattle.pb_merge.proofs.NumberingLaws.{numbers_few, numbers_below}
+use Rattle.pb_merge.proofs.GroupLaws.{numbers_few, numbers_below}
 use Rattle.pb_dual.proofs.DualLaws.{made, get_zero}
 use Rattle.pb_dual.proofs.dual.Dual.new.Goals as goal
 
