@@ -1,6 +1,7 @@
-pub mod NameLemmas
-pub mod RowLemmas
-pub mod ReadLemmas
-pub mod NumberLemmas
-pub mod TextLemmas
-pub mod RoundTripLemmas
+mod NameLemmas
+mod RowLemmas
+mod ReadLemmas
+mod NumberLemmas
+mod TextLemmas
+mod DateTextLemmas
+mod RoundTripLemmas

@@ -1,10 +1,13 @@
 -- What a name's 32 bytes hold.
-use Rattle.std.proofs.Common.{◌≡◌, ◌≤◌, ◌++◌, ◌∙◌, ℕ, List, length, drop, replicate, true, arith, length-append, length-drop}
-use Rattle.std.specs.Prelude.{not, ◌==◌}
+use Rattle.std.proofs.Common.{rules, ◌∷◌, [], ◌<◌, zero, suc, ◌≡◌, ◌≤◌, ◌++◌, ◌∙◌, ℕ, List, length, drop, replicate, true, arith, length-append, length-drop}
+use Rattle.std.specs.Prelude.{IsOk, MatchResult, Result, Ok, Err, IsUtf8, not, slice_index, ◌==◌}
+use Rattle.std.specs.List.{list_all}
+use Rattle.std.proofs.lemmas.Bool.Decides.{nat_tests}
+use Rattle.std.proofs.lemmas.Str.{IsUtf8-from_ascii}
 use Rattle.std.proofs.lemmas.Bool.{and_parts, leb-true}
 use Rattle.std.proofs.lemmas.List.{drop-replicate, length-replicate}
 use Rattle.std.proofs.Math.Seq.{drop-append_seam, take-append_seam}
-use Rattle.pb_rows.specs.Name.{has_name_length, is_name}
+use Rattle.pb_rows.specs.Name.{has_name_length, is_name, is_name_byte}
 use Rattle.pb_rows.specs.Padded.{IsPaddedName}
 
 -- a name has at most 32 bytes
@@ -24,3 +27,22 @@ padded_copy copied field same named =
       form = rw (take-append_seam field (drop (length field) (replicate {A = ℕ} 32 0))) named;
       zeros = drop-append_seam field (drop (length field) (replicate {A = ℕ} 32 0)) ∙ drop-replicate (length field) 32 0;
     })
+
+-- a name is ASCII
+name_ascii : (field : List ℕ) → list_all is_name_byte field ≡ true → (i : ℕ) → slice_index field i < 128
+name_ascii [] bytes i = omega arith
+name_ascii (b ∷ field) bytes zero =
+    let parts = and_parts (is_name_byte b) _ bytes in byte_ascii b parts.0
+  where
+    byte_ascii : (c : ℕ) → is_name_byte c ≡ true → c < 128
+    byte_ascii c form = grind (arith, nat_tests)
+name_ascii (b ∷ field) bytes (suc i) = name_ascii field (and_parts (is_name_byte b) _ bytes).1 i
+
+-- so it is a text
+pub name_utf8 : (field : List ℕ) → is_name field ≡ true → IsUtf8 field
+name_utf8 field named = IsUtf8-from_ascii field (name_ascii field (and_parts (has_name_length field) _ named).1)
+
+-- what is a text is read as one
+pub reads_text : {T E : Type 0} (A : T → Type 0) (B : E → Type 0) (P : Type 0) (result : Result T E) → P → MatchResult result A (λ e. ¬ P × B e) → IsOk result
+reads_text A B P (Ok text) p cases = search rules
+reads_text A B P (Err e) p cases = absurd (cases.0 p)

@@ -1,10 +1,10 @@
 -- The empty fields at the end of a record.
-use Rattle.std.proofs.Common.{◌≡◌, ◌<◌, ◌≤◌, ◌+◌, ◌-◌, ◌++◌, ◌∷◌, [], ◌∙◌, ℕ, List, length, take, get_or, true, false, arith, ap, sym, refl, length-append, Bool}
-use Rattle.std.specs.Prelude.{◌==◌, ◌&&◌, if◌then◌else◌, Some}
-use Rattle.std.proofs.lemmas.Bool.{ne_eqb}
-use Rattle.std.proofs.lemmas.List.{take_more}
+use Rattle.std.proofs.Common.{◌≡◌, ◌<◌, ◌≤◌, ◌+◌, ◌-◌, ◌++◌, ◌∷◌, [], ◌∙◌, ℕ, List, length, take, get_or, true, false, arith, ap, sym, refl, inl, inr, length-append, Bool}
+use Rattle.std.specs.Prelude.{◌==◌, ◌&&◌, if◌then◌else◌, None, Some}
+use Rattle.std.proofs.lemmas.Bool.{cases_lt, ne_eqb}
+use Rattle.std.proofs.lemmas.List.{take_all, take_more}
 use Rattle.csv.specs.Records.{field_at}
-use Rattle.csv.proofs.RecordFacts.{field-get}
+use Rattle.csv.proofs.RecordFacts.{field-get, field-none, field-there}
 use Rattle.pb_rows.specs.Records.{without_trailing_empty}
 
 -- an empty field behind the others goes
@@ -42,7 +42,18 @@ trailing_stop fields n some within full =
     last ∙ sym (trailing_push_full (take (n - 1) fields) (get_or fields (n - 1) []) full) ∙ ap without_trailing_empty (sym last)
 
 -- one more field copied
-pub copied_more : (row : List (List ℕ)) (fields : List (List ℕ)) (i : ℕ) (field : List ℕ) → row ≡ take i fields → i < length fields
+pub copied_more : (row : List (List ℕ)) (fields : List (List ℕ)) (i : ℕ) (field : List ℕ) → row ≡ take i fields
     → field_at fields i ≡ Some field → row ++ field ∷ [] ≡ take (i + 1) fields
-copied_more row fields i field so_far within there =
+copied_more row fields i field so_far there =
+    let within : i < length fields = elim (cases_lt i (length fields)) [ inl lt ↦ lt | inr past ↦ cc (field-none fields i past, there) ] in
     ap (λ (r : List (List ℕ)). r ++ field ∷ []) so_far ∙ ap (λ (f : List ℕ). take i fields ++ f ∷ []) (sym (field-get fields i field there)) ∙ sym (take_more fields i [] within)
+
+-- no field is left to copy
+pub copied_all : (row : List (List ℕ)) (fields : List (List ℕ)) (i : ℕ) → row ≡ take i fields → field_at fields i ≡ None → row ≡ fields
+copied_all row fields i so_far none = so_far ∙ all fields i none
+  where
+    all : (fields : List (List ℕ)) (i : ℕ) → field_at fields i ≡ None → take i fields ≡ fields
+    all fields i none = elim (cases_lt i (length fields)) [
+      | inl lt ↦ absurd (field-there fields i lt none)
+      | inr past ↦ take_all i fields past
+    ]

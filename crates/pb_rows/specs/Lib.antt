@@ -1,6 +1,11 @@
+-- Statement
+pub mod Bytes
 pub mod Records
 pub mod Name
-pub mod Padded
-pub mod Written
 pub mod Number
 pub mod Date
+pub mod Written
+pub mod Texts
+-- Inside
+pub mod Padded
+pub mod Hashed

@@ -1,13 +1,13 @@
--- The form of a name.
-use Rattle.std.specs.Prelude.{◌≡◌, ◌∷◌, [], IsTrue, nat_eq, ℕ, List, length, Bool, ◌==◌, ◌&&◌, ◌||◌, not, nat_le}
+-- Statement. The form of a name.
+use Rattle.std.specs.Prelude.{nat_eq, ℕ, List, length, Bool, ◌==◌, ◌&&◌, ◌||◌, not, nat_le}
 use Rattle.std.specs.Char.{is_ascii_alphanumeric}
-use Rattle.std.specs.Cmp.Lexicographic.{bytes_decides, pointwise}
+use Rattle.std.specs.Cmp.Lexicographic.{pointwise}
 use Rattle.std.specs.List.{list_all}
-use Rattle.std.proofs.Common.{ap}
+use Rattle.pb_rows.specs.Bytes.{dash, dot, underscore}
 
 -- an ASCII letter, a digit, `_`, `-` or `.`
 abbrev pub is_name_byte : ℕ → Bool
-is_name_byte byte = is_ascii_alphanumeric byte || (byte == 95) || (byte == 45) || (byte == 46)
+is_name_byte byte = is_ascii_alphanumeric byte || (byte == underscore) || (byte == dash) || (byte == dot)
 
 -- 1 to 32 bytes
 abbrev pub has_name_length : List ℕ → Bool
@@ -20,7 +20,3 @@ is_name field = has_name_length field && list_all is_name_byte field
 -- whether two names are the same, byte for byte
 abbrev pub same_name : List ℕ → List ℕ → Bool
 same_name a b = pointwise nat_eq a b
-
--- the same names are hashed alike
-pub same_name_writes : (a b : List ℕ) → IsTrue (same_name a b) → a ∷ [] ≡ b ∷ []
-same_name_writes a b same = ap (λ name. name ∷ []) ((bytes_decides a b).0 same)

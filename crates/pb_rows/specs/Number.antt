@@ -1,9 +1,10 @@
--- Whole numbers as fields write them.
-use Rattle.std.specs.Prelude.{◌≡◌, ◌+◌, ◌==◌, ◌&&◌, ℕ, suc, ℤ, pos, negsuc, neg_ℤ, int_le, List, [], ◌∷◌, length, map, slice_index, Bool, false, not, nat_lt, Option, Some, None, if◌then◌else◌}
+-- Statement. Whole numbers as fields write them.
+use Rattle.std.specs.Prelude.{◌+◌, ◌==◌, ◌&&◌, ℕ, suc, ℤ, pos, negsuc, neg_ℤ, int_le, List, [], ◌∷◌, length, map, slice_index, Bool, false, not, nat_lt, Option, Some, None, if◌then◌else◌}
 use Rattle.std.specs.Char.{is_ascii_digit}
 use Rattle.std.specs.List.{list_all}
 use Rattle.std.specs.Int.Digits.{digits_of}
 use Rattle.std.specs.Str.Parse.{digits_value}
+use Rattle.pb_rows.specs.Bytes.{dash, zero_digit}
 
 -- decimal digits, one or more
 abbrev pub are_digits : List ℕ → Bool
@@ -11,7 +12,7 @@ are_digits field = not (length field == 0) && list_all is_ascii_digit field
 
 -- a zero in front of other digits
 abbrev pub is_padded : List ℕ → Bool
-is_padded field = nat_lt 1 (length field) && (slice_index field 0 == 48)
+is_padded field = nat_lt 1 (length field) && (slice_index field 0 == zero_digit)
 
 -- decimal digits without leading zeros
 abbrev pub is_plain : List ℕ → Bool
@@ -20,12 +21,12 @@ is_plain field = are_digits field && not (is_padded field)
 -- the same, with a minus sign only before a number that isn't zero
 abbrev pub is_whole : List ℕ → Bool
 is_whole [] = false
-is_whole (first ∷ rest) = if first == 45 then is_plain rest && not (slice_index rest 0 == 48) else is_plain (first ∷ rest)
+is_whole (first ∷ rest) = if first == dash then is_plain rest && not (slice_index rest 0 == zero_digit) else is_plain (first ∷ rest)
 
 -- the number that digits write, behind a minus sign or not
 abbrev pub whole_value : List ℕ → ℤ
 whole_value [] = pos 0
-whole_value (first ∷ rest) = if first == 45 then neg_ℤ (pos (digits_value 10 rest)) else pos (digits_value 10 (first ∷ rest))
+whole_value (first ∷ rest) = if first == dash then neg_ℤ (pos (digits_value 10 rest)) else pos (digits_value 10 (first ∷ rest))
 
 -- the whole number that a field writes, if it writes one
 abbrev pub number : List ℕ → Option ℤ
@@ -38,13 +39,9 @@ within lo hi (Some z) = if int_le lo z && int_le z hi then Some z else None
 
 -- the decimal text of a number: its digits, the highest first; one zero for 0
 unfoldable pub decimal_text : ℕ → List ℕ
-decimal_text n = if n == 0 then 48 ∷ [] else map (λ digit. 48 + digit) (digits_of 10 n)
+decimal_text n = if n == 0 then zero_digit ∷ [] else map (λ digit. zero_digit + digit) (digits_of 10 n)
 
 -- the decimal text of a whole number, with a minus sign before a negative one
 abbrev pub whole_text : ℤ → List ℕ
 whole_text (pos n) = decimal_text n
-whole_text (negsuc n) = 45 ∷ decimal_text (suc n)
-
--- the text of a whole number reads back as the number
-abbrev pub WholeTextReadsBack : Type 0
-WholeTextReadsBack = (z : ℤ) → number (whole_text z) ≡ Some z
+whole_text (negsuc n) = dash ∷ decimal_text (suc n)

@@ -1,4 +1,4 @@
--- How a name lies in its 32 bytes: in front, with zeros behind it.
+-- Inside. How a name lies in its 32 bytes: in front, with zeros behind it.
 use Rattle.std.specs.Prelude.{◌≡◌, ◌≤◌, ◌-◌, ◌++◌, ℕ, List, length, take, drop, replicate, true}
 use Rattle.std.proofs.Common.{arith, ap, sym, ◌∙◌}
 use Rattle.std.proofs.lemmas.List.{length-take-le, take-append-drop}

@@ -1,4 +1,4 @@
--- The records of a text, and what a record says.
+-- Statement. The records of a text, and a record without the empty fields at its end.
 use Rattle.std.specs.Prelude.{ℕ, List, [], ◌∷◌, length, ◌==◌, ◌&&◌, if◌then◌else◌}
 use Rattle.csv.specs.Reading.{default_config, records, strip_bom}
 

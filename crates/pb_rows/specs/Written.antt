@@ -1,9 +1,8 @@
--- Rows as they are written, and that they read back.
-use Rattle.std.specs.Prelude.{◌≡◌, ◌==◌, ◌&&◌, ℕ, List, [], ◌∷◌, length, Bool, true, false, not}
+-- Statement. Rows as they are written, and what a writer appends.
+use Rattle.std.specs.Prelude.{◌≡◌, ◌==◌, ◌&&◌, ◌++◌, ℕ, List, [], ◌∷◌, length, Bool, false, not}
 use Rattle.std.specs.Char.{is_ascii_lowercase}
 use Rattle.std.specs.List.{flat_map, list_all}
 use Rattle.csv.specs.Writing.{default_writer, row_text}
-use Rattle.pb_rows.specs.Records.{records_of}
 
 -- what a writer of rows holds: the text of the rows ended so far, and the fields of the row that is being filled
 pub record Written : Type 0 where
@@ -18,6 +17,19 @@ line_of fields = row_text default_writer fields
 abbrev pub text_of_rows : List (List (List ℕ)) → List ℕ
 text_of_rows rows = flat_map line_of rows
 
+-- the row that is being filled gains a field, and the text stays
+abbrev pub AddsField : Written → Written → List ℕ → Type 0
+AddsField old new field = new ≡ record { text = old.text; row = old.row ++ field ∷ [] }
+
+-- a text gains the line of a row
+abbrev pub AddsLine : List ℕ → List ℕ → List (List ℕ) → Type 0
+AddsLine old new row = new ≡ old ++ line_of row
+
+-- the text gains the line of the row that was being filled, and the next row begins without a field
+pub record EndsRow (old new : Written) : Type 0 where
+  pub line : AddsLine old.text new.text old.row
+  pub begun : new.row ≡ []
+
 -- one or more letters from `a` to `z`
 abbrev pub is_word : List ℕ → Bool
 is_word field = not (length field == 0) && list_all is_ascii_lowercase field
@@ -26,7 +38,3 @@ is_word field = not (length field == 0) && list_all is_ascii_lowercase field
 abbrev pub begins_with_word : List (List ℕ) → Bool
 begins_with_word [] = false
 begins_with_word (kind ∷ fields) = is_word kind
-
--- rows that begin with a word, of whatever lengths, read back from their text as they were written
-abbrev pub WrittenRowsReadBack : Type 0
-WrittenRowsReadBack = (rows : List (List (List ℕ))) → list_all begins_with_word rows ≡ true → records_of (text_of_rows rows) ≡ rows

@@ -1,21 +1,29 @@
 // Civil dates as fields write them.
 
-ghost use Rattle.std.specs.Prelude.{◌≡◌, ◌+◌, ◌<◌, ◌≤◌, pos, length, Ok, IfSome};
-ghost use Rattle.pb_rows.specs.Date.{day_number, day_of, is_dashed, two_digits_at};
+ghost use Rattle.std.specs.Prelude.{◌≡◌, ◌+◌, ◌<◌, ◌≤◌, pos, length, Ok, IfOk, IfSome};
+ghost use Rattle.pb_rows.specs.Date.{IsDay, day_number, day_of, is_dashed, two_digits_at};
 
 use jiff::civil::Date;
 use std::alloc::AllocError;
 
-/// The day that a field writes, counted from 1970-01-01: exactly `YYYY-MM-DD`, a date of the Gregorian calendar from 1900 to
-/// 2199. `Ok(None)` exactly where it isn't; no memory is taken.
+/// The first year of the dates that fields write.
+const FIRST_YEAR: u16 = 1900;
+
+/// The last year of them.
+const LAST_YEAR: u16 = 2199;
+
+/// The day that a field writes, counted from 1970-01-01: exactly `YYYY-MM-DD`, a date of the Gregorian calendar
+/// from 1900 to 2199. `Ok(None)` exactly where it isn't; no memory is taken.
 pub fn read_date(field: &[u8]) -> Result<Option<i32>, AllocError>
-    ensures { result ≡ Ok (day_of field.now) }
+    ensures value { result ≡ Ok (day_of field.now) }
+    ensures within { IfOk result (λ day. IfSome day IsDay) }
 {
     Ok(day_of(field))
 }
 
 fn day_of(field: &[u8]) -> Option<i32>
-    ensures { result ≡ day_of field.now }
+    ensures value { result ≡ day_of field.now }
+    ensures within { IfSome result IsDay }
 {
     if !is_dashed(field) {
         return None;
@@ -53,7 +61,7 @@ fn day_number(year: u16, month: u8, day: u8) -> Option<i32>
     requires day { day ≤ 99 }
     ensures { result ≡ day_number (pos year) (pos month) (pos day) }
 {
-    if year < 1900 || year > 2199 {
+    if !(FIRST_YEAR..=LAST_YEAR).contains(&year) {
         return None;
     }
     match Date::new(year as i16, month as i8, day as i8) {

@@ -6,6 +6,7 @@
 #![tactic(auto)]
 
 mod date;
+mod laws;
 mod name;
 mod number;
 mod row;
@@ -14,7 +15,8 @@ mod tests;
 mod writer;
 
 pub use date::read_date;
+pub use laws::{date_text_law, number_text_law, written_rows_law};
 pub use name::{Name, NameList, Names};
-pub use number::{read_whole, whole_bytes, whole_text_reads_back};
+pub use number::{read_whole, whole_bytes};
 pub use row::{Row, Rows};
-pub use writer::{RowWriter, written_rows_read_back};
+pub use writer::RowWriter;

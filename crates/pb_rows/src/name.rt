@@ -1,14 +1,20 @@
 // Names of units, tanks, streams, periods and facts.
 
-ghost use Rattle.std.specs.Prelude.{◌≡◌, ◌<◌, ◌∷◌, ◌++◌, [], length, slice_index_or, true, false, MatchOption, OnOk, OnErr, IsTrue, ◌↔◌};
+ghost use Rattle.std.specs.Prelude.{◌≡◌, ◌<◌, ◌∷◌, ◌++◌, [], length, slice_index_or, Some, refl, true, false, MatchOption, OnOk, OnErr, IsTrue, ◌↔◌};
 ghost use Rattle.std.specs.List.{list_all};
 ghost use Rattle.std.specs.Cmp.{partial_equiv_from_equiv};
-ghost use Rattle.std.specs.Cmp.Lexicographic.{nat_list_eq_equiv};
-ghost use Rattle.pb_rows.specs.Name.{has_name_length, is_name, is_name_byte, same_name, same_name_writes};
+ghost use Rattle.std.specs.Cmp.Lexicographic.{nat_list_cmp_total, nat_list_eq_equiv, slice_cmp, texts_po, texts_ties};
+ghost use Rattle.std.specs.Ordering.{nat_cmp};
+ghost use Rattle.std.specs.Slice.Iter.{iter_rest};
+ghost use Rattle.pb_rows.specs.Hashed.{same_name_writes};
+ghost use Rattle.pb_rows.specs.Name.{has_name_length, is_name, is_name_byte, same_name};
 
 use std::alloc::{AllocError, Global};
+use std::cmp::Ordering;
+use std::fmt;
 use std::hash::{Hash, Hasher};
 use std::marker::Model;
+use std::slice::Iter;
 
 /// A name: 1 to 32 bytes, each an ASCII letter, a digit, `_`, `-` or `.`.
 #[derive(Clone, Copy)]
@@ -46,6 +52,31 @@ impl Eq for Name {
     ghost laws = { nat_list_eq_equiv };
 }
 
+// By bytes, as texts are ordered.
+impl PartialOrd for Name {
+    ghost partial_cmp = { λ a b. Some (slice_cmp nat_cmp a b) };
+
+    ghost laws = { texts_po };
+
+    fn partial_cmp(&self, other: &Name) -> Option<Ordering> {
+        Some(self.cmp(other))
+    }
+}
+
+impl Ord for Name {
+    ghost cmp = { slice_cmp nat_cmp };
+
+    ghost total = { nat_list_cmp_total };
+
+    ghost matches_partial_cmp = { λ a b. refl };
+
+    ghost matches_eq = { texts_ties };
+
+    fn cmp(&self, other: &Name) -> Ordering {
+        self.as_str().cmp(other.as_str())
+    }
+}
+
 impl Hash for Name {
     ghost hash_input = { λ name. name ∷ [] };
 
@@ -79,6 +110,27 @@ impl Name {
     {
         &self.bytes[..usize::from(self.len)]
     }
+
+    /// The name as a text.
+    pub fn as_str(&self) -> &str
+        ensures { result.now ≡ self.now }
+    {
+        std::str::from_utf8(self.bytes()).unwrap()
+    }
+}
+
+impl fmt::Display for Name {
+    ghost output = { λ name. Some name };
+
+    fn fmt<W: fmt::Write>(&self, f: &mut fmt::Formatter<W>) -> fmt::Result {
+        f.write_str(self.as_str())
+    }
+}
+
+impl fmt::Debug for Name {
+    fn fmt<W: fmt::Write>(&self, f: &mut fmt::Formatter<W>) -> fmt::Result {
+        f.write_str(self.as_str())
+    }
 }
 
 // Whether a field has the form of a name.
@@ -110,7 +162,7 @@ fn is_name_byte(byte: u8) -> bool
 }
 
 /// A list of names.
-#[derive(Drop)]
+#[derive(Debug, Drop)]
 pub struct NameList {
     names: Vec<Name>,
 }
@@ -156,6 +208,13 @@ impl NameList {
         self.names.is_empty()
     }
 
+    /// The names in order.
+    pub fn iter(&self) -> Iter<'_, Name>
+        ensures { iter_rest result ≡ self.now }
+    {
+        self.names.iter()
+    }
+
     /// The names as a slice.
     pub fn as_slice(&self) -> &[Name]
         ensures { result.now ≡ self.now }
@@ -173,7 +232,7 @@ impl NameList {
 }
 
 /// The names of a graph's nodes and streams, in their order.
-#[derive(Drop)]
+#[derive(Debug, Drop)]
 pub struct Names {
     pub nodes: NameList,
     pub streams: NameList,

@@ -5,7 +5,7 @@ ghost use Rattle.std.specs.Option.{SomeIff};
 ghost use mir.Syntax.{w128};
 ghost use Rattle.std.specs.List.{list_all};
 ghost use Rattle.std.specs.Char.{is_ascii_digit};
-ghost use Rattle.pb_rows.specs.Number.{are_digits, is_padded, is_plain, is_whole, number, whole_text, whole_value, within, WholeTextReadsBack};
+ghost use Rattle.pb_rows.specs.Number.{are_digits, is_padded, is_plain, is_whole, number, whole_text, whole_value, within};
 
 use std::alloc::{AllocError, Global};
 
@@ -18,7 +18,7 @@ pub fn read_whole(field: &[u8], lo: i128, hi: i128) -> Option<i128>
         return None;
     }
     let value = whole_value(field)?;
-    if lo <= value && value <= hi {
+    if (lo..=hi).contains(&value) {
         Some(value)
     } else {
         None
@@ -45,11 +45,6 @@ pub fn whole_bytes(alloc: Global, value: i128) -> Result<Vec<u8>, AllocError>
 {
     Ok(value.to_string(alloc)?.into_bytes())
 }
-
-/// The law that what is written for a whole number reads back as it.
-pub fn whole_text_reads_back()
-    ensures { WholeTextReadsBack }
-{}
 
 // Whether a field has the form of a whole number.
 fn is_whole(field: &[u8]) -> bool

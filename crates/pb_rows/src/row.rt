@@ -1,6 +1,7 @@
 // The records of a text, each a list of fields, and each field its bytes.
 
 ghost use Rattle.std.specs.Prelude.{◌≡◌, ◌<◌, ◌≤◌, ◌∷◌, ◌++◌, [], length, take, slice_index_or, IfOk, OnOk, OnErr, IsTrue, ◌↔◌, map};
+ghost use Rattle.std.specs.Slice.Iter.{iter_rest};
 ghost use Rattle.csv.specs.Reading.{NotLengths, error_kind};
 ghost use Rattle.csv.specs.Records.{fields_of};
 ghost use Rattle.pb_rows.specs.Records.{records_of, without_trailing_empty};
@@ -8,9 +9,10 @@ ghost use Rattle.pb_rows.specs.Records.{records_of, without_trailing_empty};
 use csv::{ByteRecord, Error, ReaderBuilder};
 use std::alloc::{AllocError, Global};
 use std::marker::Model;
+use std::slice::Iter;
 
 /// A record: a list of fields, each of which is a list of bytes.
-#[derive(Drop)]
+#[derive(Debug, Drop)]
 pub struct Row {
     fields: Vec<Vec<u8>>,
 }
@@ -57,6 +59,13 @@ impl Row {
         self.fields.is_empty()
     }
 
+    /// The fields in order.
+    pub fn iter(&self) -> Iter<'_, Vec<u8>>
+        ensures { map (λ field. field.items) (iter_rest result) ≡ self.now }
+    {
+        self.fields.iter()
+    }
+
     /// The bytes of the field at a place, counted from 0.
     pub fn field(&self, i: usize) -> &[u8]
         requires { i < length self.now }
@@ -86,7 +95,7 @@ impl Row {
 }
 
 /// The records of a text, in order.
-#[derive(Drop)]
+#[derive(Debug, Drop)]
 pub struct Rows {
     rows: Vec<Row>,
 }
@@ -132,7 +141,7 @@ impl Rows {
         for entry in reader.into_byte_records() {
             match entry {
                 Ok(fields) => rows.push(row_of(alloc, &fields)?)?,
-                Err(error) => return Err(refused(error)),
+                Err(error) => return Err(out_of_memory(error)),
             }
         }
         Ok(rows)
@@ -152,6 +161,13 @@ impl Rows {
         self.rows.is_empty()
     }
 
+    /// The records in order.
+    pub fn iter(&self) -> Iter<'_, Row>
+        ensures { iter_rest result ≡ self.now }
+    {
+        self.rows.iter()
+    }
+
     /// The record at a place, counted from 0.
     pub fn at(&self, i: usize) -> &Row
         requires { i < length self.now }
@@ -162,7 +178,7 @@ impl Rows {
 }
 
 // A flexible reader of bytes refuses for want of memory alone, never for a record's length.
-fn refused(_error: Error) -> AllocError
+fn out_of_memory(_error: Error) -> AllocError
     requires { NotLengths (error_kind _error) }
 {
     AllocError
@@ -173,10 +189,7 @@ fn row_of(alloc: Global, entry: &ByteRecord) -> Result<Row, AllocError>
     ensures { IfOk result (λ row. row ≡ fields_of entry.now) }
 {
     let mut row = Row::new(alloc);
-    for i in 0..entry.len() {
-        let Some(field) = entry.get(i) else {
-            return Err(AllocError)
-        };
+    for field in entry {
         row.push(field)?;
     }
     Ok(row)

@@ -17,7 +17,7 @@ fn reads_dates(rt: HostRuntime) -> Result<(), Fail> {
         (b"2024-02-09 ", None),
     ];
     for (field, day) in table {
-        assert_eq!(rt; read_date(field)?, day);
+        assert_eq!(rt; read_date(field)?, day, "the day of {field:?}");
     }
     Ok(())
 }
@@ -37,7 +37,11 @@ fn reads_whole_numbers(rt: HostRuntime) {
         (b"1 ", None),
     ];
     for (field, value) in table {
-        assert_eq!(rt; read_whole(field, -100, 100), value);
+        assert_eq!(rt;
+            read_whole(field, -100, 100),
+            value,
+            "the number of {field:?}"
+        );
     }
     let least = i128::MIN;
     assert_eq!(rt;
@@ -60,7 +64,7 @@ fn writes_whole_numbers(rt: HostRuntime) -> Result<(), Fail> {
     ];
     for (value, text) in table {
         let bytes = whole_bytes(rt.alloc(), value)?;
-        assert_eq!(rt; bytes.as_slice(), text);
+        assert_eq!(rt; bytes.as_slice(), text, "the text of {value}");
     }
     Ok(())
 }
@@ -78,12 +82,26 @@ fn reads_names(rt: HostRuntime) {
     ];
     for (field, is_name) in table {
         match Name::read(field) {
-            Some(name) => assert_eq!(rt; name.bytes(), field),
-            None => assert!(rt; !is_name),
+            Some(name) => assert_eq!(rt; name.bytes(), field, "the name {name}"),
+            None => assert!(rt; !is_name, "no name in {field:?}"),
         }
     }
     assert!(rt; Name::read(b"a") == Name::read(b"a"));
     assert!(rt; Name::read(b"a") != Name::read(b"b"));
+}
+
+#[test]
+fn orders_and_prints_names(rt: HostRuntime) -> Result<(), Fail> {
+    let unit = Name::read(b"U-1").ok_or("U-1")?;
+    let longer = Name::read(b"U-10").ok_or("U-10")?;
+    let other = Name::read(b"U-2").ok_or("U-2")?;
+    assert!(rt; unit < longer && longer < other);
+    assert_eq!(rt; unit.as_str(), "U-1");
+    assert_eq!(rt;
+        format!(in rt.alloc(); "{unit} {other:?}")?.as_str(),
+        "U-1 U-2"
+    );
+    Ok(())
 }
 
 #[test]
@@ -97,6 +115,7 @@ fn lists_names(rt: HostRuntime) -> Result<(), Fail> {
     assert_eq!(rt; names.nodes.len(), 1);
     assert_eq!(rt; names.nodes.at(0).bytes(), b"env".as_slice());
     assert_eq!(rt; names.nodes.as_slice().len(), 1);
+    assert_eq!(rt; names.nodes.iter().count(), 1);
     assert!(rt; names.streams.is_empty());
     Ok(())
 }
@@ -128,6 +147,12 @@ fn makes_rows(rt: HostRuntime) -> Result<(), Fail> {
     assert_eq!(rt; rows.len(), 1);
     assert_eq!(rt; rows.at(0).len(), 2);
     assert_eq!(rt; rows.at(0).field(1), b"U".as_slice());
+    for row in rows.iter() {
+        assert_eq!(rt; row.iter().count(), 2, "the fields of {row:?}");
+    }
+    let mut text = Vec::from_slice(rt.alloc(), b"tank,K\n")?;
+    rows.at(0).write_to(&mut text)?;
+    assert_eq!(rt; text.as_slice(), b"tank,K\nunit,U\n".as_slice());
     Ok(())
 }
 

@@ -3,7 +3,7 @@
 ghost use Rattle.std.specs.Prelude.{◌≡◌, ◌∷◌, ◌++◌, [], IfOk, OnOk, OnErr};
 ghost use Rattle.csv.specs.Records.{fields_of, partial_of};
 ghost use Rattle.pb_rows.specs.Number.{whole_text};
-ghost use Rattle.pb_rows.specs.Written.{line_of, WrittenRowsReadBack};
+ghost use Rattle.pb_rows.specs.Written.{AddsField, AddsLine, EndsRow, line_of};
 
 use crate::number::whole_bytes;
 use crate::row::Row;
@@ -39,7 +39,7 @@ impl RowWriter {
 
     /// Appends a field to the row that is being filled. After an `Err`, want of memory, all is as it was.
     pub fn field(&mut self, bytes: &[u8]) -> Result<(), AllocError>
-        ensures appended { OnOk result (self.new ≡ record { text = self.old.text; row = self.old.row ++ bytes.now ∷ [] }) }
+        ensures appended { OnOk result (AddsField self.old self.new bytes.now) }
         ensures unchanged { OnErr result (self.new ≡ self.old) }
     {
         self.row.push(bytes)
@@ -47,7 +47,7 @@ impl RowWriter {
 
     /// Appends a whole number as a field, in the form that `read_whole` reads. After an `Err`, want of memory, all is as it was.
     pub fn whole(&mut self, value: i128) -> Result<(), AllocError>
-        ensures appended { OnOk result (self.new ≡ record { text = self.old.text; row = self.old.row ++ whole_text value ∷ [] }) }
+        ensures appended { OnOk result (AddsField self.old self.new (whole_text value)) }
         ensures unchanged { OnErr result (self.new ≡ self.old) }
     {
         let bytes = whole_bytes(*self.text.allocator(), value)?;
@@ -57,13 +57,11 @@ impl RowWriter {
     /// Ends the row: its line joins the text, and the next row begins without a field. After an `Err`, want of memory, all is
     /// as it was.
     pub fn end_row(&mut self) -> Result<(), AllocError>
-        ensures ended { OnOk result (self.new ≡ record { text = self.old.text ++ line_of self.old.row; row = [] }) }
+        ensures ended { OnOk result (EndsRow self.old self.new) }
         ensures unchanged { OnErr result (self.new ≡ self.old) }
     {
-        let alloc = *self.text.allocator();
-        let line = line_of(alloc, &byte_record(alloc, &self.row)?)?;
-        self.text.extend_from_slice(line.as_slice())?;
-        self.row = Row::new(alloc);
+        self.row.write_to(&mut self.text)?;
+        self.row = Row::new(*self.text.allocator());
         Ok(())
     }
 
@@ -75,11 +73,18 @@ impl RowWriter {
     }
 }
 
-/// The law that the rows which a `RowWriter` has ended read back by `Rows::of` as they were, of whatever lengths, where the
-/// first field of each is one or more letters from `a` to `z`.
-pub fn written_rows_read_back()
-    ensures { WrittenRowsReadBack }
-{}
+impl Row {
+    /// Appends the row to a text as `csv` writes it, with a line feed behind it. After an `Err`, want of memory, the text
+    /// is as it was.
+    pub fn write_to(&self, text: &mut Vec<u8>) -> Result<(), AllocError>
+        ensures appended { OnOk result (AddsLine text.old.items text.new.items self.now) }
+        ensures unchanged { OnErr result (text.new.items ≡ text.old.items) }
+    {
+        let alloc = *text.allocator();
+        let line = line_of(alloc, &byte_record(alloc, self)?)?;
+        text.extend_from_slice(line.as_slice())
+    }
+}
 
 // A row as `csv` takes it.
 fn byte_record(alloc: Global, row: &Row) -> Result<ByteRecord, AllocError>
@@ -97,11 +102,6 @@ fn line_of(alloc: Global, row: &ByteRecord) -> Result<Vec<u8>, AllocError>
     ensures { IfOk result (λ line. line.items ≡ line_of (fields_of row.now)) }
 {
     let mut writer = WriterBuilder::new().from_writer(Vec::new(alloc));
-    if writer.write_byte_record(row).is_err() {
-        return Err(AllocError);
-    }
-    match writer.into_inner() {
-        Ok(line) => Ok(line),
-        Err(_) => Err(AllocError),
-    }
+    writer.write_byte_record(row).map_err(|_| AllocError)?;
+    writer.into_inner().map_err(|_| AllocError)
 }
