@@ -1,19 +1,18 @@
 -- Each day from 1900-01-01 to 2199-12-31 has one text, which reads back.
-use Rattle.std.proofs.Common.{◌≡◌, ◌<◌, ◌≤◌, ◌+◌, ◌*◌, ◌/◌, ◌%◌, ◌∷◌, [], ◌∙◌, ℕ, zero, suc, ℤ, pos, ◌≤ℤ◌, ◌+ℤ◌, List, Bool, true, false, Option, Some, None, length, unsigned_abs, arith, ap, sym, refl, inl, inr, ◌⊎◌}
+use Rattle.std.proofs.Common.{◌≡◌, ◌<◌, ◌≤◌, ◌+◌, ◌*◌, ◌/◌, ◌%◌, ◌∷◌, [], ◌∙◌, ℕ, zero, suc, ℤ, pos, ◌+ℤ◌, List, true, false, Option, Some, None, length, unsigned_abs, arith, ap, sym, refl, inl, inr}
 use Rattle.std.specs.Prelude.{◌-◌, ◌==◌, ◌&&◌, IfSome, int_le}
 use Rattle.std.specs.Char.{is_ascii_digit}
 use Rattle.std.specs.Int.{IsInRange}
 use Rattle.std.proofs.lemmas.Bool.{and_parts, cases_Bool, cases_lt, eqb-true, ne_eqb}
 use Rattle.std.proofs.lemmas.Bool.Decides.{nat_tests}
-use Rattle.std.proofs.lemmas.Int.{by_lt_z, ints}
+use Rattle.std.proofs.lemmas.Int.{ints}
 use Rattle.jiff_core.specs.declared.civil.date.Date.{Date}
-use Rattle.jiff_core.specs.Calendar.{IsCivilDate, IsYear, day_count, days_from_civil, days_in_month}
-use Rattle.jiff_core.specs.Date.{epoch_day}
+use Rattle.jiff_core.specs.Calendar.{IsYear, day_count, days_from_civil, days_in_month}
 use Rattle.jiff_core.proofs.CalendarLemmas.{day_count-day, day_count-day_of_year, day_count-last_of_year, day_count-later_year, day_count-lt_year, day_count-next_month, day_count-next_year, days_from_civil-day_count}
 use Rattle.jiff_core.proofs.DateLemmas.{epoch_day_injective}
 use Rattle.jiff_core.proofs.MarchLemmas.{day_count-early}
 use Rattle.pb_rows.specs.Bytes.{dash, zero_digit}
-use Rattle.pb_rows.specs.Date.{IsDate, IsDay, date_text, day_number, day_of, day_of_parts, is_dashed, is_day, two_digits_at, two_digits_value}
+use Rattle.pb_rows.specs.Date.{IsDate, IsDay, date_text, day_number, day_of, day_of_parts, is_day, two_digits_value}
 use Rattle.pb_rows.specs.Texts.{IsDateOf, WritesDay}
 
 -- ---- two digits

@@ -26,9 +26,8 @@ abbrev pub AddsLine : List ℕ → List ℕ → List (List ℕ) → Type 0
 AddsLine old new row = new ≡ old ++ line_of row
 
 -- the text gains the line of the row that was being filled, and the next row begins without a field
-pub record EndsRow (old new : Written) : Type 0 where
-  pub line : AddsLine old.text new.text old.row
-  pub begun : new.row ≡ []
+abbrev pub EndsRow : Written → Written → Type 0
+EndsRow old new = new ≡ record { text = old.text ++ line_of old.row; row = [] }
 
 -- one or more letters from `a` to `z`
 abbrev pub is_word : List ℕ → Bool

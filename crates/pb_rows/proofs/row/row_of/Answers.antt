@@ -1,5 +1,5 @@
-use Rattle.std.proofs.Common.{◌≡◌, ◌∙◌, Some, None, sym}
-use Rattle.csv.specs.Records.{field_at, fields_of}
+use Rattle.std.proofs.Common.{◌∙◌, sym}
+use Rattle.csv.specs.Records.{fields_of}
 use Rattle.pb_rows.proofs.RowLemmas.{copied_all, copied_more}
 use Rattle.pb_rows.proofs.row.row_of.Goals as goal
 

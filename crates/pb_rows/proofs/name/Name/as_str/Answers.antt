@@ -1,4 +1,3 @@
-use Rattle.std.proofs.Common.{◌≡◌, sym}
 use Rattle.std.specs.Prelude.{IsUtf8}
 use Rattle.pb_rows.proofs.NameLemmas.{name_utf8, reads_text}
 use Rattle.pb_rows.proofs.name.Name.as_str.Goals as goal
