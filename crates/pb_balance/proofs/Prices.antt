@@ -10,7 +10,7 @@ use Rattle.pb_integers.proofs.Lists.{AllByRecursion-from_all}
 use Rattle.pb_integers.proofs.Sums.{sum_below-add, sum_below-none, sum_below-same, sum_below-single}
 use Rattle.pb_graph.specs.declared.records.Stream.{Stream}
 use Rattle.pb_graph.specs.ProcessGraph.{ProcessGraph, IsStream, IsProcessGraph}
-use Rattle.pb_graph.specs.Balance.{share_of, net_of, IsBalanced}
+use Rattle.pb_graph.specs.Balance.{brought_to, net_of, IsBalanced}
 use Rattle.pb_balance.specs.PricedSums.{priced_nodes, priced_streams}
 
 sum_below-sub : (f g : ℕ → ℤ) (n : ℕ) → sum_below (λ k. f k -ℤ g k) n ≡ sum_below f n -ℤ sum_below g n
@@ -28,13 +28,13 @@ one_end price m nodes x lt =
 
 -- the part of one stream
 one_stream : (price : ℕ → ℤ) (nodes : ℕ) (s : Stream) (x : ℤ) → IsStream nodes s
-    → sum_below (λ n. price n *ℤ share_of n s x) nodes ≡ (price s.to -ℤ price s.from) *ℤ x
+    → sum_below (λ n. price n *ℤ brought_to n s x) nodes ≡ (price s.to -ℤ price s.from) *ℤ x
 one_stream price nodes s x is =
-    let part : (n : ℕ) → price n *ℤ share_of n s x ≡ (price n *ℤ at_end s.to x n) -ℤ (price n *ℤ at_end s.from x n) = λ n.
+    let part : (n : ℕ) → price n *ℤ brought_to n s x ≡ (price n *ℤ at_end s.to x n) -ℤ (price n *ℤ at_end s.from x n) = λ n.
     ring (price n ∷ at_end s.to x n ∷ at_end s.from x n ∷ []) (times (var 0) (less (var 1) (var 2))) (less (times (var 0) (var 1)) (times (var 0) (var 2))) refl in
     let whole : (price s.to *ℤ x) -ℤ (price s.from *ℤ x) ≡ (price s.to -ℤ price s.from) *ℤ x =
     ring (price s.to ∷ price s.from ∷ x ∷ []) (less (times (var 0) (var 2)) (times (var 1) (var 2))) (times (less (var 0) (var 1)) (var 2)) refl in
-    sum_below-same (λ n. price n *ℤ share_of n s x) (λ n. (price n *ℤ at_end s.to x n) -ℤ (price n *ℤ at_end s.from x n)) nodes (λ k less. part k)
+    sum_below-same (λ n. price n *ℤ brought_to n s x) (λ n. (price n *ℤ at_end s.to x n) -ℤ (price n *ℤ at_end s.from x n)) nodes (λ k less. part k)
     ∙ sum_below-sub (λ n. price n *ℤ at_end s.to x n) (λ n. price n *ℤ at_end s.from x n) nodes
     ∙ ap₂ (λ (a b : ℤ). a -ℤ b) (one_end price s.to nodes x is.to) (one_end price s.from nodes x is.from)
     ∙ whole
@@ -44,9 +44,9 @@ sums_are : (price : ℕ → ℤ) (nodes : ℕ) (ss : List Stream) (xs : List ℤ
 sums_are price nodes [] xs each = sum_below-none (λ n. price n *ℤ pos 0) nodes (λ k less. mul_zero (price k))
 sums_are price nodes (s ∷ ss) [] each = sum_below-none (λ n. price n *ℤ pos 0) nodes (λ k less. mul_zero (price k))
 sums_are price nodes (s ∷ ss) (x ∷ xs) each =
-    let share = λ (n : ℕ). price n *ℤ share_of n s x in
+    let share = λ (n : ℕ). price n *ℤ brought_to n s x in
     let rest = λ (n : ℕ). price n *ℤ net_of n ss xs in
-    sum_below-same (λ n. price n *ℤ (share_of n s x +ℤ net_of n ss xs)) (λ n. share n +ℤ rest n) nodes (λ k less. mul_add (price k) (share_of k s x) (net_of k ss xs))
+    sum_below-same (λ n. price n *ℤ (brought_to n s x +ℤ net_of n ss xs)) (λ n. share n +ℤ rest n) nodes (λ k less. mul_add (price k) (brought_to k s x) (net_of k ss xs))
     ∙ sum_below-add share rest nodes
     ∙ ap₂ (λ (a b : ℤ). a +ℤ b) (one_stream price nodes s x each.0) (sums_are price nodes ss xs each.1)
 

@@ -9,7 +9,7 @@ use Rattle.pb_graph.specs.declared.records.Stream.{Stream}
 use Rattle.pb_graph.specs.declared.records.Step.{Step}
 use Rattle.pb_graph.specs.Walk.{along, ends_of, Walks}
 use Rattle.pb_graph.specs.Cycle.{is_distinct}
-use Rattle.pb_graph.specs.Balance.{share_of, net_of}
+use Rattle.pb_graph.specs.Balance.{brought_to, net_of}
 use Rattle.pb_graph.proofs.WalkLemmas.{some_same, stream_of}
 
 -- no flow at all
@@ -87,22 +87,22 @@ share_parts true false d x = omega (arith, ints)
 share_parts false true d x = omega (arith, ints)
 share_parts false false d x = omega (arith, ints)
 
-share_add : (n : ℕ) (s : Stream) (d x : ℤ) → share_of n s (d +ℤ x) ≡ share_of n s d +ℤ share_of n s x
+share_add : (n : ℕ) (s : Stream) (d x : ℤ) → brought_to n s (d +ℤ x) ≡ brought_to n s d +ℤ brought_to n s x
 share_add n s d x = share_parts (s.to == n) (s.from == n) d x
 
 swap_first : (a b c : ℤ) → a +ℤ (b +ℤ c) ≡ b +ℤ (a +ℤ c)
 swap_first a b c = omega (arith, ints)
 
 net_add : (n : ℕ) (ss : List Stream) (xs : List ℤ) (k : ℕ) (d : ℤ) (s : Stream) → slice_get ss k ≡ Some s → length xs ≡ length ss
-    → net_of n ss (add_at k d xs) ≡ share_of n s d +ℤ net_of n ss xs
+    → net_of n ss (add_at k d xs) ≡ brought_to n s d +ℤ net_of n ss xs
 net_add n [] xs k d s at len = cc at
 net_add n (t ∷ ss) [] k d s at len = absurd (omega (arith, len))
 net_add n (t ∷ ss) (x ∷ xs) zero d s at len =
-    ap (λ (z : ℤ). z +ℤ net_of n ss xs) (share_add n t d x ∙ ap (λ (u : Stream). share_of n u d +ℤ share_of n t x) (some_same at))
-    ∙ add_assoc (share_of n s d) (share_of n t x) (net_of n ss xs)
+    ap (λ (z : ℤ). z +ℤ net_of n ss xs) (share_add n t d x ∙ ap (λ (u : Stream). brought_to n u d +ℤ brought_to n t x) (some_same at))
+    ∙ add_assoc (brought_to n s d) (brought_to n t x) (net_of n ss xs)
 net_add n (t ∷ ss) (x ∷ xs) (suc k) d s at len =
-    ap (λ (z : ℤ). share_of n t x +ℤ z) (net_add n ss xs k d s at (omega (arith, len)))
-    ∙ swap_first (share_of n t x) (share_of n s d) (net_of n ss xs)
+    ap (λ (z : ℤ). brought_to n t x +ℤ z) (net_add n ss xs k d s at (omega (arith, len)))
+    ∙ swap_first (brought_to n t x) (brought_to n s d) (net_of n ss xs)
 
 -- one unit at a node
 abbrev unit_at : ℕ → ℕ → ℤ
@@ -114,7 +114,7 @@ turn_backward true false = refl
 turn_backward false true = refl
 turn_backward false false = refl
 
-share_turn : (n : ℕ) (s : Stream) (forward : Bool) (a c : ℕ) → along forward s ≡ (a, c) → share_of n s (turn forward) ≡ unit_at c n -ℤ unit_at a n
+share_turn : (n : ℕ) (s : Stream) (forward : Bool) (a c : ℕ) → along forward s ≡ (a, c) → brought_to n s (turn forward) ≡ unit_at c n -ℤ unit_at a n
 share_turn n s true a c e = ap (λ (p : ℕ × ℕ). unit_at p.1 n -ℤ unit_at p.0 n) e
 share_turn n s false a c e = turn_backward (s.to == n) (s.from == n) ∙ ap (λ (p : ℕ × ℕ). unit_at p.1 n -ℤ unit_at p.0 n) e
 

@@ -12,7 +12,7 @@ use Rattle.pb_graph.specs.declared.records.Step.{Step}
 use Rattle.pb_graph.specs.ProcessGraph.{ProcessGraph, IsProcessGraph}
 use Rattle.pb_graph.specs.Walk.{along, ends_of, any_stream, is_in, Reaches, IsReach}
 use Rattle.pb_graph.specs.Path.{is_open}
-use Rattle.pb_graph.specs.Search.{some_stream}
+use Rattle.pb_graph.specs.ProcessGraph.{some_stream}
 use Rattle.pb_graph.specs.Balance.{IsBalanced}
 use Rattle.pb_graph.proofs.WalkLemmas.{some_same, ends_is, stream_of, reach_one, reach_both, reach_more, walk_keeps, IsWithin}
 use Rattle.pb_balance.specs.PricedSums.{priced_streams}

@@ -10,8 +10,8 @@ use Rattle.pb_integers.proofs.Sums.{sum_below-same, sum_below-add, sum_below-sin
 use Rattle.pb_graph.specs.declared.records.Stream.{Stream}
 use Rattle.pb_graph.specs.ProcessGraph.{ProcessGraph, IsStream, IsProcessGraph}
 use Rattle.pb_graph.specs.Neighbours.{touches}
-use Rattle.pb_graph.specs.Search.{other_end, some_stream}
-use Rattle.pb_graph.specs.Balance.{share_of, net_of, IsBalanced}
+use Rattle.pb_graph.specs.ProcessGraph.{other_end, some_stream}
+use Rattle.pb_graph.specs.Balance.{brought_to, net_of, IsBalanced}
 use Rattle.pb_graph.proofs.WalkLemmas.{some_same}
 use Rattle.pb_balance.specs.PricedSums.{priced_nodes, priced_streams}
 use Rattle.pb_balance.proofs.Prices.{priced_sums}
@@ -223,7 +223,7 @@ nets_more nodes ss held off t j out whole nets =
       rest = λ k lt none. joined_other (up_of t s.to) x mid k (none s.to) ∙ joined_other (up_of t s.from) (neg_ℤ x) out k (none s.from) ∙ nets.rest k lt none;
     }
 
-share_enters : (n : ℕ) (s : Stream) (x : ℤ) → entering_of (λ m. m == n) s x ≡ share_of n s x
+share_enters : (n : ℕ) (s : Stream) (x : ℤ) → entering_of (λ m. m == n) s x ≡ brought_to n s x
 share_enters n s x = ends_of_share (s.from == n) (s.to == n)
   where
     ends_of_share : (a b : Bool) → entering a b x ≡ cond b x (pos 0) -ℤ cond a x (pos 0)
@@ -245,7 +245,7 @@ settle_none nodes ss held off t out whole marks few small nets = record {
   decided = λ k lt none. sym (nets.rest k lt (no_up nodes ss held t k whole none));
   net = λ b k lt up.
       let n = node_at t b in
-      nets.net n k up ∙ sum_below-same (λ i. entering_of (λ m. m == n) (get_or ss i some_stream) (free_flow held off i)) (λ i. share_of n (get_or ss i some_stream) (free_flow held off i)) (length ss)
+      nets.net n k up ∙ sum_below-same (λ i. entering_of (λ m. m == n) (get_or ss i some_stream) (free_flow held off i)) (λ i. brought_to n (get_or ss i some_stream) (free_flow held off i)) (length ss)
       (λ i less. share_enters n (get_or ss i some_stream) (free_flow held off i));
   even = λ b k le lt up. absurd (omega (arith, le, lt));
   home = λ m. m;
@@ -253,7 +253,7 @@ settle_none nodes ss held off t out whole marks few small nets = record {
 }
 
 -- ---- one node more is balanced
-share_none : (n : ℕ) (s : Stream) → share_of n s (pos 0) ≡ pos 0
+share_none : (n : ℕ) (s : Stream) → brought_to n s (pos 0) ≡ pos 0
 share_none n s = none (s.to == n) (s.from == n)
   where
     none : (a b : Bool) → cond a (pos 0) (pos 0) -ℤ cond b (pos 0) (pos 0) ≡ pos 0
@@ -267,21 +267,21 @@ abbrev with_flow : ℕ → ℤ → (ℕ → ℤ) → ℕ → ℤ
 with_flow e x flow k = cond (k == e) x (flow k)
 
 net_with : (n : ℕ) (ss : List Stream) (flow : ℕ → ℤ) (e : ℕ) (x : ℤ) → e < length ss → flow e ≡ pos 0
-    → net_by n ss (with_flow e x flow) ≡ net_by n ss flow +ℤ share_of n (get_or ss e some_stream) x
+    → net_by n ss (with_flow e x flow) ≡ net_by n ss flow +ℤ brought_to n (get_or ss e some_stream) x
 net_with n ss flow e x lt none =
-    let f : ℕ → ℤ = λ k. share_of n (get_or ss k some_stream) (with_flow e x flow k) in
-    let g : ℕ → ℤ = λ k. share_of n (get_or ss k some_stream) (flow k) in
+    let f : ℕ → ℤ = λ k. brought_to n (get_or ss k some_stream) (with_flow e x flow k) in
+    let g : ℕ → ℤ = λ k. brought_to n (get_or ss k some_stream) (flow k) in
     let other : (k : ℕ) → k < length ss → k ≢ e → f k -ℤ g k ≡ pos 0 = λ k less ne.
-    let same : f k ≡ g k = ap (λ (b : Bool). share_of n (get_or ss k some_stream) (cond b x (flow k))) (ne_eqb k e ne) in
+    let same : f k ≡ g k = ap (λ (b : Bool). brought_to n (get_or ss k some_stream) (cond b x (flow k))) (ne_eqb k e ne) in
     omega (arith, ints, same) in
-    let own : f e ≡ share_of n (get_or ss e some_stream) x = ap (λ (b : Bool). share_of n (get_or ss e some_stream) (cond b x (flow e))) (eq-eqb e e refl) in
-    let was : g e ≡ pos 0 = ap (share_of n (get_or ss e some_stream)) none ∙ share_none n (get_or ss e some_stream) in
+    let own : f e ≡ brought_to n (get_or ss e some_stream) x = ap (λ (b : Bool). brought_to n (get_or ss e some_stream) (cond b x (flow e))) (eq-eqb e e refl) in
+    let was : g e ≡ pos 0 = ap (brought_to n (get_or ss e some_stream)) none ∙ share_none n (get_or ss e some_stream) in
     let split : sum_below (λ k. f k -ℤ g k) (length ss) ≡ sum_below f (length ss) -ℤ sum_below g (length ss) = sum_below-less f g (length ss) in
     let one : sum_below (λ k. f k -ℤ g k) (length ss) ≡ f e -ℤ g e = sum_below-single (λ k. f k -ℤ g k) (length ss) e lt other in
     omega (arith, ints, own, was, split, one)
 
 -- the branch takes the net flow away from its lower end, to its parent
-share_own : (c : ℕ) (s : Stream) (a : ℤ) → s.from ≢ s.to → touches c s ≡ true → share_of c s (balancing c s a) ≡ neg_ℤ a
+share_own : (c : ℕ) (s : Stream) (a : ℤ) → s.from ≢ s.to → touches c s ≡ true → brought_to c s (balancing c s a) ≡ neg_ℤ a
 share_own c s a apart touch = elim (end_cases c s touch) [
   | inl (to, other) ↦
       let from : (s.from == c) ≡ false = ne_eqb s.from c (λ e. apart (e ∙ sym to)) in
@@ -297,7 +297,7 @@ less_none : (b : Bool) (a : ℤ) → cond b a (pos 0) -ℤ pos 0 ≡ cond b a (p
 less_none true a = omega (arith, ints)
 less_none false a = omega (arith, ints)
 
-share_parent : (c n : ℕ) (s : Stream) (a : ℤ) → touches c s ≡ true → n ≢ c → share_of n s (balancing c s a) ≡ comes (other_end c s) n a
+share_parent : (c n : ℕ) (s : Stream) (a : ℤ) → touches c s ≡ true → n ≢ c → brought_to n s (balancing c s a) ≡ comes (other_end c s) n a
 share_parent c n s a touch ne = elim (end_cases c s touch) [
   | inl (to, other) ↦
       let at_to : (s.to == n) ≡ false = ne_eqb s.to n (λ e. ne (sym e ∙ to)) in
@@ -423,7 +423,7 @@ settle_branch nodes ss held off t i e out whole marks few small joins place up b
     let steps : Steps t c p e x a out new = steps_by nodes ss held t c p e x a out whole before.each up ne in
     let flow : ℕ → ℤ = with_flow e x before.flow in
     let none : before.flow e ≡ pos 0 = before.waits i e (omega arith) up in
-    let more : (n : ℕ) → net_by n ss flow ≡ net_by n ss before.flow +ℤ share_of n s x = λ n. net_with n ss before.flow e x b.there none in
+    let more : (n : ℕ) → net_by n ss flow ≡ net_by n ss before.flow +ℤ brought_to n s x = λ n. net_with n ss before.flow e x b.there none in
     let kept : (k : ℕ) → k ≢ e → flow k ≡ before.flow k = λ k ke. ap (λ (v : Bool). cond v x (before.flow k)) (ne_eqb k e ke) in
     let home : ℕ → ℕ = handed c p before.home in
     let net_c : a ≡ net_by c ss before.flow = before.net i e (omega arith) up in
@@ -517,8 +517,8 @@ net_is : (n : ℕ) (ss : List Stream) (xs : List ℤ) → length xs ≡ length s
 net_is n [] xs each = refl
 net_is n (s ∷ ss) [] each = absurd (omega (arith, each))
 net_is n (s ∷ ss) (x ∷ xs) each =
-    ap (λ (z : ℤ). share_of n s x +ℤ z) (net_is n ss xs (omega (arith, each)))
-    ∙ sym (sum_first (λ k. share_of n (get_or (s ∷ ss) k some_stream) (item (x ∷ xs) k)) (length ss))
+    ap (λ (z : ℤ). brought_to n s x +ℤ z) (net_is n ss xs (omega (arith, each)))
+    ∙ sym (sum_first (λ k. brought_to n (get_or (s ∷ ss) k some_stream) (item (x ∷ xs) k)) (length ss))
 
 -- the price of a root for each node of its tree
 abbrev root_price : (ℕ → ℤ) → Option ℕ → ℤ
@@ -530,8 +530,8 @@ pub settled_balance : (g : ProcessGraph) (held : List Bool) (off : List ℤ) (t 
 settled_balance g held off t out graph forest whole end =
     let ss = g.streams in
     let net : (n : ℕ) → net_of n ss out ≡ net_by n ss end.flow = λ n.
-    net_is n ss out end.each ∙ sum_below-same (λ k. share_of n (get_or ss k some_stream) (item out k)) (λ k. share_of n (get_or ss k some_stream) (end.flow k)) (length ss) (λ k lt.
-    ap (share_of n (get_or ss k some_stream)) (sym (end.decided k lt (λ b less. absurd (omega (arith, less)))))) in
+    net_is n ss out end.each ∙ sum_below-same (λ k. brought_to n (get_or ss k some_stream) (item out k)) (λ k. brought_to n (get_or ss k some_stream) (end.flow k)) (length ss) (λ k lt.
+    ap (brought_to n (get_or ss k some_stream)) (sym (end.decided k lt (λ b less. absurd (omega (arith, less)))))) in
     let even : (n k : ℕ) → up_of t n ≡ Some k → net_of n ss out ≡ pos 0 = λ n k up.
     let a = branch_of g.nodes ss held t n k whole up in
     net n ∙ ap (λ (m : ℕ). net_by m ss end.flow) (sym a.is) ∙ end.even a.place k (omega arith) a.within (ap (up_of t) a.is ∙ up) in

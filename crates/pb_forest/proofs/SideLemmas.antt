@@ -5,7 +5,7 @@ use Rattle.pb_graph.specs.declared.records.Stream.{Stream}
 use Rattle.pb_graph.specs.ProcessGraph.{IsStream}
 use Rattle.pb_graph.specs.Walk.{ends_of, IsReach}
 use Rattle.pb_graph.specs.Path.{is_open}
-use Rattle.pb_graph.specs.Search.{some_stream}
+use Rattle.pb_graph.specs.ProcessGraph.{some_stream}
 use Rattle.pb_graph.proofs.WalkLemmas.{some_same}
 use Rattle.pb_forest.specs.Flows.{OneBalancedLaw}
 use Rattle.pb_forest.proofs.ReachLemmas.{some_reach}

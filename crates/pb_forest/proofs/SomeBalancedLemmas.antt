@@ -10,7 +10,7 @@ use Rattle.pb_graph.specs.declared.records.Step.{Step}
 use Rattle.pb_graph.specs.ProcessGraph.{ProcessGraph}
 use Rattle.pb_graph.specs.Walk.{any_stream, ends_of, Walks}
 use Rattle.pb_graph.specs.Path.{is_open}
-use Rattle.pb_graph.specs.Balance.{share_of, net_of, IsBalanced}
+use Rattle.pb_graph.specs.Balance.{brought_to, net_of, IsBalanced}
 use Rattle.pb_graph.proofs.WalkLemmas.{ends_is, stream_of, walk_more, reach_one, reach_back}
 use Rattle.pb_balance.proofs.Turns.{turns, takes, length_turns, round_net, not_taken, first_unit}
 use Rattle.pb_forest.specs.Forest.{IsForest}
@@ -54,7 +54,7 @@ net_with n c (s ∷ ss) [] ys ex ey = absurd (omega (arith, ex))
 net_with n c (s ∷ ss) (x ∷ xs) [] ex ey = absurd (omega (arith, ey))
 net_with n c (s ∷ ss) (x ∷ xs) (y ∷ ys) ex ey =
     ap₂ (λ (a b : ℤ). a +ℤ b) (share_parts (s.to == n) (s.from == n) c x y) (net_with n c ss xs ys (omega (arith, ex)) (omega (arith, ey)))
-    ∙ pairs (share_of n s x) (share_of n s y) (net_of n ss xs) (net_of n ss ys)
+    ∙ pairs (brought_to n s x) (brought_to n s y) (net_of n ss xs) (net_of n ss ys)
   where
     pairs : (p q u v : ℤ) → (p +ℤ (c *ℤ q)) +ℤ (u +ℤ (c *ℤ v)) ≡ (p +ℤ u) +ℤ (c *ℤ (q +ℤ v))
     pairs p q u v =

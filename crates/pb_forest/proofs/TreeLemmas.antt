@@ -6,7 +6,7 @@ use Rattle.std.proofs.lemmas.Option.{slice_get_within, get_or_from_slice_get}
 use Rattle.pb_graph.specs.declared.records.Stream.{Stream}
 use Rattle.pb_graph.specs.ProcessGraph.{IsStream}
 use Rattle.pb_graph.specs.Neighbours.{touches, touching_from, touching}
-use Rattle.pb_graph.specs.Search.{other_end, some_stream}
+use Rattle.pb_graph.specs.ProcessGraph.{other_end, some_stream}
 use Rattle.pb_graph.proofs.WalkLemmas.{some_same}
 use Rattle.pb_forest.specs.Trees.{RootedTrees, node_at, root_of, up_of, end_from, unfound, IsBranch, AreTrees, AreWhole, AreGrowing, Extends, hung, AreFollowed, AreSearched}
 

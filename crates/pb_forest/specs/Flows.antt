@@ -4,8 +4,8 @@ use Rattle.std.specs.Prelude.{◌≡◌, ◌≢◌, ℕ, ◌<◌, ◌≤◌, ◌
 use Rattle.pb_integers.specs.Sums.{sum_below, item}
 use Rattle.pb_graph.specs.declared.records.Stream.{Stream}
 use Rattle.pb_graph.specs.ProcessGraph.{ProcessGraph, IsProcessGraph}
-use Rattle.pb_graph.specs.Balance.{share_of, IsBalanced}
-use Rattle.pb_graph.specs.Search.{some_stream}
+use Rattle.pb_graph.specs.Balance.{brought_to, IsBalanced}
+use Rattle.pb_graph.specs.ProcessGraph.{some_stream}
 use Rattle.pb_graph.specs.Neighbours.{IsNeighbours}
 use Rattle.pb_forest.specs.Forest.{IsForest}
 use Rattle.pb_forest.specs.Trees.{RootedTrees, AreWhole, node_at, up_of, end_from}
@@ -47,7 +47,7 @@ crossing inside ss held xs n = sum_below (λ k. entering_of inside (get_or ss k 
 
 -- the net flow at node n, where flow k is that of the k-th stream
 abbrev pub net_by : ℕ → List Stream → (ℕ → ℤ) → ℤ
-net_by n ss flow = sum_below (λ k. share_of n (get_or ss k some_stream) (flow k)) (length ss)
+net_by n ss flow = sum_below (λ k. brought_to n (get_or ss k some_stream) (flow k)) (length ss)
 
 -- an amount joins what is kept at a branch; none is kept at a root
 abbrev pub joined : Option ℕ → ℤ → List ℤ → List ℤ

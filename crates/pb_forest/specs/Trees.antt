@@ -2,7 +2,7 @@
 use Rattle.std.specs.Prelude.{◌≡◌, ◌≢◌, ℕ, ◌+◌, ◌<◌, ◌≤◌, Bool, true, false, List, [], ◌∷◌, ◌++◌, length, Option, Some, None, slice_get, get_or, set}
 use Rattle.pb_graph.specs.declared.records.Stream.{Stream}
 use Rattle.pb_graph.specs.Neighbours.{touches}
-use Rattle.pb_graph.specs.Search.{other_end, some_stream}
+use Rattle.pb_graph.specs.ProcessGraph.{other_end, some_stream}
 
 -- the nodes in the order found; for each node the root of its tree (none while it isn't found), and the held stream to its parent
 -- (none at a root)

@@ -1,6 +1,6 @@
 ghost use Rattle.std.specs.Prelude.{◌≡◌, ℕ, ◌+◌, ◌<◌, true, Some, length, get_or, IfOk, OnOk};
 ghost use Rattle.pb_graph.specs.Neighbours.{touches, touching, IsNeighbours};
-ghost use Rattle.pb_graph.specs.Search.{other_end, some_stream};
+ghost use Rattle.pb_graph.specs.ProcessGraph.{other_end, some_stream};
 ghost use Rattle.pb_forest.specs.Trees.{RootedTrees, AreWhole, AreGrowing, AreFollowed, AreSearched, hung, node_at, root_of, up_of};
 
 use pb_graph::{Graph, Neighbours, Stream};

@@ -1,17 +1,13 @@
-use Rattle.std.proofs.Common.{◌≡◌, ◌∙◌, ℕ, suc, ◌+◌, ◌<◌, ℤ, ◌+ℤ◌, List, ◌∷◌, length, get_or, drop, ap, ap₂, arith, drop-cons}
+-- One stream more in a net flow.
+use Rattle.std.proofs.Common.{◌≡◌, ℕ, ◌+◌, ◌<◌, ℤ, ◌+ℤ◌, List, length, get_or, drop, ap₂, arith}
 use Rattle.std.proofs.lemmas.Int.{ints}
+use Rattle.pb_integers.proofs.Lists.{drop_next}
 use Rattle.pb_graph.specs.declared.records.Stream.{Stream}
-use Rattle.pb_graph.specs.Balance.{share_of, net_of}
-
--- what is left from a place on is the item there and what is left behind it
-pub drop_next : {A : Type 0} (xs : List A) (i : ℕ) (d : A) → i < length xs → drop i xs ≡ get_or xs i d ∷ drop (i + 1) xs
-drop_next xs i d lt =
-    let next : suc i ≡ i + 1 = omega arith in
-    drop-cons xs i d lt ∙ ap (λ k. get_or xs i d ∷ drop k xs) next
+use Rattle.pb_graph.specs.Balance.{brought_to, net_of}
 
 -- the net flow from a place on is the share there and the net flow behind it
 pub net_more : (n j : ℕ) (ss : List Stream) (xs : List ℤ) (s : Stream) (x : ℤ) → j < length ss → length xs ≡ length ss
-    → net_of n (drop j ss) (drop j xs) ≡ share_of n (get_or ss j s) (get_or xs j x) +ℤ net_of n (drop (j + 1) ss) (drop (j + 1) xs)
+    → net_of n (drop j ss) (drop j xs) ≡ brought_to n (get_or ss j s) (get_or xs j x) +ℤ net_of n (drop (j + 1) ss) (drop (j + 1) xs)
 net_more n j ss xs s x lt each =
     ap₂ (net_of n) (drop_next ss j s lt) (drop_next xs j x (omega (arith, lt, each)))
 

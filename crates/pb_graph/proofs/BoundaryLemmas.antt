@@ -1,10 +1,11 @@
+-- The boundary of a side, member by member.
 use Rattle.std.proofs.Common.{◌≡◌, ◌∙◌, ℕ, ◌+◌, ◌<◌, ◌≤◌, Bool, List, [], ◌∷◌, ◌++◌, length, get_or, take, drop, Some, None, slice_get, ap, sym, arith, append_assoc, length-append}
 use Rattle.std.proofs.lemmas.List.{take_more, take_all, length-take-le, drop_all, append-nil, get_or-append-add}
 use Rattle.std.proofs.lemmas.Option.{slice_get-get_or, get_or_from_slice_get}
 use Rattle.pb_graph.specs.declared.records.Stream.{Stream}
 use Rattle.pb_graph.specs.declared.records.Member.{Member}
-use Rattle.pb_graph.specs.Boundary.{member_at, with_first, members_from}
-use Rattle.pb_graph.proofs.BalanceLemmas.{drop_next}
+use Rattle.pb_graph.specs.Boundary.{member_at, with_first, members_from, boundary_of}
+use Rattle.pb_integers.proofs.Lists.{drop_next}
 
 members_next : (side : List Bool) (ss : List Stream) (j : ℕ) (s : Stream) → j < length ss
     → members_from side j (drop j ss) ≡ with_first (member_at side j (get_or ss j s)) (members_from side (j + 1) (drop (j + 1) ss))
@@ -49,3 +50,14 @@ pub members_end : (side : List Bool) (ss : List Stream) (whole ms : List Member)
 members_end side ss whole ms at j le within so_far =
     let is : whole ≡ take at ms = so_far ∙ ap (λ (r : List Stream). take at ms ++ members_from side j r) (drop_all j ss le) ∙ append-nil (take at ms) in
     ((λ e. sym (is ∙ take_all at ms (omega (arith, e)))), (λ e. omega (arith, ap length (e ∙ is), length-take-le at ms within)))
+
+-- what is made so far, where a stream is no member
+pub no_member_more : (side : List Bool) (ss : List Stream) (members : List Member) (j : ℕ) (s : Stream) → j < length ss → member_at side j (get_or ss j s) ≡ None
+    → boundary_of side ss ≡ members ++ members_from side j (drop j ss) → boundary_of side ss ≡ members ++ members_from side (j + 1) (drop (j + 1) ss)
+no_member_more side ss members j s lt none so_far = no_member side ss (boundary_of side ss) members j s lt none so_far
+
+-- what is made so far, with one more member
+pub member_more : (side : List Bool) (ss : List Stream) (members : List Member) (j : ℕ) (s : Stream) (m : Member) → j < length ss → member_at side j (get_or ss j s) ≡ Some m
+    → boundary_of side ss ≡ members ++ members_from side j (drop j ss) → boundary_of side ss ≡ (members ++ m ∷ []) ++ members_from side (j + 1) (drop (j + 1) ss)
+member_more side ss members j s m lt some so_far =
+    next_member side ss (boundary_of side ss) members j s m lt some so_far ∙ sym (append_assoc members (m ∷ []) (members_from side (j + 1) (drop (j + 1) ss)))

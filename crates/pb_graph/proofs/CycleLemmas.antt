@@ -1,7 +1,7 @@
 use Rattle.std.proofs.Common.{◌≡◌, ◌∙◌, ℕ, ◌+◌, ◌<◌, true, false, ◌==◌, List, length, get_or, drop, ap, refl}
 use Rattle.std.specs.List.{list_any}
 use Rattle.pb_graph.specs.Cycle.{is_distinct}
-use Rattle.pb_graph.proofs.BalanceLemmas.{drop_next}
+use Rattle.pb_integers.proofs.Lists.{drop_next}
 
 -- an item whose key comes no more leaves the test to the items behind it
 pub distinct_more : {A : Type 0} (key : A → ℕ) (xs : List A) (i : ℕ) (d : A) → i < length xs

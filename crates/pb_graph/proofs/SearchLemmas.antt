@@ -6,11 +6,11 @@ use Rattle.std.proofs.lemmas.List.{get_or_past, get_or-set_same, get_or-set_othe
 use Rattle.std.proofs.lemmas.Option.{get_or_from_slice_get, slice_get_within}
 use Rattle.pb_graph.specs.declared.records.Stream.{Stream}
 use Rattle.pb_graph.specs.declared.records.Step.{Step}
-use Rattle.pb_graph.specs.ProcessGraph.{IsStream}
+use Rattle.pb_graph.specs.ProcessGraph.{IsStream, other_end, some_stream}
 use Rattle.pb_graph.specs.Walk.{along, ends_of}
 use Rattle.pb_graph.specs.Path.{is_open}
 use Rattle.pb_graph.specs.Neighbours.{touches, touching_from, touching}
-use Rattle.pb_graph.specs.Search.{SearchTree, IsTree, IsClosedTo, place_of, way_of, unfound, hung, other_end, step_back, followed, visited, some_stream, begun}
+use Rattle.pb_graph.specs.Search.{SearchTree, IsTree, IsClosedTo, place_of, way_of, unfound, hung, step_back, followed, visited, begun}
 use Rattle.pb_graph.proofs.WalkLemmas.{along_within, ends_is, stream_of, some_same}
 
 -- a node found takes one from those not found

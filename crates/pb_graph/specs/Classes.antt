@@ -1,37 +1,41 @@
-use Rattle.std.specs.Prelude.{◌≡◌, ◌≢◌, ℕ, ℤ, pos, List, Some, None, slice_get, get_or, IsSome}
+-- Statement. The class of a stream, by what the measured flows determine.
+use Rattle.std.specs.Prelude.{◌≡◌, ◌≢◌, ℕ, ℤ, List, Some, None, slice_get, IsSome}
+use Rattle.pb_integers.specs.Sums.{item}
 use Rattle.pb_graph.specs.declared.records.Stream.{Stream}
 use Rattle.pb_graph.specs.declared.records.Class.{Class}
 use Rattle.pb_graph.specs.declared.records.Class.TheVariants.{Observable, Unobservable, Redundant, Nonredundant}
 use Rattle.pb_graph.specs.ProcessGraph.{ProcessGraph}
 use Rattle.pb_graph.specs.Balance.{IsBalanced}
 
--- two flow vectors agree on every measured stream but the j-th, if that is one
+-- two flow vectors agree on every measured stream but one, if that one is measured
 abbrev pub AgreeBut : ProcessGraph → ℕ → List ℤ → List ℤ → Type 0
-AgreeBut g j xs ys =
-    (k : ℕ) (s : Stream) → slice_get g.streams k ≡ Some s → k ≢ j → IsSome s.meas → get_or xs k (pos 0) ≡ get_or ys k (pos 0)
+AgreeBut graph but xs ys =
+    (k : ℕ) (stream : Stream) → slice_get graph.streams k ≡ Some stream → k ≢ but → IsSome stream.meas → item xs k ≡ item ys k
 
--- The balances and the other measured flows determine the flow of stream j: any two balanced vectors that agree on the other
+-- The balances and the other measured flows determine the flow of a stream: any two balanced vectors that agree on the other
 -- measured streams agree on it.
 abbrev pub IsDetermined : ProcessGraph → ℕ → Type 0
-IsDetermined g j = (xs ys : List ℤ) → IsBalanced g xs → IsBalanced g ys → AgreeBut g j xs ys → get_or xs j (pos 0) ≡ get_or ys j (pos 0)
+IsDetermined graph stream_id = (xs ys : List ℤ) → IsBalanced graph xs → IsBalanced graph ys → AgreeBut graph stream_id xs ys → item xs stream_id ≡ item ys stream_id
 
--- two balanced vectors that agree on the other measured streams, and not on stream j
-pub record TellsApart (g : ProcessGraph) (j : ℕ) (xs ys : List ℤ) : Type 0 where
-  pub one : IsBalanced g xs
-  pub other : IsBalanced g ys
-  pub agree : AgreeBut g j xs ys
-  pub differ : get_or xs j (pos 0) ≢ get_or ys j (pos 0)
+-- two balanced vectors that agree on the other measured streams, and not on this one
+pub record TellsApart (graph : ProcessGraph) (stream_id : ℕ) (xs ys : List ℤ) : Type 0 where
+  pub one : IsBalanced graph xs
+  pub other : IsBalanced graph ys
+  pub agree : AgreeBut graph stream_id xs ys
+  pub differ : item xs stream_id ≢ item ys stream_id
 
+-- the balances and the other measured flows leave the flow of a stream free
 abbrev pub IsFree : ProcessGraph → ℕ → Type 0
-IsFree g j = (xs : List ℤ) × (ys : List ℤ) × TellsApart g j xs ys
+IsFree graph stream_id = (xs : List ℤ) × (ys : List ℤ) × TellsApart graph stream_id xs ys
 
 -- The class of a stream by meaning (Narasimhan and Jordache, chapter 3): an unmeasured stream is observable where the measured
 -- flows determine it, and a measured one is redundant where the other measured flows do.
 abbrev pub IsClass : ProcessGraph → ℕ → Stream → Class → Type 0
-IsClass g j s Observable = (s.meas ≡ None) × IsDetermined g j
-IsClass g j s Unobservable = (s.meas ≡ None) × IsFree g j
-IsClass g j s Redundant = IsSome s.meas × IsDetermined g j
-IsClass g j s Nonredundant = IsSome s.meas × IsFree g j
+IsClass graph stream_id stream Observable = (stream.meas ≡ None) × IsDetermined graph stream_id
+IsClass graph stream_id stream Unobservable = (stream.meas ≡ None) × IsFree graph stream_id
+IsClass graph stream_id stream Redundant = IsSome stream.meas × IsDetermined graph stream_id
+IsClass graph stream_id stream Nonredundant = IsSome stream.meas × IsFree graph stream_id
 
+-- the class of the stream at a place
 abbrev pub IsClassOf : ProcessGraph → ℕ → Class → Type 0
-IsClassOf g j c = (s : Stream) × (slice_get g.streams j ≡ Some s) × IsClass g j s c
+IsClassOf graph stream_id class = (stream : Stream) × (slice_get graph.streams stream_id ≡ Some stream) × IsClass graph stream_id stream class

@@ -1,13 +1,16 @@
+-- Statement
 pub mod ProcessGraph
 pub mod Walk
 pub mod Boundary
 pub mod Cycle
 pub mod Path
 pub mod Neighbours
-pub mod Search
 pub mod Balance
 pub mod Classes
 pub mod Certificates
 pub mod Squares
 pub mod Groups
 pub mod Prices
+pub mod WellFormed
+-- Inside
+pub mod Search

@@ -1,3 +1,4 @@
+-- Statement. Paths: walks on which no node comes twice.
 use Rattle.std.specs.Prelude.{◌≡◌, ℕ, Bool, false, ◌==◌, List, Option, IsTrue, get_or}
 use Rattle.std.specs.List.{list_any}
 use Rattle.pb_graph.specs.declared.records.Stream.{Stream}
@@ -6,11 +7,11 @@ use Rattle.pb_graph.specs.Walk.{Walks}
 use Rattle.pb_graph.specs.Cycle.{is_distinct, begin_of}
 
 -- A path from a to b: a walk on which no node comes twice.
-pub record IsPath (ends : Step → Option (ℕ × ℕ)) (nodes : ℕ) (ss : List Stream) (a : ℕ) (steps : List Step) (b : ℕ) : Type 0 where
+pub record IsPath (ends : Step → Option (ℕ × ℕ)) (nodes : ℕ) (streams : List Stream) (a : ℕ) (steps : List Step) (b : ℕ) : Type 0 where
   pub walk : Walks ends a steps b
-  pub once : IsTrue (is_distinct (begin_of nodes ss) steps)
-  pub last : list_any (λ t. begin_of nodes ss t == b) steps ≡ false
+  pub once : IsTrue (is_distinct (begin_of nodes streams) steps)
+  pub last : list_any (λ step. begin_of nodes streams step == b) steps ≡ false
 
 -- the streams of a list of marks that may be taken: those that are marked
 abbrev pub is_open : List Bool → ℕ → Stream → Bool
-is_open open_streams k s = get_or open_streams k false
+is_open marks stream_id stream = get_or marks stream_id false

@@ -1,5 +1,6 @@
-use Rattle.std.specs.Prelude.{◌≢◌, ℕ, zero, suc, ◌^◌, ◌<◌, ◌≤◌, pos, ◌≤ℤ◌, unsigned_abs, Bool, List, [], ◌∷◌, length, All, None, IfSome, is_some}
-use Rattle.pb_graph.specs.declared.graph.TheConstants.{MOST_NODES, MOST_STREAMS}
+-- Statement. A plant as a directed graph, and its limits.
+use Rattle.std.specs.Prelude.{◌≢◌, ℕ, zero, suc, ◌<◌, ◌≤◌, pos, ◌≤ℤ◌, unsigned_abs, Bool, List, [], ◌∷◌, length, All, None, IfSome, is_some, ◌==◌, if◌then◌else◌}
+use Rattle.pb_limits.specs.Limits.{most_nodes, most_streams, most_value, most_variance}
 use Rattle.pb_graph.specs.declared.records.Meas.{Meas}
 use Rattle.pb_graph.specs.declared.records.Stream.{Stream}
 
@@ -10,40 +11,49 @@ pub record ProcessGraph : Type 0 where
   pub streams : List Stream
 
 -- a stream leads from one node to another
-pub record IsStream (nodes : ℕ) (s : Stream) : Type 0 where
-  pub from : s.from < nodes
-  pub to : s.to < nodes
-  pub apart : s.from ≢ s.to
+pub record IsStream (nodes : ℕ) (stream : Stream) : Type 0 where
+  pub from : stream.from < nodes
+  pub to : stream.to < nodes
+  pub apart : stream.from ≢ stream.to
 
--- a measurement within the limits: at most 10^15 grams either way, and a variance from 1 to 10^22 squared grams
-pub record IsMeasurement (m : Meas) : Type 0 where
-  pub value : unsigned_abs m.value ≤ 10 ^ 15
-  pub least : pos 1 ≤ℤ m.variance
-  pub greatest : m.variance ≤ℤ pos (10 ^ 22)
+-- a measurement within the limits of its value, in grams either way, and of its variance, in squared grams
+pub record IsMeasurement (meas : Meas) : Type 0 where
+  pub value : unsigned_abs meas.value ≤ most_value
+  pub least : pos 1 ≤ℤ meas.variance
+  pub greatest : meas.variance ≤ℤ pos most_variance
 
 -- what a measured stream has, within the limits
 abbrev pub IsWithinLimits : Stream → Type 0
-IsWithinLimits s = IfSome s.meas IsMeasurement
+IsWithinLimits stream = IfSome stream.meas IsMeasurement
 
 -- the limits of a process graph
-pub record IsProcessGraph (g : ProcessGraph) : Type 0 where
-  pub env : 1 ≤ g.nodes
-  pub few_nodes : g.nodes ≤ MOST_NODES
-  pub few_streams : length g.streams ≤ MOST_STREAMS
-  pub joins : All (IsStream g.nodes) g.streams
-  pub limits : All IsWithinLimits g.streams
+pub record IsProcessGraph (graph : ProcessGraph) : Type 0 where
+  pub env : 1 ≤ graph.nodes
+  pub few_nodes : graph.nodes ≤ most_nodes
+  pub few_streams : length graph.streams ≤ most_streams
+  pub joins : All (IsStream graph.nodes) graph.streams
+  pub limits : All IsWithinLimits graph.streams
 
 -- the graph with this stream behind its own keeps the limits
-pub record Fits (g : ProcessGraph) (s : Stream) : Type 0 where
-  pub room : length g.streams < MOST_STREAMS
-  pub joins : IsStream g.nodes s
-  pub limits : IsWithinLimits s
+pub record Fits (graph : ProcessGraph) (stream : Stream) : Type 0 where
+  pub room : length graph.streams < most_streams
+  pub joins : IsStream graph.nodes stream
+  pub limits : IsWithinLimits stream
 
+-- whether a stream has a measurement
 abbrev pub is_measured : Stream → Bool
-is_measured s = is_some s.meas
+is_measured stream = is_some stream.meas
 
--- the streams without the j-th one's measurement
+-- the streams without the measurement of one
 abbrev pub unmeasured_at : ℕ → List Stream → List Stream
-unmeasured_at j [] = []
-unmeasured_at zero (s ∷ ss) = record s { meas = None } ∷ ss
-unmeasured_at (suc j) (s ∷ ss) = s ∷ unmeasured_at j ss
+unmeasured_at stream_id [] = []
+unmeasured_at zero (stream ∷ streams) = record stream { meas = None } ∷ streams
+unmeasured_at (suc stream_id) (stream ∷ streams) = stream ∷ unmeasured_at stream_id streams
+
+-- a stream's end other than this one
+abbrev pub other_end : ℕ → Stream → ℕ
+other_end node stream = if stream.to == node then stream.from else stream.to
+
+-- a stream, for the places behind the last
+abbrev pub some_stream : Stream
+some_stream = record { from = 0; to = 0; meas = None }

@@ -1,7 +1,8 @@
--- A breadth-first search over streams that may be taken: what its code keeps.
+-- Inside. A breadth-first search over streams that may be taken: what its code keeps.
 use Rattle.std.specs.Prelude.{◌≡◌, ℕ, ◌+◌, ◌-◌, ◌<◌, ◌≤◌, Bool, false, ◌==◌, List, [], ◌∷◌, length, Option, Some, None, get_or, set, replicate, if◌then◌else◌}
 use Rattle.pb_graph.specs.declared.records.Stream.{Stream}
 use Rattle.pb_graph.specs.declared.records.Step.{Step}
+use Rattle.pb_graph.specs.ProcessGraph.{other_end, some_stream}
 use Rattle.pb_graph.specs.Walk.{ends_of, any_stream}
 
 -- the nodes found so far in order, for each node one more than its place there (0 where it isn't found), and its step
@@ -51,10 +52,7 @@ abbrev pub hung : SearchTree → ℕ → Step → SearchTree
 hung t at step =
     record t { place = set t.place at (t.found + 1); way = set t.way at step; order = set t.order t.found at; found = t.found + 1 }
 
--- a stream's end other than this one, and the step from there along the stream at place j
-abbrev pub other_end : ℕ → Stream → ℕ
-other_end node s = if s.to == node then s.from else s.to
-
+-- the step along a stream that ends at this node
 abbrev pub step_back : ℕ → ℕ → Stream → Step
 step_back node j s = record { stream = j; forward = s.to == node }
 
@@ -62,13 +60,10 @@ step_back node j s = record { stream = j; forward = s.to == node }
 abbrev pub followed : ℕ → ℕ → Bool → Stream → SearchTree → SearchTree
 followed node j may s t = if may then (if place_of t (other_end node s) == 0 then hung t (other_end node s) (step_back node j s) else t) else t
 
-abbrev pub some_stream : Stream
-some_stream = record { from = 0; to = 0; meas = None }
-
 -- the streams at these places were followed from a node
 abbrev pub visited : List Stream → List Bool → ℕ → List ℕ → SearchTree → SearchTree
-visited ss marks node [] t = t
-visited ss marks node (j ∷ js) t = visited ss marks node js (followed node j (get_or marks j false) (get_or ss j some_stream) t)
+visited streams marks node [] t = t
+visited streams marks node (j ∷ js) t = visited streams marks node js (followed node j (get_or marks j false) (get_or streams j some_stream) t)
 
 -- a search that has found its root alone
 abbrev pub begun : ℕ → ℕ → SearchTree
@@ -84,4 +79,4 @@ second_or_env (Some ends) = ends.1
 
 -- the node where a step ends, or the environment where there is no such stream
 abbrev pub end_of : List Stream → Step → ℕ
-end_of ss t = second_or_env (ends_of any_stream ss t)
+end_of streams t = second_or_env (ends_of any_stream streams t)

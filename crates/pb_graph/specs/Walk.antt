@@ -1,3 +1,4 @@
+-- Statement. Walks along streams, each in either direction, and the nodes that they reach.
 use Rattle.std.specs.Prelude.{◌≡◌, ℕ, Bool, true, false, not, ◌&&◌, ◌==◌, List, [], ◌∷◌, length, Option, Some, None, slice_get, get_or, if◌then◌else◌}
 use Rattle.pb_graph.specs.declared.records.Stream.{Stream}
 use Rattle.pb_graph.specs.declared.records.Step.{Step}
@@ -5,40 +6,42 @@ use Rattle.pb_graph.specs.ProcessGraph.{is_measured}
 
 -- where a step along a stream begins and where it ends
 abbrev pub along : Bool → Stream → ℕ × ℕ
-along true s = (s.from, s.to)
-along false s = (s.to, s.from)
+along true stream = (stream.from, stream.to)
+along false stream = (stream.to, stream.from)
 
--- the ends of a step along the k-th stream, where that one is there and may be taken
+-- the ends of a step along a stream, where it is there and may be taken
 abbrev pub ends_at : (ℕ → Stream → Bool) → ℕ → Bool → Option Stream → Option (ℕ × ℕ)
-ends_at may k forward None = None
-ends_at may k forward (Some s) = if may k s then Some (along forward s) else None
+ends_at may stream_id forward None = None
+ends_at may stream_id forward (Some stream) = if may stream_id stream then Some (along forward stream) else None
 
 -- the ends of a step in a list of streams of which some may be taken: those whose place and stream pass the test
 abbrev pub ends_of : (ℕ → Stream → Bool) → List Stream → Step → Option (ℕ × ℕ)
-ends_of may ss t = ends_at may t.stream t.forward (slice_get ss t.stream)
+ends_of may streams step = ends_at may step.stream step.forward (slice_get streams step.stream)
 
 -- A walk from a to b: each step begins where the one before ends (graph theory's walk, along arcs in either direction).
 abbrev pub Walks : (Step → Option (ℕ × ℕ)) → ℕ → List Step → ℕ → Type 0
 Walks ends a [] b = a ≡ b
-Walks ends a (t ∷ rest) b = (c : ℕ) × (ends t ≡ Some (a, c)) × Walks ends c rest b
+Walks ends a (step ∷ rest) b = (c : ℕ) × (ends step ≡ Some (a, c)) × Walks ends c rest b
 
 -- some walk leads from a to b
 abbrev pub Reaches : (Step → Option (ℕ × ℕ)) → ℕ → ℕ → Type 0
 Reaches ends a b = (steps : List Step) × Walks ends a steps b
 
--- tests of streams that may be taken: any; those without measurement; those but one
+-- a test of streams that may be taken: any
 abbrev pub any_stream : ℕ → Stream → Bool
-any_stream k s = true
+any_stream stream_id stream = true
 
+-- those without measurement
 abbrev pub unmeasured : ℕ → Stream → Bool
-unmeasured k s = not (is_measured s)
+unmeasured stream_id stream = not (is_measured stream)
 
+-- those without measurement, but for one
 abbrev pub unmeasured_but : ℕ → ℕ → Stream → Bool
-unmeasured_but j k s = not (is_measured s) && not (k == j)
+unmeasured_but but stream_id stream = not (is_measured stream) && not (stream_id == but)
 
 -- whether a node is in a side, which has one item for each node
 abbrev pub is_in : List Bool → ℕ → Bool
-is_in side n = get_or side n false
+is_in side node = get_or side node false
 
 -- a side is the set of nodes that a reaches
 pub record IsReach (ends : Step → Option (ℕ × ℕ)) (nodes a : ℕ) (side : List Bool) : Type 0 where

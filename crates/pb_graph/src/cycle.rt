@@ -1,4 +1,6 @@
-ghost use Rattle.std.specs.Prelude.{◌≡◌, ℕ, ◌<◌, ◌≤◌, ◌==◌, ◌↔◌, Some, None, length, slice_get, IsTrue};
+// Steps, walks and cycles.
+
+ghost use Rattle.std.specs.Prelude.{◌≡◌, ◌==◌, ◌↔◌, IsTrue};
 ghost use Rattle.std.specs.List.{list_any};
 ghost use Rattle.pb_graph.specs.ProcessGraph.{ProcessGraph};
 ghost use Rattle.pb_graph.specs.Walk.{ends_of, any_stream, Walks};
@@ -12,12 +14,12 @@ pub fn ends(streams: &[Stream], step: &Step) -> Option<(u32, u32)>
 {
     match streams.get(step.stream as usize) {
         None => None,
-        Some(s) if step.forward => Some((s.from, s.to)),
-        Some(s) => Some((s.to, s.from)),
+        Some(stream) if step.forward => Some((stream.from, stream.to)),
+        Some(stream) => Some((stream.to, stream.from)),
     }
 }
 
-/// Where a step begins, or the number of nodes where there is no such stream.
+// Where a step begins, or the number of nodes where there is no such stream.
 fn begin(nodes: u32, streams: &[Stream], step: &Step) -> u32
     ensures { result ≡ begin_of nodes streams.now step.now }
 {
@@ -27,7 +29,7 @@ fn begin(nodes: u32, streams: &[Stream], step: &Step) -> u32
     }
 }
 
-/// Whether the steps are a walk from one node to another.
+// Whether the steps are a walk from one node to another.
 fn walks(streams: &[Stream], from: u32, steps: &[Step], to: u32) -> bool
     ensures { IsTrue result ↔ Walks (ends_of any_stream streams.now) from steps.now to }
 {
@@ -41,22 +43,24 @@ fn walks(streams: &[Stream], from: u32, steps: &[Step], to: u32) -> bool
     at == to
 }
 
+// Whether a step goes along this stream.
 fn has_stream(steps: &[Step], stream: u32) -> bool
-    ensures { result ≡ list_any (λ t. t.stream == stream) steps.now }
+    ensures { result ≡ list_any (λ step. step.stream == stream) steps.now }
 {
-    steps.iter().any(|t| t.stream == stream)
+    steps.iter().any(|step| step.stream == stream)
 }
 
+// Whether a step begins at this node.
 fn has_begin(nodes: u32, streams: &[Stream], steps: &[Step], node: u32) -> bool
-    ensures { result ≡ list_any (λ t. begin_of nodes streams.now t == node) steps.now }
+    ensures { result ≡ list_any (λ step. begin_of nodes streams.now step == node) steps.now }
 {
-    steps.iter().any(|t| begin(nodes, streams, t) == node)
+    steps.iter().any(|step| begin(nodes, streams, step) == node)
 }
 
-/// Whether no stream comes twice.
+// Whether no stream comes twice.
 #[tactic(auto, using(crate::proofs::CycleLemmas::distinct_more, crate::proofs::CycleLemmas::distinct_not))]
 fn streams_differ(steps: &[Step]) -> bool
-    ensures { result ≡ is_distinct (λ t. t.stream) steps.now }
+    ensures { result ≡ is_distinct (λ step. step.stream) steps.now }
 {
     for (i, step) in steps.iter().enumerate() {
         if has_stream(&steps[i + 1..], step.stream) {
@@ -66,7 +70,7 @@ fn streams_differ(steps: &[Step]) -> bool
     true
 }
 
-/// Whether no node comes twice.
+// Whether no node comes twice.
 #[tactic(auto, using(crate::proofs::CycleLemmas::distinct_more, crate::proofs::CycleLemmas::distinct_not))]
 fn nodes_differ(nodes: u32, streams: &[Stream], steps: &[Step]) -> bool
     ensures { result ≡ is_distinct (begin_of nodes streams.now) steps.now }

@@ -1,4 +1,7 @@
-ghost use Rattle.std.specs.Prelude.{◌≡◌, ℕ, ◌<◌, ◌≤◌, ◌^◌, ◌↔◌, ◌++◌, ◌∷◌, [], Some, None, length, slice_get, unsigned_abs, All, IsTrue, IfOk, OnOk, OnErr, set};
+// The process graph.
+
+ghost use Rattle.std.specs.Prelude.{◌≡◌, ◌<◌, ◌≤◌, ◌^◌, ◌↔◌, ◌++◌, ◌∷◌, [], Some, length, slice_get, unsigned_abs, All, IsTrue, IfOk, OnOk, OnErr};
+ghost use Rattle.pb_limits.specs.Limits.{most_nodes};
 ghost use Rattle.pb_graph.specs.ProcessGraph.{ProcessGraph, IsProcessGraph, IsStream, IsMeasurement, IsWithinLimits, Fits, unmeasured_at};
 ghost use Rattle.pb_graph.specs.Boundary.{IsCut};
 ghost use Rattle.pb_graph.specs.Cycle.{IsCycle};
@@ -6,19 +9,14 @@ ghost use Rattle.pb_graph.specs.Balance.{net_of, IsBalanced};
 
 use crate::records::{Meas, Member, Step, Stream};
 use crate::{balance, cut, cycle};
+use pb_limits::{MOST_STREAMS, MOST_VALUE, MOST_VARIANCE};
 use std::alloc::{AllocError, Global};
 use std::marker::Model;
 
-/// The greatest number of nodes, the environment among them.
-pub const MOST_NODES: u32 = 1_001;
-
-/// The greatest number of streams.
-pub const MOST_STREAMS: usize = 2_000;
-
-/// The process graph of a plant: 1 to 1,001 nodes, of which node 0 is the environment, and at most 2,000 streams.
+/// The process graph of a plant: 1 to `MOST_NODES` nodes, of which node 0 is the environment, and at most `MOST_STREAMS` streams.
 ///
-/// The ends of a stream differ. A measured value is at most 10^15 grams either way, and its variance is from 1 to 10^22
-/// squared grams.
+/// The ends of a stream differ. A measured value is at most `MOST_VALUE` grams either way, and its variance is from 1 to
+/// `MOST_VARIANCE` squared grams.
 #[derive(Debug, Drop)]
 pub struct Graph {
     nodes: u32,
@@ -39,7 +37,7 @@ impl Graph {
     /// A graph of this many nodes and no stream.
     pub fn new(alloc: Global, nodes: u32) -> Graph
         requires env { 1 ≤ nodes }
-        requires most { nodes ≤ MOST_NODES }
+        requires most { nodes ≤ most_nodes }
         ensures { result ≡ record { nodes = nodes; streams = [] } }
     {
         Graph {
@@ -49,19 +47,19 @@ impl Graph {
     }
 
     /// Whether the graph with this stream appended keeps the limits.
-    pub fn fits(&self, s: &Stream) -> bool
-        ensures { IsTrue result ↔ Fits self.now s.now }
+    pub fn fits(&self, stream: &Stream) -> bool
+        ensures { IsTrue result ↔ Fits self.now stream.now }
     {
-        self.streams.len() < MOST_STREAMS && joins(self.nodes, s) && is_within_limits(s)
+        self.streams.len() < MOST_STREAMS && joins(self.nodes, stream) && is_within_limits(stream)
     }
 
     /// Appends a stream. Without memory the graph is as before.
-    pub fn push(&mut self, s: Stream) -> Result<(), AllocError>
-        requires { Fits self.old s }
-        ensures ok { OnOk result (self.new ≡ record self.old { streams = self.old.streams ++ s ∷ [] }) }
+    pub fn push(&mut self, stream: Stream) -> Result<(), AllocError>
+        requires { Fits self.old stream }
+        ensures ok { OnOk result (self.new ≡ record self.old { streams = self.old.streams ++ stream ∷ [] }) }
         ensures err { OnErr result (self.new ≡ self.old) }
     {
-        self.streams.push(s)?;
+        self.streams.push(stream)?;
         Ok(())
     }
 
@@ -81,11 +79,12 @@ impl Graph {
         self.streams.len() as u32
     }
 
-    pub fn stream(&self, j: u32) -> Stream
-        requires { j < length self.now.streams }
-        ensures { slice_get self.now.streams j ≡ Some result }
+    /// The stream at a place.
+    pub fn stream(&self, stream_id: u32) -> Stream
+        requires { stream_id < length self.now.streams }
+        ensures { slice_get self.now.streams stream_id ≡ Some result }
     {
-        self.streams[j as usize]
+        self.streams[stream_id as usize]
     }
 
     /// The streams in order.
@@ -97,32 +96,33 @@ impl Graph {
     }
 
     /// The net flow at a node in grams: what enters less what leaves.
-    pub fn net(&self, x: &[i128], node: u32) -> i128
-        requires each { length x.now ≡ length self.now.streams }
-        requires small { All (λ v. unsigned_abs v < 2 ^ 100) x.now }
+    pub fn net(&self, flows: &[i128], node: u32) -> i128
+        requires each { length flows.now ≡ length self.now.streams }
+        requires within { All (λ flow. unsigned_abs flow < 2 ^ 100) flows.now }
         requires node { node < self.now.nodes }
-        ensures { result ≡ net_of node self.now.streams x.now }
+        ensures { result ≡ net_of node self.now.streams flows.now }
     {
-        balance::net(&self.streams, x, node)
+        balance::net(&self.streams, flows, node)
     }
 
     /// Whether the flows balance at every node, the environment among them.
-    pub fn is_balanced(&self, x: &[i128]) -> bool
-        requires each { length x.now ≡ length self.now.streams }
-        requires small { All (λ v. unsigned_abs v < 2 ^ 100) x.now }
-        ensures { IsTrue result ↔ IsBalanced self.now x.now }
+    pub fn is_balanced(&self, flows: &[i128]) -> bool
+        requires each { length flows.now ≡ length self.now.streams }
+        requires within { All (λ flow. unsigned_abs flow < 2 ^ 100) flows.now }
+        ensures { IsTrue result ↔ IsBalanced self.now flows.now }
     {
-        balance::is_balanced(self.nodes, &self.streams, x)
+        balance::is_balanced(self.nodes, &self.streams, flows)
     }
 
-    /// The same graph, with stream `j` without its measurement.
-    pub fn unmeasure(&self, alloc: Global, j: u32) -> Result<Graph, AllocError>
-        requires { j < length self.now.streams }
-        ensures { IfOk result (λ g. g ≡ record self.now { streams = unmeasured_at j self.now.streams }) }
+    /// The same graph, with one stream without its measurement.
+    pub fn unmeasure(&self, alloc: Global, stream_id: u32) -> Result<Graph, AllocError>
+        requires { stream_id < length self.now.streams }
+        ensures { IfOk result
+            (λ g. g ≡ record self.now { streams = unmeasured_at stream_id self.now.streams }) }
     {
         Ok(Graph {
             nodes: self.nodes,
-            streams: unmeasured(alloc, &self.streams, j)?,
+            streams: unmeasured(alloc, &self.streams, stream_id)?,
         })
     }
 
@@ -151,38 +151,39 @@ impl Graph {
     }
 }
 
-/// The streams, with the j-th one without its measurement.
-fn unmeasured(alloc: Global, streams: &[Stream], j: u32) -> Result<Vec<Stream>, AllocError>
-    requires { j < length streams.now }
-    ensures { IfOk result (λ v. v.items ≡ unmeasured_at j streams.now) }
+// The streams, with one without its measurement.
+fn unmeasured(alloc: Global, streams: &[Stream], stream_id: u32) -> Result<Vec<Stream>, AllocError>
+    requires { stream_id < length streams.now }
+    ensures { IfOk result (λ v. v.items ≡ unmeasured_at stream_id streams.now) }
 {
     let mut copy = Vec::from_slice(alloc, streams)?;
-    copy[j as usize] = Stream {
+    copy[stream_id as usize] = Stream {
         meas: None,
-        ..streams[j as usize]
+        ..streams[stream_id as usize]
     };
     Ok(copy)
 }
 
-fn joins(nodes: u32, s: &Stream) -> bool
-    ensures { IsTrue result ↔ IsStream nodes s.now }
+// Whether a stream joins two nodes.
+fn joins(nodes: u32, stream: &Stream) -> bool
+    ensures { IsTrue result ↔ IsStream nodes stream.now }
 {
-    s.from < nodes && s.to < nodes && s.from != s.to
+    stream.from < nodes && stream.to < nodes && stream.from != stream.to
 }
 
-fn is_within_limits(s: &Stream) -> bool
-    ensures { IsTrue result ↔ IsWithinLimits s.now }
+// Whether what is measured of a stream is within the limits.
+fn is_within_limits(stream: &Stream) -> bool
+    ensures { IsTrue result ↔ IsWithinLimits stream.now }
 {
-    match s.meas {
+    match stream.meas {
         None => true,
-        Some(m) => is_measurement(&m),
+        Some(meas) => is_measurement(&meas),
     }
 }
 
-fn is_measurement(m: &Meas) -> bool
-    ensures { IsTrue result ↔ IsMeasurement m.now }
+// Whether a measurement is within the limits.
+fn is_measurement(meas: &Meas) -> bool
+    ensures { IsTrue result ↔ IsMeasurement meas.now }
 {
-    m.value.unsigned_abs() <= 1_000_000_000_000_000
-        && m.variance >= 1
-        && m.variance <= 10_000_000_000_000_000_000_000
+    meas.value.unsigned_abs() <= MOST_VALUE && meas.variance >= 1 && meas.variance <= MOST_VARIANCE
 }

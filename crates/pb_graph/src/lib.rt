@@ -15,10 +15,13 @@ mod results;
 mod search;
 #[cfg(test)]
 mod tests;
+mod well_formed;
 
-pub use graph::{Graph, MOST_NODES, MOST_STREAMS};
+pub use cut::boundary;
+pub use graph::Graph;
 pub use list::List;
 pub use neighbours::Neighbours;
+pub use pb_limits::{MOST_NODES, MOST_STREAMS};
 pub use records::{Class, Classified, Meas, Member, Step, Stream, Witness};
 pub use results::{
     Bounds, Critical, CriticalRow, GlobalTest, MeasureTest, NodalTest, Options, Solved, Stage,

@@ -1,7 +1,11 @@
-ghost use Rattle.std.specs.Prelude.{◌≡◌, ◌<◌, [], ◌∷◌, ◌++◌, Some, length, slice_get, OnOk, OnErr};
+// A growing list whose contracts speak of its items alone.
+
+ghost use Rattle.std.specs.Prelude.{◌≡◌, ◌<◌, [], ◌∷◌, ◌++◌, ◌↔◌, Some, length, slice_get, IsTrue, IfOk, OnOk, OnErr};
+ghost use Rattle.std.specs.Slice.Iter.{iter_rest};
 
 use std::alloc::{AllocError, Global};
 use std::marker::Model;
+use std::slice::Iter;
 
 /// A growing list, which contracts see as the list of its items.
 #[derive(Debug, Drop)]
@@ -34,24 +38,59 @@ impl<T> List<T> {
         List { items }
     }
 
+    /// The items as a vector, in order. It takes no memory.
+    pub fn into_vec(self) -> Vec<T>
+        ensures { result.items ≡ self }
+    {
+        let List { items } = self;
+        items
+    }
+
+    /// The number of items.
     pub fn len(&self) -> usize
         ensures { result ≡ length self.now }
     {
         self.items.len()
     }
 
+    /// Whether there is no item.
+    pub fn is_empty(&self) -> bool
+        ensures { IsTrue result ↔ (self.now ≡ []) }
+    {
+        self.items.is_empty()
+    }
+
+    /// The items as a slice, in order.
     pub fn as_slice(&self) -> &[T]
         ensures { result.now ≡ self.now }
     {
         self.items.as_slice()
     }
 
-    /// The item at place `i`.
-    pub fn at(&self, i: usize) -> &T
-        requires { i < length self.now }
-        ensures { slice_get self.now i ≡ Some result.now }
+    /// The items in order.
+    pub fn iter(&self) -> Iter<'_, T>
+        ensures { iter_rest result ≡ self.now }
     {
-        &self.items[i]
+        self.items.iter()
+    }
+
+    /// The item at a place.
+    pub fn at(&self, place: usize) -> &T
+        requires { place < length self.now }
+        ensures { slice_get self.now place ≡ Some result.now }
+    {
+        &self.items[place]
+    }
+}
+
+impl<T: Copy> List<T> {
+    /// An equal list.
+    pub fn copy(&self, alloc: Global) -> Result<List<T>, AllocError>
+        ensures value { IfOk result (λ copy. copy ≡ self.now) }
+    {
+        Ok(List {
+            items: Vec::from_slice(alloc, self.items.as_slice())?,
+        })
     }
 }
 

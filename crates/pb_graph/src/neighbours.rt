@@ -1,4 +1,7 @@
-ghost use Rattle.std.specs.Prelude.{◌≡◌, ℕ, ◌+◌, ◌<◌, ◌≤◌, ◌++◌, ◌∷◌, [], Some, All, length, slice_get, take, get_or, set, replicate, IfOk, OnOk};
+// The incidence lists of a graph.
+
+ghost use Rattle.std.specs.Prelude.{◌≡◌, ℕ, ◌<◌, ◌≤◌, ◌++◌, ◌∷◌, [], Some, All, length, slice_get, get_or, set, replicate, IfOk, OnOk};
+ghost use Rattle.pb_limits.specs.Limits.{most_streams};
 ghost use Rattle.pb_graph.specs.ProcessGraph.{IsStream};
 ghost use Rattle.pb_graph.specs.Neighbours.{touching, IsNeighbours};
 
@@ -24,11 +27,11 @@ impl Model for Neighbours {
 
 impl Neighbours {
     /// The incidence lists of a graph.
-    pub fn of(alloc: Global, g: &Graph) -> Result<Neighbours, AllocError>
-        ensures { IfOk result (λ near. IsNeighbours g.now near) }
+    pub fn of(alloc: Global, graph: &Graph) -> Result<Neighbours, AllocError>
+        ensures { IfOk result (λ near. IsNeighbours graph.now near) }
     {
-        let mut lists = empty_lists(alloc, g.nodes())?;
-        note_all(g.streams(), lists.as_mut_slice())?;
+        let mut lists = empty_lists(alloc, graph.nodes())?;
+        note_all(graph.streams(), lists.as_mut_slice())?;
         Ok(Neighbours { lists })
     }
 
@@ -41,6 +44,7 @@ impl Neighbours {
     }
 }
 
+// As many empty lists as nodes.
 fn empty_lists(alloc: Global, nodes: u32) -> Result<Vec<List<u32>>, AllocError>
     ensures { IfOk result (λ lists. lists.items ≡ replicate nodes []) }
 {
@@ -51,24 +55,25 @@ fn empty_lists(alloc: Global, nodes: u32) -> Result<Vec<List<u32>>, AllocError>
     Ok(lists)
 }
 
-/// Notes a stream in the list of one node.
-fn note(lists: &mut [List<u32>], node: u32, j: u32) -> Result<(), AllocError>
+// Notes a stream in the list of one node.
+fn note(lists: &mut [List<u32>], node: u32, stream_id: u32) -> Result<(), AllocError>
     requires { node < length lists.old }
-    ensures { OnOk result (lists.new ≡ set lists.old node (get_or lists.old node [] ++ j ∷ [])) }
+    ensures { OnOk result (lists.new ≡ set lists.old node (get_or lists.old node [] ++ stream_id ∷ [])) }
 {
-    lists[node as usize].push(j)
+    lists[node as usize].push(stream_id)
 }
 
-/// Notes each stream in the lists of its two ends.
+// Notes each stream in the lists of its two ends.
 fn note_all(streams: &[Stream], lists: &mut [List<u32>]) -> Result<(), AllocError>
-    requires few { length streams.now ≤ 2000 }
+    requires few { length streams.now ≤ most_streams }
     requires ends { All (IsStream (length lists.old)) streams.now }
     requires empty { lists.old ≡ replicate (length lists.old) [] }
-    ensures { OnOk result ((n : ℕ) → n < length lists.old → slice_get lists.new n ≡ Some (touching n streams.now)) }
+    ensures { OnOk result
+        ((n : ℕ) → n < length lists.old → slice_get lists.new n ≡ Some (touching n streams.now)) }
 {
-    for (j, s) in streams.iter().enumerate() {
-        note(lists, s.from, j as u32)?;
-        note(lists, s.to, j as u32)?;
+    for (j, stream) in streams.iter().enumerate() {
+        note(lists, stream.from, j as u32)?;
+        note(lists, stream.to, j as u32)?;
     }
     Ok(())
 }

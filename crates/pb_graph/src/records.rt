@@ -1,4 +1,10 @@
+// Streams with their measurements, and what certificates are made of.
+
+ghost use Rattle.std.specs.Prelude.{◌≡◌, IfOk};
+ghost use Rattle.pb_graph.specs.ProcessGraph.{other_end};
+
 use crate::list::List;
+use std::alloc::{AllocError, Global};
 
 /// A measured flow: its value in grams and the variance of its error in squared grams.
 #[derive(Clone, Copy, Debug, PartialEq, Eq)]
@@ -13,6 +19,15 @@ pub struct Stream {
     pub from: u32,
     pub to: u32,
     pub meas: Option<Meas>,
+}
+
+impl Stream {
+    /// The end that isn't this node.
+    pub fn end_from(&self, node: u32) -> u32
+        ensures { result ≡ other_end node self.now }
+    {
+        if self.to == node { self.from } else { self.to }
+    }
 }
 
 /// A stream of a cut. The sign is 1 where the stream enters the side, and -1 where it leaves it.
@@ -35,23 +50,45 @@ pub struct Step {
 /// A measured one is redundant where the other measured flows determine it.
 #[derive(Clone, Copy, Debug, PartialEq, Eq)]
 pub enum Class {
+    /// Unmeasured, and determined by the measured flows.
     Observable,
+    /// Unmeasured, and left free by the measured flows.
     Unobservable,
+    /// Measured, and determined by the other measured flows too.
     Redundant,
+    /// Measured, and left free by the other measured flows.
     Nonredundant,
 }
 
 /// Why a stream has its class: a cut with its members in order of streams, or a cycle.
-/// A side has one item for each node.
 #[derive(Debug, Drop)]
 pub enum Witness {
+    /// A side, which has one item for each node, and the streams with exactly one end in it.
     Cut {
         side: List<bool>,
         members: List<Member>,
     },
+    /// A closed walk.
     Cycle {
         steps: List<Step>,
     },
+}
+
+impl Witness {
+    /// An equal certificate.
+    pub fn copy(&self, alloc: Global) -> Result<Witness, AllocError>
+        ensures value { IfOk result (λ copy. copy ≡ self.now) }
+    {
+        match self {
+            Witness::Cut { side, members } => Ok(Witness::Cut {
+                side: side.copy(alloc)?,
+                members: members.copy(alloc)?,
+            }),
+            Witness::Cycle { steps } => Ok(Witness::Cycle {
+                steps: steps.copy(alloc)?,
+            }),
+        }
+    }
 }
 
 /// The class of a stream with its certificate.
@@ -59,4 +96,16 @@ pub enum Witness {
 pub struct Classified {
     pub class: Class,
     pub witness: Witness,
+}
+
+impl Classified {
+    /// An equal class with an equal certificate.
+    pub fn copy(&self, alloc: Global) -> Result<Classified, AllocError>
+        ensures value { IfOk result (λ copy. copy ≡ self.now) }
+    {
+        Ok(Classified {
+            class: self.class,
+            witness: self.witness.copy(alloc)?,
+        })
+    }
 }

@@ -1,35 +1,43 @@
+// The results of a study: streams, tests, stages, and what is asked.
+
 use crate::graph::Graph;
 use crate::list::List;
 use crate::records::Classified;
 
-/// The bounds of a reconciled flow, in grams: `lo` and `hi` are within it.
-#[derive(Clone, Copy)]
+/// The bounds of a reconciled flow, in grams: it is at least `lo` and at most `hi`.
+#[derive(Clone, Copy, Debug, PartialEq, Eq)]
 pub struct Bounds {
     pub lo: i128,
     pub hi: i128,
 }
 
-/// What a test says: the limit is passed, it isn't, the bounds of the statistic leave it open, no critical value was given, or
-/// there is nothing to test.
-#[derive(Clone, Copy)]
+/// What a test says.
+#[derive(Clone, Copy, Debug, PartialEq, Eq)]
 pub enum Verdict {
+    /// The limit is passed.
     Reject,
+    /// The limit isn't passed.
     Accept,
+    /// The bounds of the statistic leave it open.
     Undecided,
+    /// No critical value was given.
     NoCritical,
+    /// There is nothing to test.
     NoTest,
 }
 
 /// How many sweeps were done, and whether the gap was met.
-#[derive(Clone, Copy)]
+#[derive(Clone, Copy, Debug, PartialEq, Eq)]
 pub enum Solved {
+    /// The gap was met after so many sweeps.
     Converged(u32),
+    /// The gap wasn't met in so many sweeps, which were all that were allowed.
     Unconverged(u32),
 }
 
 /// A stream of a stage: its class with certificate, its reconciled flow in grams, and the bounds of it (none where the stream is
 /// unobservable).
-#[derive(Drop)]
+#[derive(Debug, Drop)]
 pub struct StreamResult {
     pub classified: Classified,
     pub flow: i128,
@@ -37,14 +45,14 @@ pub struct StreamResult {
 }
 
 /// The global test. The critical value is in thousandths.
-#[derive(Clone, Copy)]
+#[derive(Clone, Copy, Debug, PartialEq, Eq)]
 pub struct GlobalTest {
     pub critical: Option<i64>,
     pub verdict: Verdict,
 }
 
 /// The test of the balance of a group of nodes, named by its least node: net flow in grams, variance in squared grams.
-#[derive(Clone, Copy)]
+#[derive(Clone, Copy, Debug, PartialEq, Eq)]
 pub struct NodalTest {
     pub node: u32,
     pub net: i128,
@@ -54,7 +62,7 @@ pub struct NodalTest {
 }
 
 /// The test of one measurement: by how much the least weighted squares fall without it, in thousandths.
-#[derive(Clone, Copy)]
+#[derive(Clone, Copy, Debug, PartialEq, Eq)]
 pub struct MeasureTest {
     pub stream: u32,
     pub low: i128,
@@ -64,7 +72,7 @@ pub struct MeasureTest {
 }
 
 /// The tests of a stage.
-#[derive(Drop)]
+#[derive(Debug, Drop)]
 pub struct Tests {
     pub global: GlobalTest,
     pub nodal: List<NodalTest>,
@@ -73,7 +81,7 @@ pub struct Tests {
 
 /// One stage of a study: a graph with its classes, reconciled flows, bounds, node prices (in units of 2^-56), the numbers `g`
 /// and `h` of the gap, the degrees of freedom, and the weighted squares in thousandths.
-#[derive(Drop)]
+#[derive(Debug, Drop)]
 pub struct Stage {
     pub graph: Graph,
     pub streams: List<StreamResult>,
@@ -88,25 +96,31 @@ pub struct Stage {
 }
 
 /// A stream whose measurement was taken out as a suspect, with the low end of its drop.
-#[derive(Clone, Copy)]
+#[derive(Clone, Copy, Debug, PartialEq, Eq)]
 pub struct Taken {
     pub stream: u32,
     pub low: i128,
 }
 
 /// Why the serial elimination of suspects stopped.
-#[derive(Clone, Copy)]
+#[derive(Clone, Copy, Debug, PartialEq, Eq)]
 pub enum Stop {
+    /// The global test accepts the stage.
     Accepted,
+    /// The global test leaves the stage open.
     Undecided,
+    /// A test that is to decide has no critical value.
     NoCritical,
+    /// The stage has nothing to test.
     NoTest,
+    /// No measurement is a suspect.
     NoSuspect,
+    /// The rounds that were asked for are done.
     Spent,
 }
 
 /// A study: its stages, the suspects taken between them, and why the elimination stopped (none where none was asked).
-#[derive(Drop)]
+#[derive(Debug, Drop)]
 pub struct Study {
     pub stages: List<Stage>,
     pub taken: List<Taken>,
@@ -115,7 +129,7 @@ pub struct Study {
 
 /// What is asked of a study: the gap in thousandths of a standard deviation, the greatest number of sweeps, whether tests are
 /// made, and how many rounds of elimination.
-#[derive(Clone, Copy)]
+#[derive(Clone, Copy, Debug, PartialEq, Eq)]
 pub struct Options {
     pub gap: u32,
     pub sweeps: u32,
@@ -124,14 +138,14 @@ pub struct Options {
 }
 
 /// The critical value of the global test for some degrees of freedom, in thousandths.
-#[derive(Clone, Copy)]
+#[derive(Clone, Copy, Debug, PartialEq, Eq)]
 pub struct CriticalRow {
     pub dof: u32,
     pub value: i64,
 }
 
 /// The critical values that were handed in, in thousandths.
-#[derive(Drop)]
+#[derive(Debug, Drop)]
 pub struct Critical {
     pub global: List<CriticalRow>,
     pub nodal: Option<i64>,

@@ -1,9 +1,12 @@
-ghost use Rattle.std.specs.Prelude.{◌≡◌, ℕ, ◌+◌, ◌<◌, ◌≤◌, ◌++◌, ◌∷◌, [], true, false, Some, None, All, length, slice_get, take, get_or, set, replicate, IfOk, OnOk, IsTrue, ◌↔◌, MatchOption, map, not, ◌==◌};
-ghost use Rattle.pb_graph.specs.ProcessGraph.{IsStream};
+// The breadth-first search: what a node reaches, and a path from it.
+
+ghost use Rattle.std.specs.Prelude.{◌≡◌, ◌<◌, ◌≤◌, false, All, length, get_or, replicate, IfOk, IsTrue, ◌↔◌, MatchOption, map, not, ◌==◌};
+ghost use Rattle.pb_limits.specs.Limits.{most_nodes};
+ghost use Rattle.pb_graph.specs.ProcessGraph.{IsStream, some_stream};
 ghost use Rattle.pb_graph.specs.Walk.{ends_of, Reaches, IsReach};
 ghost use Rattle.pb_graph.specs.Path.{IsPath, is_open};
-ghost use Rattle.pb_graph.specs.Neighbours.{touches, touching, IsNeighbours};
-ghost use Rattle.pb_graph.specs.Search.{SearchTree, IsTree, IsSearch, place_of, hung, other_end, step_back, followed, visited, some_stream, begun, way_of, end_of};
+ghost use Rattle.pb_graph.specs.Neighbours.{touching, IsNeighbours};
+ghost use Rattle.pb_graph.specs.Search.{IsTree, IsSearch, place_of, hung, step_back, followed, visited, begun, way_of, end_of};
 
 use crate::cycle::ends;
 use crate::graph::Graph;
@@ -13,11 +16,11 @@ use crate::records::{Step, Stream};
 use std::alloc::{AllocError, Global};
 use std::marker::Model;
 
-/// A breadth-first search from a root: the nodes found so far in order, and for each its step toward the root.
+// A breadth-first search from a root: the nodes found so far in order, and for each its step toward the root.
 #[derive(Drop)]
 struct Tree {
     root: u32,
-    /// One more than a node's place in `order`, and 0 where it isn't found.
+    // One more than a node's place in `order`, and 0 where it isn't found.
     place: Vec<u32>,
     way: Vec<Step>,
     order: Vec<u32>,
@@ -32,24 +35,17 @@ impl Model for Tree {
     ghost view = { λ a. record { root = a.root; place = a.place.items; way = a.way.items; order = a.order.items; found = a.found } };
 }
 
-/// The end of a stream that isn't this node.
-fn other_end(node: u32, s: &Stream) -> u32
-    ensures { result ≡ other_end node s.now }
-{
-    if s.to == node { s.from } else { s.to }
-}
-
-/// The step along a stream that ends at this node.
-fn step_back(node: u32, j: u32, s: &Stream) -> Step
-    ensures { result ≡ step_back node j s.now }
+// The step along a stream that ends at this node.
+fn step_back(node: u32, stream_id: u32, stream: &Stream) -> Step
+    ensures { result ≡ step_back node stream_id stream.now }
 {
     Step {
-        stream: j,
-        forward: s.to == node,
+        stream: stream_id,
+        forward: stream.to == node,
     }
 }
 
-/// Where a step ends, or node 0 where there is no such stream.
+// Where a step ends, or node 0 where there is no such stream.
 fn end(streams: &[Stream], step: &Step) -> u32
     ensures { result ≡ end_of streams.now step.now }
 {
@@ -60,31 +56,31 @@ fn end(streams: &[Stream], step: &Step) -> u32
 }
 
 impl Tree {
-    /// The node found at a place of the order.
-    fn node_at(&self, i: u32) -> u32
-        requires { i < length self.now.order }
-        ensures { result ≡ get_or self.now.order i 0 }
+    // The node found at a place of the order.
+    fn node_at(&self, place: u32) -> u32
+        requires { place < length self.now.order }
+        ensures { result ≡ get_or self.now.order place 0 }
     {
-        self.order[i as usize]
+        self.order[place as usize]
     }
 
-    /// Whether a node is found.
-    fn has(&self, n: u32) -> bool
-        requires { n < length self.now.place }
-        ensures { IsTrue result ↔ (0 < place_of self.now n) }
+    // Whether a node is found.
+    fn has(&self, node: u32) -> bool
+        requires { node < length self.now.place }
+        ensures { IsTrue result ↔ (0 < place_of self.now node) }
     {
-        self.place[n as usize] > 0
+        self.place[node as usize] > 0
     }
 
-    /// A node's step toward the root.
-    fn way_at(&self, n: u32) -> Step
-        requires { n < length self.now.way }
-        ensures { result ≡ way_of self.now n }
+    // A node's step toward the root.
+    fn way_at(&self, node: u32) -> Step
+        requires { node < length self.now.way }
+        ensures { result ≡ way_of self.now node }
     {
-        self.way[n as usize]
+        self.way[node as usize]
     }
 
-    /// The nodes found, as a side.
+    // The nodes found, as a side.
     fn side(&self, alloc: Global) -> Result<List<bool>, AllocError>
         ensures { IfOk result (λ side. side ≡ map (λ p. not (p == 0)) self.now.place) }
     {
@@ -95,7 +91,7 @@ impl Tree {
         Ok(side)
     }
 
-    /// The steps from a node found to the root.
+    // The steps from a node found to the root.
     fn climb(
         &self,
         alloc: Global,
@@ -117,12 +113,12 @@ impl Tree {
         Ok(steps)
     }
 
-    /// Hangs a node that isn't found yet below the node that a step leads to.
+    // Hangs a node that isn't found yet below the node that a step leads to.
     fn hang(&mut self, at: u32, step: Step)
         requires place { at < length self.old.place }
         requires way { at < length self.old.way }
         requires order { self.old.found < length self.old.order }
-        requires few { length self.old.order ≤ 1001 }
+        requires few { length self.old.order ≤ most_nodes }
         ensures { self.new ≡ hung self.old at step }
     {
         self.order[self.found as usize] = at;
@@ -131,25 +127,25 @@ impl Tree {
         self.way[at as usize] = step;
     }
 
-    /// Follows a stream from one of its ends to the other.
-    fn follow(&mut self, streams: &[Stream], marks: &[bool], node: u32, j: u32)
-        requires few { length self.old.place ≤ 1001 }
+    // Follows a stream from one of its ends to the other.
+    fn follow(&mut self, streams: &[Stream], marks: &[bool], node: u32, stream_id: u32)
+        requires few { length self.old.place ≤ most_nodes }
         requires ends { All (IsStream (length self.old.place)) streams.now }
         requires marks { length marks.now ≡ length streams.now }
         requires tree { IsTree (ends_of (is_open marks.now) streams.now) (length self.old.place) self.old }
-        requires stream { j < length streams.now }
-        ensures { self.new ≡ followed node j (get_or marks.now j false) (get_or streams.now j some_stream) self.old }
+        requires stream { stream_id < length streams.now }
+        ensures { self.new ≡ followed node stream_id (get_or marks.now stream_id false) (get_or streams.now stream_id some_stream) self.old }
     {
-        let s = &streams[j as usize];
-        let other = other_end(node, s);
-        if marks[j as usize] && self.place[other as usize] == 0 {
-            self.hang(other, step_back(node, j, s));
+        let stream = &streams[stream_id as usize];
+        let other = stream.end_from(node);
+        if marks[stream_id as usize] && self.place[other as usize] == 0 {
+            self.hang(other, step_back(node, stream_id, stream));
         }
     }
 
-    /// Follows each of these streams from one node.
+    // Follows each of these streams from one node.
     fn visit(&mut self, streams: &[Stream], marks: &[bool], node: u32, list: &[u32])
-        requires few { length self.old.place ≤ 1001 }
+        requires few { length self.old.place ≤ most_nodes }
         requires ends { All (IsStream (length self.old.place)) streams.now }
         requires marks { length marks.now ≡ length streams.now }
         requires tree { IsTree (ends_of (is_open marks.now) streams.now) (length self.old.place) self.old }
@@ -157,14 +153,14 @@ impl Tree {
         requires list { list.now ≡ touching node streams.now }
         ensures { self.new ≡ visited streams.now marks.now node list.now self.old }
     {
-        for &j in list {
-            self.follow(streams, marks, node, j);
+        for &stream_id in list {
+            self.follow(streams, marks, node, stream_id);
         }
     }
 
-    /// Follows the streams of each node found, in order, until no node is left.
+    // Follows the streams of each node found, in order, until no node is left.
     fn run(&mut self, streams: &[Stream], marks: &[bool], near: &Neighbours)
-        requires few { length self.old.place ≤ 1001 }
+        requires few { length self.old.place ≤ most_nodes }
         requires ends { All (IsStream (length self.old.place)) streams.now }
         requires marks { length marks.now ≡ length streams.now }
         requires tree { IsTree (ends_of (is_open marks.now) streams.now) (length self.old.place) self.old }
@@ -181,9 +177,9 @@ impl Tree {
     }
 }
 
-/// A search that has found its root alone.
+// A search that has found its root alone.
 fn begin(alloc: Global, nodes: u32, root: u32) -> Result<Tree, AllocError>
-    requires few { nodes ≤ 1001 }
+    requires few { nodes ≤ most_nodes }
     requires root { root < nodes }
     ensures { IfOk result (λ t. t ≡ begun nodes root) }
 {
@@ -202,7 +198,7 @@ fn begin(alloc: Global, nodes: u32, root: u32) -> Result<Tree, AllocError>
     Ok(tree)
 }
 
-/// As many copies of a step as nodes.
+// As many copies of a step as nodes.
 fn steps(alloc: Global, nodes: u32, step: Step) -> Result<Vec<Step>, AllocError>
     ensures { IfOk result (λ v. v.items ≡ replicate nodes step) }
 {
@@ -213,22 +209,22 @@ fn steps(alloc: Global, nodes: u32, step: Step) -> Result<Vec<Step>, AllocError>
     Ok(steps)
 }
 
-/// A whole search: what the root reaches over marked streams, each node with its step toward the root.
+// A whole search: what the root reaches over marked streams, each node with its step toward the root.
 fn search(
     alloc: Global,
-    g: &Graph,
+    graph: &Graph,
     near: &Neighbours,
     marks: &[bool],
     root: u32,
 ) -> Result<Tree, AllocError>
-    requires near { IsNeighbours g.now near.now }
-    requires marks { length marks.now ≡ length g.now.streams }
-    requires root { root < g.now.nodes }
-    ensures search { IfOk result (λ t. IsSearch (ends_of (is_open marks.now) g.now.streams) g.now.nodes t) }
+    requires near { IsNeighbours graph.now near.now }
+    requires marks { length marks.now ≡ length graph.now.streams }
+    requires root { root < graph.now.nodes }
+    ensures search { IfOk result (λ t. IsSearch (ends_of (is_open marks.now) graph.now.streams) graph.now.nodes t) }
     ensures root { IfOk result (λ t. t.root ≡ root) }
 {
-    let mut tree = begin(alloc, g.nodes(), root)?;
-    tree.run(g.streams(), marks, near);
+    let mut tree = begin(alloc, graph.nodes(), root)?;
+    tree.run(graph.streams(), marks, near);
     Ok(tree)
 }
 
@@ -237,17 +233,17 @@ fn search(
 /// The work is in proportion to nodes and streams.
 pub fn reach(
     alloc: Global,
-    g: &Graph,
+    graph: &Graph,
     near: &Neighbours,
     marks: &[bool],
     start: u32,
 ) -> Result<List<bool>, AllocError>
-    requires near { IsNeighbours g.now near.now }
-    requires marks { length marks.now ≡ length g.now.streams }
-    requires start { start < g.now.nodes }
-    ensures { IfOk result (λ side. IsReach (ends_of (is_open marks.now) g.now.streams) g.now.nodes start side) }
+    requires near { IsNeighbours graph.now near.now }
+    requires marks { length marks.now ≡ length graph.now.streams }
+    requires start { start < graph.now.nodes }
+    ensures { IfOk result (λ side. IsReach (ends_of (is_open marks.now) graph.now.streams) graph.now.nodes start side) }
 {
-    search(alloc, g, near, marks, start)?.side(alloc)
+    search(alloc, graph, near, marks, start)?.side(alloc)
 }
 
 /// A path over marked streams from one node to another; None exactly where there is none.
@@ -255,21 +251,21 @@ pub fn reach(
 /// The work is in proportion to nodes and streams.
 pub fn path(
     alloc: Global,
-    g: &Graph,
+    graph: &Graph,
     near: &Neighbours,
     marks: &[bool],
     from: u32,
     to: u32,
 ) -> Result<Option<List<Step>>, AllocError>
-    requires near { IsNeighbours g.now near.now }
-    requires marks { length marks.now ≡ length g.now.streams }
-    requires from { from < g.now.nodes }
-    requires to { to < g.now.nodes }
-    ensures { IfOk result (λ o. MatchOption o (Reaches (ends_of (is_open marks.now) g.now.streams) from to → ⊥) (λ steps. IsPath (ends_of (is_open marks.now) g.now.streams) g.now.nodes g.now.streams from steps to)) }
+    requires near { IsNeighbours graph.now near.now }
+    requires marks { length marks.now ≡ length graph.now.streams }
+    requires from { from < graph.now.nodes }
+    requires to { to < graph.now.nodes }
+    ensures { IfOk result (λ o. MatchOption o (Reaches (ends_of (is_open marks.now) graph.now.streams) from to → ⊥) (λ steps. IsPath (ends_of (is_open marks.now) graph.now.streams) graph.now.nodes graph.now.streams from steps to)) }
 {
-    let tree = search(alloc, g, near, marks, to)?;
+    let tree = search(alloc, graph, near, marks, to)?;
     if !tree.has(from) {
         return Ok(None);
     }
-    Ok(Some(tree.climb(alloc, g.streams(), marks, from)?))
+    Ok(Some(tree.climb(alloc, graph.streams(), marks, from)?))
 }

@@ -1,4 +1,10 @@
-use crate::{Graph, Meas, Member, Neighbours, Step, Stream, path, reach};
+// Each public call at a small graph.
+
+use crate::{
+    Bounds, Class, Classified, GlobalTest, Graph, List, Meas, Member, Neighbours, NodalTest,
+    Solved, Stage, Step, Stream, StreamResult, Study, Taken, Tests, Verdict, Witness, boundary,
+    path, reach,
+};
 use std::alloc::{AllocError, Global};
 use std::process::Abort;
 
@@ -121,5 +127,126 @@ fn copies_and_searches(rt: HostRuntime) -> Result<(), AllocError> {
         forward: false,
     };
     assert!(rt; matches!(&back, Some(steps) if steps.as_slice() == [step].as_slice()));
+    Ok(())
+}
+
+#[test]
+fn gives_lists_away(rt: HostRuntime) -> Result<(), AllocError> {
+    let mut list = List::new(rt.alloc());
+    assert!(rt; list.is_empty());
+    list.push(5)?;
+    list.push(7)?;
+    assert!(rt; !list.is_empty() && list.len() == 2);
+    assert!(rt; list.iter().copied().max() == Some(7));
+    let copy = list.copy(rt.alloc())?;
+    assert_eq!(rt; copy.as_slice(), list.as_slice());
+    let items = copy.into_vec();
+    assert_eq!(rt; items.as_slice(), [5, 7].as_slice());
+    Ok(())
+}
+
+#[test]
+fn makes_boundaries(rt: HostRuntime) -> Result<(), AllocError> {
+    let g = line(&rt, rt.alloc())?;
+    let side = [false, true, false];
+    assert!(rt; g.nodes() == 3 && g.len() == 3);
+    let members = boundary(rt.alloc(), g.streams(), &side)?;
+    assert!(rt; g.is_cut(&side, members.as_slice()));
+    assert_eq!(rt; members.len(), 2);
+    assert_eq!(rt; g.stream(1).end_from(2), 1);
+    assert_eq!(rt; g.stream(1).end_from(1), 2);
+    Ok(())
+}
+
+/// The result of a stream that a cut shows.
+fn result(alloc: Global, members: &[Member]) -> Result<StreamResult, AllocError> {
+    let witness = Witness::Cut {
+        side: List::from_vec(Vec::from_slice(alloc, &[false, true, false])?),
+        members: List::from_vec(Vec::from_slice(alloc, members)?),
+    };
+    let classified = Classified {
+        class: Class::Redundant,
+        witness,
+    };
+    Ok(StreamResult {
+        classified: classified.copy(alloc)?,
+        flow: 7,
+        bounds: Some(Bounds { lo: 6, hi: 8 }),
+    })
+}
+
+/// A stage of the line, with a balance tested.
+fn stage(rt: &impl Abort, alloc: Global, members: &[Member]) -> Result<Stage, AllocError> {
+    let mut streams = List::new(alloc);
+    for _stream in 0..3 {
+        streams.push(result(alloc, members)?)?;
+    }
+    let mut nodal = List::new(alloc);
+    nodal.push(NodalTest {
+        node: 1,
+        net: 0,
+        variance: 2,
+        critical: Some(1_000_000_000_000),
+        verdict: Verdict::Accept,
+    })?;
+    Ok(Stage {
+        graph: line(rt, alloc)?,
+        streams,
+        prices: List::from_vec(Vec::from_slice(alloc, &[0, -4, 4])?),
+        solved: Solved::Converged(1),
+        g: 1,
+        h: 0,
+        dof: 1,
+        low: 0,
+        high: None,
+        tests: Some(Tests {
+            global: GlobalTest {
+                critical: None,
+                verdict: Verdict::NoCritical,
+            },
+            nodal,
+            measure: List::new(alloc),
+        }),
+    })
+}
+
+#[test]
+fn tests_the_form_of_a_stage(rt: HostRuntime) -> Result<(), AllocError> {
+    let member = Member { stream: 2, sign: 1 };
+    let alloc = rt.alloc();
+    assert!(rt; stage(&rt, alloc, &[member])?.is_well_formed());
+    let no_sign = Member { stream: 2, sign: 2 };
+    assert!(rt; !stage(&rt, alloc, &[no_sign])?.is_well_formed());
+    let no_stream = Member { stream: 3, sign: 1 };
+    assert!(rt; !stage(&rt, alloc, &[no_stream])?.is_well_formed());
+    let fewer_prices = Stage {
+        prices: List::new(alloc),
+        ..stage(&rt, alloc, &[member])?
+    };
+    assert!(rt; !fewer_prices.is_well_formed());
+    let more_sweeps = Stage {
+        solved: Solved::Unconverged(100_001),
+        ..stage(&rt, alloc, &[member])?
+    };
+    assert!(rt; !more_sweeps.is_well_formed());
+    Ok(())
+}
+
+#[test]
+fn tests_the_form_of_a_study(rt: HostRuntime) -> Result<(), AllocError> {
+    let alloc = rt.alloc();
+    let graph = line(&rt, alloc)?;
+    let member = Member { stream: 2, sign: 1 };
+    let mut study = Study {
+        stages: List::new(alloc),
+        taken: List::new(alloc),
+        stop: None,
+    };
+    assert!(rt; !study.is_well_formed(&graph));
+    study.stages.push(stage(&rt, alloc, &[member])?)?;
+    assert!(rt; study.is_well_formed(&graph));
+    assert!(rt; !study.is_well_formed(&Graph::new(alloc, 3)));
+    study.taken.push(Taken { stream: 0, low: 1 })?;
+    assert!(rt; !study.is_well_formed(&graph));
     Ok(())
 }

@@ -1,6 +1,7 @@
 // The graph of the plant: as it is declared, and as a period measured it.
 
 ghost use Rattle.std.specs.Prelude.{◌≡◌, ◌≢◌, ◌<◌, ◌≤ℤ◌, pos, ℕ, List, filter_map, length, slice_get, option_map, false, Err, IfErr, IfOk, IfSome, Some};
+ghost use Rattle.pb_limits.specs.Limits.{most_streams};
 ghost use Rattle.pb_graph.specs.ProcessGraph.{Fits, IsMeasurement, IsStream, IsWithinLimits};
 ghost use Rattle.pb_site.specs.Row.{IsArcBase};
 ghost use Rattle.pb_site.specs.Site.{arcs_of, node_names};
@@ -17,7 +18,7 @@ use crate::amount::Amount;
 use crate::moved::{moved, total_at};
 use crate::readings::{change, read_total};
 use pb_book::{Book, Period};
-use pb_graph::{Graph, MOST_STREAMS, Meas, Stream};
+use pb_graph::{Graph, Meas, Stream};
 use pb_rows::Name;
 use pb_site::{Arc, ArcKind};
 use std::alloc::{AllocError, Global};
@@ -124,7 +125,7 @@ fn measured_graph(
 
 // Whether a stream is above the limits of the graph that it is to join.
 fn is_over(graph: &Graph, stream: &Stream) -> bool
-    requires room { length graph.now.streams < MOST_STREAMS }
+    requires room { length graph.now.streams < most_streams }
     requires joins { IsStream graph.now.nodes stream.now }
     requires least { IfSome stream.now.meas (λ meas. pos 1 ≤ℤ meas.variance) }
     ensures value { result ≡ is_over stream.now }

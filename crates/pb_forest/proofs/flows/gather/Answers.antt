@@ -5,7 +5,7 @@ use Rattle.std.proofs.lemmas.List.{get_or_default}
 use Rattle.std.proofs.Math.Facts.{to_z-of_z}
 use Rattle.pb_integers.specs.Sums.{item}
 use Rattle.pb_graph.specs.declared.records.Stream.{Stream}
-use Rattle.pb_graph.specs.Search.{some_stream}
+use Rattle.pb_graph.specs.ProcessGraph.{some_stream}
 use Rattle.pb_forest.specs.Trees.{up_of}
 use Rattle.pb_forest.specs.Flows.{AreNets, free_flow, joined}
 use Rattle.pb_forest.proofs.NetLemmas.{up_within, nets_small, nets_more}

@@ -6,7 +6,7 @@ use Rattle.std.proofs.lemmas.List.{take_all}
 use Rattle.std.proofs.Math.Facts.{to_z-of_z}
 use Rattle.pb_integers.specs.Sums.{item}
 use Rattle.pb_integers.proofs.Sums.{sum_over-take_more}
-use Rattle.pb_graph.specs.Search.{some_stream}
+use Rattle.pb_graph.specs.ProcessGraph.{some_stream}
 use Rattle.pb_gap.specs.Statistic.{adjustment_below, adjustments_by, capped_squares, most_adjustment}
 use Rattle.pb_gap.proofs.Columns.{adjustment_item, length-adjustments}
 use Rattle.pb_gap.proofs.adjustments.capped_squares.Goals as goal

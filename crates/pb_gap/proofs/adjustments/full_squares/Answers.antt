@@ -8,7 +8,7 @@ use Rattle.std.proofs.lemmas.List.Folds.{list_any_at, list_any_more}
 use Rattle.std.proofs.Math.Facts.{to_z-of_z}
 use Rattle.pb_integers.specs.Sums.{item}
 use Rattle.pb_integers.proofs.Sums.{sum_over-take_more}
-use Rattle.pb_graph.specs.Search.{some_stream}
+use Rattle.pb_graph.specs.ProcessGraph.{some_stream}
 use Rattle.pb_gap.specs.Statistic.{adjustment_above, adjustments_by, full_squares, most_adjustment}
 use Rattle.pb_gap.proofs.Widths.{int_lt_no, int_lt_yes}
 use Rattle.pb_gap.proofs.Columns.{adjustment_item, length-adjustments}

@@ -7,7 +7,7 @@ use Rattle.std.proofs.Math.Facts.{to_z-of_z}
 use Rattle.pb_integers.specs.Sums.{item}
 use Rattle.pb_fixed.specs.Quotients.{nearest_div}
 use Rattle.pb_graph.specs.declared.records.Stream.{Stream}
-use Rattle.pb_graph.specs.Search.{some_stream}
+use Rattle.pb_graph.specs.ProcessGraph.{some_stream}
 use Rattle.pb_dual.specs.DualValue.{scale, dual_flow}
 use Rattle.pb_dual.specs.Priced.{price_of}
 use Rattle.pb_gap.specs.State.{nearest_flows}

@@ -6,7 +6,7 @@ use Rattle.std.proofs.Math.Facts.{to_z-of_z}
 use Rattle.std.specs.Prelude.{slice_get}
 use Rattle.pb_integers.proofs.Sums.{sum_over-take_more}
 use Rattle.pb_graph.specs.declared.records.Member.{Member}
-use Rattle.pb_graph.specs.Search.{some_stream}
+use Rattle.pb_graph.specs.ProcessGraph.{some_stream}
 use Rattle.pb_gap.specs.Bounds.{variance_in}
 use Rattle.pb_gap.proofs.MemberLists.{some_member}
 use Rattle.pb_gap.proofs.sums.variance_sum.Goals as goal

@@ -7,4 +7,4 @@ pub returns : goal.returns
 returns c =
     let ss = c.args.streams.now in
     let some : Stream = record { from = 0; to = 0; meas = None } in
-    ap (λ (l : List Stream). set l c.args.j (bare (get_or ss c.args.j some))) c.in_ok-copy.ensures.items ∙ set-unmeasured ss c.args.j some c.requires
+    ap (λ (l : List Stream). set l c.args.stream_id (bare (get_or ss c.args.stream_id some))) c.in_ok-copy.ensures.items ∙ set-unmeasured ss c.args.stream_id some c.requires

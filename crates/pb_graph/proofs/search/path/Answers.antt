@@ -8,10 +8,10 @@ use Rattle.pb_graph.proofs.search.path.Goals as goal
 -- a node that isn't found doesn't reach the root
 pub returns-then-not-has : goal.returns-then-not-has
 returns-then-not-has c = λ r.
-    let ss = c.args.g.now.streams in
+    let ss = c.args.graph.now.streams in
     let may = is_open c.args.marks.now in
     let t = c.in_ok-tree.tree in
     let back = reach_back may ss c.args.from c.args.to r in
-    let found = reached_found (ends_of may ss) c.args.g.now.nodes t c.args.from c.in_ok-tree.ensures.search
+    let found = reached_found (ends_of may ss) c.args.graph.now.nodes t c.args.from c.in_ok-tree.ensures.search
     (subst (λ (n : ℕ). Reaches (ends_of may ss) n c.args.from) (sym c.in_ok-tree.ensures.root) back) in
     cc (sym (c.has.ensures.1 found) ∙ c.if-not-has.true)

@@ -7,9 +7,9 @@ use Rattle.pb_graph.proofs.search.reach.Goals as goal
 
 pub returns : goal.returns
 returns c =
-    let ss = c.args.g.now.streams in
+    let ss = c.args.graph.now.streams in
     let ends = ends_of (is_open c.args.marks.now) ss in
-    let nodes = c.args.g.now.nodes in
+    let nodes = c.args.graph.now.nodes in
     let t = c.in_ok-search.field-0 in
     let found : List Bool = map (λ p. not (p == 0)) t.place in
     let is : IsReach ends nodes t.root found = search_reach (is_open c.args.marks.now) ss nodes t c.in_ok-search.ensures.search in

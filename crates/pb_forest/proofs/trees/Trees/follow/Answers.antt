@@ -1,6 +1,6 @@
 use Rattle.std.proofs.Common.{rules, ◌≡◌, ◌∙◌, ℕ, true, false, Some, None, List, Option, get_or, is_some, ap, ap₂, sym}
 use Rattle.pb_graph.specs.declared.records.Stream.{Stream}
-use Rattle.pb_graph.specs.Search.{other_end, some_stream}
+use Rattle.pb_graph.specs.ProcessGraph.{other_end, some_stream}
 use Rattle.pb_forest.specs.Trees.{hung, node_at, root_of, end_from}
 use Rattle.pb_forest.proofs.TreeLemmas.{found_already, follows_none, follows_one, some_of}
 use Rattle.pb_forest.proofs.trees.Trees.follow.Goals as goal

@@ -1,6 +1,6 @@
 use Rattle.std.proofs.Common.{rules, ◌≡◌, ◌∙◌, ℕ, length, get_or, ap, subst}
 use Rattle.pb_graph.specs.Neighbours.{touches}
-use Rattle.pb_graph.specs.Search.{some_stream}
+use Rattle.pb_graph.specs.ProcessGraph.{some_stream}
 use Rattle.pb_forest.specs.Trees.{node_at}
 use Rattle.pb_forest.proofs.TreeLemmas.{AreVisited, visits_more, visits_all, list_touches}
 use Rattle.pb_forest.proofs.trees.Trees.visit.Goals as goal

@@ -8,5 +8,5 @@ use Rattle.pb_graph.proofs.graph.Graph.unmeasure.Goals as goal
 pub invariant_of-result : goal.invariant_of-result
 invariant_of-result c =
     let g : ProcessGraph = record { nodes = c.self.inside.nodes; streams = c.self.inside.streams.items } in
-    let is : c.in_ok-unmeasured.field-0.items ≡ unmeasured_at c.args.j g.streams = c.in_ok-unmeasured.ensures ∙ ap (unmeasured_at c.args.j) c.deref.ensures.value in
-    subst (λ (l : List Stream). IsProcessGraph (record { nodes = g.nodes; streams = l })) (sym is) (unmeasured_graph g c.args.j c.self.invariant)
+    let is : c.in_ok-unmeasured.field-0.items ≡ unmeasured_at c.args.stream_id g.streams = c.in_ok-unmeasured.ensures ∙ ap (unmeasured_at c.args.stream_id) c.deref.ensures.value in
+    subst (λ (l : List Stream). IsProcessGraph (record { nodes = g.nodes; streams = l })) (sym is) (unmeasured_graph g c.args.stream_id c.self.invariant)

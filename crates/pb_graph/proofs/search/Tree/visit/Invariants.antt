@@ -5,9 +5,9 @@ use Rattle.pb_graph.specs.Search.{IsTree, place_of, visited}
 use Rattle.pb_graph.proofs.search.Tree.visit.Given as goal
 
 -- the streams left are to be followed from the tree so far
-abbrev pub invariant-loop-j : goal.invariant-loop-j
-invariant-loop-j l = record {
-  so_far : visited l.streams l.marks l.node (drop l.j-index l.list) l.self ≡ visited l.streams l.marks l.node l.list l.fn.self;
+abbrev pub invariant-loop-stream_id : goal.invariant-loop-stream_id
+invariant-loop-stream_id l = record {
+  so_far : visited l.streams l.marks l.node (drop l.stream_id-index l.list) l.self ≡ visited l.streams l.marks l.node l.list l.fn.self;
   tree : IsTree (ends_of (is_open l.marks) l.streams) (length l.fn.self.place) l.self;
   found : 0 < place_of l.self l.node;
 }
