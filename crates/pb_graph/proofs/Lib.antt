@@ -3,6 +3,8 @@ pub mod BoundaryLemmas
 pub mod CycleLemmas
 pub mod FoundLemmas
 pub mod NeighbourLemmas
+pub mod PartLemmas
+pub mod ReachLemmas
 pub mod SearchLemmas
 pub mod UnmeasureLemmas
 pub mod WalkLemmas

@@ -4,7 +4,7 @@ use Rattle.std.proofs.lemmas.Bool.{cases_Bool}
 use Rattle.pb_graph.specs.declared.records.Stream.{Stream}
 use Rattle.pb_graph.specs.declared.records.Step.{Step}
 use Rattle.pb_graph.specs.ProcessGraph.{IsStream}
-use Rattle.pb_graph.specs.Walk.{along, ends_at, ends_of, Walks, Reaches}
+use Rattle.pb_graph.specs.Walk.{along, ends_at, ends_of, Walks, Reaches, IsStricter}
 
 pub some_same : {A : Type 0} {x y : A} → Some x ≡ Some y → x ≡ y
 some_same e = cc e
@@ -74,7 +74,7 @@ reach_back may ss a b (steps, w) = walk_back may ss a b steps w
 
 -- every stream that the one test lets pass, the other does
 abbrev pub IsWithin : List Stream → (ℕ → Stream → Bool) → (ℕ → Stream → Bool) → Type 0
-IsWithin ss may more = (k : ℕ) (s : Stream) → slice_get ss k ≡ Some s → may k s ≡ true → more k s ≡ true
+IsWithin ss may more = IsStricter ss may more
 
 pub ends_more : (may more : ℕ → Stream → Bool) (ss : List Stream) (t : Step) (e : ℕ × ℕ) → IsWithin ss may more → ends_of may ss t ≡ Some e → ends_of more ss t ≡ Some e
 ends_more may more ss t e within is =

@@ -12,5 +12,8 @@ pub mod Squares
 pub mod Groups
 pub mod Prices
 pub mod WellFormed
+pub mod Parts
+pub mod Laws
 -- Inside
 pub mod Search
+pub mod Labels

@@ -39,6 +39,10 @@ unmeasured stream_id stream = not (is_measured stream)
 abbrev pub unmeasured_but : ℕ → ℕ → Stream → Bool
 unmeasured_but but stream_id stream = not (is_measured stream) && not (stream_id == but)
 
+-- every stream of the list that the one test lets pass, the other does
+abbrev pub IsStricter : List Stream → (ℕ → Stream → Bool) → (ℕ → Stream → Bool) → Type 0
+IsStricter streams may more = (k : ℕ) (stream : Stream) → slice_get streams k ≡ Some stream → may k stream ≡ true → more k stream ≡ true
+
 -- whether a node is in a side, which has one item for each node
 abbrev pub is_in : List Bool → ℕ → Bool
 is_in side node = get_or side node false

@@ -8,8 +8,10 @@ mod balance;
 mod cut;
 mod cycle;
 mod graph;
+mod laws;
 mod list;
 mod neighbours;
+mod parts;
 mod records;
 mod results;
 mod search;
@@ -19,8 +21,10 @@ mod well_formed;
 
 pub use cut::boundary;
 pub use graph::Graph;
+pub use laws::{closed_set_law, labels_law, more_streams_law, reach_law, walks_law};
 pub use list::List;
 pub use neighbours::Neighbours;
+pub use parts::Parts;
 pub use pb_limits::{MOST_NODES, MOST_STREAMS};
 pub use records::{Class, Classified, Meas, Member, Step, Stream, Witness};
 pub use results::{

@@ -1,0 +1,29 @@
+// Laws of walks, of the nodes that they reach, and of the parts that they make.
+
+ghost use Rattle.pb_graph.specs.Laws.{IsEquivalence, MoreStreamsLaw, ClosedSetLaw, SomeReachLaw, OneReachLaw, LabelsLaw};
+
+/// Reaching is reflexive, symmetric and transitive, and each stream that may be taken joins its ends.
+pub fn walks_law()
+    ensures { IsEquivalence }
+{}
+
+/// A walk along fewer streams is one along more.
+pub fn more_streams_law()
+    ensures { MoreStreamsLaw }
+{}
+
+/// No walk leads out of a set of nodes that no step leads out of.
+pub fn closed_set_law()
+    ensures { ClosedSetLaw }
+{}
+
+/// Whatever streams may be taken, the set of nodes that a node reaches exists, and there is one.
+pub fn reach_law()
+    ensures some { SomeReachLaw }
+    ensures one { OneReachLaw }
+{}
+
+/// Two nodes have one label exactly where one reaches the other.
+pub fn labels_law()
+    ensures { LabelsLaw }
+{}
