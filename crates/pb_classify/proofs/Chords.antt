@@ -12,11 +12,11 @@ use Rattle.pb_graph.proofs.WalkLemmas.{some_same, ends_is, stream_of, reach_one,
 use Rattle.pb_balance.proofs.Reach.{no_meas}
 use Rattle.pb_forest.specs.Forest.{IsForest}
 use Rattle.pb_forest.specs.Laws.{except}
-use Rattle.pb_forest.proofs.SpansLemmas.{along_reach}
-use Rattle.pb_forest.proofs.AcyclicLemmas.{acyclic_law}
+use Rattle.pb_forest.proofs.ForestLaws.{along_reach}
+use Rattle.pb_forest.proofs.ForestLaws.{acyclic_law}
 use Rattle.pb_classify.specs.Certificate.{IsCycleOf, IsFirstCycle, IsUnmeasured, has_stream}
 use Rattle.pb_classify.specs.Chords.{IsChord, IsCycleWithout, IsFirstBefore, after_cycle}
-use Rattle.pb_classify.proofs.Paths.{walk_without}
+use Rattle.pb_forest.proofs.ForestLaws.{walk_without}
 use Rattle.pb_classify.proofs.Rounds.{round_of, cycle_round, chord_joined}
 use Rattle.pb_classify.proofs.Unique.{one_cycle}
 

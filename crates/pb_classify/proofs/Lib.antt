@@ -1,5 +1,4 @@
 pub mod Unique
-pub mod Paths
 pub mod Rounds
 pub mod Chords
 pub mod CutLemmas

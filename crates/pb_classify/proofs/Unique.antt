@@ -16,8 +16,8 @@ use Rattle.pb_graph.specs.Path.{IsPath, is_open}
 use Rattle.pb_graph.proofs.WalkLemmas.{some_same}
 use Rattle.pb_balance.proofs.Classes.{one_class}
 use Rattle.pb_forest.specs.Forest.{IsForest}
-use Rattle.pb_forest.proofs.PathLemmas.{unique_law}
-use Rattle.pb_forest.proofs.AcyclicLemmas.{acyclic_law, one_forest_law}
+use Rattle.pb_forest.proofs.ForestLaws.{unique_law}
+use Rattle.pb_forest.proofs.ForestLaws.{acyclic_law, one_forest_law}
 use Rattle.pb_classify.specs.Certificate.{IsCutOf, IsCycleOf, IsFirstCycle, IsCanonical}
 use Rattle.pb_classify.specs.Classification.{IsClassified, IsClassification}
 

@@ -9,7 +9,7 @@ use Rattle.pb_graph.specs.declared.results.Options.{Options}
 use Rattle.pb_graph.specs.ProcessGraph.{ProcessGraph, IsProcessGraph}
 use Rattle.pb_graph.proofs.WalkLemmas.{some_same}
 use Rattle.pb_forest.specs.Forest.{degrees_of_freedom}
-use Rattle.pb_forest.proofs.AcyclicLemmas.{one_forest_law}
+use Rattle.pb_forest.proofs.ForestLaws.{one_forest_law}
 use Rattle.pb_classify.proofs.Unique.{one_classification}
 use Rattle.pb_gap.specs.Gap.{Gap, gap_of}
 use Rattle.pb_gap.specs.StreamBounds.{stream_bounds}

@@ -13,6 +13,7 @@ use Rattle.pb_graph.specs.ProcessGraph.{ProcessGraph, IsProcessGraph}
 use Rattle.pb_graph.specs.Walk.{along, ends_of, any_stream, is_in, Reaches, IsReach}
 use Rattle.pb_graph.specs.Path.{is_open}
 use Rattle.pb_graph.specs.ProcessGraph.{some_stream}
+use Rattle.pb_graph.specs.Groups.{entering}
 use Rattle.pb_graph.specs.Balance.{IsBalanced}
 use Rattle.pb_graph.proofs.WalkLemmas.{some_same, ends_is, stream_of, reach_one, reach_both, reach_more, walk_keeps, IsWithin}
 use Rattle.pb_balance.specs.PricedSums.{priced_streams}
@@ -20,7 +21,8 @@ use Rattle.pb_balance.proofs.Prices.{balanced_sum}
 use Rattle.pb_balance.proofs.Cuts.{unit_price, side_price}
 use Rattle.pb_forest.specs.Forest.{IsForest}
 use Rattle.pb_forest.specs.Laws.{except}
-use Rattle.pb_forest.specs.Flows.{AgreeOffForest, entering, entering_of, free_flow, crossing}
+use Rattle.pb_forest.specs.Flows.{AgreeOffForest}
+use Rattle.pb_forest.specs.Balancing.{entering_of, chord_flow, crossing}
 use Rattle.pb_forest.proofs.SpansLemmas.{spans_law}
 use Rattle.pb_forest.proofs.AcyclicLemmas.{acyclic_law}
 
@@ -115,18 +117,18 @@ stays true false x e = cc e
 stays false true x e = cc e
 stays false false x e = refl
 
-pub free_held : (held : List Bool) (xs : List ℤ) (k : ℕ) → get_or held k false ≡ true → free_flow held xs k ≡ pos 0
-free_held held xs k h = rw h refl
+pub chord_held : (held : List Bool) (xs : List ℤ) (k : ℕ) → get_or held k false ≡ true → chord_flow held xs k ≡ pos 0
+chord_held held xs k h = rw h refl
 
-pub free_other : (held : List Bool) (xs : List ℤ) (k : ℕ) → get_or held k false ≡ false → free_flow held xs k ≡ item xs k
-free_other held xs k h = rw h refl
+pub chord_other : (held : List Bool) (xs : List ℤ) (k : ℕ) → get_or held k false ≡ false → chord_flow held xs k ≡ item xs k
+chord_other held xs k h = rw h refl
 
 -- the sum over the streams is what the streams not held bring, less the held one's flow
 pub side_sum : (ss : List Stream) (held : List Bool) (j : ℕ) (side : List Bool) (xs : List ℤ) → length xs ≡ length ss → j < length ss → get_or held j false ≡ true
     → Crosses ss held j side → priced_streams (side_price side) ss xs ≡ crossing (is_in side) ss held xs (length ss) -ℤ item xs j
 side_sum ss held j side xs each lt here cut =
     let f : ℕ → ℤ = part (side_price side) ss xs in
-    let e : ℕ → ℤ = λ k. entering_of (is_in side) (get_or ss k some_stream) (free_flow held xs k) in
+    let e : ℕ → ℤ = λ k. entering_of (is_in side) (get_or ss k some_stream) (chord_flow held xs k) in
     let other : (k : ℕ) → k < length ss → k ≢ j → f k -ℤ e k ≡ pos 0 = λ k less ne.
     let t : Stream = get_or ss k some_stream in
     let at : slice_get ss k ≡ Some t = slice_get-get_or ss k some_stream less in
@@ -134,16 +136,16 @@ side_sum ss held j side xs each lt here cut =
     elim (cases_Bool (get_or held k false)) [
       | inl ok ↦
           let none : f k ≡ pos 0 = is ∙ stays (is_in side t.from) (is_in side t.to) (item xs k) (cut.others k t at ok ne) in
-          let free : e k ≡ pos 0 = ap (entering_of (is_in side) t) (free_held held xs k ok) ∙ enters_none (is_in side t.from) (is_in side t.to) in
+          let free : e k ≡ pos 0 = ap (entering_of (is_in side) t) (chord_held held xs k ok) ∙ enters_none (is_in side t.from) (is_in side t.to) in
           omega (arith, ints, none, free)
       | inr out ↦
-          let same : e k ≡ f k = ap (entering_of (is_in side) t) (free_other held xs k out) ∙ sym is in
+          let same : e k ≡ f k = ap (entering_of (is_in side) t) (chord_other held xs k out) ∙ sym is in
           omega (arith, ints, same)
     ] in
     let s : Stream = get_or ss j some_stream in
     let at : slice_get ss j ≡ Some s = slice_get-get_or ss j some_stream lt in
     let own : f j ≡ neg_ℤ (item xs j) = enters_is (is_in side s.from) (is_in side s.to) (item xs j) ∙ ap₂ (λ (a b : Bool). entering a b (item xs j)) (cut.from s at) (cut.to s at) in
-    let free : e j ≡ pos 0 = ap (entering_of (is_in side) s) (free_held held xs j here) ∙ enters_none (is_in side s.from) (is_in side s.to) in
+    let free : e j ≡ pos 0 = ap (entering_of (is_in side) s) (chord_held held xs j here) ∙ enters_none (is_in side s.from) (is_in side s.to) in
     let one : sum_below (λ k. f k -ℤ e k) (length ss) ≡ f j -ℤ e j = sum_below-single (λ k. f k -ℤ e k) (length ss) j lt other in
     let split : sum_below (λ k. f k -ℤ e k) (length ss) ≡ sum_below f (length ss) -ℤ sum_below e (length ss) = sum_below-less f e (length ss) in
     let whole : priced_streams (side_price side) ss xs ≡ sum_below f (length ss) = priced_is (side_price side) ss xs each in
@@ -153,10 +155,10 @@ side_sum ss held j side xs each lt here cut =
 pub crossing_same : (inside : ℕ → Bool) (ss : List Stream) (held : List Bool) (xs ys : List ℤ) → length held ≡ length ss → AgreeOffForest held xs ys
     → crossing inside ss held xs (length ss) ≡ crossing inside ss held ys (length ss)
 crossing_same inside ss held xs ys each agree =
-    sum_below-same (λ k. entering_of inside (get_or ss k some_stream) (free_flow held xs k)) (λ k. entering_of inside (get_or ss k some_stream) (free_flow held ys k)) (length ss) (λ k less.
+    sum_below-same (λ k. entering_of inside (get_or ss k some_stream) (chord_flow held xs k)) (λ k. entering_of inside (get_or ss k some_stream) (chord_flow held ys k)) (length ss) (λ k less.
     ap (entering_of inside (get_or ss k some_stream)) (elim (cases_Bool (get_or held k false)) [
-      | inl ok ↦ free_held held xs k ok ∙ sym (free_held held ys k ok)
-      | inr out ↦ free_other held xs k out ∙ agree k (omega (arith, less, each)) out ∙ sym (free_other held ys k out)
+      | inl ok ↦ chord_held held xs k ok ∙ sym (chord_held held ys k ok)
+      | inr out ↦ chord_other held xs k out ∙ agree k (omega (arith, less, each)) out ∙ sym (chord_other held ys k out)
     ]))
 
 -- prices that no held stream rises along rise along none

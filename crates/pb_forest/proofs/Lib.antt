@@ -1,15 +1,16 @@
-pub mod OrderLemmas
-pub mod SpansLemmas
-pub mod ReachLemmas
-pub mod AcyclicLemmas
-pub mod PathLemmas
-pub mod LabelLemmas
-pub mod RankLemmas
-pub mod HoldsLemmas
-pub mod FlowLemmas
-pub mod SideLemmas
-pub mod TreeLemmas
-pub mod NetLemmas
-pub mod SomeForestLemmas
-pub mod SomeBalancedLemmas
-pub mod SomePathLemmas
+mod OrderLemmas
+mod SpansLemmas
+mod ReachLemmas
+mod AcyclicLemmas
+mod PathLemmas
+mod LabelLemmas
+mod RankLemmas
+mod HoldsLemmas
+mod FlowLemmas
+mod SideLemmas
+mod TreeLemmas
+mod NetLemmas
+mod SomeForestLemmas
+mod SomeBalancedLemmas
+mod SomePathLemmas
+pub mod ForestLaws

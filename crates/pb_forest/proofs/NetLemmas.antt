@@ -11,6 +11,7 @@ use Rattle.pb_graph.specs.declared.records.Stream.{Stream}
 use Rattle.pb_graph.specs.ProcessGraph.{ProcessGraph, IsStream, IsProcessGraph}
 use Rattle.pb_graph.specs.Neighbours.{touches}
 use Rattle.pb_graph.specs.ProcessGraph.{other_end, some_stream}
+use Rattle.pb_graph.specs.Groups.{entering}
 use Rattle.pb_graph.specs.Balance.{brought_to, net_of, IsBalanced}
 use Rattle.pb_graph.proofs.WalkLemmas.{some_same}
 use Rattle.pb_balance.specs.PricedSums.{priced_nodes, priced_streams}
@@ -18,8 +19,10 @@ use Rattle.pb_balance.proofs.Prices.{priced_sums}
 use Rattle.pb_balance.proofs.Cuts.{unit_price}
 use Rattle.pb_forest.specs.Forest.{IsForest}
 use Rattle.pb_forest.specs.Trees.{RootedTrees, node_at, root_of, up_of, end_from, IsBranch, AreTrees, AreWhole}
-use Rattle.pb_forest.specs.Flows.{entering, entering_of, free_flow, crossing, net_by, joined, balancing, settled, AreNets, AreBalancedFrom}
-use Rattle.pb_forest.proofs.FlowLemmas.{sum_first, sum_below-less, enters_is, free_held, free_other, priced_level, level_all}
+use Rattle.pb_limits.specs.Limits.{most_streams}
+use Rattle.pb_forest.specs.Flows.{IsGivenFlow}
+use Rattle.pb_forest.specs.Balancing.{entering_of, chord_flow, crossing, net_by, added_at, balancing, settled, AreNets, AreBalancedFrom}
+use Rattle.pb_forest.proofs.FlowLemmas.{sum_first, sum_below-less, enters_is, chord_held, chord_other, priced_level, level_all}
 use Rattle.pb_forest.proofs.TreeLemmas.{end_cases, two_ends, one_place}
 
 -- ---- the branches of whole trees
@@ -98,42 +101,42 @@ no_up nodes ss held t k whole none n up =
     none a.place a.within (ap (up_of t) a.is ∙ up)
 
 -- ---- an amount that joins a net flow
-pub length_joined : (o : Option ℕ) (x : ℤ) (out : List ℤ) → length (joined o x out) ≡ length out
-length_joined None x out = refl
-length_joined (Some k) x out = length-set out k (item out k +ℤ x)
+pub length_added : (o : Option ℕ) (x : ℤ) (out : List ℤ) → length (added_at o x out) ≡ length out
+length_added None x out = refl
+length_added (Some k) x out = length-set out k (item out k +ℤ x)
 
-joined_other : (o : Option ℕ) (x : ℤ) (out : List ℤ) (k : ℕ) → o ≢ Some k → item (joined o x out) k ≡ item out k
-joined_other None x out k ne = refl
-joined_other (Some j) x out k ne = get_or-set_other out j k (item out j +ℤ x) (pos 0) (λ e. ne (ap (λ (i : ℕ). Some i) (sym e)))
+added_other : (o : Option ℕ) (x : ℤ) (out : List ℤ) (k : ℕ) → o ≢ Some k → item (added_at o x out) k ≡ item out k
+added_other None x out k ne = refl
+added_other (Some j) x out k ne = get_or-set_other out j k (item out j +ℤ x) (pos 0) (λ e. ne (ap (λ (i : ℕ). Some i) (sym e)))
 
 -- what comes to node n of an amount that comes to node m
 abbrev pub comes : ℕ → ℕ → ℤ → ℤ
 comes m n x = cond (m == n) x (pos 0)
 
-joined_same : (o : Option ℕ) (x : ℤ) (out : List ℤ) (k : ℕ) → o ≡ Some k → k < length out → item (joined o x out) k ≡ item out k +ℤ x
-joined_same None x out k e lt = cc e
-joined_same (Some j) x out k e lt =
+added_same : (o : Option ℕ) (x : ℤ) (out : List ℤ) (k : ℕ) → o ≡ Some k → k < length out → item (added_at o x out) k ≡ item out k +ℤ x
+added_same None x out k e lt = cc e
+added_same (Some j) x out k e lt =
     let is : j ≡ k = some_same e in
-    subst (λ (i : ℕ). item (joined (Some i) x out) k ≡ item out k +ℤ x) (sym is) (get_or-set_same out k (item out k +ℤ x) (pos 0) lt)
+    subst (λ (i : ℕ). item (added_at (Some i) x out) k ≡ item out k +ℤ x) (sym is) (get_or-set_same out k (item out k +ℤ x) (pos 0) lt)
 
-pub joined_item : (nodes : ℕ) (ss : List Stream) (held : List Bool) (t : RootedTrees) (m n k : ℕ) (x : ℤ) (out : List ℤ) → AreWhole nodes ss held t → up_of t n ≡ Some k
-    → k < length out → item (joined (up_of t m) x out) k ≡ item out k +ℤ comes m n x
-joined_item nodes ss held t m n k x out whole up lt = elim (cases_eq m n) [
-  | inl same ↦ rw (eq-eqb m n same) (joined_same (up_of t m) x out k (ap (up_of t) same ∙ up) lt)
+pub added_item : (nodes : ℕ) (ss : List Stream) (held : List Bool) (t : RootedTrees) (m n k : ℕ) (x : ℤ) (out : List ℤ) → AreWhole nodes ss held t → up_of t n ≡ Some k
+    → k < length out → item (added_at (up_of t m) x out) k ≡ item out k +ℤ comes m n x
+added_item nodes ss held t m n k x out whole up lt = elim (cases_eq m n) [
+  | inl same ↦ rw (eq-eqb m n same) (added_same (up_of t m) x out k (ap (up_of t) same ∙ up) lt)
   | inr ne ↦
-      let kept = joined_other (up_of t m) x out k (λ e. ne (one_up nodes ss held t m n k whole e up)) in
+      let kept = added_other (up_of t m) x out k (λ e. ne (one_up nodes ss held t m n k whole e up)) in
       rw (ne_eqb m n ne) (omega (arith, ints, kept))
 ]
 
-pub joined_small : (o : Option ℕ) (x : ℤ) (out : List ℤ) (b c : ℕ) → ((k : ℕ) → unsigned_abs (item out k) ≤ b) → unsigned_abs x ≤ c
-    → (k : ℕ) → unsigned_abs (item (joined o x out) k) ≤ b + c
-joined_small None x out b c small le k = let h = small k in omega (arith, h)
-joined_small (Some j) x out b c small le k =
+pub added_small : (o : Option ℕ) (x : ℤ) (out : List ℤ) (b c : ℕ) → ((k : ℕ) → unsigned_abs (item out k) ≤ b) → unsigned_abs x ≤ c
+    → (k : ℕ) → unsigned_abs (item (added_at o x out) k) ≤ b + c
+added_small None x out b c small le k = let h = small k in omega (arith, h)
+added_small (Some j) x out b c small le k =
     let h = small k in
     elim (cases_eq k j) [
       | inr ne ↦ let e = get_or-set_other out j k (item out j +ℤ x) (pos 0) ne in omega (arith, ints, h, e)
       | inl same ↦ elim (cases_lt k (length out)) [
-        | inl lt ↦ let e = joined_same (Some j) x out k (ap (λ (i : ℕ). Some i) (sym same)) lt in omega (arith, ints, h, e, le)
+        | inl lt ↦ let e = added_same (Some j) x out k (ap (λ (i : ℕ). Some i) (sym same)) lt in omega (arith, ints, h, e, le)
         | inr past ↦ let e = get_or_past (set out j (item out j +ℤ x)) k (pos 0) (omega (arith, past, length-set out j (item out j +ℤ x))) in omega (arith, ints, e)
       ]
     ]
@@ -145,10 +148,10 @@ item_small xs b small k = elim (cases_lt k (length xs)) [
   | inr past ↦ let e = get_or_past xs k (pos 0) (omega (arith, past)) in omega (arith, ints, e)
 ]
 
-pub free_small : (held : List Bool) (xs : List ℤ) (b : ℕ) → All (λ (v : ℤ). unsigned_abs v ≤ b) xs → (k : ℕ) → unsigned_abs (free_flow held xs k) ≤ b
-free_small held xs b small k = elim (cases_Bool (get_or held k false)) [
-  | inl h ↦ let e = free_held held xs k h in omega (arith, ints, e)
-  | inr h ↦ let e = free_other held xs k h in let le = item_small xs b small k in omega (arith, ints, e, le)
+pub chord_small : (held : List Bool) (xs : List ℤ) (b : ℕ) → All (λ (v : ℤ). unsigned_abs v ≤ b) xs → (k : ℕ) → unsigned_abs (chord_flow held xs k) ≤ b
+chord_small held xs b small k = elim (cases_Bool (get_or held k false)) [
+  | inl h ↦ let e = chord_held held xs k h in omega (arith, ints, e)
+  | inr h ↦ let e = chord_other held xs k h in let le = item_small xs b small k in omega (arith, ints, e, le)
 ]
 
 entering_small : (a c : Bool) (x : ℤ) (b : ℕ) → unsigned_abs x ≤ b → unsigned_abs (entering a c x) ≤ b
@@ -163,17 +166,17 @@ crossing_small inside ss held xs b zero small = omega (arith, ints)
 crossing_small inside ss held xs b (suc n) small =
     let s : Stream = get_or ss n some_stream in
     let rest = crossing_small inside ss held xs b n small in
-    let one = entering_small (inside s.from) (inside s.to) (free_flow held xs n) b (free_small held xs b small n) in
+    let one = entering_small (inside s.from) (inside s.to) (chord_flow held xs n) b (chord_small held xs b small n) in
     omega (arith, ints, rest, one)
 
-crossing_bound : (inside : ℕ → Bool) (ss : List Stream) (held : List Bool) (xs : List ℤ) (n : ℕ) → All (λ (v : ℤ). unsigned_abs v ≤ 2 ^ 57) xs → n ≤ 2000
+crossing_bound : (inside : ℕ → Bool) (ss : List Stream) (held : List Bool) (xs : List ℤ) (n : ℕ) → All IsGivenFlow xs → n ≤ most_streams
     → unsigned_abs (crossing inside ss held xs n) < 2 ^ 68
 crossing_bound inside ss held xs n small few = let le = crossing_small inside ss held xs (2 ^ 57) n small in omega (arith, le, few)
 
 -- ---- the net flows of the streams not held
 -- all that the code asks of the net flows so far
 pub nets_small : (nodes : ℕ) (ss : List Stream) (held : List Bool) (off : List ℤ) (t : RootedTrees) (j : ℕ) (out : List ℤ) → AreWhole nodes ss held t
-    → All (λ (v : ℤ). unsigned_abs v ≤ 2 ^ 57) off → j ≤ 2000 → AreNets ss held off t j out → (k : ℕ) → unsigned_abs (item out k) < 2 ^ 68
+    → All IsGivenFlow off → j ≤ most_streams → AreNets ss held off t j out → (k : ℕ) → unsigned_abs (item out k) < 2 ^ 68
 nets_small nodes ss held off t j out whole small few nets k = elim (cases_lt k (length ss)) [
   | inr past ↦ let e = get_or_past out k (pos 0) (omega (arith, past, nets.each)) in omega (arith, ints, e)
   | inl lt ↦ elim (find_up t k (length t.order)) [
@@ -183,16 +186,16 @@ nets_small nodes ss held off t j out whole small few nets k = elim (cases_lt k (
         omega (arith, ints, e, le)
     | inr none ↦
         let e = nets.rest k lt (no_up nodes ss held t k whole none) in
-        let le = free_small held off (2 ^ 57) small k in
+        let le = chord_small held off (2 ^ 57) small k in
         omega (arith, ints, e, le)
   ]
 ]
 
 pub nets_none : (nodes : ℕ) (ss : List Stream) (held : List Bool) (off : List ℤ) (t : RootedTrees) (out : List ℤ) → AreWhole nodes ss held t → length out ≡ length ss
-    → ((k : ℕ) → k < length ss → item out k ≡ free_flow held off k) → AreNets ss held off t 0 out
+    → ((k : ℕ) → k < length ss → item out k ≡ chord_flow held off k) → AreNets ss held off t 0 out
 nets_none nodes ss held off t out whole each free = record {
   each = each;
-  net = λ n k up. let a = branch_of nodes ss held t n k whole up in free k a.branch.there ∙ free_held held off k a.branch.marked;
+  net = λ n k up. let a = branch_of nodes ss held t n k whole up in free k a.branch.there ∙ chord_held held off k a.branch.marked;
   rest = λ k lt none. free k lt;
 }
 
@@ -205,22 +208,22 @@ both_ends false false z x = omega (arith, ints)
 -- one stream more
 pub nets_more : (nodes : ℕ) (ss : List Stream) (held : List Bool) (off : List ℤ) (t : RootedTrees) (j : ℕ) (out : List ℤ) → AreWhole nodes ss held t
     → AreNets ss held off t j out
-    → AreNets ss held off t (j + 1) (joined (up_of t (get_or ss j some_stream).to) (free_flow held off j) (joined (up_of t (get_or ss j some_stream).from) (neg_ℤ (free_flow held off j)) out))
+    → AreNets ss held off t (j + 1) (added_at (up_of t (get_or ss j some_stream).to) (chord_flow held off j) (added_at (up_of t (get_or ss j some_stream).from) (neg_ℤ (chord_flow held off j)) out))
 nets_more nodes ss held off t j out whole nets =
     let s : Stream = get_or ss j some_stream in
-    let x : ℤ = free_flow held off j in
-    let mid : List ℤ = joined (up_of t s.from) (neg_ℤ x) out in
-    let size : length mid ≡ length ss = length_joined (up_of t s.from) (neg_ℤ x) out ∙ nets.each in
+    let x : ℤ = chord_flow held off j in
+    let mid : List ℤ = added_at (up_of t s.from) (neg_ℤ x) out in
+    let size : length mid ≡ length ss = length_added (up_of t s.from) (neg_ℤ x) out ∙ nets.each in
     let next : suc j ≡ j + 1 = omega arith in
     record {
-      each = length_joined (up_of t s.to) x mid ∙ size;
+      each = length_added (up_of t s.to) x mid ∙ size;
       net = λ n k up.
           let lt : k < length ss = up_within nodes ss held t n k whole up in
-          let first = joined_item nodes ss held t s.from n k (neg_ℤ x) out whole up (omega (arith, lt, nets.each)) in
-          let second = joined_item nodes ss held t s.to n k x mid whole up (omega (arith, lt, size)) in
+          let first = added_item nodes ss held t s.from n k (neg_ℤ x) out whole up (omega (arith, lt, nets.each)) in
+          let second = added_item nodes ss held t s.to n k x mid whole up (omega (arith, lt, size)) in
           second ∙ ap (λ (z : ℤ). z +ℤ comes s.to n x) (first ∙ ap (λ (z : ℤ). z +ℤ comes s.from n (neg_ℤ x)) (nets.net n k up))
           ∙ both_ends (s.from == n) (s.to == n) (crossing (λ m. m == n) ss held off j) x ∙ ap (crossing (λ m. m == n) ss held off) next;
-      rest = λ k lt none. joined_other (up_of t s.to) x mid k (none s.to) ∙ joined_other (up_of t s.from) (neg_ℤ x) out k (none s.from) ∙ nets.rest k lt none;
+      rest = λ k lt none. added_other (up_of t s.to) x mid k (none s.to) ∙ added_other (up_of t s.from) (neg_ℤ x) out k (none s.from) ∙ nets.rest k lt none;
     }
 
 share_enters : (n : ℕ) (s : Stream) (x : ℤ) → entering_of (λ m. m == n) s x ≡ brought_to n s x
@@ -234,19 +237,19 @@ share_enters n s x = ends_of_share (s.from == n) (s.to == n)
 
 -- no node is balanced yet
 pub settle_none : (nodes : ℕ) (ss : List Stream) (held : List Bool) (off : List ℤ) (t : RootedTrees) (out : List ℤ) → AreWhole nodes ss held t → length held ≡ length ss
-    → length ss ≤ 2000 → All (λ (v : ℤ). unsigned_abs v ≤ 2 ^ 57) off → AreNets ss held off t (length ss) out → AreBalancedFrom ss held off t (length t.order) out
+    → length ss ≤ most_streams → All IsGivenFlow off → AreNets ss held off t (length ss) out → AreBalancedFrom ss held off t (length t.order) out
 settle_none nodes ss held off t out whole marks few small nets = record {
   each = nets.each;
   agree = λ k lt h.
-      nets.rest k (omega (arith, lt, marks)) (λ n up. let a = branch_of nodes ss held t n k whole up in cc (sym h ∙ a.branch.marked)) ∙ free_other held off k h;
+      nets.rest k (omega (arith, lt, marks)) (λ n up. let a = branch_of nodes ss held t n k whole up in cc (sym h ∙ a.branch.marked)) ∙ chord_other held off k h;
   small = nets_small nodes ss held off t (length ss) out whole small few nets;
-  flow = free_flow held off;
-  waits = λ b k lt up. free_held held off k (branch_of nodes ss held t (node_at t b) k whole up).branch.marked;
+  flow = chord_flow held off;
+  waits = λ b k lt up. chord_held held off k (branch_of nodes ss held t (node_at t b) k whole up).branch.marked;
   decided = λ k lt none. sym (nets.rest k lt (no_up nodes ss held t k whole none));
   net = λ b k lt up.
       let n = node_at t b in
-      nets.net n k up ∙ sum_below-same (λ i. entering_of (λ m. m == n) (get_or ss i some_stream) (free_flow held off i)) (λ i. brought_to n (get_or ss i some_stream) (free_flow held off i)) (length ss)
-      (λ i less. share_enters n (get_or ss i some_stream) (free_flow held off i));
+      nets.net n k up ∙ sum_below-same (λ i. entering_of (λ m. m == n) (get_or ss i some_stream) (chord_flow held off i)) (λ i. brought_to n (get_or ss i some_stream) (chord_flow held off i)) (length ss)
+      (λ i less. share_enters n (get_or ss i some_stream) (chord_flow held off i));
   even = λ b k le lt up. absurd (omega (arith, le, lt));
   home = λ m. m;
   below = λ b k lt up. nets.net (node_at t b) k up;
@@ -350,10 +353,10 @@ handed_unit c p home m ne = elim (cases_eq (home m) c) [
 crossing_handed : (c p : ℕ) (home : ℕ → ℕ) (ss : List Stream) (held : List Bool) (off : List ℤ) (n : ℕ) → p ≢ c
     → crossing (λ m. handed c p home m == p) ss held off n ≡ crossing (λ m. home m == p) ss held off n +ℤ crossing (λ m. home m == c) ss held off n
 crossing_handed c p home ss held off n ne =
-    let at : (ℕ → Bool) → ℕ → ℤ = λ inside k. entering_of inside (get_or ss k some_stream) (free_flow held off k) in
+    let at : (ℕ → Bool) → ℕ → ℤ = λ inside k. entering_of inside (get_or ss k some_stream) (chord_flow held off k) in
     sum_below-same (at (λ m. handed c p home m == p)) (λ k. at (λ m. home m == p) k +ℤ at (λ m. home m == c) k) n (λ k less.
     let s : Stream = get_or ss k some_stream in
-    entering_add (home s.from == p) (home s.to == p) (home s.from == c) (home s.to == c) (handed c p home s.from == p) (handed c p home s.to == p) (free_flow held off k)
+    entering_add (home s.from == p) (home s.to == p) (home s.from == c) (home s.to == c) (handed c p home s.from == p) (handed c p home s.to == p) (chord_flow held off k)
     (handed_unit c p home s.from ne) (handed_unit c p home s.to ne))
     ∙ sum_below-add (at (λ m. home m == p)) (at (λ m. home m == c)) n
 
@@ -367,10 +370,10 @@ handed_other c p n home m np nc = elim (cases_eq (home m) c) [
 crossing_other : (c p n : ℕ) (home : ℕ → ℕ) (ss : List Stream) (held : List Bool) (off : List ℤ) (j : ℕ) → n ≢ p → n ≢ c
     → crossing (λ m. handed c p home m == n) ss held off j ≡ crossing (λ m. home m == n) ss held off j
 crossing_other c p n home ss held off j np nc =
-    let at : (ℕ → Bool) → ℕ → ℤ = λ inside k. entering_of inside (get_or ss k some_stream) (free_flow held off k) in
+    let at : (ℕ → Bool) → ℕ → ℤ = λ inside k. entering_of inside (get_or ss k some_stream) (chord_flow held off k) in
     sum_below-same (at (λ m. handed c p home m == n)) (at (λ m. home m == n)) j (λ k less.
     let s : Stream = get_or ss k some_stream in
-    ap₂ (λ (a b : Bool). entering a b (free_flow held off k)) (handed_other c p n home s.from np nc) (handed_other c p n home s.to np nc))
+    ap₂ (λ (a b : Bool). entering a b (chord_flow held off k)) (handed_other c p n home s.from np nc) (handed_other c p n home s.to np nc))
 
 -- ---- a node that hangs from its parent
 balancing_small : (c : ℕ) (s : Stream) (a : ℤ) → unsigned_abs a < 2 ^ 68 → unsigned_abs (balancing c s a) < 2 ^ 68
@@ -379,7 +382,7 @@ balancing_small c s a small = elim (cases_Bool (s.to == c)) [
   | inr from ↦ rw from small
 ]
 
--- what the vector is after node c was balanced by stream e, and its net flow a joined that of its parent p
+-- what the vector is after node c was balanced by stream e, and its net flow a added_at that of its parent p
 record Steps (t : RootedTrees) (c p e : ℕ) (x a : ℤ) (out new : List ℤ) : Type 0 where
   own : item new e ≡ x
   rest : (k : ℕ) → k ≢ e → up_of t p ≢ Some k → item new k ≡ item out k
@@ -387,15 +390,15 @@ record Steps (t : RootedTrees) (c p e : ℕ) (x a : ℤ) (out new : List ℤ) : 
   apart : (n k : ℕ) → n ≢ c → up_of t n ≡ Some k → k ≢ e
 
 steps_by : (nodes : ℕ) (ss : List Stream) (held : List Bool) (t : RootedTrees) (c p e : ℕ) (x a : ℤ) (out : List ℤ) → AreWhole nodes ss held t → length out ≡ length ss
-    → up_of t c ≡ Some e → p ≢ c → Steps t c p e x a out (joined (up_of t p) a (set out e x))
+    → up_of t c ≡ Some e → p ≢ c → Steps t c p e x a out (added_at (up_of t p) a (set out e x))
 steps_by nodes ss held t c p e x a out whole each up ne =
     let lt : e < length out = omega (arith, each, up_within nodes ss held t c e whole up) in
     let apart : (n k : ℕ) → n ≢ c → up_of t n ≡ Some k → k ≢ e = λ n k nc up_n same. nc (one_up nodes ss held t n c e whole (up_n ∙ ap (λ (i : ℕ). Some i) same) up) in
     record {
-      own = joined_other (up_of t p) a (set out e x) e (λ up_p. apart p e ne up_p refl) ∙ get_or-set_same out e x (pos 0) lt;
-      rest = λ k ke none. joined_other (up_of t p) a (set out e x) k none ∙ get_or-set_other out e k x (pos 0) ke;
+      own = added_other (up_of t p) a (set out e x) e (λ up_p. apart p e ne up_p refl) ∙ get_or-set_same out e x (pos 0) lt;
+      rest = λ k ke none. added_other (up_of t p) a (set out e x) k none ∙ get_or-set_other out e k x (pos 0) ke;
       nets = λ n k nc up_n.
-          joined_item nodes ss held t p n k a (set out e x) whole up_n (omega (arith, each, up_within nodes ss held t n k whole up_n, length-set out e x))
+          added_item nodes ss held t p n k a (set out e x) whole up_n (omega (arith, each, up_within nodes ss held t n k whole up_n, length-set out e x))
           ∙ ap (λ (z : ℤ). z +ℤ comes p n a) (get_or-set_other out e k x (pos 0) (apart n k nc up_n));
       apart = apart;
     }
@@ -407,7 +410,7 @@ comes_none : (p n : ℕ) (a : ℤ) → p ≢ n → comes p n a ≡ pos 0
 comes_none p n a ne = rw (ne_eqb p n ne) refl
 
 settle_branch : (nodes : ℕ) (ss : List Stream) (held : List Bool) (off : List ℤ) (t : RootedTrees) (i e : ℕ) (out : List ℤ) → AreWhole nodes ss held t → length held ≡ length ss
-    → length ss ≤ 2000 → All (λ (v : ℤ). unsigned_abs v ≤ 2 ^ 57) off → All (IsStream nodes) ss → i < length t.order → up_of t (node_at t i) ≡ Some e
+    → length ss ≤ most_streams → All IsGivenFlow off → All (IsStream nodes) ss → i < length t.order → up_of t (node_at t i) ≡ Some e
     → AreBalancedFrom ss held off t (i + 1) out → AreBalancedFrom ss held off t i (settled ss t (node_at t i) (Some e) out)
 settle_branch nodes ss held off t i e out whole marks few small joins place up before =
     let c : ℕ = node_at t i in
@@ -415,7 +418,7 @@ settle_branch nodes ss held off t i e out whole marks few small joins place up b
     let p : ℕ = end_from ss c e in
     let a : ℤ = item out e in
     let x : ℤ = balancing c s a in
-    let new : List ℤ = joined (up_of t p) a (set out e x) in
+    let new : List ℤ = added_at (up_of t p) a (set out e x) in
     let b : IsBranch ss held t.order i e = whole.trees.branch i e place up in
     let is : IsStream nodes s = joins e some_stream b.there in
     let apart_at : (k : ℕ) → k < i → node_at t k ≢ c = λ k lt. whole.trees.once k i lt place in
@@ -446,7 +449,7 @@ settle_branch nodes ss held off t i e out whole marks few small joins place up b
           omega (arith, ints, was, now, own, nothing)
     ] in
     record {
-      each = length_joined (up_of t p) a (set out e x) ∙ length-set out e x ∙ before.each;
+      each = length_added (up_of t p) a (set out e x) ∙ length-set out e x ∙ before.each;
       agree = λ k lt h.
           steps.rest k (λ same. cc (sym h ∙ ap (λ (j : ℕ). get_or held j false) same ∙ b.marked))
           (λ up_p. let q = branch_of nodes ss held t p k whole up_p in cc (sym h ∙ q.branch.marked)) ∙ before.agree k lt h;
@@ -504,7 +507,7 @@ settle_branch nodes ss held off t i e out whole marks few small joins place up b
     }
 
 pub settle_more : (nodes : ℕ) (ss : List Stream) (held : List Bool) (off : List ℤ) (t : RootedTrees) (i : ℕ) (out : List ℤ) → AreWhole nodes ss held t → length held ≡ length ss
-    → length ss ≤ 2000 → All (λ (v : ℤ). unsigned_abs v ≤ 2 ^ 57) off → All (IsStream nodes) ss → i < length t.order
+    → length ss ≤ most_streams → All IsGivenFlow off → All (IsStream nodes) ss → i < length t.order
     → AreBalancedFrom ss held off t (i + 1) out → AreBalancedFrom ss held off t i (settled ss t (node_at t i) (up_of t (node_at t i)) out)
 settle_more nodes ss held off t i out whole marks few small joins place before =
     elim (up_of t (node_at t i)) as (λ o. up_of t (node_at t i) ≡ o → AreBalancedFrom ss held off t i (settled ss t (node_at t i) o out)) [

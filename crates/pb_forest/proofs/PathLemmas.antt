@@ -74,7 +74,7 @@ not_again may nodes ss a b c n t (u ∷ us) e out (d, f, w) none =
     ]
 
 -- a walk that does not take a stream is one without it
-walk_without : (may : ℕ → Stream → Bool) (ss : List Stream) (j a b : ℕ) (steps : List Step) → Walks (ends_of may ss) a steps b
+pub walk_without : (may : ℕ → Stream → Bool) (ss : List Stream) (j a b : ℕ) (steps : List Step) → Walks (ends_of may ss) a steps b
     → list_any (λ y. y.stream == j) steps ≡ false → Walks (ends_of (except j may) ss) a steps b
 walk_without may ss j a b [] w none = w
 walk_without may ss j a b (t ∷ rest) (c, e, w) none =
@@ -84,6 +84,17 @@ walk_without may ss j a b (t ∷ rest) (c, e, w) none =
       ends_is (except j may) ss t.stream s t.forward at (and_from _ _ ok (not_from_false (t.stream == j) parts.0)) ∙ ap (λ (q : ℕ × ℕ). Some q) goes,
       walk_without may ss j c b rest w parts.1,
     )
+
+-- a path takes no stream twice
+pub streams_once : (may : ℕ → Stream → Bool) (nodes : ℕ) (ss : List Stream) (a b : ℕ) (steps : List Step) → IsPath (ends_of may ss) nodes ss a steps b
+    → is_distinct (λ (t : Step). t.stream) steps ≡ true
+streams_once may nodes ss a b [] path = refl
+streams_once may nodes ss a b (t ∷ rest) path =
+    let (c, e, later) = path_rest (ends_of may ss) nodes ss a b t rest path in
+    let (out, none) = leaves may nodes ss a b c t rest path e in
+    and_from (not (list_any (λ (y : Step). y.stream == t.stream) rest)) (is_distinct (λ (y : Step). y.stream) rest)
+    (not_from_false (list_any (λ (y : Step). y.stream == t.stream) rest) (not_again may nodes ss a b c c t rest e out later.walk none))
+    (streams_once may nodes ss c b rest later)
 
 -- behind its first step a path goes on without that stream
 rest_without : (may : ℕ → Stream → Bool) (nodes : ℕ) (ss : List Stream) (a b c : ℕ) (t : Step) (rest : List Step) → IsPath (ends_of may ss) nodes ss a (t ∷ rest) b

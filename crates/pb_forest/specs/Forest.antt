@@ -1,3 +1,4 @@
+-- Statement. The spanning forest of a list of streams.
 use Rattle.std.specs.Prelude.{◌≡◌, ℕ, ◌+◌, ◌<◌, Bool, true, false, not, ◌&&◌, ◌||◌, nat_lt, List, [], ◌∷◌, length, Option, Some, slice_get, get_or, if◌then◌else◌}
 use Rattle.pb_graph.specs.declared.records.Stream.{Stream}
 use Rattle.pb_graph.specs.declared.records.Step.{Step}
@@ -8,34 +9,34 @@ use Rattle.pb_graph.specs.Path.{is_open}
 -- The order in which streams are taken: the unmeasured ones by id, and then the measured ones by id. Whether the k-th stream
 -- comes before the j-th one, which is measured or not.
 abbrev pub is_before : Bool → ℕ → ℕ → Stream → Bool
-is_before true j k t = not (is_measured t) || nat_lt k j
-is_before false j k t = not (is_measured t) && nat_lt k j
+is_before true j k stream = not (is_measured stream) || nat_lt k j
+is_before false j k stream = not (is_measured stream) && nat_lt k j
 
 -- A stream is held, a branch of the spanning forest, where no walk of streams before it joins its ends (Kruskal 1956; Narasimhan
 -- and Jordache, chapter 3).
 abbrev pub IsHeld : List Stream → ℕ → Type 0
-IsHeld ss j = (s : Stream) → slice_get ss j ≡ Some s → Reaches (ends_of (is_before (is_measured s) j) ss) s.from s.to → ⊥
+IsHeld streams j = (stream : Stream) → slice_get streams j ≡ Some stream → Reaches (ends_of (is_before (is_measured stream) j) streams) stream.from stream.to → ⊥
 
 -- A stream is tied, a chord of the spanning forest, where some walk of streams before it joins its ends.
 abbrev pub IsTied : List Stream → ℕ → Type 0
-IsTied ss j = (s : Stream) → slice_get ss j ≡ Some s → Reaches (ends_of (is_before (is_measured s) j) ss) s.from s.to
+IsTied streams j = (stream : Stream) → slice_get streams j ≡ Some stream → Reaches (ends_of (is_before (is_measured stream) j) streams) stream.from stream.to
 
 -- a mark tells whether the j-th stream is held or tied
-pub record IsDecided (ss : List Stream) (j : ℕ) (held : Bool) : Type 0 where
-  pub apart : held ≡ true → IsHeld ss j
-  pub tied : held ≡ false → IsTied ss j
+pub record IsDecided (streams : List Stream) (j : ℕ) (held : Bool) : Type 0 where
+  pub apart : held ≡ true → IsHeld streams j
+  pub tied : held ≡ false → IsTied streams j
 
 -- The spanning forest of a list of streams: one mark for each, true where it is held and false where it is tied.
-pub record IsForest (ss : List Stream) (held : List Bool) : Type 0 where
-  pub each : length held ≡ length ss
-  pub decided : (j : ℕ) → j < length ss → IsDecided ss j (get_or held j false)
+pub record IsForest (streams : List Stream) (held : List Bool) : Type 0 where
+  pub each : length held ≡ length streams
+  pub decided : (j : ℕ) → j < length streams → IsDecided streams j (get_or held j false)
 
 -- The degrees of freedom, the number of measured streams held: how many balances the measurements can be tested by (Narasimhan
 -- and Jordache, chapter 7).
 abbrev pub degrees_of_freedom : List Stream → List Bool → ℕ
 degrees_of_freedom [] held = 0
-degrees_of_freedom (s ∷ ss) [] = 0
-degrees_of_freedom (s ∷ ss) (h ∷ held) = (if is_measured s && h then 1 else 0) + degrees_of_freedom ss held
+degrees_of_freedom (stream ∷ streams) [] = 0
+degrees_of_freedom (stream ∷ streams) (mark ∷ held) = (if is_measured stream && mark then 1 else 0) + degrees_of_freedom streams held
 
 -- a process graph with the marks of its streams
 pub record SpanningForest : Type 0 where
@@ -44,4 +45,4 @@ pub record SpanningForest : Type 0 where
 
 -- the ends of a step along a held stream
 abbrev pub held_ends : SpanningForest → Step → Option (ℕ × ℕ)
-held_ends f = ends_of (is_open f.held) f.graph.streams
+held_ends forest = ends_of (is_open forest.held) forest.graph.streams

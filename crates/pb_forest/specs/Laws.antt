@@ -1,4 +1,4 @@
--- What is proved of the spanning forest, law by law.
+-- Statement. What is proved of the spanning forest, law by law.
 use Rattle.std.specs.Prelude.{◌≡◌, ℕ, Bool, true, false, not, ◌&&◌, ◌==◌, List, Some, slice_get, get_or}
 use Rattle.pb_graph.specs.declared.records.Stream.{Stream}
 use Rattle.pb_graph.specs.declared.records.Step.{Step}
@@ -9,31 +9,32 @@ use Rattle.pb_forest.specs.Forest.{is_before, IsForest}
 
 -- tests of streams that may be taken: held ones before a place; held ones without measurement; those that may be, but one
 abbrev pub held_before : List Bool → Bool → ℕ → ℕ → Stream → Bool
-held_before held measured j k t = is_open held k t && is_before measured j k t
+held_before held measured j k stream = is_open held k stream && is_before measured j k stream
 
 abbrev pub held_unmeasured : List Bool → ℕ → Stream → Bool
-held_unmeasured held k t = is_open held k t && unmeasured k t
+held_unmeasured held k stream = is_open held k stream && unmeasured k stream
 
 abbrev pub except : ℕ → (ℕ → Stream → Bool) → ℕ → Stream → Bool
-except j may k t = may k t && not (k == j)
+except j may k stream = may k stream && not (k == j)
 
 -- The forest spans: what streams before a place join, the held ones among them join; so do all held streams what any streams
 -- join, and the held unmeasured ones what unmeasured streams join.
-pub record Spans (ss : List Stream) (held : List Bool) : Type 0 where
-  pub before : (measured : Bool) (j a b : ℕ) → Reaches (ends_of (is_before measured j) ss) a b → Reaches (ends_of (held_before held measured j) ss) a b
-  pub whole : (a b : ℕ) → Reaches (ends_of any_stream ss) a b → Reaches (ends_of (is_open held) ss) a b
-  pub bare : (a b : ℕ) → Reaches (ends_of unmeasured ss) a b → Reaches (ends_of (held_unmeasured held) ss) a b
+pub record Spans (streams : List Stream) (held : List Bool) : Type 0 where
+  pub before : (measured : Bool) (j a b : ℕ) → Reaches (ends_of (is_before measured j) streams) a b → Reaches (ends_of (held_before held measured j) streams) a b
+  pub whole : (a b : ℕ) → Reaches (ends_of any_stream streams) a b → Reaches (ends_of (is_open held) streams) a b
+  pub bare : (a b : ℕ) → Reaches (ends_of unmeasured streams) a b → Reaches (ends_of (held_unmeasured held) streams) a b
 
 abbrev pub SpansLaw : Type 0
-SpansLaw = (ss : List Stream) (held : List Bool) → IsForest ss held → Spans ss held
+SpansLaw = (streams : List Stream) (held : List Bool) → IsForest streams held → Spans streams held
 
 -- A set of streams has no cycle: the ends of none are joined by the others.
 abbrev pub IsAcyclic : List Stream → (ℕ → Stream → Bool) → Type 0
-IsAcyclic ss may = (j : ℕ) (s : Stream) → slice_get ss j ≡ Some s → may j s ≡ true → Reaches (ends_of (except j may) ss) s.from s.to → ⊥
+IsAcyclic streams may = (j : ℕ) (stream : Stream) → slice_get streams j ≡ Some stream → may j stream ≡ true
+    → Reaches (ends_of (except j may) streams) stream.from stream.to → ⊥
 
 -- the forest has no cycle
 abbrev pub AcyclicLaw : Type 0
-AcyclicLaw = (ss : List Stream) (held : List Bool) → IsForest ss held → IsAcyclic ss (is_open held)
+AcyclicLaw = (streams : List Stream) (held : List Bool) → IsForest streams held → IsAcyclic streams (is_open held)
 
 -- where a walk leads from one node to another, a walk without a node twice does
 abbrev pub SomePathLaw : Type 0
@@ -42,22 +43,22 @@ SomePathLaw = (streams : List Stream) (may : ℕ → Stream → Bool) (nodes a b
 
 -- where there is no cycle, two walks without a node twice from one node to another are one
 abbrev pub UniqueLaw : Type 0
-UniqueLaw = (ss : List Stream) (may : ℕ → Stream → Bool) (nodes a b : ℕ) (p q : List Step) → IsAcyclic ss may
-    → IsPath (ends_of may ss) nodes ss a p b → IsPath (ends_of may ss) nodes ss a q b → p ≡ q
+UniqueLaw = (streams : List Stream) (may : ℕ → Stream → Bool) (nodes a b : ℕ) (p q : List Step) → IsAcyclic streams may
+    → IsPath (ends_of may streams) nodes streams a p b → IsPath (ends_of may streams) nodes streams a q b → p ≡ q
 
 -- some of the streams of a set
 abbrev pub IsPart : List Stream → (ℕ → Stream → Bool) → (ℕ → Stream → Bool) → Type 0
-IsPart ss some may = (k : ℕ) (t : Stream) → slice_get ss k ≡ Some t → some k t ≡ true → may k t ≡ true
+IsPart streams some may = (k : ℕ) (stream : Stream) → slice_get streams k ≡ Some stream → some k stream ≡ true → may k stream ≡ true
 
 -- where there is no cycle, a walk without a node twice takes only streams of any part that joins its ends
 abbrev pub PartLaw : Type 0
-PartLaw = (ss : List Stream) (may some : ℕ → Stream → Bool) (nodes a b : ℕ) (p : List Step) → IsAcyclic ss may → IsPart ss some may
-    → IsPath (ends_of may ss) nodes ss a p b → Reaches (ends_of some ss) a b → IsPath (ends_of some ss) nodes ss a p b
+PartLaw = (streams : List Stream) (may some : ℕ → Stream → Bool) (nodes a b : ℕ) (p : List Step) → IsAcyclic streams may → IsPart streams some may
+    → IsPath (ends_of may streams) nodes streams a p b → Reaches (ends_of some streams) a b → IsPath (ends_of some streams) nodes streams a p b
 
 -- an unmeasured stream outside the forest has its ends joined by held unmeasured streams
 abbrev pub ChordLaw : Type 0
-ChordLaw = (ss : List Stream) (held : List Bool) (j : ℕ) (s : Stream) → IsForest ss held → slice_get ss j ≡ Some s
-    → is_measured s ≡ false → get_or held j false ≡ false → Reaches (ends_of (held_unmeasured held) ss) s.from s.to
+ChordLaw = (streams : List Stream) (held : List Bool) (j : ℕ) (stream : Stream) → IsForest streams held → slice_get streams j ≡ Some stream
+    → is_measured stream ≡ false → get_or held j false ≡ false → Reaches (ends_of (held_unmeasured held) streams) stream.from stream.to
 
 -- each list of streams has a spanning forest
 abbrev pub SomeForestLaw : Type 0
@@ -65,4 +66,4 @@ SomeForestLaw = (streams : List Stream) → (held : List Bool) × IsForest strea
 
 -- a list of streams has one spanning forest
 abbrev pub OneForestLaw : Type 0
-OneForestLaw = (ss : List Stream) (held other : List Bool) → IsForest ss held → IsForest ss other → held ≡ other
+OneForestLaw = (streams : List Stream) (held other : List Bool) → IsForest streams held → IsForest streams other → held ≡ other

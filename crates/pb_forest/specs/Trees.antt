@@ -1,4 +1,4 @@
--- The trees of a spanning forest, each hung from a root: its node that a search found first.
+-- Inside. The trees of a spanning forest, each hung from a root: its node that a search found first.
 use Rattle.std.specs.Prelude.{◌≡◌, ◌≢◌, ℕ, ◌+◌, ◌<◌, ◌≤◌, Bool, true, false, List, [], ◌∷◌, ◌++◌, length, Option, Some, None, slice_get, get_or, set}
 use Rattle.pb_graph.specs.declared.records.Stream.{Stream}
 use Rattle.pb_graph.specs.Neighbours.{touches}
@@ -22,7 +22,7 @@ up_of t n = get_or t.up n None
 
 -- the end other than node n of the stream at place k
 abbrev pub end_from : List Stream → ℕ → ℕ → ℕ
-end_from ss n k = other_end n (get_or ss k some_stream)
+end_from streams n k = other_end n (get_or streams k some_stream)
 
 -- how many nodes aren't found yet
 abbrev pub unfound : List (Option ℕ) → ℕ
@@ -31,36 +31,36 @@ unfound (None ∷ os) = 1 + unfound os
 unfound (Some r ∷ os) = unfound os
 
 -- a held stream from the i-th node of an order to an earlier one, its parent
-pub record IsBranch (ss : List Stream) (held : List Bool) (order : List ℕ) (i k : ℕ) : Type 0 where
-  pub there : k < length ss
+pub record IsBranch (streams : List Stream) (held : List Bool) (order : List ℕ) (i k : ℕ) : Type 0 where
+  pub there : k < length streams
   pub marked : get_or held k false ≡ true
-  pub touch : touches (get_or order i 0) (get_or ss k some_stream) ≡ true
+  pub touch : touches (get_or order i 0) (get_or streams k some_stream) ≡ true
   pub place : ℕ
   pub before : place < i
-  pub parent : get_or order place 0 ≡ end_from ss (get_or order i 0) k
+  pub parent : get_or order place 0 ≡ end_from streams (get_or order i 0) k
 
 -- each node found comes once in the order, and hangs from an earlier one by a held stream, or is the root of its tree
-pub record AreTrees (nodes : ℕ) (ss : List Stream) (held : List Bool) (t : RootedTrees) : Type 0 where
+pub record AreTrees (nodes : ℕ) (streams : List Stream) (held : List Bool) (t : RootedTrees) : Type 0 where
   pub roots : length t.root ≡ nodes
   pub ups : length t.up ≡ nodes
   pub seen : (i : ℕ) → i < length t.order → (r : ℕ) × (root_of t (node_at t i) ≡ Some r)
   pub listed : (n r : ℕ) → root_of t n ≡ Some r → (i : ℕ) × (i < length t.order) × (node_at t i ≡ n)
   pub once : (i k : ℕ) → i < k → k < length t.order → node_at t i ≢ node_at t k
-  pub branch : (i k : ℕ) → i < length t.order → up_of t (node_at t i) ≡ Some k → IsBranch ss held t.order i k
+  pub branch : (i k : ℕ) → i < length t.order → up_of t (node_at t i) ≡ Some k → IsBranch streams held t.order i k
   pub top : (n r : ℕ) → root_of t n ≡ Some r → up_of t n ≡ None → r ≡ n
 
 -- the trees have every node, and what a held stream joins is in one tree
-pub record AreWhole (nodes : ℕ) (ss : List Stream) (held : List Bool) (t : RootedTrees) : Type 0 where
-  pub trees : AreTrees nodes ss held t
+pub record AreWhole (nodes : ℕ) (streams : List Stream) (held : List Bool) (t : RootedTrees) : Type 0 where
+  pub trees : AreTrees nodes streams held t
   pub all : (n : ℕ) → n < nodes → (r : ℕ) × (root_of t n ≡ Some r)
-  pub level : (k : ℕ) (s : Stream) → slice_get ss k ≡ Some s → get_or held k false ≡ true → root_of t s.from ≡ root_of t s.to
+  pub level : (k : ℕ) (s : Stream) → slice_get streams k ≡ Some s → get_or held k false ≡ true → root_of t s.from ≡ root_of t s.to
 
 -- trees of which the last grows: held streams from the first nodes of the order were followed, and the other nodes are in one tree
-pub record AreGrowing (nodes : ℕ) (ss : List Stream) (held : List Bool) (done : ℕ) (t : RootedTrees) : Type 0 where
-  pub trees : AreTrees nodes ss held t
+pub record AreGrowing (nodes : ℕ) (streams : List Stream) (held : List Bool) (done : ℕ) (t : RootedTrees) : Type 0 where
+  pub trees : AreTrees nodes streams held t
   pub within : done ≤ length t.order
-  pub followed : (i k : ℕ) → i < done → k < length ss → get_or held k false ≡ true → touches (node_at t i) (get_or ss k some_stream) ≡ true
-      → root_of t (end_from ss (node_at t i) k) ≡ root_of t (node_at t i)
+  pub followed : (i k : ℕ) → i < done → k < length streams → get_or held k false ≡ true → touches (node_at t i) (get_or streams k some_stream) ≡ true
+      → root_of t (end_from streams (node_at t i) k) ≡ root_of t (node_at t i)
   pub one_tree : (i : ℕ) → done ≤ i → i < length t.order → root_of t (node_at t i) ≡ root_of t (node_at t done)
 
 -- trees with more nodes, behind those before
@@ -75,12 +75,12 @@ abbrev pub hung : RootedTrees → ℕ → Option ℕ → Option ℕ → RootedTr
 hung t n root up = record { order = t.order ++ n ∷ []; root = set t.root n root; up = set t.up n up }
 
 -- the stream at place k was followed from the node at a place of the order
-pub record AreFollowed (nodes : ℕ) (ss : List Stream) (held : List Bool) (done k : ℕ) (t u : RootedTrees) : Type 0 where
-  pub growing : AreGrowing nodes ss held done u
+pub record AreFollowed (nodes : ℕ) (streams : List Stream) (held : List Bool) (done k : ℕ) (t u : RootedTrees) : Type 0 where
+  pub growing : AreGrowing nodes streams held done u
   pub extends : Extends t u
-  pub reached : get_or held k false ≡ true → root_of u (end_from ss (node_at u done) k) ≡ root_of u (node_at u done)
+  pub reached : get_or held k false ≡ true → root_of u (end_from streams (node_at u done) k) ≡ root_of u (node_at u done)
 
 -- trees that grew by a search
-pub record AreSearched (nodes : ℕ) (ss : List Stream) (held : List Bool) (done : ℕ) (t u : RootedTrees) : Type 0 where
-  pub growing : AreGrowing nodes ss held done u
+pub record AreSearched (nodes : ℕ) (streams : List Stream) (held : List Bool) (done : ℕ) (t u : RootedTrees) : Type 0 where
+  pub growing : AreGrowing nodes streams held done u
   pub extends : Extends t u

@@ -1,9 +1,11 @@
+// The spanning forest of a graph.
+
 ghost use Rattle.std.specs.Prelude.{◌≡◌, ◌<◌, ◌≤◌, ◌^◌, ◌↔◌, ℤ, false, List as Seq, All, Some, length, slice_get, unsigned_abs, IsTrue, IfOk, MatchOption};
 ghost use Rattle.pb_graph.specs.Walk.{Reaches};
 ghost use Rattle.pb_graph.specs.Path.{IsPath};
 ghost use Rattle.pb_graph.specs.Balance.{IsBalanced};
 ghost use Rattle.pb_forest.specs.Forest.{SpanningForest, IsHeld, IsTied, IsForest, degrees_of_freedom, held_ends};
-ghost use Rattle.pb_forest.specs.Flows.{AgreeOffForest};
+ghost use Rattle.pb_forest.specs.Flows.{AgreeOffForest, IsGivenFlow};
 
 use crate::flows::write_flows;
 use crate::labels::held_streams;
@@ -28,7 +30,7 @@ pub struct Forest {
 
 impl Model for Forest {
     ghost use Rattle.pb_forest.specs.Forest.{SpanningForest};
-    ghost use Rattle.pb_forest.specs.Flows.{IsKept};
+    ghost use Rattle.pb_forest.specs.Balancing.{IsKept};
 
     ghost Value = { SpanningForest };
 
@@ -39,31 +41,30 @@ impl Model for Forest {
 
 impl Forest {
     /// The spanning forest of a graph.
-    pub fn of(alloc: Global, g: &Graph) -> Result<Forest, AllocError>
-        ensures graph { IfOk result (λ f. f.graph ≡ g.now) }
-        ensures forest { IfOk result (λ f. IsForest g.now.streams f.held) }
+    pub fn of(alloc: Global, graph: &Graph) -> Result<Forest, AllocError>
+        ensures graph { IfOk result (λ forest. forest.graph ≡ graph.now) }
+        ensures forest { IfOk result (λ forest. IsForest graph.now.streams forest.held) }
     {
-        let held = held_streams(alloc, g.nodes(), g.streams())?;
-        let near = Neighbours::of(alloc, g)?;
-        let trees = Trees::of(alloc, g, &near, &held)?;
-        let graph = g.copy(alloc)?;
+        let held = held_streams(alloc, graph.nodes(), graph.streams())?;
+        let near = Neighbours::of(alloc, graph)?;
+        let trees = Trees::of(alloc, graph, &near, &held)?;
         Ok(Forest {
-            graph,
+            graph: graph.copy(alloc)?,
             near,
             held,
             trees,
         })
     }
 
-    /// Whether the forest holds stream j.
-    pub fn holds(&self, j: u32) -> bool
-        requires { j < length self.now.graph.streams }
-        ensures held { IsTrue result ↔ IsHeld self.now.graph.streams j }
-        ensures tied { result ≡ false → IsTied self.now.graph.streams j }
-        ensures mark { slice_get self.now.held j ≡ Some result }
+    /// Whether the forest holds a stream.
+    pub fn holds(&self, stream: u32) -> bool
+        requires { stream < length self.now.graph.streams }
+        ensures held { IsTrue result ↔ IsHeld self.now.graph.streams stream }
+        ensures tied { result ≡ false → IsTied self.now.graph.streams stream }
+        ensures mark { slice_get self.now.held stream ≡ Some result }
         ensures forest { IsForest self.now.graph.streams self.now.held }
     {
-        self.held[j as usize]
+        self.held[stream as usize]
     }
 
     /// The degrees of freedom: the number of measured streams held.
@@ -75,15 +76,16 @@ impl Forest {
         measured_held(self.graph.streams(), &self.held)
     }
 
-    /// The walk of held streams from node a to node b without a node twice, or None where held streams don't join them.
-    pub fn path(&self, alloc: Global, a: u32, b: u32) -> Result<Option<List<Step>>, AllocError>
-        requires a { a < self.now.graph.nodes }
-        requires b { b < self.now.graph.nodes }
-        ensures { IfOk result (λ o. MatchOption o
-            (Reaches (held_ends self.now) a b → ⊥)
-            (λ steps. IsPath (held_ends self.now) self.now.graph.nodes self.now.graph.streams a steps b)) }
+    /// The walk of held streams from one node to another without a node twice, or None where held streams don't join them.
+    pub fn path(&self, alloc: Global, from: u32, to: u32) -> Result<Option<List<Step>>, AllocError>
+        requires from { from < self.now.graph.nodes }
+        requires to { to < self.now.graph.nodes }
+        ensures path { IfOk result (λ o. MatchOption o
+            (Reaches (held_ends self.now) from to → ⊥)
+            (λ steps. IsPath (held_ends self.now) self.now.graph.nodes self.now.graph.streams from steps to)) }
+        ensures forest { IsForest self.now.graph.streams self.now.held }
     {
-        pb_graph::path(alloc, &self.graph, &self.near, &self.held, a, b)
+        pb_graph::path(alloc, &self.graph, &self.near, &self.held, from, to)
     }
 
     /// Writes the one balanced flow vector that has given flows off the forest, in grams: `off` and `out` have one item for each
@@ -91,16 +93,17 @@ impl Forest {
     ///
     /// From the leaves of each tree to its root, the flow of the held stream to a node's parent is the one that balances the node.
     /// The work is in proportion to nodes and streams. It takes no memory.
-    pub fn flows(&self, g: &Graph, off: &[i128], out: &mut [i128])
-        requires graph { g.now ≡ self.now.graph }
-        requires each { length off.now ≡ length g.now.streams }
-        requires room { length out.old ≡ length g.now.streams }
-        requires small { All (λ v. unsigned_abs v ≤ 2 ^ 57) off.now }
-        ensures balanced { IsBalanced g.now out.new }
+    pub fn flows(&self, graph: &Graph, off: &[i128], out: &mut [i128])
+        requires graph { graph.now ≡ self.now.graph }
+        requires each { length off.now ≡ length graph.now.streams }
+        requires room { length out.old ≡ length graph.now.streams }
+        requires within { All IsGivenFlow off.now }
+        ensures balanced { IsBalanced graph.now out.new }
         ensures agrees { AgreeOffForest self.now.held out.new off.now }
-        ensures only { (ys : Seq ℤ) → IsBalanced g.now ys → AgreeOffForest self.now.held ys off.now → ys ≡ out.new }
-        ensures width { All (λ v. unsigned_abs v < 2 ^ 68) out.new }
+        ensures only { (ys : Seq ℤ) → IsBalanced graph.now ys → AgreeOffForest self.now.held ys off.now → ys ≡ out.new }
+        ensures within { All (λ v. unsigned_abs v < 2 ^ 68) out.new }
+        ensures forest { IsForest self.now.graph.streams self.now.held }
     {
-        write_flows(g, &self.held, &self.trees, off, out);
+        write_flows(graph, &self.held, &self.trees, off, out);
     }
 }

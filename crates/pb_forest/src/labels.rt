@@ -1,3 +1,5 @@
+// Which streams are held.
+
 ghost use Rattle.std.specs.Prelude.{◌≡◌, ℕ, ◌<◌, ◌≤◌, Bool, false, not, ◌==◌, All, IfOk, Some, length, slice_get, slice_index, get_or};
 ghost use Rattle.pb_graph.specs.declared.records.Stream.{Stream};
 ghost use Rattle.pb_graph.specs.ProcessGraph.{IsStream, is_measured};

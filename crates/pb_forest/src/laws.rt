@@ -1,3 +1,5 @@
+// What is proved of the definitions alone. The functions are empty: the contract of each is a law.
+
 ghost use Rattle.pb_forest.specs.Laws.{SpansLaw, AcyclicLaw, SomePathLaw, UniqueLaw, PartLaw, ChordLaw, SomeForestLaw, OneForestLaw};
 ghost use Rattle.pb_forest.specs.Flows.{SomeBalancedLaw, OneBalancedLaw};
 

@@ -1,3 +1,5 @@
+// The degrees of freedom.
+
 ghost use Rattle.std.specs.Prelude.{◌≡◌, ◌^◌, ◌<◌, ◌≤◌, length};
 ghost use Rattle.pb_forest.specs.Forest.{degrees_of_freedom};
 
@@ -11,8 +13,8 @@ pub fn measured_held(streams: &[Stream], held: &[bool]) -> u32
     ensures most { result ≤ length streams.now }
 {
     let mut count = 0;
-    for (j, s) in streams.iter().enumerate() {
-        count += u32::from(s.meas.is_some() && held[j]);
+    for (j, stream) in streams.iter().enumerate() {
+        count += u32::from(stream.meas.is_some() && held[j]);
     }
     count
 }

@@ -1,3 +1,5 @@
+// The trees of the held streams.
+
 ghost use Rattle.std.specs.Prelude.{◌≡◌, ℕ, ◌+◌, ◌<◌, true, Some, length, get_or, IfOk, OnOk};
 ghost use Rattle.pb_graph.specs.Neighbours.{touches, touching, IsNeighbours};
 ghost use Rattle.pb_graph.specs.ProcessGraph.{other_end, some_stream};

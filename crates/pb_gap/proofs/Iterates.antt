@@ -13,7 +13,7 @@ use Rattle.pb_graph.specs.Groups.{AreGroups, group_at}
 use Rattle.pb_graph.specs.Walk.{ends_of, unmeasured}
 use Rattle.pb_graph.proofs.WalkLemmas.{reach_none}
 use Rattle.pb_forest.specs.Forest.{SpanningForest, IsForest, degrees_of_freedom}
-use Rattle.pb_forest.proofs.AcyclicLemmas.{one_forest_law}
+use Rattle.pb_forest.proofs.ForestLaws.{one_forest_law}
 use Rattle.pb_merge.specs.Grouping.{Grouping}
 use Rattle.pb_dual.specs.Priced.{Priced, price_of}
 use Rattle.pb_dual.specs.DualValue.{scale}

@@ -6,8 +6,8 @@ use Rattle.pb_graph.specs.declared.results.Solved.TheVariants.{Converged, Unconv
 use Rattle.pb_graph.specs.ProcessGraph.{ProcessGraph, IsProcessGraph}
 use Rattle.pb_merge.proofs.GroupLaws.{numbering_law}
 use Rattle.pb_forest.specs.Flows.{AgreeOffForest}
-use Rattle.pb_forest.proofs.AcyclicLemmas.{one_forest_law}
-use Rattle.pb_forest.proofs.SideLemmas.{one_balanced_law}
+use Rattle.pb_forest.proofs.ForestLaws.{one_forest_law}
+use Rattle.pb_forest.proofs.ForestLaws.{one_balanced_law}
 use Rattle.pb_dual.specs.Sweeps.{prices_after}
 use Rattle.pb_gap.specs.Gap.{MeetsGap, gap_of}
 use Rattle.pb_gap.specs.State.{AreRoundedFlows, IsState, IsStateAfter, State, gap_in, nearest_flows, price_in}

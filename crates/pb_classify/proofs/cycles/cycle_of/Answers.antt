@@ -13,7 +13,7 @@ unreachable-requires c =
     let held = c.args.forest.now.held in
     let s = c.stream-s.result in
     let apart = rw c.in-None.is at c.in_ok-path.ensures in
-    apart (subst (λ (h : ProcessGraph). Reaches (ends_of (is_open held) h.streams) s.to s.from) (sym c.requires.forest.graph) (c.requires.joined s c.stream-s.ensures))
+    apart.path (subst (λ (h : ProcessGraph). Reaches (ends_of (is_open held) h.streams) s.to s.from) (sym c.requires.forest.graph) (c.requires.joined s c.stream-s.ensures))
 
 pub returns : goal.returns
 returns c =
@@ -22,7 +22,7 @@ returns c =
     let s = c.stream-s.result in
     let there = rw c.in-Some.is at c.in_ok-path.ensures in
     let path : IsPath (ends_of (is_open held) g.streams) g.nodes g.streams s.to c.in-Some.back s.from =
-    subst (λ (h : ProcessGraph). IsPath (ends_of (is_open held) h.streams) h.nodes h.streams s.to c.in-Some.back s.from) c.requires.forest.graph there in
+    subst (λ (h : ProcessGraph). IsPath (ends_of (is_open held) h.streams) h.nodes h.streams s.to c.in-Some.back s.from) c.requires.forest.graph there.path in
     let round : List Step → List Step = λ back. record { stream = c.args.j; forward = true } ∷ back in
     IfOk-weaker c.forward_then.result (λ steps. steps ≡ round c.as_slice.result.now) (IsCycleOf g held c.args.j) (λ steps e. record {
       s = s;

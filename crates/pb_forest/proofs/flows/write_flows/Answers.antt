@@ -7,22 +7,22 @@ use Rattle.pb_forest.proofs.flows.write_flows.Goals as goal
 
 pub gather-requires-clause-start : goal.gather-requires-clause-start
 gather-requires-clause-start c =
-    nets_none c.args.g.now.nodes c.args.g.now.streams c.args.held.now c.args.off.now c.args.trees.now c.write_free.new.out c.requires.trees (c.write_free.auto.out ∙ c.requires.room)
-    (λ k lt. c.write_free.ensures k (omega (arith, lt, c.requires.forest.each)))
+    nets_none c.args.graph.now.nodes c.args.graph.now.streams c.args.held.now c.args.off.now c.args.trees.now c.write_chords.new.out c.requires.trees (c.write_chords.auto.out ∙ c.requires.room)
+    (λ k lt. c.write_chords.ensures k (omega (arith, lt, c.requires.forest.each)))
 
 pub returns-clause-balanced : goal.returns-clause-balanced
 returns-clause-balanced c =
-    settled_balance c.args.g.now c.args.held.now c.args.off.now c.args.trees.now c.settle_all.new.out c.settle_all.ensures.limits c.requires.forest c.requires.trees c.settle_all.ensures.balanced
+    settled_balance c.args.graph.now c.args.held.now c.args.off.now c.args.trees.now c.settle_all.new.out c.settle_all.ensures.limits c.requires.forest c.requires.trees c.settle_all.ensures.balanced
 
 pub returns-clause-only : goal.returns-clause-only
 returns-clause-only c = λ ys even agree.
     let out = c.settle_all.new.out in
     let limits = c.settle_all.ensures.limits in
     let end = c.settle_all.ensures.balanced in
-    let balanced = settled_balance c.args.g.now c.args.held.now c.args.off.now c.args.trees.now out limits c.requires.forest c.requires.trees end in
-    one_balanced_law c.args.g.now c.args.held.now ys out limits c.requires.forest even balanced (λ k lt h. agree k lt h ∙ sym (end.agree k lt h))
+    let balanced = settled_balance c.args.graph.now c.args.held.now c.args.off.now c.args.trees.now out limits c.requires.forest c.requires.trees end in
+    one_balanced_law c.args.graph.now c.args.held.now ys out limits c.requires.forest even balanced (λ k lt h. agree k lt h ∙ sym (end.agree k lt h))
 
-pub returns-clause-width : goal.returns-clause-width
-returns-clause-width c = λ k d lt.
+pub returns-clause-within : goal.returns-clause-within
+returns-clause-within c = λ k d lt.
     let small : unsigned_abs (item c.settle_all.new.out k) < 2 ^ 68 = c.settle_all.ensures.balanced.small k in
     rw (get_or_default c.settle_all.new.out k d (pos 0) lt) small

@@ -1,4 +1,4 @@
-use Rattle.pb_forest.proofs.SideLemmas.{one_balanced_law}
+use Rattle.pb_forest.proofs.ForestLaws.{one_balanced_law}
 use Rattle.pb_forest.proofs.laws.one_balanced_law.Goals as goal
 
 pub returns : goal.returns

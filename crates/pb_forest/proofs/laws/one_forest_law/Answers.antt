@@ -1,4 +1,4 @@
-use Rattle.pb_forest.proofs.AcyclicLemmas.{one_forest_law}
+use Rattle.pb_forest.proofs.ForestLaws.{one_forest_law}
 use Rattle.pb_forest.proofs.laws.one_forest_law.Goals as goal
 
 pub returns : goal.returns

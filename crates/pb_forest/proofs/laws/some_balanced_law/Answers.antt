@@ -1,4 +1,4 @@
-use Rattle.pb_forest.proofs.SomeBalancedLemmas.{some_balanced_law}
+use Rattle.pb_forest.proofs.ForestLaws.{some_balanced_law}
 use Rattle.pb_forest.proofs.laws.some_balanced_law.Goals as goal
 
 pub returns : goal.returns

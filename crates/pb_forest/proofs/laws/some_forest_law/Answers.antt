@@ -1,4 +1,4 @@
-use Rattle.pb_forest.proofs.SomeForestLemmas.{some_forest_law}
+use Rattle.pb_forest.proofs.ForestLaws.{some_forest_law}
 use Rattle.pb_forest.proofs.laws.some_forest_law.Goals as goal
 
 pub returns : goal.returns

@@ -1,4 +1,4 @@
-use Rattle.pb_forest.proofs.PathLemmas.{unique_law}
+use Rattle.pb_forest.proofs.ForestLaws.{unique_law}
 use Rattle.pb_forest.proofs.laws.unique_law.Goals as goal
 
 pub returns : goal.returns

@@ -1,5 +1,5 @@
 use Rattle.pb_forest.proofs.forest.Forest.path.Goals as goal
 
 -- the path in the graph that the forest keeps, over its marks
-pub returns : goal.returns
-returns c = rw (← c.self.view_is, ← c.deref.ensures.value) c.path.ensures
+pub returns-clause-path : goal.returns-clause-path
+returns-clause-path c = rw (← c.self.view_is, ← c.deref.ensures.value) c.path.ensures

@@ -1,0 +1,70 @@
+-- Inside. How flows are balanced: net flows are kept at the branches, from the leaves of each tree to its root.
+use Rattle.std.specs.Prelude.{◌≡◌, ◌≢◌, ℕ, ◌<◌, ◌≤◌, ◌^◌, ℤ, pos, neg_ℤ, ◌+ℤ◌, Bool, false, ◌==◌, List, length, Option, Some, None, get_or, set, unsigned_abs, if◌then◌else◌}
+use Rattle.pb_integers.specs.Sums.{sum_below, item}
+use Rattle.pb_graph.specs.declared.records.Stream.{Stream}
+use Rattle.pb_graph.specs.ProcessGraph.{ProcessGraph}
+use Rattle.pb_graph.specs.Groups.{entering}
+use Rattle.pb_graph.specs.Balance.{brought_to}
+use Rattle.pb_graph.specs.ProcessGraph.{some_stream}
+use Rattle.pb_graph.specs.Neighbours.{IsNeighbours}
+use Rattle.pb_forest.specs.Forest.{IsForest}
+use Rattle.pb_forest.specs.Flows.{AgreeOffForest}
+use Rattle.pb_forest.specs.Trees.{RootedTrees, AreWhole, node_at, up_of, end_from}
+
+-- what a spanning forest is kept with: its graph's incidence lists, and its trees
+pub record IsKept (graph : ProcessGraph) (lists : List (List ℕ)) (held : List Bool) (trees : RootedTrees) : Type 0 where
+  pub near : IsNeighbours graph lists
+  pub forest : IsForest graph.streams held
+  pub rooted : AreWhole graph.nodes graph.streams held trees
+
+-- what a flow of a stream brings into a set of nodes
+abbrev pub entering_of : (ℕ → Bool) → Stream → ℤ → ℤ
+entering_of inside stream flow = entering (inside stream.from) (inside stream.to) flow
+
+-- the flow at a place where the stream isn't held, and 0 where it is
+abbrev pub chord_flow : List Bool → List ℤ → ℕ → ℤ
+chord_flow held flows k = if get_or held k false then pos 0 else item flows k
+
+-- what the streams not held among the first n bring into a set of nodes
+abbrev pub crossing : (ℕ → Bool) → List Stream → List Bool → List ℤ → ℕ → ℤ
+crossing inside streams held flows n = sum_below (λ k. entering_of inside (get_or streams k some_stream) (chord_flow held flows k)) n
+
+-- the net flow at node n, where flow k is that of the k-th stream
+abbrev pub net_by : ℕ → List Stream → (ℕ → ℤ) → ℤ
+net_by n streams flow = sum_below (λ k. brought_to n (get_or streams k some_stream) (flow k)) (length streams)
+
+-- an amount joins what is kept at a branch; none is kept at a root
+abbrev pub added_at : Option ℕ → ℤ → List ℤ → List ℤ
+added_at None amount out = out
+added_at (Some k) amount out = set out k (item out k +ℤ amount)
+
+-- the flow of a branch that balances its lower end n, where the net flow there is this without it
+abbrev pub balancing : ℕ → Stream → ℤ → ℤ
+balancing n stream net = if stream.to == n then neg_ℤ net else net
+
+-- node n was balanced by its branch, if it has one: its net flow joined that of its parent
+abbrev pub settled : List Stream → RootedTrees → ℕ → Option ℕ → List ℤ → List ℤ
+settled streams trees n None out = out
+settled streams trees n (Some k) out =
+    added_at (up_of trees (end_from streams n k)) (item out k) (set out k (balancing n (get_or streams k some_stream) (item out k)))
+
+-- The net flows of the streams not held are kept at the branches: at that of node n what the streams not held before place j
+-- bring to n.
+pub record AreNets (streams : List Stream) (held : List Bool) (off : List ℤ) (trees : RootedTrees) (j : ℕ) (out : List ℤ) : Type 0 where
+  pub each : length out ≡ length streams
+  pub net : (n e : ℕ) → up_of trees n ≡ Some e → item out e ≡ crossing (λ m. m == n) streams held off j
+  pub rest : (k : ℕ) → k < length streams → ((n : ℕ) → up_of trees n ≢ Some k) → item out k ≡ chord_flow held off k
+
+-- The nodes from place i of the order on are balanced. At the branch of an earlier one its net flow is kept: that of the flows
+-- decided so far, which is what the streams not held bring to the nodes below it.
+pub record AreBalancedFrom (streams : List Stream) (held : List Bool) (off : List ℤ) (trees : RootedTrees) (i : ℕ) (out : List ℤ) : Type 0 where
+  pub each : length out ≡ length streams
+  pub agree : AgreeOffForest held out off
+  pub small : (k : ℕ) → unsigned_abs (item out k) < 2 ^ 68
+  pub flow : ℕ → ℤ
+  pub waits : (b e : ℕ) → b < i → up_of trees (node_at trees b) ≡ Some e → flow e ≡ pos 0
+  pub decided : (k : ℕ) → k < length streams → ((b : ℕ) → b < i → up_of trees (node_at trees b) ≢ Some k) → flow k ≡ item out k
+  pub net : (b e : ℕ) → b < i → up_of trees (node_at trees b) ≡ Some e → item out e ≡ net_by (node_at trees b) streams flow
+  pub even : (b e : ℕ) → i ≤ b → b < length trees.order → up_of trees (node_at trees b) ≡ Some e → net_by (node_at trees b) streams flow ≡ pos 0
+  pub home : ℕ → ℕ
+  pub below : (b e : ℕ) → b < i → up_of trees (node_at trees b) ≡ Some e → item out e ≡ crossing (λ m. home m == node_at trees b) streams held off (length streams)
