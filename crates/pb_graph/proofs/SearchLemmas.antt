@@ -14,7 +14,7 @@ use Rattle.pb_graph.specs.Search.{SearchTree, IsTree, IsClosedTo, place_of, way_
 use Rattle.pb_graph.proofs.WalkLemmas.{along_within, ends_is, stream_of, some_same}
 
 -- a node found takes one from those not found
-unfound-set : (ps : List ℕ) (i p : ℕ) → i < length ps → get_or ps i 0 ≡ 0 → 0 < p → unfound (set ps i p) + 1 ≡ unfound ps
+pub unfound-set : (ps : List ℕ) (i p : ℕ) → i < length ps → get_or ps i 0 ≡ 0 → 0 < p → unfound (set ps i p) + 1 ≡ unfound ps
 unfound-set [] i p lt none some = absurd (omega (arith, lt))
 unfound-set (q ∷ ps) zero (suc p) lt none some = rw (none, ne_eqb (suc p) 0 (λ e. absurd (omega (arith, e)))) (omega arith)
 unfound-set (q ∷ ps) zero zero lt none some = absurd (omega (arith, some))
@@ -335,12 +335,12 @@ visited_root ss marks node [] t = refl
 visited_root ss marks node (j ∷ js) t =
     visited_root ss marks node js (followed node j (get_or marks j false) (get_or ss j some_stream) t) ∙ followed_root node j (get_or marks j false) (get_or ss j some_stream) t
 
-zero_at : (n i : ℕ) → get_or (replicate {A = ℕ} n 0) i 0 ≡ 0
+pub zero_at : (n i : ℕ) → get_or (replicate {A = ℕ} n 0) i 0 ≡ 0
 zero_at zero i = refl
 zero_at (suc n) zero = refl
 zero_at (suc n) (suc i) = zero_at n i
 
-unfound-zeros : (n : ℕ) → unfound (replicate {A = ℕ} n 0) ≡ n
+pub unfound-zeros : (n : ℕ) → unfound (replicate {A = ℕ} n 0) ≡ n
 unfound-zeros zero = refl
 unfound-zeros (suc n) = omega (arith, unfound-zeros n)
 

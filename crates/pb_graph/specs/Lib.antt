@@ -17,3 +17,4 @@ pub mod Laws
 -- Inside
 pub mod Search
 pub mod Labels
+pub mod Steps

@@ -1,12 +1,17 @@
 // Steps, walks and cycles.
 
-ghost use Rattle.std.specs.Prelude.{◌≡◌, ◌==◌, ◌↔◌, IsTrue};
-ghost use Rattle.std.specs.List.{list_any};
-ghost use Rattle.pb_graph.specs.ProcessGraph.{ProcessGraph};
+ghost use Rattle.std.specs.Prelude.{◌≡◌, ◌≤◌, ◌↔◌, true, false, length, All, IsTrue};
+ghost use Rattle.pb_limits.specs.Limits.{most_nodes};
+ghost use Rattle.pb_graph.specs.ProcessGraph.{ProcessGraph, IsStream};
 ghost use Rattle.pb_graph.specs.Walk.{ends_of, any_stream, Walks};
 ghost use Rattle.pb_graph.specs.Cycle.{is_distinct, begin_of, IsCycle};
+ghost use Rattle.pb_graph.specs.Steps.{is_there_and_back};
 
 use crate::records::{Step, Stream};
+use pb_limits::MOST_NODES;
+
+// A place for each node of a graph, and one for a step along no stream.
+const PLACES: usize = MOST_NODES as usize + 1;
 
 /// Where a step begins and where it ends, or None where there is no such stream.
 pub fn ends(streams: &[Stream], step: &Step) -> Option<(u32, u32)>
@@ -21,7 +26,9 @@ pub fn ends(streams: &[Stream], step: &Step) -> Option<(u32, u32)>
 
 // Where a step begins, or the number of nodes where there is no such stream.
 fn begin(nodes: u32, streams: &[Stream], step: &Step) -> u32
-    ensures { result ≡ begin_of nodes streams.now step.now }
+    requires { All (IsStream nodes) streams.now }
+    ensures value { result ≡ begin_of nodes streams.now step.now }
+    ensures within { result ≤ nodes }
 {
     match ends(streams, step) {
         None => nodes,
@@ -43,57 +50,67 @@ fn walks(streams: &[Stream], from: u32, steps: &[Step], to: u32) -> bool
     at == to
 }
 
-// Whether a step goes along this stream.
-fn has_stream(steps: &[Step], stream: u32) -> bool
-    ensures { result ≡ list_any (λ step. step.stream == stream) steps.now }
-{
-    steps.iter().any(|step| step.stream == stream)
-}
-
-// Whether a step begins at this node.
-fn has_begin(nodes: u32, streams: &[Stream], steps: &[Step], node: u32) -> bool
-    ensures { result ≡ list_any (λ step. begin_of nodes streams.now step == node) steps.now }
-{
-    steps.iter().any(|step| begin(nodes, streams, step) == node)
-}
-
-// Whether no stream comes twice.
-#[tactic(auto, using(crate::proofs::CycleLemmas::distinct_more, crate::proofs::CycleLemmas::distinct_not))]
-fn streams_differ(steps: &[Step]) -> bool
-    ensures { result ≡ is_distinct (λ step. step.stream) steps.now }
-{
-    for (i, step) in steps.iter().enumerate() {
-        if has_stream(&steps[i + 1..], step.stream) {
-            return false;
-        }
-    }
-    true
-}
-
 // Whether no node comes twice.
-#[tactic(auto, using(crate::proofs::CycleLemmas::distinct_more, crate::proofs::CycleLemmas::distinct_not))]
 fn nodes_differ(nodes: u32, streams: &[Stream], steps: &[Step]) -> bool
+    requires few { nodes ≤ most_nodes }
+    requires ends { All (IsStream nodes) streams.now }
     ensures { result ≡ is_distinct (begin_of nodes streams.now) steps.now }
 {
-    for (i, step) in steps.iter().enumerate() {
-        if has_begin(nodes, streams, &steps[i + 1..], begin(nodes, streams, step)) {
+    let mut seen = [false; PLACES];
+    for step in steps {
+        let node = begin(nodes, streams, step) as usize;
+        if seen[node] {
             return false;
         }
+        seen[node] = true;
     }
     true
 }
 
-/// Whether the steps are a cycle of the graph.
+// Whether the steps are two along one stream.
+fn is_there_and_back(steps: &[Step]) -> bool
+    ensures { result ≡ is_there_and_back steps.now }
+{
+    match steps {
+        [there, back] => there.stream == back.stream,
+        _ => false,
+    }
+}
+
+// Whether the steps are no more than the nodes, and lead from a node back to it.
+fn closes(nodes: u32, streams: &[Stream], node: u32, steps: &[Step]) -> bool
+    ensures { IsTrue result
+        ↔ ((length steps.now ≤ nodes)
+        × Walks (ends_of any_stream streams.now) node steps.now node) }
+{
+    steps.len() <= nodes as usize && walks(streams, node, steps, node)
+}
+
+// Whether no node comes twice, and the steps aren't two along one stream.
+fn is_simple(nodes: u32, streams: &[Stream], steps: &[Step]) -> bool
+    requires few { nodes ≤ most_nodes }
+    requires ends { All (IsStream nodes) streams.now }
+    ensures { IsTrue result
+        ↔ ((is_distinct (begin_of nodes streams.now) steps.now ≡ true)
+        × (is_there_and_back steps.now ≡ false)) }
+{
+    nodes_differ(nodes, streams, steps) && !is_there_and_back(steps)
+}
+
+/// Whether the steps are a cycle of the graph: a closed walk of at least one step in which no stream and no node comes twice.
+///
+/// Where no node comes twice, a stream can but by a step there and one back. The work is in proportion to the steps, and more
+/// steps than nodes are refused at once.
 pub fn is_cycle(nodes: u32, streams: &[Stream], steps: &[Step]) -> bool
+    requires few { nodes ≤ most_nodes }
+    requires ends { All (IsStream nodes) streams.now }
     ensures { IsTrue result ↔ IsCycle (record { nodes = nodes; streams = streams.now }) steps.now }
 {
     match steps.first() {
         None => false,
         Some(first) => {
             let node = begin(nodes, streams, first);
-            walks(streams, node, steps, node)
-                && streams_differ(steps)
-                && nodes_differ(nodes, streams, steps)
+            closes(nodes, streams, node, steps) && is_simple(nodes, streams, steps)
         }
     }
 }

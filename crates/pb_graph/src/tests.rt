@@ -1,7 +1,7 @@
 // Each public call at a small graph.
 
 use crate::{
-    Bounds, Class, Classified, GlobalTest, Graph, List, Meas, Member, Neighbours, NodalTest,
+    Bounds, Class, Classified, GlobalTest, Graph, List, Meas, Member, Neighbours, NodalTest, Parts,
     Solved, Stage, Step, Stream, StreamResult, Study, Taken, Tests, Verdict, Witness, boundary,
     path, reach,
 };
@@ -89,6 +89,13 @@ fn decides_cuts_and_cycles(rt: HostRuntime) -> Result<(), AllocError> {
     assert!(rt; g.is_cycle(&steps));
     assert!(rt; !g.is_cycle(&steps[..2]));
     assert!(rt; !g.is_cycle(&[]));
+    let there_and_back = [true, false].map(|forward| Step { stream: 0, forward });
+    assert!(rt; !g.is_cycle(&there_and_back));
+    let twice = [0, 1, 2, 0, 1, 2].map(|stream| Step {
+        stream,
+        forward: true,
+    });
+    assert!(rt; !g.is_cycle(&twice));
     Ok(())
 }
 
@@ -248,5 +255,23 @@ fn tests_the_form_of_a_study(rt: HostRuntime) -> Result<(), AllocError> {
     assert!(rt; !study.is_well_formed(&Graph::new(alloc, 3)));
     study.taken.push(Taken { stream: 0, low: 1 })?;
     assert!(rt; !study.is_well_formed(&graph));
+    Ok(())
+}
+
+#[test]
+fn joins_parts(rt: HostRuntime) -> Result<(), AllocError> {
+    let mut parts = Parts::new(rt.alloc(), 4)?;
+    let joined = [(2, 3, true), (1, 2, true), (3, 1, false)];
+    for (from, to, apart) in joined {
+        let stream = Stream {
+            from,
+            to,
+            meas: None,
+        };
+        assert!(rt; parts.labels().len() == 4);
+        assert_eq!(rt; parts.join(&stream), apart);
+    }
+    assert_eq!(rt; parts.labels(), [0, 1, 1, 1].as_slice());
+    assert!(rt; parts.label(3) == 1);
     Ok(())
 }
