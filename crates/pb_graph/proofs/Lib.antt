@@ -1,5 +1,6 @@
 pub mod BalanceLemmas
 pub mod BoundaryLemmas
+pub mod CertificateLemmas
 pub mod CycleLemmas
 pub mod FoundLemmas
 pub mod NeighbourLemmas

@@ -1,10 +1,13 @@
--- Statement. What is proved of walks, of the nodes that they reach, and of the parts that they make.
+-- Statement. What is proved of walks, of the nodes that they reach, of the parts that they make, and of certificates.
 use Rattle.std.specs.Prelude.{◌≡◌, ◌↔◌, ℕ, ◌<◌, Bool, true, List, Option, Some, slice_get}
 use Rattle.pb_graph.specs.declared.records.Stream.{Stream}
 use Rattle.pb_graph.specs.declared.records.Step.{Step}
+use Rattle.pb_graph.specs.declared.records.Classified.{Classified}
 use Rattle.pb_graph.specs.ProcessGraph.{ProcessGraph, IsProcessGraph}
 use Rattle.pb_graph.specs.Walk.{ends_of, Reaches, IsStricter, IsReach}
 use Rattle.pb_graph.specs.Parts.{label_at, IsLabelling}
+use Rattle.pb_graph.specs.Certificates.{IsCertified}
+use Rattle.pb_graph.specs.WellFormed.{IsWitnessWithin}
 
 -- reaching is reflexive, symmetric and transitive, and each stream that may be taken joins its ends
 pub record IsEquivalence : Type 0 where
@@ -45,3 +48,8 @@ abbrev pub LabelsLaw : Type 0
 LabelsLaw =
     (streams : List Stream) (nodes : ℕ) (may : ℕ → Stream → Bool) (labels : List ℕ) (a b : ℕ) → IsLabelling streams nodes may labels → a < nodes → b < nodes
     → ((label_at labels a ≡ label_at labels b) ↔ Reaches (ends_of may streams) a b)
+
+-- a certificate that shows a stream's class speaks of nodes and streams of the graph alone
+abbrev pub CertificateFormLaw : Type 0
+CertificateFormLaw =
+    (graph : ProcessGraph) (stream_id : ℕ) (classified : Classified) → IsCertified graph stream_id classified → IsWitnessWithin graph classified.witness

@@ -1,6 +1,6 @@
-// Laws of walks, of the nodes that they reach, and of the parts that they make.
+// Laws of walks, of the nodes that they reach, of the parts that they make, and of certificates.
 
-ghost use Rattle.pb_graph.specs.Laws.{IsEquivalence, MoreStreamsLaw, ClosedSetLaw, SomeReachLaw, OneReachLaw, LabelsLaw};
+ghost use Rattle.pb_graph.specs.Laws.{IsEquivalence, MoreStreamsLaw, ClosedSetLaw, SomeReachLaw, OneReachLaw, LabelsLaw, CertificateFormLaw};
 
 /// Reaching is reflexive, symmetric and transitive, and each stream that may be taken joins its ends.
 pub fn walks_law()
@@ -26,4 +26,9 @@ pub fn reach_law()
 /// Two nodes have one label exactly where one reaches the other.
 pub fn labels_law()
     ensures { LabelsLaw }
+{}
+
+/// A certificate that shows a stream's class speaks of nodes and streams of the graph alone.
+pub fn certificate_form_law()
+    ensures { CertificateFormLaw }
 {}

@@ -21,7 +21,9 @@ mod well_formed;
 
 pub use cut::boundary;
 pub use graph::Graph;
-pub use laws::{closed_set_law, labels_law, more_streams_law, reach_law, walks_law};
+pub use laws::{
+    certificate_form_law, closed_set_law, labels_law, more_streams_law, reach_law, walks_law,
+};
 pub use list::List;
 pub use neighbours::Neighbours;
 pub use parts::Parts;
