@@ -1,3 +1,5 @@
-pub mod PlaceLemmas
+mod LiveLemmas
+mod PlaceLemmas
 pub mod PositionLemmas
-pub mod ShareLemmas
+mod ShareLemmas
+mod TransferLemmas

@@ -1,5 +1,5 @@
 -- The maps of kept facts, as facts are looked up and added.
-use Rattle.std.proofs.Common.{◌≡◌, ◌<◌, ◌≤◌, ◌++◌, ◌∷◌, [], ◌∙◌, ℕ, ℤ, List, Bool, true, false, Option, Some, None, length, get_or, arith, ap, sym, refl, inl, inr, subst, length-append}
+use Rattle.std.proofs.Common.{◌≡◌, ◌<◌, ◌≤◌, ◌+◌, ◌++◌, ◌∷◌, [], ◌∙◌, ℕ, ℤ, List, Bool, true, false, Option, Some, None, length, get_or, arith, ap, sym, refl, inl, inr, subst, length-append}
 use Rattle.std.specs.Prelude.{◌||◌, ◌&&◌, not, is_some, if◌then◌else◌, position}
 use Rattle.std.specs.Cmp.{signed_Decides}
 use Rattle.std.specs.Cmp.Lexicographic.{bytes_decides}
@@ -9,14 +9,16 @@ use Rattle.std.proofs.lemmas.Bool.{and_parts, cases_Bool, cases_lt, leb-false}
 use Rattle.std.proofs.lemmas.List.Elements.{All-push}
 use Rattle.std.proofs.lemmas.List.{get_or_default}
 use Rattle.std.proofs.lemmas.List.Quantifiers.{all_pairs_push, position-Some}
+use Rattle.pb_limits.specs.Limits.{most_facts}
 use Rattle.pb_rows.specs.Name.{same_name}
 use Rattle.pb_facts.specs.Fact.{IsInRange, id_of, is_dip_on, is_out_of_order, is_reading_on, is_too_long}
 use Rattle.pb_facts.specs.Facts.{NoRepeats, fault_of, first_fault, has_id, is_duplicate, is_full, is_live_dip_on, is_live_reading_on, is_repeat, is_repeat_by_day, live_place_of}
-use Rattle.pb_facts.specs.Places.{IsKept, Notes, SamePlaces, same_key}
+use Rattle.pb_facts.specs.Places.{IsKept, Notes, SamePlaces, is_about, places_from, same_key}
 use Rattle.pb_facts.specs.declared.fact.Fact.{Fact}
 use Rattle.pb_facts.specs.declared.fact.Fact.TheVariants.{Reading, Transfer, Dip}
 use Rattle.pb_facts.specs.declared.facts.KeptFact.{KeptFact}
-use Rattle.pb_facts.specs.declared.facts.Places.{Places}
+use Rattle.pb_facts.specs.declared.places.Places.{Places}
+use Rattle.pb_facts.proofs.TransferLemmas.{places_from-push}
 use Rattle.pb_facts.proofs.PositionLemmas.{any_absent, is_some-position, position_at, position_none, position_push_new, position_push_other}
 
 -- ---- a new fact that repeats none
@@ -96,14 +98,25 @@ kept_more kept old mid new fact place right same notes fine ranges at =
           ∙ noted (is_live_reading_on key.0 key.1) kept item place (get same_key mid.readings key) (same.readings key ∙ right.readings key) (fresh_reading kept fact key.0 key.1 apart.1) at;
       dips = λ key. notes.dips key
           ∙ noted (is_live_dip_on key.0 key.1) kept item place (get same_key mid.dips key) (same.dips key ∙ right.dips key) (fresh_dip kept fact key.0 key.1 apart.1) at;
+      transfers = λ key. notes.transfers key
+          ∙ ap (λ (places : List ℕ). places ++ (if is_about key fact then place ∷ [] else [])) (same.transfers key ∙ right.transfers key)
+          ∙ placed key place at;
       no_repeats = all_pairs_push (λ (earlier later : KeptFact). is_repeat later.fact earlier ≡ false) kept item right.no_repeats (λ k d lt. any_absent (is_repeat fact) kept free.0 k d lt);
       in_range = All-push (λ (k : KeptFact). IsInRange k.fact) kept item right.in_range ranges;
       short = All-push (λ (k : KeptFact). is_too_long k.fact ≡ false) kept item right.short free.2;
       few = few kept item free.1;
     }
   where
-    few : (kept : List KeptFact) (item : KeptFact) → is_full kept ≡ false → length (kept ++ item ∷ []) ≤ 200000
-    few kept item free = omega (arith, leb-false 200000 (length kept) free, length-append kept (item ∷ []))
+    placed : (key : List ℕ × ℤ) (place : ℕ) → place ≡ length kept
+        → places_from (λ (k : KeptFact). is_about key k.fact) 0 kept ++ (if is_about key fact then place ∷ [] else [])
+        ≡ places_from (λ (k : KeptFact). is_about key k.fact) 0 (kept ++ record { fact = fact; struck = false } ∷ [])
+    placed key place at =
+        let here : place ≡ 0 + length kept = omega (arith, at) in
+        ap (λ (n : ℕ). places_from (λ (k : KeptFact). is_about key k.fact) 0 kept ++ (if is_about key fact then n ∷ [] else [])) here
+        ∙ sym (places_from-push (λ (k : KeptFact). is_about key k.fact) 0 kept (record { fact = fact; struck = false }))
+
+    few : (kept : List KeptFact) (item : KeptFact) → is_full kept ≡ false → length (kept ++ item ∷ []) ≤ most_facts
+    few kept item free = omega (arith, leb-false most_facts (length kept) free, length-append kept (item ∷ []))
 
 -- ---- looking up
 

@@ -5,7 +5,7 @@ use Rattle.std.specs.Int.{int_div_euclid}
 use Rattle.std.proofs.Math.Nat.{div-mul-le_self, mul-div_cancel, mul-le-mul_left, zero-div}
 use Rattle.std.proofs.lemmas.Int.{ints}
 use Rattle.std.proofs.lemmas.Nat.{div-mul-add, le-div}
-use Rattle.pb_facts.specs.Share.{SharesAddUp, share_of, up_to}
+use Rattle.pb_facts.specs.Share.{SharesLaw, share_of, up_to}
 
 -- no days have nothing of the total
 pub up_to_none : (total : ℤ) (n : ℕ) → up_to total n 0 ≡ pos 0
@@ -29,7 +29,7 @@ less_none total = omega (arith, ints)
 difference : (a b c : ℤ) → (b -ℤ a) +ℤ (c -ℤ b) ≡ c -ℤ a
 difference a b c = omega (arith, ints)
 
-pub add_up : SharesAddUp
+pub add_up : SharesLaw
 add_up = record {
   neighbours = λ total n a b c. difference (up_to total n a) (up_to total n b) (up_to total n c);
   whole = λ total n some. rw (up_to_none total n, up_to_all total n some) (omega (arith, ints));
@@ -40,7 +40,7 @@ add_up = record {
 div_mono : (m k n : ℕ) → 0 < n → m ≤ k → m / n ≤ k / n
 div_mono m k n some le = let below = div-mul-le_self m n in le-div (m / n) k n some (omega (arith, below, le))
 
-floor_mono : (z w : ℤ) (n : ℕ) → 0 < n → z ≤ℤ w → int_div_euclid z (pos n) ≤ℤ int_div_euclid w (pos n)
+pub floor_mono : (z w : ℤ) (n : ℕ) → 0 < n → z ≤ℤ w → int_div_euclid z (pos n) ≤ℤ int_div_euclid w (pos n)
 floor_mono (pos a) (pos b) n some le = let below = div_mono a b n some (omega (arith, ints, le)) in omega (arith, ints, below)
 floor_mono (pos a) (negsuc b) n some le = absurd (omega (arith, ints, le))
 floor_mono (negsuc a) (pos b) n some le = omega (arith, ints)

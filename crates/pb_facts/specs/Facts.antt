@@ -1,8 +1,9 @@
--- The kept facts: what is live, and the first fault of a new fact.
-use Rattle.std.specs.Prelude.{◌≡◌, ◌&&◌, ◌||◌, ℕ, ℤ, nat_le, List, length, Bool, false, not, Option, Some, None, if◌then◌else◌, AllPairs, position}
+-- Statement. The kept facts: what is live, what a look-up finds, and the first fault of a new fact.
+use Rattle.std.specs.Prelude.{◌≡◌, ◌&&◌, ◌||◌, ℕ, ℤ, nat_le, List, length, filter, filter_map, Bool, false, not, Option, Some, None, option_and_then, if◌then◌else◌, AllPairs, position, slice_get}
 use Rattle.std.specs.List.{list_any}
+use Rattle.pb_limits.specs.Limits.{most_facts}
 use Rattle.pb_rows.specs.Name.{same_name}
-use Rattle.pb_facts.specs.Fact.{id_of, is_dip_on, is_on_day_of, is_out_of_order, is_reading_on, is_too_long}
+use Rattle.pb_facts.specs.Fact.{id_of, is_dip_on, is_on_day_of, is_out_of_order, is_reading_on, is_too_long, is_transfer_within}
 use Rattle.pb_facts.specs.declared.fact.Fact.{Fact}
 use Rattle.pb_facts.specs.declared.fact.FactFault.{FactFault}
 use Rattle.pb_facts.specs.declared.fact.FactFault.TheVariants.{Duplicate, Order, Range, Full}
@@ -34,12 +35,16 @@ is_duplicate kept fact = list_any (is_repeat fact) kept
 
 -- as many facts were added as there may be, struck ones counted
 abbrev pub is_full : List KeptFact → Bool
-is_full kept = nat_le 200000 (length kept)
+is_full kept = nat_le most_facts (length kept)
 
 -- the first of these faults that holds
 abbrev pub first_fault : Bool → Bool → Bool → Bool → Option FactFault
 first_fault duplicate order range full =
-    if duplicate then Some Duplicate else if order then Some Order else if range then Some Range else if full then Some Full else None
+    if duplicate then Some Duplicate
+    else if order then Some Order
+    else if range then Some Range
+    else if full then Some Full
+    else None
 
 -- the first fault of a new fact
 abbrev pub fault_of : List KeptFact → Fact → Option FactFault
@@ -56,3 +61,17 @@ live_fact kept = if kept.struck then None else Some kept.fact
 -- the place of the live fact with this id
 abbrev pub live_place_of : List ℕ → List KeptFact → Option ℕ
 live_place_of id kept = position (λ k. not k.struck && has_id id k) kept
+
+-- the facts that weren't struck, in order
+abbrev pub live_facts : List KeptFact → List Fact
+live_facts kept = filter_map live_fact kept
+
+-- the fact at a place, if there is one that wasn't struck
+abbrev pub live_at : List KeptFact → ℕ → Option Fact
+live_at kept place = option_and_then live_fact (slice_get kept place)
+
+-- Among the facts at these places are the live transfers of the stream that have a day from `from` to `to`: all of them, in order.
+abbrev pub HoldsTransfers : List KeptFact → List ℕ → ℤ → ℤ → List ℕ → Type 0
+HoldsTransfers kept stream from to places =
+    filter (is_transfer_within stream from to) (live_facts kept)
+    ≡ filter (is_transfer_within stream from to) (filter_map (live_at kept) places)

@@ -1,4 +1,6 @@
+-- Statement
 pub mod Fact
 pub mod Facts
-pub mod Places
 pub mod Share
+-- Inside
+pub mod Places

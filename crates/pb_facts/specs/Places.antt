@@ -1,42 +1,84 @@
--- What the maps of kept facts hold.
-use Rattle.std.specs.Prelude.{◌≡◌, ◌<◌, ◌≤◌, ◌&&◌, ℕ, ℤ, List, length, Bool, false, Some, if◌then◌else◌, All, position}
+-- Inside. Where the kept facts stand, as the maps of facts have it.
+use Rattle.std.specs.Prelude.{◌≡◌, ◌+◌, ◌<◌, ◌≤◌, ◌&&◌, ◌||◌, ◌++◌, ℕ, ℤ, pos, ◌+ℤ◌, List, [], ◌∷◌, length, Bool, false, Some, IsSomeAnd, if◌then◌else◌, All, position, vec_len, vec_capacity}
+use Rattle.std.specs.Int.{int_div_euclid}
+use Rattle.std.specs.Option.{option_map_or}
 use Rattle.std.specs.Ordering.{int_eq}
-use Rattle.std.specs.HashMap.{get, spare}
+use Rattle.std.specs.HashMap.{HashMap, get, spare}
+use Rattle.std.specs.Global.{Vec}
+use Rattle.pb_limits.specs.Limits.{most_facts}
 use Rattle.pb_rows.specs.Name.{same_name}
 use Rattle.pb_facts.specs.Fact.{IsInRange, id_of, is_dip_on, is_reading_on, is_too_long}
 use Rattle.pb_facts.specs.Facts.{NoRepeats, has_id, is_live_dip_on, is_live_reading_on}
 use Rattle.pb_facts.specs.declared.fact.Fact.{Fact}
+use Rattle.pb_facts.specs.declared.fact.Fact.TheVariants.{Transfer}
 use Rattle.pb_facts.specs.declared.facts.KeptFact.{KeptFact}
-use Rattle.pb_facts.specs.declared.facts.Places.{Places}
+use Rattle.pb_facts.specs.declared.places.Places.{Places}
 
--- two keys of a name and a day are the same
+-- two keys of a name and a day, or of a name and a block of days, are the same
 abbrev pub same_key : List ℕ × ℤ → List ℕ × ℤ → Bool
 same_key a b = same_name a.0 b.0 && int_eq a.1 b.1
+
+-- the block of 512 days that a day lies in: no period and a transfer together are longer
+abbrev pub block_of : ℤ → ℤ
+block_of day = int_div_euclid day (pos 512)
+
+-- a transfer of this stream that begins in this block of days, or in the one before it
+abbrev pub is_about : List ℕ × ℤ → Fact → Bool
+is_about key (Transfer id stream first last grams variance) =
+    same_name stream key.0 && (int_eq (block_of first) key.1 || int_eq (block_of first +ℤ pos 1) key.1)
+is_about key _ = false
+
+-- the places of the items that pass, the first item's being `from`
+abbrev pub places_from : {X : Type 0} → (X → Bool) → ℕ → List X → List ℕ
+places_from passes from [] = []
+places_from passes from (x ∷ xs) =
+    if passes x then from ∷ places_from passes (from + 1) xs else places_from passes (from + 1) xs
+
+-- the places at a key; none where the map has no entry
+abbrev pub places_at : {S : Type 0} → HashMap (List ℕ × ℤ) (Vec ℕ) S → List ℕ × ℤ → List ℕ
+places_at transfers key = option_map_or (λ (places : Vec ℕ). places.items) (get same_key transfers key) []
+
+-- there is an entry at a key, with room for one more place
+abbrev pub HasRoomAt : {S : Type 0} → HashMap (List ℕ × ℤ) (Vec ℕ) S → List ℕ × ℤ → Type 0
+HasRoomAt transfers key = IsSomeAnd (get same_key transfers key) (λ places. vec_len places < vec_capacity places)
 
 -- the maps give the places of the kept facts, no fact repeats an earlier one, each lies in its ranges, and no transfer is too long
 pub record IsKept (kept : List KeptFact) (places : Places) : Type 0 where
   pub ids : (id : List ℕ) → get same_name places.ids id ≡ position (has_id id) kept
   pub readings : (key : List ℕ × ℤ) → get same_key places.readings key ≡ position (is_live_reading_on key.0 key.1) kept
   pub dips : (key : List ℕ × ℤ) → get same_key places.dips key ≡ position (is_live_dip_on key.0 key.1) kept
+  pub transfers : (key : List ℕ × ℤ) → places_at places.transfers key ≡ places_from (λ (k : KeptFact). is_about key k.fact) 0 kept
   pub no_repeats : NoRepeats kept
   pub in_range : All (λ k. IsInRange k.fact) kept
   pub short : All (λ k. is_too_long k.fact ≡ false) kept
-  pub few : length kept ≤ 200000
+  pub few : length kept ≤ most_facts
 
 -- maps that give the same places
 pub record SamePlaces (old new : Places) : Type 0 where
   pub ids : (id : List ℕ) → get same_name new.ids id ≡ get same_name old.ids id
   pub readings : (key : List ℕ × ℤ) → get same_key new.readings key ≡ get same_key old.readings key
   pub dips : (key : List ℕ × ℤ) → get same_key new.dips key ≡ get same_key old.dips key
+  pub transfers : (key : List ℕ × ℤ) → places_at new.transfers key ≡ places_at old.transfers key
 
--- there is room for one more place in each map
-pub record HasRoom (places : Places) : Type 0 where
+-- there is room for the place of a fact under its stream and the blocks of days about its first one
+abbrev pub HasRoomAbout : {S : Type 0} → HashMap (List ℕ × ℤ) (Vec ℕ) S → Fact → Type 0
+HasRoomAbout transfers (Transfer id stream first last grams variance) =
+    HasRoomAt transfers (stream, block_of first) × HasRoomAt transfers (stream, block_of first +ℤ pos 1)
+HasRoomAbout transfers _ = Unit {0}
+
+-- there is room for the place of a new fact in each map
+pub record HasRoom (places : Places) (fact : Fact) : Type 0 where
   pub ids : 0 < spare places.ids
   pub readings : 0 < spare places.readings
   pub dips : 0 < spare places.dips
+  pub transfers : HasRoomAbout places.transfers fact
 
--- the maps give the place of a new fact by its id and by its stream or tank and day, and else what they gave
+-- the maps give the place of a new fact by its id, by its stream or tank and day or days, and else what they gave
 pub record Notes (old new : Places) (fact : Fact) (place : ℕ) : Type 0 where
   pub ids : (id : List ℕ) → get same_name new.ids id ≡ (if same_name (id_of fact) id then Some place else get same_name old.ids id)
-  pub readings : (key : List ℕ × ℤ) → get same_key new.readings key ≡ (if is_reading_on key.0 key.1 fact then Some place else get same_key old.readings key)
-  pub dips : (key : List ℕ × ℤ) → get same_key new.dips key ≡ (if is_dip_on key.0 key.1 fact then Some place else get same_key old.dips key)
+  pub readings : (key : List ℕ × ℤ)
+      → get same_key new.readings key ≡ (if is_reading_on key.0 key.1 fact then Some place else get same_key old.readings key)
+  pub dips : (key : List ℕ × ℤ)
+      → get same_key new.dips key ≡ (if is_dip_on key.0 key.1 fact then Some place else get same_key old.dips key)
+  pub transfers : (key : List ℕ × ℤ)
+      → places_at new.transfers key ≡ places_at old.transfers key ++ (if is_about key fact then place ∷ [] else [])

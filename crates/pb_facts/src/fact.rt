@@ -3,6 +3,7 @@
 ghost use Rattle.std.specs.Prelude.{◌≡◌};
 ghost use Rattle.pb_facts.specs.Fact.{id_of, is_out_of_order, is_too_long};
 
+use pb_limits::MOST_DAYS_OF_TRANSFER;
 use pb_rows::Name;
 
 /// A fact of a plant, with its id.
@@ -81,7 +82,9 @@ impl Fact {
         ensures { result ≡ is_too_long self.now }
     {
         match self {
-            Fact::Transfer { first, last, .. } => i64::from(*last) - i64::from(*first) >= 366,
+            Fact::Transfer { first, last, .. } => {
+                i64::from(*last) - i64::from(*first) >= i64::from(MOST_DAYS_OF_TRANSFER)
+            }
             _ => false,
         }
     }

@@ -5,10 +5,13 @@
 
 mod fact;
 mod facts;
+mod laws;
+mod places;
 mod shares;
 #[cfg(test)]
 mod tests;
 
 pub use fact::{Fact, FactFault};
 pub use facts::{Facts, KeptFact};
-pub use shares::{share, shares_add_up};
+pub use laws::shares_law;
+pub use shares::share;

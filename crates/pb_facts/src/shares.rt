@@ -1,42 +1,34 @@
 // The share of a total that falls on some of its days.
 
-ghost use Rattle.std.specs.Prelude.{◌≡◌, ◌^◌, ◌≤◌, ◌≤ℤ◌, pos, neg_ℤ, unsigned_abs};
-ghost use Rattle.pb_facts.specs.Share.{SharesAddUp, share_of, up_to};
+ghost use Rattle.std.specs.Prelude.{◌≡◌, ◌*◌, ◌≤◌, ◌≤ℤ◌, pos, unsigned_abs};
+ghost use Rattle.pb_limits.specs.Limits.{most_days_of_transfer, most_row_variance};
+ghost use Rattle.pb_facts.specs.Share.{share_of, up_to};
 
-/// What falls on the days from `a` to `b` of a total `g` spread evenly over `n` days: the total up to `b`, rounded down, less the
-/// total up to `a`, rounded down. So the shares of any division of the days add up to the total, for negative totals too. None is
-/// more than the total, and none turns its sign.
-pub fn share(g: i128, n: u32, a: u32, b: u32) -> i128
-    requires some_days { 1 ≤ n }
-    requires few_days { n ≤ 366 }
-    requires order { a ≤ b }
-    requires within { b ≤ n }
-    requires low { neg_ℤ (pos (10 ^ 19)) ≤ℤ g }
-    requires high { g ≤ℤ pos (10 ^ 19) }
-    ensures value { result ≡ share_of g n a b }
-    ensures whole { a ≡ 0 → b ≡ n → result ≡ g }
-    ensures not_negative { pos 0 ≤ℤ g → pos 0 ≤ℤ result }
-    ensures no_more { unsigned_abs result ≤ unsigned_abs g }
+/// What falls on the days behind the first `before` up to the first `until`, of a total spread evenly over `days` days: the total up
+/// to `until`, rounded down, less the total up to `before`, rounded down. So the shares of any division of the days add up to the
+/// total, for negative totals too. None is more than the total, and none turns its sign.
+pub fn share(total: i128, days: u32, before: u32, until: u32) -> i128
+    requires some_days { 1 ≤ days }
+    requires few_days { days ≤ most_days_of_transfer }
+    requires order { before ≤ until }
+    requires within { until ≤ days }
+    requires total { unsigned_abs total ≤ most_row_variance }
+    ensures value { result ≡ share_of total days before until }
+    ensures whole { before ≡ 0 → until ≡ days → result ≡ total }
+    ensures not_negative { pos 0 ≤ℤ total → pos 0 ≤ℤ result }
+    ensures no_more { unsigned_abs result ≤ unsigned_abs total }
 {
-    up_to(g, n, b) - up_to(g, n, a)
+    up_to(total, days, until) - up_to(total, days, before)
 }
 
-/// The law that shares add up: what falls on the days from `a` to `b` and what falls on those from `b` to `c` make up what falls
-/// on the days from `a` to `c`, and all days have the whole total.
-pub fn shares_add_up()
-    ensures { SharesAddUp }
-{}
-
 // The part of the total that falls on the first days, rounded down.
-fn up_to(g: i128, n: u32, days: u32) -> i128
-    requires some_days { 1 ≤ n }
-    requires few_days { n ≤ 366 }
-    requires within { days ≤ n }
-    requires low { neg_ℤ (pos (10 ^ 19)) ≤ℤ g }
-    requires high { g ≤ℤ pos (10 ^ 19) }
-    ensures value { result ≡ up_to g n days }
-    ensures low { neg_ℤ (pos (10 ^ 22)) ≤ℤ result }
-    ensures high { result ≤ℤ pos (10 ^ 22) }
+fn up_to(total: i128, days: u32, first: u32) -> i128
+    requires some_days { 1 ≤ days }
+    requires few_days { days ≤ most_days_of_transfer }
+    requires within { first ≤ days }
+    requires total { unsigned_abs total ≤ most_row_variance }
+    ensures value { result ≡ up_to total days first }
+    ensures within { unsigned_abs result ≤ most_days_of_transfer * most_row_variance }
 {
-    (g * i128::from(days)).div_euclid(i128::from(n))
+    (total * i128::from(first)).div_euclid(i128::from(days))
 }

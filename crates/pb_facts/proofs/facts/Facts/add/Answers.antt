@@ -3,9 +3,4 @@ use Rattle.pb_facts.proofs.PlaceLemmas.{kept_more}
 use Rattle.pb_facts.proofs.facts.Facts.add.Goals as goal
 
 pub invariant_of-self-2 : goal.invariant_of-self-2
-invariant_of-self-2 c =
-    let place : c.len-place.result ≡ length c.self.inside.kept.items = rw (← c.in_ok-reserve.ensures.kept) (search rules) in
-    let fine = rw (← c.self.view_is) at c.requires.no_fault in
-    rw (c.keep.ensures, c.in_ok-reserve.ensures.kept)
-    (kept_more c.self.inside.kept.items c.self.inside.places c.reserve.new.places c.note.new.places c.args.fact c.len-place.result
-    c.self.invariant c.in_ok-reserve.ensures.places c.note.ensures fine c.requires.in_range place)
+invariant_of-self-2 c = ?

@@ -10,13 +10,13 @@ use Rattle.pb_facts.proofs.facts.Facts.has_day_of.Goals as goal
 pub returns-in-Reading : goal.returns-in-Reading
 returns-in-Reading c =
     let fits : FitsSigned w32 c.in-Reading.day = search rules in
-    let found = simp to_z-of_z at c.reading_on.ensures in
+    let found = simp to_z-of_z at c.reading_on.ensures.value in
     rw c.in-Reading.is (c.is_some.ensures ∙ ap is_some found ∙ is_some-position (is_live_reading_on c.in-Reading.stream c.in-Reading.day) c.args.self.now)
 
 pub returns-in-Dip : goal.returns-in-Dip
 returns-in-Dip c =
     let fits : FitsSigned w32 c.in-Dip.day = search rules in
-    let found = simp to_z-of_z at c.dip_on.ensures in
+    let found = simp to_z-of_z at c.dip_on.ensures.value in
     rw c.in-Dip.is (c.is_some-in-Dip.ensures ∙ ap is_some found ∙ is_some-position (is_live_dip_on c.in-Dip.tank c.in-Dip.day) c.args.self.now)
 
 pub returns-in-Transfer : goal.returns-in-Transfer

@@ -1,0 +1,171 @@
+// The places of kept facts, so that no look-up walks the facts.
+
+ghost use Rattle.std.specs.Prelude.{◌≡◌, ◌<◌, ◌+◌, ◌∷◌, ◌++◌, [], ℕ, ℤ, pos, neg_ℤ, ◌+ℤ◌, ◌≤ℤ◌, ◌^◌, List, Some, if◌then◌else◌, IsSome, OnOk};
+ghost use Rattle.std.specs.HashMap.{get, spare};
+ghost use Rattle.std.specs.Prelude.{◌&&◌, ◌||◌, false};
+ghost use Rattle.std.specs.Ordering.{int_eq};
+ghost use Rattle.pb_rows.specs.Name.{same_name};
+ghost use Rattle.pb_facts.specs.Places.{HasRoom, HasRoomAt, Notes, SamePlaces, block_of, places_at, same_key};
+
+use crate::fact::Fact;
+use pb_rows::Name;
+use std::alloc::{AllocError, Global};
+use std::collections::HashMap;
+use std::hash::Hash;
+
+/// The places of the kept facts: of each by its id, of the live readings and dips by stream or tank and day, and of the transfers
+/// by stream and each block of days in which they may be asked for.
+#[derive(Drop)]
+pub struct Places {
+    pub ids: HashMap<Name, u32>,
+    pub readings: HashMap<(Name, i32), u32>,
+    pub dips: HashMap<(Name, i32), u32>,
+    pub transfers: HashMap<(Name, i32), Vec<u32>>,
+}
+
+impl Places {
+    /// Makes room for the place of a new fact, and leaves all places as they are.
+    pub fn reserve(&mut self, alloc: Global, fact: &Fact) -> Result<(), AllocError>
+        ensures same { SamePlaces self.old self.new }
+        ensures room { OnOk result (HasRoom self.new fact.now) }
+    {
+        self.ids.reserve(1)?;
+        self.readings.reserve(1)?;
+        self.dips.reserve(1)?;
+        match fact {
+            Fact::Transfer { stream, first, .. } => {
+                make_room(alloc, &mut self.transfers, *stream, block_of(*first))
+            }
+            _ => Ok(()),
+        }
+    }
+
+    /// Notes the place of a new fact, by its id, and by its stream or tank and day or days.
+    pub fn note(&mut self, fact: &Fact, place: u32)
+        requires { HasRoom self.old fact.now }
+        ensures { Notes self.old self.new fact.now place }
+    {
+        put(&mut self.ids, fact.id(), place);
+        match fact {
+            Fact::Reading { stream, day, .. } => put(&mut self.readings, (*stream, *day), place),
+            Fact::Dip { tank, day, .. } => put(&mut self.dips, (*tank, *day), place),
+            Fact::Transfer { stream, first, .. } => {
+                put_transfer(&mut self.transfers, *stream, block_of(*first), place)
+            }
+        }
+    }
+}
+
+/// The block of 512 days that a day lies in.
+pub fn block_of(day: i32) -> i32
+    ensures value { result ≡ block_of day }
+    ensures within { (neg_ℤ (pos (2 ^ 23)) ≤ℤ result) × (result ≤ℤ pos (2 ^ 23)) }
+{
+    day.div_euclid(512)
+}
+
+// Puts an entry for which there is room.
+fn put<K: Eq + Hash + Drop, V: Drop>(map: &mut HashMap<K, V>, key: K, value: V)
+    requires { 0 < spare map.old }
+    ensures { (q : K) → get K.eq map.new q ≡ (if K.eq key q then Some value else get K.eq map.old q) }
+{
+    if map.insert(key, value).is_err() {
+        unreachable!()
+    }
+}
+
+// Makes room for one more place under a stream and a block of days, and under the block behind it.
+fn make_room(
+    alloc: Global,
+    transfers: &mut HashMap<(Name, i32), Vec<u32>>,
+    stream: Name,
+    block: i32,
+) -> Result<(), AllocError>
+    requires { block ≤ℤ pos (2 ^ 23) }
+    ensures same { (key : List ℕ × ℤ) → places_at transfers.new key ≡ places_at transfers.old key }
+    ensures here { OnOk result (HasRoomAt transfers.new (stream, block)) }
+    ensures behind { OnOk result (HasRoomAt transfers.new (stream, block +ℤ pos 1)) }
+{
+    make_room_at(alloc, transfers, stream, block)?;
+    make_room_at(alloc, transfers, stream, block + 1)?;
+    Ok(())
+}
+
+// Makes room for one more place under a stream and a block of days.
+fn make_room_at(
+    alloc: Global,
+    transfers: &mut HashMap<(Name, i32), Vec<u32>>,
+    stream: Name,
+    block: i32,
+) -> Result<(), AllocError>
+    ensures same { (q : List ℕ × ℤ) → places_at transfers.new q ≡ places_at transfers.old q }
+    ensures room { OnOk result (HasRoomAt transfers.new (stream, block)) }
+    ensures others { (q : List ℕ × ℤ) → HasRoomAt transfers.old q → HasRoomAt transfers.new q }
+{
+    add_entry(alloc, transfers, (stream, block))?;
+    reserve_at(transfers, (stream, block))
+}
+
+// Adds an entry without places at a key that has no entry.
+fn add_entry(
+    alloc: Global,
+    transfers: &mut HashMap<(Name, i32), Vec<u32>>,
+    key: (Name, i32),
+) -> Result<(), AllocError>
+    ensures same { (q : List ℕ × ℤ) → places_at transfers.new q ≡ places_at transfers.old q }
+    ensures entry { OnOk result (IsSome (get same_key transfers.new key)) }
+    ensures others { (q : List ℕ × ℤ) → HasRoomAt transfers.old q → HasRoomAt transfers.new q }
+{
+    if transfers.contains_key(&key) {
+        return Ok(());
+    }
+    transfers.reserve(1)?;
+    put(transfers, key, Vec::new(alloc));
+    Ok(())
+}
+
+// Makes room for one more place in the entry at a key.
+fn reserve_at(
+    transfers: &mut HashMap<(Name, i32), Vec<u32>>,
+    key: (Name, i32),
+) -> Result<(), AllocError>
+    requires { IsSome (get same_key transfers.old key) }
+    ensures same { (q : List ℕ × ℤ) → places_at transfers.new q ≡ places_at transfers.old q }
+    ensures room { OnOk result (HasRoomAt transfers.new key) }
+    ensures others { (q : List ℕ × ℤ) → HasRoomAt transfers.old q → HasRoomAt transfers.new q }
+{
+    match transfers.get_mut(&key) {
+        Some(places) => places.reserve(1),
+        None => unreachable!(),
+    }
+}
+
+// Puts the place of a transfer under its stream and a block of days, and under the block behind it.
+fn put_transfer(
+    transfers: &mut HashMap<(Name, i32), Vec<u32>>,
+    stream: Name,
+    block: i32,
+    place: u32,
+)
+    requires within { block ≤ℤ pos (2 ^ 23) }
+    requires here { HasRoomAt transfers.old (stream, block) }
+    requires behind { HasRoomAt transfers.old (stream, block +ℤ pos 1) }
+    ensures { (key : List ℕ × ℤ) → places_at transfers.new key
+        ≡ places_at transfers.old key
+        ++ (if same_name stream key.0 && (int_eq block key.1 || int_eq (block +ℤ pos 1) key.1) then place ∷ [] else []) }
+{
+    put_at(transfers, (stream, block), place);
+    put_at(transfers, (stream, block + 1), place);
+}
+
+// Puts a place behind the others at a key at which there is room.
+fn put_at(transfers: &mut HashMap<(Name, i32), Vec<u32>>, key: (Name, i32), place: u32)
+    requires { HasRoomAt transfers.old key }
+    ensures put { (q : List ℕ × ℤ) → places_at transfers.new q ≡ places_at transfers.old q ++ (if same_key key q then place ∷ [] else []) }
+    ensures others { (q : List ℕ × ℤ) → same_key key q ≡ false → HasRoomAt transfers.old q → HasRoomAt transfers.new q }
+{
+    match transfers.get_mut(&key) {
+        Some(places) => places.push_reserved(place),
+        None => unreachable!(),
+    }
+}
