@@ -159,8 +159,8 @@ impl Facts {
         self.places.dips.get(&(*tank, day)).copied()
     }
 
-    /// Places of transfers, in the order of adding: those of all transfers of the stream that have a day from `first` to `last`, and of
-    /// none that begins long before or after these days.
+    /// Places of transfers, in the order of adding: those of all transfers of the stream that have a day from `first` to `last`, and
+    /// of none that begins long before or after these days.
     pub fn transfers_within(&self, stream: &Name, first: i32, last: i32) -> &[u32]
         requires { (last -ℤ first) <ℤ pos most_days_of_period }
         ensures transfers { HoldsTransfers self.now stream.now first last result.now }

@@ -161,7 +161,8 @@ fn put_transfer(
 // Puts a place behind the others at a key at which there is room.
 fn put_at(transfers: &mut HashMap<(Name, i32), Vec<u32>>, key: (Name, i32), place: u32)
     requires { HasRoomAt transfers.old key }
-    ensures put { (q : List ℕ × ℤ) → places_at transfers.new q ≡ places_at transfers.old q ++ (if same_key key q then place ∷ [] else []) }
+    ensures put { (q : List ℕ × ℤ) → places_at transfers.new q
+        ≡ places_at transfers.old q ++ (if same_key key q then place ∷ [] else []) }
     ensures others { (q : List ℕ × ℤ) → same_key key q ≡ false → HasRoomAt transfers.old q → HasRoomAt transfers.new q }
 {
     match transfers.get_mut(&key) {

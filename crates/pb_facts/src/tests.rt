@@ -134,6 +134,33 @@ fn looks_up_days(rt: HostRuntime) -> Result<(), Fail> {
 }
 
 #[test]
+fn looks_up_transfers(rt: HostRuntime) -> Result<(), Fail> {
+    let mut facts = three(rt.alloc())?;
+    add(&mut facts, transfer(b"t2", 0, 365)?)?;
+    add(&mut facts, transfer(b"t3", 365, 365)?)?;
+    assert_eq!(rt;
+        facts.transfers_within(&name(b"T")?, 365, 464),
+        [3u32, 4].as_slice()
+    );
+    assert_eq!(rt;
+        facts.transfers_within(&name(b"T")?, 19754, 19754),
+        [2u32].as_slice()
+    );
+    assert_eq!(rt; facts.transfers_within(&name(b"A")?, 365, 365).len(), 0);
+    Ok(())
+}
+
+#[test]
+fn keeps_facts(rt: HostRuntime) -> Result<(), Fail> {
+    let facts = three(rt.alloc())?;
+    assert_eq!(rt; facts.len(), 3);
+    let kept = facts.kept(1);
+    assert!(rt; kept.fact.id() == name(b"p1")?);
+    assert!(rt; !kept.struck);
+    Ok(())
+}
+
+#[test]
 fn shares_of_three_days(rt: HostRuntime) {
     let table = [
         ((10, 3, 0, 1), 3),
@@ -142,8 +169,12 @@ fn shares_of_three_days(rt: HostRuntime) {
         ((-1, 2, 0, 1), -1),
         ((-1, 2, 1, 2), 0),
     ];
-    for ((g, n, a, b), part) in table {
-        assert_eq!(rt; share(g, n, a, b), part);
+    for ((total, days, before, until), part) in table {
+        assert_eq!(rt;
+            share(total, days, before, until),
+            part,
+            "{total} {before} {until}"
+        );
     }
 }
 

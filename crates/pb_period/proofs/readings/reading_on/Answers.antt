@@ -8,11 +8,11 @@ use Rattle.pb_period.proofs.readings.reading_on.Goals as goal
 pub returns-in_err-reading_on-clause-found : goal.returns-in_err-reading_on-clause-found
 returns-in_err-reading_on-clause-found c =
     let fits : FitsSigned w32 c.args.day = c.ranges.day in
-    let place = simp to_z-of_z at c.in_err-reading_on.ensures in
+    let place = simp to_z-of_z at c.in_err-reading_on.ensures.value in
     c.from_residual.ensures ∙ found (is_reading_on c.args.stream.now c.args.day) c.args.facts.now _ place
 
 pub returns-clause-found : goal.returns-clause-found
 returns-clause-found c =
     let fits : FitsSigned w32 c.args.day = c.ranges.day in
-    let place = simp to_z-of_z at c.in_ok-reading_on.ensures in
+    let place = simp to_z-of_z at c.in_ok-reading_on.ensures.value in
     c.live.ensures.value ∙ found (is_reading_on c.args.stream.now c.args.day) c.args.facts.now _ place
