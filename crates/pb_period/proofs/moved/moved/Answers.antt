@@ -7,7 +7,7 @@ use Rattle.pb_period.proofs.moved.moved.Goals as goal
 
 pub add_moved-requires-clause-small : goal.add_moved-requires-clause-small
 add_moved-requires-clause-small c = λ (stream : List ℕ).
-    is_small c.loop-i.i (total_at c.loop-i.totals stream) (omega (arith, c.loop-i-test.true, c.len-i-end.ensures.value, c.len-i-end.ensures.few)) (c.loop-i.invariant.small stream)
+    is_small c.loop-i.i (total_at c.loop-i.totals stream) (omega (arith, c.loop-i-test.true, c.len-i-end.ensures.value, c.len-i-end.ensures.within)) (c.loop-i.invariant.small stream)
 
 pub loop-i-preserved : goal.loop-i-preserved
 loop-i-preserved c =
