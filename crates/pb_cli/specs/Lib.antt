@@ -1,3 +1,4 @@
+-- Statement
 pub mod Status
 pub mod Prefix
 pub mod Run

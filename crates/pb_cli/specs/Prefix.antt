@@ -1,29 +1,30 @@
--- How far a session's output was written when a run stopped early.
-use Rattle.std.specs.Prelude.{◌≡◌, ℕ, ◌+◌, ◌≤◌, List, [], ◌∷◌, ◌++◌, length, take}
-use Rattle.pb_session.specs.Session.{Adds, Held, IsSessionText, held_after}
-
--- what a session holds after some records, which are numbered from `at`
-abbrev pub after_all : Held → ℕ → List (List (List ℕ)) → Held
-after_all held at [] = held
-after_all held at (fields ∷ records) = after_all (held_after held at fields) (at + 1) records
+-- Statement. How far a session's output was written when a run stopped early.
+use Rattle.std.specs.Prelude.{◌≡◌, ℕ, ◌+◌, ◌<◌, List, ◌∷◌, ◌++◌, length, take}
+use Rattle.pb_session.specs.Session.{Adds, IsSessionText, SessionState, state_after_all}
 
 -- The bytes are the texts of the first records in order, whole.
-pub record AreTextsOfSome (held : Held) (records : List (List (List ℕ))) (bytes : List ℕ) : Type 0 where
+pub record AreTextsOfSome (state : SessionState) (records : List (List (List ℕ))) (bytes : List ℕ) : Type 0 where
   pub front : List (List (List ℕ))
   pub rest : List (List (List ℕ))
   pub some : records ≡ front ++ rest
-  pub texts : IsSessionText held 1 front bytes
+  pub texts : IsSessionText state 1 front bytes
 
--- The bytes are the texts of the first records in order, whole, and then the beginning of the next record's text.
-pub record AreTextsCutShort (held : Held) (records : List (List (List ℕ))) (bytes : List ℕ) : Type 0 where
+-- The bytes are a beginning of a text of which this holds, and not all of it.
+pub record IsBeginningOf (Holds : List ℕ → Type 0) (bytes : List ℕ) : Type 0 where
+  pub whole : List ℕ
+  pub holds : Holds whole
+  pub written : ℕ
+  pub within : written < length whole
+  pub is : bytes ≡ take written whole
+
+-- The bytes are the texts of the first records in order, whole, and then a beginning of the next record's text.
+pub record AreTextsCutShort (state : SessionState) (records : List (List (List ℕ))) (bytes : List ℕ) : Type 0 where
   pub front : List (List (List ℕ))
   pub next : List (List ℕ)
   pub rest : List (List (List ℕ))
   pub some : records ≡ front ++ next ∷ rest
   pub whole : List ℕ
-  pub texts : IsSessionText held 1 front whole
+  pub texts : IsSessionText state 1 front whole
   pub piece : List ℕ
-  pub adds : Adds (after_all held 1 front) (length front + 1) next piece
-  pub written : ℕ
-  pub within : written ≤ length piece
-  pub is : bytes ≡ whole ++ take written piece
+  pub cut : IsBeginningOf (Adds (state_after_all state 1 front) (length front + 1) next) piece
+  pub is : bytes ≡ whole ++ piece

@@ -1,12 +1,12 @@
--- What a run did: the words it accepts, the bytes it took, and the bytes it put.
-use Rattle.std.specs.Prelude.{◌≡◌, ℕ, Bool, false, List, [], ◌∷◌, Option, codes}
+-- Statement. What a run did: the words it accepts, the bytes it took, and the bytes it put.
+use Rattle.std.specs.Prelude.{◌≡◌, ℕ, Bool, false, List, [], ◌∷◌, codes}
 use Rattle.std.specs.Io.KnownBytes.{IsAtEnd}
-use Rattle.pb_io.specs.Source.{TakesInTurns}
-use Rattle.pb_io.specs.Sink.{Puts}
+use Rattle.pb_io.specs.Source.{SourceSeen, TakesInTurns}
+use Rattle.pb_io.specs.Sink.{SinkSeen, PutsSuch}
 use Rattle.pb_rows.specs.Records.{records_of}
 use Rattle.pb_graph.specs.declared.results.Options.{Options}
 use Rattle.pb_report.specs.declared.form.Form.TheVariants.{Csv}
-use Rattle.pb_session.specs.Session.{Held, IsSessionText, refuses_some}
+use Rattle.pb_session.specs.Session.{SessionState, IsSessionText, refuses_some}
 use Rattle.pb_cli.specs.Prefix.{AreTextsOfSome, AreTextsCutShort}
 
 -- the accepted words: so far the one word `run`
@@ -18,7 +18,7 @@ abbrev pub usual_options : Options
 usual_options = record { gap = 10; sweeps = 5000; tests = false; eliminate = 0 }
 
 -- a session that has stored nothing
-abbrev pub new_session : Held
+abbrev pub new_session : SessionState
 new_session = record { options = usual_options; form = Csv; rows = [] }
 
 -- The text of a run: the texts of the records of the input, in order, from a session that has stored nothing. Each report in it is
@@ -30,33 +30,34 @@ IsTextOfRun input text = IsSessionText new_session 1 (records_of input) text
 abbrev pub refuses : List ℕ → Bool
 refuses input = refuses_some new_session 1 (records_of input)
 
--- The source was read to its end, and all of the text of its bytes was put.
-pub record RunsWhole {S W : Type 0} (left : S → Option (List ℕ)) (taken calls : S → ℕ) (held : W → Option (List ℕ)) (written : W → ℕ)
-    (source source2 : S) (sink sink2 : W) (refused : Bool) : Type 0 where
-  pub input : List ℕ
-  pub taken_all : TakesInTurns left taken calls source source2 input
-  pub end : IsAtEnd (left source2)
-  pub text : List ℕ
-  pub is_text : IsTextOfRun input text
-  pub put_all : Puts held written sink sink2 text
+-- The output of these bytes, and whether some record of them is refused.
+pub record IsOutput (refused : Bool) (input output : List ℕ) : Type 0 where
+  pub is_text : IsTextOfRun input output
   pub refuses_as : refuses input ≡ refused
 
--- The source was read to its end, and a prefix of the text of its bytes was put.
-pub record RunsCutShort {S W : Type 0} (left : S → Option (List ℕ)) (taken calls : S → ℕ) (held : W → Option (List ℕ)) (written : W → ℕ)
-    (source source2 : S) (sink sink2 : W) : Type 0 where
-  pub input : List ℕ
-  pub taken_all : TakesInTurns left taken calls source source2 input
-  pub end : IsAtEnd (left source2)
-  pub bytes : List ℕ
-  pub cut : AreTextsCutShort new_session (records_of input) bytes
-  pub put_some : Puts held written sink sink2 bytes
+-- the texts of the first records of these bytes, and a beginning of the next one's
+abbrev pub IsCutShort : List ℕ → List ℕ → Type 0
+IsCutShort input bytes = AreTextsCutShort new_session (records_of input) bytes
 
--- The source was read to its end, and the texts of the first of its records were put.
-pub record RunsPart {S W : Type 0} (left : S → Option (List ℕ)) (taken calls : S → ℕ) (held : W → Option (List ℕ)) (written : W → ℕ)
-    (source source2 : S) (sink sink2 : W) : Type 0 where
+-- the texts of the first records of these bytes
+abbrev pub IsPart : List ℕ → List ℕ → Type 0
+IsPart input bytes = AreTextsOfSome new_session (records_of input) bytes
+
+-- The source was read to its end, and bytes were put that stand in this relation to those that were taken.
+pub record Runs (Wrote : List ℕ → List ℕ → Type 0) (source_old source_new : SourceSeen) (sink_old sink_new : SinkSeen) : Type 0 where
   pub input : List ℕ
-  pub taken_all : TakesInTurns left taken calls source source2 input
-  pub end : IsAtEnd (left source2)
-  pub bytes : List ℕ
-  pub part : AreTextsOfSome new_session (records_of input) bytes
-  pub put_some : Puts held written sink sink2 bytes
+  pub taken_all : TakesInTurns source_old source_new input
+  pub end : IsAtEnd source_new.remaining
+  pub put : PutsSuch (Wrote input) sink_old sink_new
+
+-- all of the output was put
+abbrev pub RunsWhole : SourceSeen → SourceSeen → SinkSeen → SinkSeen → Bool → Type 0
+RunsWhole source_old source_new sink_old sink_new refused = Runs (IsOutput refused) source_old source_new sink_old sink_new
+
+-- the texts of the first records were put, and a beginning of the next one's
+abbrev pub RunsCutShort : SourceSeen → SourceSeen → SinkSeen → SinkSeen → Type 0
+RunsCutShort source_old source_new sink_old sink_new = Runs IsCutShort source_old source_new sink_old sink_new
+
+-- the texts of the first records were put
+abbrev pub RunsPart : SourceSeen → SourceSeen → SinkSeen → SinkSeen → Type 0
+RunsPart source_old source_new sink_old sink_new = Runs IsPart source_old source_new sink_old sink_new

@@ -1,7 +1,9 @@
+-- Statement. How a run ended: a number and a name for each status.
 use Rattle.std.specs.Prelude.{ℕ, Bool, List, codes, if◌then◌else◌}
 use Rattle.pb_cli.specs.declared.status.Status.{Status}
 use Rattle.pb_cli.specs.declared.status.Status.TheVariants.{Done, DoneRefused, Usage, ReadFault, WriteFault, TooLarge, NoMemory}
 
+-- the exit status of the program
 abbrev pub number_of : Status → ℕ
 number_of Done = 0
 number_of DoneRefused = 1
@@ -11,6 +13,7 @@ number_of WriteFault = 4
 number_of TooLarge = 5
 number_of NoMemory = 6
 
+-- the line on standard error, where the run was no success
 abbrev pub name_of : Status → List ℕ
 name_of Done = codes "Done"
 name_of DoneRefused = codes "DoneRefused"

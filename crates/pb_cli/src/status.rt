@@ -1,3 +1,4 @@
+// How a run ended: a number for the system, and a name.
 ghost use Rattle.std.specs.Prelude.{◌≡◌, codes};
 ghost use Rattle.pb_cli.specs.Status.{number_of, name_of};
 

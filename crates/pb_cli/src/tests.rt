@@ -1,6 +1,7 @@
-//! What no clause says: the exact bytes of worked sessions, that a run succeeds with ample memory, and failing ends in mid-stream.
+// What no clause says: the exact bytes of worked sessions, that a run succeeds with ample memory, and failing ends in mid-stream.
 use super::*;
 use pb_io::{MemSink, MemSource};
+use pb_limits::MOST_BYTES;
 use std::alloc::{AllocError, Global};
 
 /// The session of a plain stream between two meters, and its output.

@@ -1,3 +1,4 @@
+// The words of a command line.
 ghost use Rattle.std.specs.Prelude.{◌≡◌, ◌<◌, ◌++◌, ◌∷◌, [], length, slice_index_or, IsTrue, ◌↔◌, OnOk, OnErr, codes};
 ghost use Rattle.pb_cli.specs.Run.{AreAccepted};
 

@@ -1,2 +1,2 @@
-pub mod Putting
-pub mod Taking
+pub mod PieceLemmas
+mod TakingLemmas

@@ -1,4 +1,4 @@
--- Counts that a u64 holds: of bytes, of calls, of faults.
+-- Statement. Counts that a u64 holds: of bytes, of calls, of idle calls, of faults.
 use Rattle.std.specs.Prelude.{◌≡◌, ℕ, ◌+◌, ◌-◌, ◌^◌, ◌<◌, ◌⊎◌, min}
 
 -- the greatest u64, at which a count stays

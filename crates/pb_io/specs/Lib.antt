@@ -1,6 +1,6 @@
+-- Statement
 pub mod Counts
 pub mod MemSink
 pub mod MemSource
 pub mod Sink
 pub mod Source
-pub mod Tally

@@ -1,25 +1,42 @@
--- A sink in memory.
-use Rattle.std.specs.Prelude.{ℕ, ◌≤◌, ◌⊎◌, ◌++◌, List, length, Contains}
+-- Statement. A sink in memory.
+use Rattle.std.specs.Prelude.{ℕ, ◌-◌, ◌≤◌, ◌⊎◌, ◌++◌, List, Some, length, Contains}
 use Rattle.pb_io.specs.Counts.{counted}
+use Rattle.pb_io.specs.Sink.{SinkSeen}
 
 -- the bytes that are held, and how many were put; how many there is room for in all; the most that a call appends;
--- the numbers of the calls that fail, counted from 1; how many calls there were, and how many of them failed
+-- the numbers of the calls that fail, counted from 1; how many calls there were, how many of them took no byte, and how many failed
 pub record SinkInMemory : Type 0 where
-  pub held : List ℕ
+  pub contents : List ℕ
   pub written : ℕ
   pub room : ℕ
   pub most : ℕ
   pub fails : List ℕ
   pub calls : ℕ
+  pub idle : ℕ
   pub faults : ℕ
+
+-- what the sink has been seen to do: it tells its bytes
+abbrev pub seen_in_memory : SinkInMemory → SinkSeen
+seen_in_memory sink = record {
+  contents = Some sink.contents;
+  written = sink.written;
+  calls = sink.calls;
+  idle = sink.idle;
+  faults = sink.faults;
+}
 
 -- the list names the next call, or no room is left
 abbrev pub RefusesNext : SinkInMemory → Type 0
-RefusesNext sink = Contains sink.fails (counted sink.calls 1) ⊎ (sink.room ≤ length sink.held)
+RefusesNext sink = Contains sink.fails (counted sink.calls 1) ⊎ (sink.room ≤ length sink.contents)
 
 -- the sink after a call that appended these bytes
 abbrev pub after_appending : SinkInMemory → List ℕ → SinkInMemory
-after_appending sink bytes = record sink { held = sink.held ++ bytes; written = counted sink.written (length bytes); calls = counted sink.calls 1 }
+after_appending sink bytes = record sink {
+  contents = sink.contents ++ bytes;
+  written = counted sink.written (length bytes);
+  calls = counted sink.calls 1;
+  idle = counted sink.idle (1 - length bytes);
+}
 
 -- the sink after a call that failed
 abbrev pub after_fault : SinkInMemory → SinkInMemory

@@ -1,16 +1,28 @@
--- A source in memory.
-use Rattle.std.specs.Prelude.{ℕ, List, Contains, drop}
+-- Statement. A source in memory.
+use Rattle.std.specs.Prelude.{ℕ, ◌-◌, List, Some, Contains, drop}
 use Rattle.pb_io.specs.Counts.{counted}
+use Rattle.pb_io.specs.Source.{SourceSeen}
 
--- the bytes that are left, and how many were taken; the most that a call gives; the numbers of the calls that fail, counted from 1;
--- how many calls there were, and how many of them failed
+-- the bytes that remain, and how many were taken; the most that a call gives; the numbers of the calls that fail, counted from 1;
+-- how many calls there were, how many of them gave no byte, and how many failed
 pub record SourceInMemory : Type 0 where
-  pub left : List ℕ
+  pub remaining : List ℕ
   pub taken : ℕ
   pub most : ℕ
   pub fails : List ℕ
   pub calls : ℕ
+  pub idle : ℕ
   pub faults : ℕ
+
+-- what the source has been seen to do: it tells its bytes
+abbrev pub seen_in_memory : SourceInMemory → SourceSeen
+seen_in_memory source = record {
+  remaining = Some source.remaining;
+  taken = source.taken;
+  calls = source.calls;
+  idle = source.idle;
+  faults = source.faults;
+}
 
 -- the list names the next call
 abbrev pub FailsNext : SourceInMemory → Type 0
@@ -18,7 +30,12 @@ FailsNext source = Contains source.fails (counted source.calls 1)
 
 -- the source after a call that gave the next n bytes
 abbrev pub after_giving : SourceInMemory → ℕ → SourceInMemory
-after_giving source n = record source { left = drop n source.left; taken = counted source.taken n; calls = counted source.calls 1 }
+after_giving source n = record source {
+  remaining = drop n source.remaining;
+  taken = counted source.taken n;
+  calls = counted source.calls 1;
+  idle = counted source.idle (1 - n);
+}
 
 -- the source after a call that failed
 abbrev pub after_fault : SourceInMemory → SourceInMemory

@@ -1,13 +1,26 @@
--- What is put into a sink, seen by its meanings: the bytes that it holds, where it tells them, and how many were put.
+-- Statement. What a sink has been seen to do, and what is put into it.
 use Rattle.std.specs.Prelude.{◌≡◌, ℕ, ◌<◌, List, length, take, Option}
 use Rattle.std.specs.Io.KnownBytes.{Appends}
 use Rattle.pb_io.specs.Counts.{counted}
 
+-- What a sink has been seen to do: the bytes that it holds, where it tells them, how many were put, how often it was called,
+-- how many of these calls took no byte, and how many failed.
+pub record SinkSeen : Type 0 where
+  pub contents : Option (List ℕ)
+  pub written : ℕ
+  pub calls : ℕ
+  pub idle : ℕ
+  pub faults : ℕ
+
 -- these bytes were put: they stand behind those that were held, where these are told, and the count moved on by their number
-pub record Puts {W : Type 0} (held : W → Option (List ℕ)) (written : W → ℕ) (old new : W) (bytes : List ℕ) : Type 0 where
-  pub behind : Appends (held old) (held new) bytes
-  pub count : written new ≡ counted (written old) (length bytes)
+pub record Puts (old new : SinkSeen) (bytes : List ℕ) : Type 0 where
+  pub behind : Appends old.contents new.contents bytes
+  pub count : new.written ≡ counted old.written (length bytes)
 
 -- a prefix of the bytes was put, and not all of them
-abbrev pub PutsPrefix : {W : Type 0} → (W → Option (List ℕ)) → (W → ℕ) → W → W → List ℕ → Type 0
-PutsPrefix held written old new bytes = (n : ℕ) × (n < length bytes) × Puts held written old new (take n bytes)
+abbrev pub PutsPrefix : SinkSeen → SinkSeen → List ℕ → Type 0
+PutsPrefix old new bytes = (n : ℕ) × (n < length bytes) × Puts old new (take n bytes)
+
+-- bytes of which this holds were put
+abbrev pub PutsSuch : (List ℕ → Type 0) → SinkSeen → SinkSeen → Type 0
+PutsSuch Holds old new = (bytes : List ℕ) × Holds bytes × Puts old new bytes

@@ -1,23 +1,32 @@
--- What is taken from a source, seen by its meanings: the bytes that are left, where it tells them, how many were taken, and how
--- often it was called.
+-- Statement. What a source has been seen to do, and what is taken from it.
 use Rattle.std.specs.Prelude.{◌≡◌, ℕ, ◌+◌, ◌≤◌, List, length, Option}
 use Rattle.std.specs.Io.KnownBytes.{Consumes}
 use Rattle.pb_io.specs.Counts.{counted}
 
--- these bytes were taken: they stood in front of those that are left, where these are told, and the count moved on by their number
-pub record Takes {S : Type 0} (left : S → Option (List ℕ)) (taken : S → ℕ) (old new : S) (bytes : List ℕ) : Type 0 where
-  pub front : Consumes (left old) (left new) bytes
-  pub count : taken new ≡ counted (taken old) (length bytes)
+-- What a source has been seen to do: the bytes that remain, where it tells them, how many were taken, how often it was
+-- called, how many of these calls gave no byte, and how many failed.
+pub record SourceSeen : Type 0 where
+  pub remaining : Option (List ℕ)
+  pub taken : ℕ
+  pub calls : ℕ
+  pub idle : ℕ
+  pub faults : ℕ
 
--- these bytes were taken in turns, and every turn but the last took at least one: there was at most one call more than bytes
-pub record TakesInTurns {S : Type 0} (left : S → Option (List ℕ)) (taken calls : S → ℕ) (old new : S) (bytes : List ℕ) : Type 0 where
-  pub takes : Takes left taken old new bytes
-  pub turns : calls new ≤ counted (calls old) (length bytes + 1)
+-- these bytes were taken: they stood in front of those that remain, where these are told, and the count moved on by their number
+pub record Takes (old new : SourceSeen) (bytes : List ℕ) : Type 0 where
+  pub front : Consumes old.remaining new.remaining bytes
+  pub count : new.taken ≡ counted old.taken (length bytes)
+
+-- these bytes were taken in turns, of which at most one, the last, gave no byte: so there was at most one turn more than bytes
+pub record TakesInTurns (old new : SourceSeen) (bytes : List ℕ) : Type 0 where
+  pub takes : Takes old new bytes
+  pub idle : new.idle ≤ counted old.idle 1
+  pub turns : new.calls ≤ counted old.calls (length bytes + 1)
 
 -- n bytes were taken in such turns
-abbrev pub TakesExactly : {S : Type 0} → (S → Option (List ℕ)) → (S → ℕ) → (S → ℕ) → S → S → ℕ → Type 0
-TakesExactly left taken calls old new n = (bytes : List ℕ) × TakesInTurns left taken calls old new bytes × (length bytes ≡ n)
+abbrev pub TakesExactly : SourceSeen → SourceSeen → ℕ → Type 0
+TakesExactly old new n = (bytes : List ℕ) × TakesInTurns old new bytes × (length bytes ≡ n)
 
 -- at most n bytes were taken in such turns
-abbrev pub TakesAtMost : {S : Type 0} → (S → Option (List ℕ)) → (S → ℕ) → (S → ℕ) → S → S → ℕ → Type 0
-TakesAtMost left taken calls old new n = (bytes : List ℕ) × TakesInTurns left taken calls old new bytes × (length bytes ≤ n)
+abbrev pub TakesAtMost : SourceSeen → SourceSeen → ℕ → Type 0
+TakesAtMost old new n = (bytes : List ℕ) × TakesInTurns old new bytes × (length bytes ≤ n)

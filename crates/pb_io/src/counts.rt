@@ -1,12 +1,19 @@
-//! Counts in a u64 that stay at its greatest value, and calls by their number.
-ghost use Rattle.std.specs.Prelude.{◌≡◌, ◌↔◌, IsTrue, Contains};
+// Counts in a u64 that stay at its greatest value, and calls by their number.
+ghost use Rattle.std.specs.Prelude.{◌≡◌, ◌-◌, ◌↔◌, IsTrue, Contains};
 ghost use Rattle.pb_io.specs.Counts.{counted};
 
 // A count after some more.
-pub fn count_on(count: u64, more: u64) -> u64
+pub fn saturating_count(count: u64, more: u64) -> u64
     ensures { result ≡ counted count more }
 {
     count.saturating_add(more)
+}
+
+// 1 for a call that moved no byte, and 0 for one that moved some.
+pub fn idle_calls(moved: usize) -> u64
+    ensures { result ≡ 1 - moved }
+{
+    if moved == 0 { 1 } else { 0 }
 }
 
 // Whether a list of the numbers of calls names this one.

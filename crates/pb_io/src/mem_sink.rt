@@ -1,9 +1,9 @@
-//! A sink in memory.
-ghost use Rattle.std.specs.Prelude.{◌≡◌, ◌+◌, ◌-◌, ◌<◌, ◌≤◌, ◌↔◌, [], ◌++◌, length, take, min, Some, vec_len, vec_capacity, Ok, IfOk, IsErr, OnErr};
-ghost use Rattle.pb_io.specs.Counts.{counted, Rose};
-ghost use Rattle.pb_io.specs.MemSink.{SinkInMemory, RefusesNext, after_appending, after_fault};
+// A sink in memory.
+ghost use Rattle.std.specs.Prelude.{◌≡◌, ◌-◌, ◌<◌, ◌↔◌, [], length, take, min, IfOk, IsErr, OnErr};
+ghost use Rattle.pb_io.specs.Counts.{Rose};
+ghost use Rattle.pb_io.specs.MemSink.{RefusesNext, after_appending, after_fault, seen_in_memory};
 
-use crate::counts::{count_on, is_named};
+use crate::counts::{is_named, saturating_count};
 use crate::writing::{Sink, SinkFailed};
 use std::alloc::{AllocError, Global};
 use std::marker::Model;
@@ -19,6 +19,7 @@ pub struct MemSink {
     most: usize,
     fails: Vec<u32>,
     calls: u64,
+    idle: u64,
     faults: u64,
 }
 
@@ -29,12 +30,13 @@ impl Model for MemSink {
     ghost Value = { SinkInMemory };
 
     ghost view = { λ a. record {
-      held = a.bytes.items;
+      contents = a.bytes.items;
       written = vec_len a.bytes;
       room = a.room;
       most = a.most;
       fails = a.fails.items;
       calls = a.calls;
+      idle = a.idle;
       faults = a.faults;
     } };
 
@@ -53,12 +55,13 @@ impl MemSink {
     ) -> Result<MemSink, AllocError>
         requires { 0 < most }
         ensures { IfOk result (λ sink. sink ≡ record {
-          held = [];
+          contents = [];
           written = 0;
           room = room;
           most = most;
           fails = fails.items;
           calls = 0;
+          idle = 0;
           faults = 0;
         }) }
     {
@@ -68,26 +71,21 @@ impl MemSink {
             most,
             fails,
             calls: 0,
+            idle: 0,
             faults: 0,
         })
     }
 
     /// The bytes that the sink holds.
     pub fn bytes(&self) -> &[u8]
-        ensures { result.now ≡ self.now.held }
+        ensures { result.now ≡ self.now.contents }
     {
         self.bytes.as_slice()
     }
 }
 
 impl Sink for MemSink {
-    ghost held = { λ s. Some s.held };
-
-    ghost written = { λ s. s.written };
-
-    ghost calls = { λ s. s.calls };
-
-    ghost faults = { λ s. s.faults };
+    ghost seen = { λ s. seen_in_memory s };
 
     fn put(&mut self, piece: &[u8]) -> Result<usize, SinkFailed>
         // It fails exactly at a piece that isn't empty, where the list names the call or no room is
@@ -98,17 +96,18 @@ impl Sink for MemSink {
 
         // Else it appends as many bytes as the piece, `most` and the room left allow.
         ensures number { IfOk result (λ n. n ≡ min self.old.most
-            (min (length piece.now) (self.old.room - length self.old.held))) }
+            (min (length piece.now) (self.old.room - length self.old.contents))) }
         ensures some { IfOk result (λ n. 0 < length piece.now → 0 < n) }
         ensures ok { IfOk result (λ n. self.new ≡ after_appending self.old (take n piece.now)) }
     {
-        self.calls = count_on(self.calls, 1);
+        self.calls = saturating_count(self.calls, 1);
         if piece.is_empty() {
+            self.idle = saturating_count(self.idle, 1);
             return Ok(0);
         }
         let left = self.room - self.bytes.len();
         if left == 0 || is_named(&self.fails, self.calls) {
-            self.faults = count_on(self.faults, 1);
+            self.faults = saturating_count(self.faults, 1);
             return Err(SinkFailed);
         }
         let count = self.most.min(piece.len()).min(left);

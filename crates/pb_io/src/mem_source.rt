@@ -1,9 +1,9 @@
-//! A source in memory.
-ghost use Rattle.std.specs.Prelude.{◌≡◌, ℕ, ◌+◌, ◌<◌, ◌≤◌, ◌↔◌, List, [], ◌++◌, length, take, drop, min, Some, vec_len, IfOk, IsErr, OnErr};
-ghost use Rattle.pb_io.specs.Counts.{counted, Rose};
-ghost use Rattle.pb_io.specs.MemSource.{SourceInMemory, FailsNext, after_giving, after_fault};
+// A source in memory.
+ghost use Rattle.std.specs.Prelude.{◌≡◌, ◌<◌, ◌↔◌, [], ◌++◌, length, take, min, IfOk, IsErr, OnErr};
+ghost use Rattle.pb_io.specs.Counts.{Rose};
+ghost use Rattle.pb_io.specs.MemSource.{FailsNext, after_giving, after_fault, seen_in_memory};
 
-use crate::counts::{count_on, is_named};
+use crate::counts::{idle_calls, is_named, saturating_count};
 use crate::reading::{Source, SourceFailed};
 use std::marker::Model;
 
@@ -18,6 +18,7 @@ pub struct MemSource {
     most: usize,
     fails: Vec<u32>,
     calls: u64,
+    idle: u64,
     faults: u64,
 }
 
@@ -28,11 +29,12 @@ impl Model for MemSource {
     ghost Value = { SourceInMemory };
 
     ghost view = { λ a. record {
-      left = drop a.at a.bytes.items;
+      remaining = drop a.at a.bytes.items;
       taken = a.at;
       most = a.most;
       fails = a.fails.items;
       calls = a.calls;
+      idle = a.idle;
       faults = a.faults;
     } };
 
@@ -45,11 +47,12 @@ impl MemSource {
     pub fn new(bytes: Vec<u8>, most: usize, fails: Vec<u32>) -> MemSource
         requires { 0 < most }
         ensures { result ≡ record {
-          left = bytes.items;
+          remaining = bytes.items;
           taken = 0;
           most = most;
           fails = fails.items;
           calls = 0;
+          idle = 0;
           faults = 0;
         } }
     {
@@ -59,19 +62,14 @@ impl MemSource {
             most,
             fails,
             calls: 0,
+            idle: 0,
             faults: 0,
         }
     }
 }
 
 impl Source for MemSource {
-    ghost left = { λ s. Some s.left };
-
-    ghost taken = { λ s. s.taken };
-
-    ghost calls = { λ s. s.calls };
-
-    ghost faults = { λ s. s.faults };
+    ghost seen = { λ s. seen_in_memory s };
 
     fn take(&mut self, buf: &mut [u8]) -> Result<usize, SourceFailed>
         // It fails exactly at the calls that the list names, and then its counts alone move on.
@@ -81,18 +79,19 @@ impl Source for MemSource {
 
         // Else it gives as many bytes as `most`, the bytes left and the buffer allow.
         ensures number { IfOk result (λ n.
-            n ≡ min self.old.most (min (length self.old.left) (length buf.new))) }
-        ensures bytes { IfOk result (λ n. self.old.left ≡ take n buf.new ++ self.new.left) }
+            n ≡ min self.old.most (min (length self.old.remaining) (length buf.new))) }
+        ensures bytes { IfOk result (λ n. self.old.remaining ≡ take n buf.new ++ self.new.remaining) }
         ensures ok { IfOk result (λ n. self.new ≡ after_giving self.old n) }
-        ensures end { IfOk result (λ n. n ≡ 0 → 0 < length buf.new → self.old.left ≡ []) }
+        ensures end { IfOk result (λ n. n ≡ 0 → 0 < length buf.new → self.old.remaining ≡ []) }
     {
-        self.calls = count_on(self.calls, 1);
+        self.calls = saturating_count(self.calls, 1);
         if is_named(&self.fails, self.calls) {
-            self.faults = count_on(self.faults, 1);
+            self.faults = saturating_count(self.faults, 1);
             return Err(SourceFailed);
         }
         let count = copy_front(&self.bytes[self.at..], self.most, buf);
         self.at += count;
+        self.idle = saturating_count(self.idle, idle_calls(count));
         Ok(count)
     }
 }

@@ -1,8 +1,8 @@
-//! Sources of bytes, and reading one to its end.
-ghost use Rattle.std.specs.Prelude.{◌≡◌, ◌≢◌, ℕ, ◌+◌, ◌^◌, ◌<◌, ◌≤◌, ◌⊎◌, List, [], length, take, Option, Some, Err, vec_len, IfSome, IfOk, OnOk, OnErr, IsErrOf, IsOkUnless};
+// Sources of bytes, and reading one to its end.
+ghost use Rattle.std.specs.Prelude.{◌≡◌, ◌≢◌, ◌+◌, ◌-◌, ◌^◌, ◌<◌, ◌≤◌, ◌⊎◌, [], length, take, Some, Err, vec_len, IfSome, IfOk, OnOk, OnErr, IsErrOf, IsOkUnless};
 ghost use Rattle.std.specs.Io.KnownBytes.{IsAtEnd};
 ghost use Rattle.pb_io.specs.Counts.{counted, Rose};
-ghost use Rattle.pb_io.specs.Source.{Takes, TakesInTurns, TakesExactly, TakesAtMost};
+ghost use Rattle.pb_io.specs.Source.{SourceSeen, Takes, TakesInTurns, TakesExactly, TakesAtMost};
 ghost use Rattle.pb_io.specs.declared.reading.ReadEnd.TheVariants.{Fault, NoMemory};
 
 use std::alloc::{AllocError, Global};
@@ -45,32 +45,35 @@ impl From<AllocError> for ReadEnd {
 
 /// What bytes are taken from.
 ///
-/// A contract sees the bytes that are left, where a source tells them, and three counts, each of
-/// which stays once it is the greatest u64: of the bytes taken, of the calls, and of the faults.
+/// A contract sees the bytes that remain, where a source tells them, and four counts, each of which
+/// stays once it is the greatest u64: of the bytes taken, of the calls, of the calls that gave no
+/// byte, and of the faults.
 pub trait Source {
-    ghost left: { Self → Option (List ℕ) };
-
-    ghost taken: { Self → ℕ };
-
-    ghost calls: { Self → ℕ };
-
-    ghost faults: { Self → ℕ };
+    // What the source has been seen to do.
+    ghost seen: { Self → SourceSeen };
 
     /// Takes the next bytes into the front of `buf`, and gives their number; 0 on a buffer that
     /// isn't empty is the end of the input. What `buf` holds behind these bytes, or after a
     /// failure, isn't said.
     fn take(&mut self, buf: &mut [u8]) -> Result<usize, SourceFailed>
         ensures within { IfOk result (λ n. n ≤ length buf.new) }
-        ensures bytes { IfOk result (λ n. Takes left taken self.old self.new (take n buf.new)) }
-        ensures end { IfOk result (λ n. n ≡ 0 → 0 < length buf.new → IsAtEnd (left self.new)) }
-        ensures only_end { left self.old ≡ Some [] → IfOk result (λ n. n ≡ 0) }
+        ensures bytes { IfOk result (λ n. Takes (seen self.old) (seen self.new) (take n buf.new)) }
+        ensures end { IfOk result (λ n.
+            n ≡ 0 → 0 < length buf.new → IsAtEnd (seen self.new).remaining) }
+        ensures only_end { (seen self.old).remaining ≡ Some [] → IfOk result (λ n. n ≡ 0) }
 
-        // It fails only where a fault was counted, and then no byte was taken.
-        ensures cause { OnErr result (Rose (faults self.old) (faults self.new)) }
-        ensures none { OnErr result (Takes left taken self.old self.new []) }
+        // Exactly the calls that give no byte are counted as idle.
+        ensures idle { IfOk result (λ n.
+            (seen self.new).idle ≡ counted (seen self.old).idle (1 - n)) }
 
-        ensures faults_stay { faults self.old ≤ faults self.new }
-        ensures called { calls self.new ≡ counted (calls self.old) 1 };
+        // It fails exactly where a fault was counted, and then no byte was taken.
+        ensures cause { OnErr result (Rose (seen self.old).faults (seen self.new).faults) }
+        ensures no_fault { OnOk result ((seen self.new).faults ≡ (seen self.old).faults) }
+        ensures none { OnErr result (Takes (seen self.old) (seen self.new) []) }
+        ensures not_idle { OnErr result ((seen self.new).idle ≡ (seen self.old).idle) }
+
+        ensures faults_stay { (seen self.old).faults ≤ (seen self.new).faults }
+        ensures called { (seen self.new).calls ≡ counted (seen self.old).calls 1 };
 }
 
 // The most bytes that one turn asks for.
@@ -80,34 +83,44 @@ const CHUNK: usize = 8192;
 ///
 /// It stops once it has taken one byte more than the limit. After a refusal the bytes that were
 /// taken are gone from the source.
-#[tactic(auto, using(crate::proofs::Taking::takes_none, crate::proofs::Taking::takes_more))]
+#[tactic(auto, using(crate::proofs::TakingLemmas::takes_none, crate::proofs::TakingLemmas::takes_more))]
 pub fn read_all<S: Source>(alloc: Global, source: &mut S, limit: usize) -> Result<Vec<u8>, ReadEnd>
     requires { limit < 2 ^ 32 }
 
     // All the bytes to the end, within the limit.
     ensures bytes { IfOk result (λ all.
-        TakesInTurns S.left S.taken S.calls source.old source.new all.items) }
-    ensures whole { IfOk result (λ all. IfSome (S.left source.old) (λ bytes. all.items ≡ bytes)) }
-    ensures end { OnOk result (IsAtEnd (S.left source.new)) }
+        TakesInTurns (S.seen source.old) (S.seen source.new) all.items) }
+    ensures whole { IfSome (S.seen source.old).remaining (λ bytes.
+        IfOk result (λ all. all.items ≡ bytes)) }
+    ensures end { OnOk result (IsAtEnd (S.seen source.new).remaining) }
     ensures within { IfOk result (λ all. vec_len all ≤ limit) }
+
+    // The last turn of a whole reading gives no byte, and each other turn at least one.
+    ensures idle { OnOk result
+        ((S.seen source.new).idle ≡ counted (S.seen source.old).idle 1) }
+    ensures never_idle { OnErr result
+        ((S.seen source.new).idle ≡ (S.seen source.old).idle) }
 
     // Too large is the answer exactly where one byte more than the limit was taken.
     ensures too_large { IsErrOf result ReadEnd.TooLarge →
-        TakesExactly S.left S.taken S.calls source.old source.new (limit + 1) }
+        TakesExactly (S.seen source.old) (S.seen source.new) (limit + 1) }
     ensures not_too_large { result ≢ Err ReadEnd.TooLarge →
-        TakesAtMost S.left S.taken S.calls source.old source.new limit }
+        TakesAtMost (S.seen source.old) (S.seen source.new) limit }
 
-    // A fault is the answer only where the source counted one.
+    // A fault is the answer exactly where the source counted one.
     ensures cause { IsErrOf result ReadEnd.Fault →
-        Rose (S.faults source.old) (S.faults source.new) }
-    ensures faults_stay { S.faults source.old ≤ S.faults source.new }
+        Rose (S.seen source.old).faults (S.seen source.new).faults }
+    ensures no_fault { result ≢ Err ReadEnd.Fault →
+        (S.seen source.new).faults ≡ (S.seen source.old).faults }
+    ensures faults_stay { (S.seen source.old).faults ≤ (S.seen source.new).faults }
 
     // Where the bytes are told and no fault was counted, their number decides. Want of memory alone
     // is free.
-    ensures small { IfSome (S.left source.old) (λ bytes. length bytes ≤ limit →
-        ¬ Rose (S.faults source.old) (S.faults source.new) → IsOkUnless result ReadEnd.NoMemory) }
-    ensures large { IfSome (S.left source.old) (λ bytes. limit < length bytes →
-        ¬ Rose (S.faults source.old) (S.faults source.new) →
+    ensures small { IfSome (S.seen source.old).remaining (λ bytes. length bytes ≤ limit →
+        ¬ Rose (S.seen source.old).faults (S.seen source.new).faults →
+        IsOkUnless result ReadEnd.NoMemory) }
+    ensures large { IfSome (S.seen source.old).remaining (λ bytes. limit < length bytes →
+        ¬ Rose (S.seen source.old).faults (S.seen source.new).faults →
         IsErrOf result ReadEnd.TooLarge ⊎ IsErrOf result ReadEnd.NoMemory) }
 {
     let mut all = Vec::new(alloc);

@@ -1,10 +1,7 @@
-//! The readers and writers of std as sources and sinks: the edge of the program, of whose bytes
-//! nothing is told.
-ghost use Rattle.std.specs.Prelude.{◌≡◌, ◌<◌, ◌≤◌, [], length, None, Ok, IfOk, OnErr};
-ghost use Rattle.pb_io.specs.Counts.{Rose};
-ghost use Rattle.pb_io.specs.Tally.{Tally, after_moving, after_fault};
+// The readers and writers of std as sources and sinks: the edge of the program. Of the bytes they tell what std tells of
+// the reader and the writer, and std tells nothing of those of standard input and output.
 
-use crate::counts::count_on;
+use crate::counts::{idle_calls, saturating_count};
 use crate::reading::{Source, SourceFailed};
 use crate::writing::{Sink, SinkFailed};
 use std::io::{Read, Write};
@@ -12,116 +9,132 @@ use std::marker::Model;
 
 /// A reader as a source. Each error of the reader is a fault.
 #[derive(Drop)]
-pub struct StdSource<R> {
+pub struct StdSource<R: Read> {
     reader: R,
     taken: u64,
     calls: u64,
+    idle: u64,
     faults: u64,
 }
 
-impl<R> Model for StdSource<R> {
-    ghost Value = { Tally };
+impl<R: Read> Model for StdSource<R> {
+    ghost use Rattle.pb_io.specs.Source.{SourceSeen};
 
-    ghost view = { λ a. record { bytes = a.taken; calls = a.calls; faults = a.faults } };
+    ghost Value = { SourceSeen };
+
+    ghost view = { λ a. record {
+      remaining = R.remaining a.reader;
+      taken = a.taken;
+      calls = a.calls;
+      idle = a.idle;
+      faults = a.faults;
+    } };
 }
 
-impl<R> StdSource<R> {
+impl<R: Read> StdSource<R> {
+    ghost use Rattle.std.specs.Prelude.{◌≡◌};
+
     /// A source of what the reader gives.
     pub fn new(reader: R) -> StdSource<R>
-        ensures { result ≡ record { bytes = 0; calls = 0; faults = 0 } }
+        ensures { result ≡ record {
+          remaining = R.remaining reader;
+          taken = 0;
+          calls = 0;
+          idle = 0;
+          faults = 0;
+        } }
     {
         StdSource {
             reader,
             taken: 0,
             calls: 0,
+            idle: 0,
             faults: 0,
         }
     }
 }
 
 impl<R: Read> Source for StdSource<R> {
-    ghost left = { λ _. None };
+    ghost seen = { λ s. s };
 
-    ghost taken = { λ s. s.bytes };
-
-    ghost calls = { λ s. s.calls };
-
-    ghost faults = { λ s. s.faults };
-
-    fn take(&mut self, buf: &mut [u8]) -> Result<usize, SourceFailed>
-        ensures within { IfOk result (λ n. n ≤ length buf.new) }
-        ensures ok { IfOk result (λ n. self.new ≡ after_moving self.old n) }
-        ensures err { OnErr result (self.new ≡ after_fault self.old) }
-        ensures cause { OnErr result (Rose self.old.faults self.new.faults) }
-    {
-        self.calls = count_on(self.calls, 1);
+    fn take(&mut self, buf: &mut [u8]) -> Result<usize, SourceFailed> {
+        self.calls = saturating_count(self.calls, 1);
         let Ok(count) = self.reader.read(buf) else {
-            self.faults = count_on(self.faults, 1);
+            self.faults = saturating_count(self.faults, 1);
             return Err(SourceFailed);
         };
-        self.taken = count_on(self.taken, count as u64);
+        self.taken = saturating_count(self.taken, count as u64);
+        self.idle = saturating_count(self.idle, idle_calls(count));
         Ok(count)
     }
 }
 
 /// A writer as a sink. Each error of the writer is a fault, and so is a write of no byte of a piece
 /// that isn't empty.
+///
+/// Nothing flushes the writer: one that keeps bytes back could lose them.
 #[derive(Drop)]
-pub struct StdSink<W> {
+pub struct StdSink<W: Write> {
     writer: W,
     written: u64,
     calls: u64,
+    idle: u64,
     faults: u64,
 }
 
-impl<W> Model for StdSink<W> {
-    ghost Value = { Tally };
+impl<W: Write> Model for StdSink<W> {
+    ghost use Rattle.pb_io.specs.Sink.{SinkSeen};
 
-    ghost view = { λ a. record { bytes = a.written; calls = a.calls; faults = a.faults } };
+    ghost Value = { SinkSeen };
+
+    ghost view = { λ a. record {
+      contents = W.contents a.writer;
+      written = a.written;
+      calls = a.calls;
+      idle = a.idle;
+      faults = a.faults;
+    } };
 }
 
-impl<W> StdSink<W> {
+impl<W: Write> StdSink<W> {
+    ghost use Rattle.std.specs.Prelude.{◌≡◌};
+
     /// A sink that hands its pieces to the writer.
     pub fn new(writer: W) -> StdSink<W>
-        ensures { result ≡ record { bytes = 0; calls = 0; faults = 0 } }
+        ensures { result ≡ record {
+          contents = W.contents writer;
+          written = 0;
+          calls = 0;
+          idle = 0;
+          faults = 0;
+        } }
     {
         StdSink {
             writer,
             written: 0,
             calls: 0,
+            idle: 0,
             faults: 0,
         }
     }
 }
 
 impl<W: Write> Sink for StdSink<W> {
-    ghost held = { λ _. None };
+    ghost seen = { λ s. s };
 
-    ghost written = { λ s. s.bytes };
-
-    ghost calls = { λ s. s.calls };
-
-    ghost faults = { λ s. s.faults };
-
-    fn put(&mut self, piece: &[u8]) -> Result<usize, SinkFailed>
-        ensures within { IfOk result (λ n. n ≤ length piece.now) }
-        ensures some { IfOk result (λ n. 0 < length piece.now → 0 < n) }
-        ensures empty { piece.now ≡ [] → result ≡ Ok 0 }
-        ensures ok { IfOk result (λ n. self.new ≡ after_moving self.old n) }
-        ensures err { OnErr result (self.new ≡ after_fault self.old) }
-        ensures cause { OnErr result (Rose self.old.faults self.new.faults) }
-    {
-        self.calls = count_on(self.calls, 1);
+    fn put(&mut self, piece: &[u8]) -> Result<usize, SinkFailed> {
+        self.calls = saturating_count(self.calls, 1);
         if piece.is_empty() {
+            self.idle = saturating_count(self.idle, 1);
             return Ok(0);
         }
         match self.writer.write(piece) {
             Ok(count) if count > 0 => {
-                self.written = count_on(self.written, count as u64);
+                self.written = saturating_count(self.written, count as u64);
                 Ok(count)
             }
             _ => {
-                self.faults = count_on(self.faults, 1);
+                self.faults = saturating_count(self.faults, 1);
                 Err(SinkFailed)
             }
         }

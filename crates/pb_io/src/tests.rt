@@ -1,5 +1,5 @@
-//! What no clause says: that calls succeed with ample memory, and what readers and writers of std
-//! do behind their adapters.
+// What no clause says: that calls succeed with ample memory, and what readers and writers of std
+// do behind their adapters.
 use super::*;
 use std::io;
 use std::io::{Read, Write};
@@ -21,8 +21,10 @@ fn reads_to_the_end(rt: HostRuntime) -> Result<(), Fail> {
         let bytes = Vec::from_slice(rt.alloc(), bytes.as_bytes())?;
         let mut source = MemSource::new(bytes, most, vec![in rt.alloc(); failing]?);
         match (read_all(rt.alloc(), &mut source, limit), want) {
-            (Ok(all), Ok(want)) => assert_eq!(rt; all.as_slice(), want.as_bytes()),
-            (Err(end), Err(want)) => assert_eq!(rt; end, want),
+            (Ok(all), Ok(want)) => {
+                assert_eq!(rt; all.as_slice(), want.as_bytes(), "at {most} and {failing}")
+            }
+            (Err(end), Err(want)) => assert_eq!(rt; end, want, "at {most} and {failing}"),
             _ => assert!(rt; false, "at {most} and {failing}"),
         }
     }
@@ -47,7 +49,11 @@ fn writes_whole_or_a_prefix(rt: HostRuntime) -> Result<(), Fail> {
             held == "report",
             "at {room}, {most} and {failing}"
         );
-        assert_eq!(rt; sink.bytes(), held.as_bytes());
+        assert_eq!(rt;
+            sink.bytes(),
+            held.as_bytes(),
+            "at {room}, {most} and {failing}"
+        );
     }
     Ok(())
 }
@@ -86,5 +92,55 @@ fn adapts_readers_and_writers(rt: HostRuntime) -> Result<(), Fail> {
     assert_eq!(rt; failed.err(), Some(ReadEnd::Fault));
     let failed = write_all(&mut StdSink::new(Broken), b"report");
     assert_eq!(rt; failed, Err(SinkFailed));
+    Ok(())
+}
+
+// A writer that takes one byte a call.
+#[derive(Drop)]
+struct OneByte {
+    taken: Vec<u8>,
+}
+
+impl Write for OneByte {
+    fn write(&mut self, buf: &[u8]) -> io::Result<usize> {
+        self.taken.write(&buf[..buf.len().min(1)])
+    }
+
+    fn flush(&mut self) -> io::Result<()> {
+        Ok(())
+    }
+}
+
+// A reader that gives three bytes and then fails.
+#[derive(Drop)]
+struct CutShort {
+    given: bool,
+}
+
+impl Read for CutShort {
+    fn read(&mut self, buf: &mut [u8]) -> io::Result<usize> {
+        if self.given {
+            return Err(io::Error::from(io::ErrorKind::Other));
+        }
+        self.given = true;
+        b"uni".as_slice().read(buf)
+    }
+}
+
+#[test]
+fn writes_whole_by_single_bytes(rt: HostRuntime) -> Result<(), Fail> {
+    let mut writer = OneByte {
+        taken: Vec::new(rt.alloc()),
+    };
+    write_all(&mut StdSink::new(&mut writer), b"report")?;
+    assert_eq!(rt; writer.taken.as_slice(), b"report".as_slice());
+    Ok(())
+}
+
+#[test]
+fn reader_that_fails_in_mid_stream_is_a_fault(rt: HostRuntime) -> Result<(), Fail> {
+    let mut source = StdSource::new(CutShort { given: false });
+    let read = read_all(rt.alloc(), &mut source, 100);
+    assert_eq!(rt; read.err(), Some(ReadEnd::Fault));
     Ok(())
 }

@@ -1,7 +1,7 @@
-//! Sinks of bytes, and writing a slice whole.
-ghost use Rattle.std.specs.Prelude.{◌≡◌, ℕ, ◌<◌, ◌≤◌, List, [], length, take, Option, Ok, IfOk, IsOk, OnOk, OnErr};
+// Sinks of bytes, and writing a slice whole.
+ghost use Rattle.std.specs.Prelude.{◌≡◌, ◌-◌, ◌<◌, ◌≤◌, [], length, take, Ok, IfOk, IsOk, OnOk, OnErr};
 ghost use Rattle.pb_io.specs.Counts.{counted, Rose};
-ghost use Rattle.pb_io.specs.Sink.{Puts, PutsPrefix};
+ghost use Rattle.pb_io.specs.Sink.{SinkSeen, Puts, PutsPrefix};
 
 use thiserror::Error;
 
@@ -12,46 +12,50 @@ pub struct SinkFailed;
 
 /// What bytes are put into.
 ///
-/// A contract sees the bytes that are held, where a sink tells them, and three counts, each of
-/// which stays once it is the greatest u64: of the bytes put, of the calls, and of the faults.
+/// A contract sees the bytes that are held, where a sink tells them, and four counts, each of which
+/// stays once it is the greatest u64: of the bytes put, of the calls, of the calls that took no
+/// byte, and of the faults.
 pub trait Sink {
-    ghost held: { Self → Option (List ℕ) };
-
-    ghost written: { Self → ℕ };
-
-    ghost calls: { Self → ℕ };
-
-    ghost faults: { Self → ℕ };
+    // What the sink has been seen to do.
+    ghost seen: { Self → SinkSeen };
 
     /// Appends bytes from the front of `piece`, at least one where there is one, and gives their
     /// number.
     fn put(&mut self, piece: &[u8]) -> Result<usize, SinkFailed>
         ensures within { IfOk result (λ n. n ≤ length piece.now) }
         ensures some { IfOk result (λ n. 0 < length piece.now → 0 < n) }
-        ensures bytes { IfOk result (λ n. Puts held written self.old self.new (take n piece.now)) }
+        ensures bytes { IfOk result (λ n. Puts (seen self.old) (seen self.new) (take n piece.now)) }
         ensures empty { piece.now ≡ [] → result ≡ Ok 0 }
 
-        // It fails only where a fault was counted, and then no byte was put.
-        ensures cause { OnErr result (Rose (faults self.old) (faults self.new)) }
-        ensures none { OnErr result (Puts held written self.old self.new []) }
+        // Exactly the calls that take no byte are counted as idle.
+        ensures idle { IfOk result (λ n.
+            (seen self.new).idle ≡ counted (seen self.old).idle (1 - n)) }
 
-        ensures faults_stay { faults self.old ≤ faults self.new }
-        ensures called { calls self.new ≡ counted (calls self.old) 1 };
+        // It fails exactly where a fault was counted, and then no byte was put.
+        ensures cause { OnErr result (Rose (seen self.old).faults (seen self.new).faults) }
+        ensures no_fault { OnOk result ((seen self.new).faults ≡ (seen self.old).faults) }
+        ensures none { OnErr result (Puts (seen self.old) (seen self.new) []) }
+        ensures not_idle { OnErr result ((seen self.new).idle ≡ (seen self.old).idle) }
+
+        ensures faults_stay { (seen self.old).faults ≤ (seen self.new).faults }
+        ensures called { (seen self.new).calls ≡ counted (seen self.old).calls 1 };
 }
 
 /// Puts all the bytes into a sink, and no empty piece. After a failure a prefix of them was put.
-#[tactic(auto, using(crate::proofs::Putting::puts_none))]
+#[tactic(auto, using(crate::proofs::PieceLemmas::puts_none))]
 pub fn write_all<W: Sink>(sink: &mut W, bytes: &[u8]) -> Result<(), SinkFailed>
-    ensures whole { OnOk result (Puts W.held W.written sink.old sink.new bytes.now) }
-    ensures prefix { OnErr result (PutsPrefix W.held W.written sink.old sink.new bytes.now) }
+    ensures whole { OnOk result (Puts (W.seen sink.old) (W.seen sink.new) bytes.now) }
+    ensures prefix { OnErr result (PutsPrefix (W.seen sink.old) (W.seen sink.new) bytes.now) }
 
-    // It fails only where the sink counted a fault.
-    ensures cause { OnErr result (Rose (W.faults sink.old) (W.faults sink.new)) }
-    ensures complete { ¬ Rose (W.faults sink.old) (W.faults sink.new) → IsOk result }
-    ensures faults_stay { W.faults sink.old ≤ W.faults sink.new }
+    // It fails exactly where the sink counted a fault.
+    ensures cause { OnErr result (Rose (W.seen sink.old).faults (W.seen sink.new).faults) }
+    ensures complete { ¬ Rose (W.seen sink.old).faults (W.seen sink.new).faults → IsOk result }
+    ensures no_fault { OnOk result ((W.seen sink.new).faults ≡ (W.seen sink.old).faults) }
+    ensures faults_stay { (W.seen sink.old).faults ≤ (W.seen sink.new).faults }
 
-    // No piece is empty: there are at most as many calls as bytes.
-    ensures turns { W.calls sink.new ≤ counted (W.calls sink.old) (length bytes.now) }
+    // No piece is empty, so there are at most as many calls as bytes.
+    ensures idle { (W.seen sink.new).idle ≡ (W.seen sink.old).idle }
+    ensures turns { (W.seen sink.new).calls ≤ counted (W.seen sink.old).calls (length bytes.now) }
 {
     let mut done = 0;
     while done < bytes.len() {

@@ -1,6 +1,7 @@
-pub mod CertificateLemmas
-pub mod NamedLemmas
-pub mod TextLemmas
-pub mod RowLemmas
-pub mod ReportLemmas
-pub mod StudyLemmas
+mod AppendingLemmas
+mod CertificateLemmas
+mod NamedLemmas
+mod TextLemmas
+mod RowLemmas
+mod ReportLemmas
+mod StudyLemmas

@@ -21,7 +21,7 @@ use Rattle.pb_book.specs.Rows.{is_named, period_place, periods_of}
 use Rattle.pb_book.specs.Reading.{reading_of}
 use Rattle.pb_book.specs.Refusals.{refusal_of}
 use Rattle.pb_book.specs.Answer.{after_answer, answer_of, answer_to, answer_to_reading, is_refused, report_or_refused, said_of, stored_or_refused}
-use Rattle.pb_session.specs.Session.{AddsBy, Held}
+use Rattle.pb_session.specs.Session.{AddsBy, SessionState}
 use Rattle.pb_session.specs.Accepted.{AddsAccepted, IsOfPeriods}
 
 -- what the book says of a record that it takes, and of one that it refuses
@@ -42,24 +42,24 @@ accepted_is (Report i) accepted is = refl
 same_accepted : (a b : Accepted) → said_ok a ≡ said_ok b → a ≡ b
 same_accepted a b is = cc is
 
-same_held : (held new : Held) → new.options ≡ held.options → new.form ≡ held.form → new.rows ≡ held.rows → new ≡ held
-same_held held new options form rows =
+same_state : (state new : SessionState) → new.options ≡ state.options → new.form ≡ state.form → new.rows ≡ state.rows → new ≡ state
+same_state state new options form rows =
     ap (λ (o : Options). record { options = o; form = new.form; rows = new.rows }) options
-    ∙ ap (λ (f : Form). record { options = held.options; form = f; rows = new.rows }) form
-    ∙ ap (λ (r : List StoredRow). record { options = held.options; form = held.form; rows = r }) rows
+    ∙ ap (λ (f : Form). record { options = state.options; form = f; rows = new.rows }) form
+    ∙ ap (λ (r : List StoredRow). record { options = state.options; form = state.form; rows = r }) rows
 
 -- what an accepted record adds, behind it, is what its answer adds
-pub accepted_adds : (held new : Held) (at : ℕ) (answer : Answer) (accepted : Accepted) (text : List ℕ) → said_ok accepted ≡ said_of answer
-    → new.options ≡ held.options → new.form ≡ held.form → new.rows ≡ after_answer held.rows at answer → AddsAccepted new accepted text → AddsBy held at answer text
-accepted_adds held new at Blank accepted text is options form rows adds = subst (λ (a : Accepted). AddsAccepted new a text) (same_accepted accepted BlankAccepted is) adds
-accepted_adds held new at (Refused cause) accepted text is options form rows adds = cc is
-accepted_adds held new at (Stored row) accepted text is options form rows adds = subst (λ (a : Accepted). AddsAccepted new a text) (same_accepted accepted StoredAccepted is) adds
-accepted_adds held new at Design accepted text is options form rows adds =
+pub accepted_adds : (state new : SessionState) (at : ℕ) (answer : Answer) (accepted : Accepted) (text : List ℕ) → said_ok accepted ≡ said_of answer
+    → new.options ≡ state.options → new.form ≡ state.form → new.rows ≡ after_answer state.rows at answer → AddsAccepted new accepted text → AddsBy state at answer text
+accepted_adds state new at Blank accepted text is options form rows adds = subst (λ (a : Accepted). AddsAccepted new a text) (same_accepted accepted BlankAccepted is) adds
+accepted_adds state new at (Refused cause) accepted text is options form rows adds = cc is
+accepted_adds state new at (Stored row) accepted text is options form rows adds = subst (λ (a : Accepted). AddsAccepted new a text) (same_accepted accepted StoredAccepted is) adds
+accepted_adds state new at Design accepted text is options form rows adds =
     let here : AddsAccepted new DesignAccepted text = subst (λ (a : Accepted). AddsAccepted new a text) (same_accepted accepted DesignAccepted is) adds in
-    subst (λ (h : Held). AddsAccepted h DesignAccepted text) (same_held held new options form rows) here
-accepted_adds held new at (Report i) accepted text is options form rows adds =
+    subst (λ (h : SessionState). AddsAccepted h DesignAccepted text) (same_state state new options form rows) here
+accepted_adds state new at (Report i) accepted text is options form rows adds =
     let here : AddsAccepted new (ReportAccepted i) text = subst (λ (a : Accepted). AddsAccepted new a text) (same_accepted accepted (ReportAccepted i) is) adds in
-    subst (λ (h : Held). AddsAccepted h (ReportAccepted i) text) (same_held held new options form rows) here
+    subst (λ (h : SessionState). AddsAccepted h (ReportAccepted i) text) (same_state state new options form rows) here
 
 -- the answer to a record asks for a report of a period that there is
 abbrev AnswersOf : List StoredRow → Answer → Type 0

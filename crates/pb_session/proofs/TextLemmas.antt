@@ -17,36 +17,36 @@ use Rattle.pb_period.specs.PeriodGraph.{assembly_of, design_graph}
 use Rattle.pb_report.specs.Form.{text_in}
 use Rattle.pb_report.specs.Design.{design_rows}
 use Rattle.pb_report.specs.Study.{study_rows}
-use Rattle.pb_session.specs.Session.{AddsBy, Held, no_critical, Reports, ReportsBy, held_after}
+use Rattle.pb_session.specs.Session.{AddsBy, SessionState, no_critical, Reports, ReportsBy, state_after}
 use Rattle.pb_session.specs.Laws.{OneTextLaw, OneSessionTextLaw}
 
-reports_by_text : OneStudyLaw → (held : Held) (period : Period) (assembly : Result ProcessGraph Assembly) (one other : List ℕ)
-    → ReportsBy held period assembly one → ReportsBy held period assembly other → one ≡ other
-reports_by_text law held period (Ok graph) one other a b =
-    let text : Study → List ℕ = λ study. text_in held.form (study_rows (names_of (declared_of held.rows)) period.name held.options study) in
-    a.rows ∙ ap text (law graph held.options no_critical a.study b.study a.limits a.is_study b.is_study) ∙ sym b.rows
-reports_by_text law held period (Err (Over j)) one other a b = a ∙ sym b
-reports_by_text law held period (Err NoMemory) one other a b = absurd a
+reports_by_text : OneStudyLaw → (state : SessionState) (period : Period) (assembly : Result ProcessGraph Assembly) (one other : List ℕ)
+    → ReportsBy state period assembly one → ReportsBy state period assembly other → one ≡ other
+reports_by_text law state period (Ok graph) one other a b =
+    let text : Study → List ℕ = λ study. text_in state.form (study_rows (names_of (declared_of state.rows)) period.name state.options study) in
+    a.rows ∙ ap text (law graph state.options no_critical a.study b.study a.limits a.is_study b.is_study) ∙ sym b.rows
+reports_by_text law state period (Err (Over j)) one other a b = a ∙ sym b
+reports_by_text law state period (Err NoMemory) one other a b = absurd a
 
-report_text : OneStudyLaw → (held : Held) (period : Option Period) (one other : List ℕ) → Reports held period one → Reports held period other → one ≡ other
-report_text law held (Some period) one other a b = reports_by_text law held period (assembly_of held.rows period) one other a b
-report_text law held None one other a b = absurd a
+report_text : OneStudyLaw → (state : SessionState) (period : Option Period) (one other : List ℕ) → Reports state period one → Reports state period other → one ≡ other
+report_text law state (Some period) one other a b = reports_by_text law state period (assembly_of state.rows period) one other a b
+report_text law state None one other a b = absurd a
 
-answer_text : OneClassificationLaw → OneStudyLaw → (held : Held) (at : ℕ) (answer : Answer) (one other : List ℕ) → AddsBy held at answer one → AddsBy held at answer other → one ≡ other
-answer_text law studies held at Blank one other a b = a ∙ sym b
-answer_text law studies held at (Refused cause) one other a b = a ∙ sym b
-answer_text law studies held at (Stored row) one other a b = a ∙ sym b
-answer_text law studies held at Design one other (cs, is_c, a) (ds, is_d, b) =
-    let text : List Classified → List ℕ = λ classes. text_in held.form (design_rows (names_of (declared_of held.rows)) (design_graph held.rows) classes) in
-    a ∙ ap text (law (design_graph held.rows) cs ds is_c is_d) ∙ sym b
-answer_text law studies held at (Report i) one other a b = report_text studies held (slice_get (periods_of held.rows) i) one other a b
+answer_text : OneClassificationLaw → OneStudyLaw → (state : SessionState) (at : ℕ) (answer : Answer) (one other : List ℕ) → AddsBy state at answer one → AddsBy state at answer other → one ≡ other
+answer_text law studies state at Blank one other a b = a ∙ sym b
+answer_text law studies state at (Refused cause) one other a b = a ∙ sym b
+answer_text law studies state at (Stored row) one other a b = a ∙ sym b
+answer_text law studies state at Design one other (cs, is_c, a) (ds, is_d, b) =
+    let text : List Classified → List ℕ = λ classes. text_in state.form (design_rows (names_of (declared_of state.rows)) (design_graph state.rows) classes) in
+    a ∙ ap text (law (design_graph state.rows) cs ds is_c is_d) ∙ sym b
+answer_text law studies state at (Report i) one other a b = report_text studies state (slice_get (periods_of state.rows) i) one other a b
 
 pub record_text : OneClassificationLaw → OneStudyLaw → OneTextLaw
-record_text law studies held at fields one other a b = answer_text law studies held at (answer_of held.rows fields) one other a b
+record_text law studies state at fields one other a b = answer_text law studies state at (answer_of state.rows fields) one other a b
 
 pub session_text : OneClassificationLaw → OneStudyLaw → OneSessionTextLaw
-session_text law studies held at [] one other a b = a ∙ sym b
-session_text law studies held at (fields ∷ records) one other (first, rest, adds, more, whole) (first2, rest2, adds2, more2, whole2) =
-    let same_first = record_text law studies held at fields first first2 adds adds2 in
-    let same_rest = session_text law studies (held_after held at fields) (at + 1) records rest rest2 more more2 in
+session_text law studies state at [] one other a b = a ∙ sym b
+session_text law studies state at (fields ∷ records) one other (first, rest, adds, more, whole) (first2, rest2, adds2, more2, whole2) =
+    let same_first = record_text law studies state at fields first first2 adds adds2 in
+    let same_rest = session_text law studies (state_after state at fields) (at + 1) records rest rest2 more more2 in
     whole ∙ ap (λ (t : List ℕ). t ++ rest) same_first ∙ ap (λ (t : List ℕ). first2 ++ t) same_rest ∙ sym whole2

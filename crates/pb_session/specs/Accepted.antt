@@ -1,4 +1,4 @@
--- What an accepted record adds.
+-- Inside. What an accepted record adds.
 use Rattle.std.specs.Prelude.{◌≡◌, ℕ, ◌<◌, List, [], length, slice_get}
 use Rattle.pb_graph.specs.ProcessGraph.{ProcessGraph}
 use Rattle.pb_graph.specs.declared.results.Options.{Options}
@@ -8,7 +8,7 @@ use Rattle.pb_book.specs.declared.rows.StoredRow.{StoredRow}
 use Rattle.pb_book.specs.declared.rows.Accepted.{Accepted}
 use Rattle.pb_book.specs.declared.rows.Accepted.TheVariants.{Blank, Stored, Design, Report}
 use Rattle.pb_book.specs.Rows.{declared_of, periods_of}
-use Rattle.pb_session.specs.Session.{Held, IsDesignText, Reports}
+use Rattle.pb_session.specs.Session.{SessionState, IsDesignText, Reports}
 
 -- options within their limits that ask neither for tests nor for elimination
 pub record CanAsk (options : Options) : Type 0 where
@@ -28,8 +28,8 @@ IsOfPeriods rows Design = Unit {0}
 IsOfPeriods rows (Report i) = i < length (periods_of rows)
 
 -- the text that an accepted record adds
-abbrev pub AddsAccepted : Held → Accepted → List ℕ → Type 0
-AddsAccepted held Blank text = text ≡ []
-AddsAccepted held Stored text = text ≡ []
-AddsAccepted held Design text = IsDesignText held text
-AddsAccepted held (Report i) text = Reports held (slice_get (periods_of held.rows) i) text
+abbrev pub AddsAccepted : SessionState → Accepted → List ℕ → Type 0
+AddsAccepted state Blank text = text ≡ []
+AddsAccepted state Stored text = text ≡ []
+AddsAccepted state Design text = IsDesignText state text
+AddsAccepted state (Report i) text = Reports state (slice_get (periods_of state.rows) i) text

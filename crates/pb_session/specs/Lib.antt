@@ -1,3 +1,6 @@
+-- Statement
+pub mod Appending
 pub mod Session
-pub mod Accepted
 pub mod Laws
+-- Inside
+pub mod Accepted

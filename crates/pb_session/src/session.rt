@@ -1,6 +1,6 @@
 // The state of a session.
 
-ghost use Rattle.std.specs.Prelude.{◌≡◌, ◌≢◌, ◌<◌, ℕ, ◌++◌, ◌∷◌, [], List as Seq, length, slice_get, OnOk, OnErr, IfOk};
+ghost use Rattle.std.specs.Prelude.{◌≡◌, ◌≢◌, ◌<◌, ◌∷◌, [], length, slice_get, OnOk, OnErr, IfOk};
 ghost use Rattle.pb_book.specs.declared.rows.Accepted.TheVariants.{Stored};
 ghost use Rattle.pb_book.specs.declared.rows.Refused.TheVariants.{NoMemory};
 ghost use Rattle.pb_book.specs.Answer.{code_of};
@@ -28,9 +28,9 @@ pub struct Session {
 }
 
 impl Model for Session {
-    ghost use Rattle.pb_session.specs.Session.{Held};
+    ghost use Rattle.pb_session.specs.Session.{SessionState};
 
-    ghost Value = { Held };
+    ghost Value = { SessionState };
 
     ghost use Rattle.pb_session.specs.Accepted.{CanAsk};
 
@@ -46,7 +46,8 @@ impl Session {
     ghost use Rattle.pb_site.specs.Site.{names_of};
     ghost use Rattle.pb_period.specs.PeriodGraph.{assembly_of};
     ghost use Rattle.pb_session.specs.Accepted.{AddsAccepted, IsGraphOf, IsOfPeriods};
-    ghost use Rattle.pb_session.specs.Session.{Adds, IsDesignText, IsReport, Reports, held_after};
+    ghost use Rattle.pb_session.specs.Appending.{AppendsText, KeepsText};
+    ghost use Rattle.pb_session.specs.Session.{Adds, IsDesignText, IsReport, IsTextOf, Reports, state_after};
 
     /// A session that has stored nothing. So far neither tests nor elimination may be asked of its studies.
     pub fn new(alloc: Global, options: Options, form: Form) -> Session
@@ -74,30 +75,32 @@ impl Session {
     /// Takes the record with the number `at`, counted from 1, and appends to `out` what it adds to the output. True exactly
     /// where the record was refused. After an `Err`, want of memory, the session and `out` are as they were.
     pub fn row(&mut self, at: u32, row: &Row, out: &mut Vec<u8>) -> Result<bool, AllocError>
-        ensures adds { OnOk result ((text : Seq ℕ) × (out.new.items ≡ out.old.items ++ text) × Adds self.old at row.now text) }
-        ensures refused { IfOk result (λ refused. refused ≡ is_refused (answer_of self.old.rows row.now)) }
-        ensures stored { OnOk result (self.new ≡ held_after self.old at row.now) }
-        ensures unchanged { OnErr result (self.new ≡ self.old) }
-        ensures out_unchanged { OnErr result (out.new.items ≡ out.old.items) }
+        ensures ok { OnOk result (AppendsText (Adds self.old at row.now) out.old out.new) }
+        ensures refused { IfOk result (λ refused.
+            refused ≡ is_refused (answer_of self.old.rows row.now)) }
+        ensures stored { OnOk result (self.new ≡ state_after self.old at row.now) }
+        ensures err { OnErr result (self.new ≡ self.old) }
+        ensures err_out { OnErr result (KeepsText out.old out.new) }
     {
         match self.book.accept(at, row) {
-            Ok(accepted) => match self.write(accepted, out) {
-                Ok(()) => Ok(false),
-                Err(error) => Err(error),
-            },
+            Ok(accepted) => {
+                self.write(accepted, out)?;
+                Ok(false)
+            }
             Err(Refused::NoMemory) => Err(AllocError),
-            Err(cause) => match self.refuse(at, cause, out) {
-                Ok(()) => Ok(true),
-                Err(error) => Err(error),
-            },
+            Err(cause) => {
+                self.refuse(at, cause, out)?;
+                Ok(true)
+            }
         }
     }
 
     // Appends the row of a refusal.
     fn refuse(&self, at: u32, cause: Refused, out: &mut Vec<u8>) -> Result<(), AllocError>
         requires { cause ≢ NoMemory }
-        ensures ok { OnOk result (out.new.items ≡ out.old.items ++ text_in self.now.form (refused_row at (code_of cause) ∷ [])) }
-        ensures err { OnErr result (out.new.items ≡ out.old.items) }
+        ensures ok { OnOk result (AppendsText
+            (IsTextOf self.now (refused_row at (code_of cause) ∷ [])) out.old out.new) }
+        ensures err { OnErr result (KeepsText out.old out.new) }
         ensures cause { cause ≢ NoMemory }
     {
         write_refused(self.alloc, at, cause.code(), self.form, out)
@@ -106,8 +109,8 @@ impl Session {
     // Appends what an accepted record adds.
     fn write(&self, accepted: Accepted, out: &mut Vec<u8>) -> Result<(), AllocError>
         requires { IsOfPeriods self.now.rows accepted }
-        ensures ok { OnOk result ((text : Seq ℕ) × (out.new.items ≡ out.old.items ++ text) × AddsAccepted self.now accepted text) }
-        ensures err { OnErr result (out.new.items ≡ out.old.items) }
+        ensures ok { OnOk result (AppendsText (AddsAccepted self.now accepted) out.old out.new) }
+        ensures err { OnErr result (KeepsText out.old out.new) }
         ensures sure { OnErr result (accepted ≢ Stored) }
     {
         match accepted {
@@ -120,8 +123,8 @@ impl Session {
 
     // Appends the rows of the design of what is stored.
     fn write_design(&self, out: &mut Vec<u8>) -> Result<(), AllocError>
-        ensures ok { OnOk result ((text : Seq ℕ) × (out.new.items ≡ out.old.items ++ text) × IsDesignText self.now text) }
-        ensures err { OnErr result (out.new.items ≡ out.old.items) }
+        ensures ok { OnOk result (AppendsText (IsDesignText self.now) out.old out.new) }
+        ensures err { OnErr result (KeepsText out.old out.new) }
     {
         let names = self.book.site().names()?;
         let graph = design(self.alloc, &self.book)?;
@@ -132,8 +135,9 @@ impl Session {
     // Appends the report of a period, or the row that names the first stream beyond the limits.
     fn write_report(&self, i: u32, out: &mut Vec<u8>) -> Result<(), AllocError>
         requires { i < length (periods_of self.now.rows) }
-        ensures ok { OnOk result ((text : Seq ℕ) × (out.new.items ≡ out.old.items ++ text) × Reports self.now (slice_get (periods_of self.now.rows) i) text) }
-        ensures err { OnErr result (out.new.items ≡ out.old.items) }
+        ensures ok { OnOk result (AppendsText
+            (Reports self.now (slice_get (periods_of self.now.rows) i)) out.old out.new) }
+        ensures err { OnErr result (KeepsText out.old out.new) }
     {
         let names = self.book.site().names()?;
         let period = self.book.period(i).name;
@@ -161,8 +165,9 @@ impl Session {
         requires names { names.now ≡ names_of (declared_of self.now.rows) }
         requires graph { IsGraphOf self.now.rows graph.now }
         requires limits { IsProcessGraph graph.now }
-        ensures ok { OnOk result ((text : Seq ℕ) × (out.new.items ≡ out.old.items ++ text) × IsReport self.now period.now graph.now text) }
-        ensures err { OnErr result (out.new.items ≡ out.old.items) }
+        ensures ok { OnOk result (AppendsText
+            (IsReport self.now period.now graph.now) out.old out.new) }
+        ensures err { OnErr result (KeepsText out.old out.new) }
     {
         let critical = Critical {
             global: List::new(self.alloc),

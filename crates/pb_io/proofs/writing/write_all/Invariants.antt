@@ -1,4 +1,4 @@
-use Rattle.std.proofs.Common.{◌≤◌, ◌-◌, length, take}
+use Rattle.std.proofs.Common.{◌≡◌, ◌≤◌, ◌-◌, length, take}
 use Rattle.pb_io.specs.Counts.{counted}
 use Rattle.pb_io.specs.Sink.{Puts}
 use Rattle.pb_io.proofs.writing.write_all.Given as goal
@@ -7,9 +7,10 @@ use Rattle.pb_io.proofs.writing.write_all.Given as goal
 abbrev pub invariant-loop-done : goal.invariant-loop-done
 invariant-loop-done g l = record {
   within : l.done ≤ length l.bytes;
-  puts : Puts g.W.Sink.held g.W.Sink.written l.fn.sink l.sink (take l.done l.bytes);
-  turns : g.W.Sink.calls l.sink ≤ counted (g.W.Sink.calls l.fn.sink) l.done;
-  later : g.W.Sink.faults l.fn.sink ≤ g.W.Sink.faults l.sink;
+  puts : Puts (g.W.Sink.seen l.fn.sink) (g.W.Sink.seen l.sink) (take l.done l.bytes);
+  turns : (g.W.Sink.seen l.sink).calls ≤ counted (g.W.Sink.seen l.fn.sink).calls l.done;
+  idle : (g.W.Sink.seen l.sink).idle ≡ (g.W.Sink.seen l.fn.sink).idle;
+  faults : (g.W.Sink.seen l.sink).faults ≡ (g.W.Sink.seen l.fn.sink).faults;
 }
 
 abbrev pub decreases-loop-done : goal.decreases-loop-done

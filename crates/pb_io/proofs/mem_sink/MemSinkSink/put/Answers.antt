@@ -7,7 +7,7 @@ returns-clause-fails c = (
   λ e. absurd (cc e),
   λ p. let q = rw (← c.self.view_is) at p.1 in
       elim q [
-        | inl named ↦ absurd (cc (c.is_named.ensures.1 (rw (c.deref.ensures.value, c.count_on-self-inside.ensures) named), c.if-is_named.false))
+        | inl named ↦ absurd (cc (c.is_named.ensures.1 (rw (c.deref.ensures.value, c.saturating_count-self-inside.ensures) named), c.if-is_named.false))
         | inr full ↦ absurd (omega (arith, full))
       ],
 )

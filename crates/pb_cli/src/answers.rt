@@ -1,0 +1,150 @@
+// Bytes in hand, and what is written of them.
+ghost use Rattle.std.specs.Prelude.{◌≡◌, ◌≢◌, ◌⊎◌, ◌^◌, ◌<◌, ◌≤◌, true, false, length, IfOk, OnOk, IfErr};
+ghost use Rattle.pb_io.specs.Counts.{Rose};
+ghost use Rattle.pb_io.specs.Sink.{PutsSuch};
+ghost use Rattle.pb_limits.specs.Limits.{most_bytes};
+ghost use Rattle.pb_book.specs.Answer.{answer_of, is_refused};
+ghost use Rattle.pb_session.specs.Session.{Adds, IsSessionText, refuses_some, state_after};
+ghost use Rattle.pb_cli.specs.declared.status.Status.TheVariants.{Done, DoneRefused, WriteFault, NoMemory};
+ghost use Rattle.pb_cli.specs.Status.{done_status};
+ghost use Rattle.pb_cli.specs.Prefix.{AreTextsOfSome, AreTextsCutShort, IsBeginningOf};
+ghost use Rattle.pb_cli.specs.Run.{IsCutShort, IsOutput, IsPart, new_session, refuses};
+
+use crate::status::Status;
+use pb_graph::Options;
+use pb_io::{Sink, SinkFailed, write_all};
+use pb_report::Form;
+use pb_rows::{Row, Rows};
+use pb_session::Session;
+use std::alloc::{AllocError, Global};
+
+// What the word `run` asks of a study: a gap of 10 thousandths of a standard deviation and at most 5,000 sweeps.
+const USUAL: Options = Options {
+    gap: 10,
+    sweeps: 5_000,
+    tests: false,
+    eliminate: 0,
+};
+
+// Why the answer to a record was not written.
+#[derive(Clone, Copy)]
+enum Stopped {
+    OutOfMemory,
+    SinkFault,
+}
+
+impl From<AllocError> for Stopped {
+    ghost use Rattle.pb_cli.specs.declared.answers.Stopped.TheVariants.{OutOfMemory};
+
+    ghost from_gives = { λ _ stopped. stopped ≡ OutOfMemory };
+
+    fn from(_error: AllocError) -> Stopped {
+        Stopped::OutOfMemory
+    }
+}
+
+impl From<SinkFailed> for Stopped {
+    ghost use Rattle.pb_cli.specs.declared.answers.Stopped.TheVariants.{SinkFault};
+
+    ghost from_gives = { λ _ stopped. stopped ≡ SinkFault };
+
+    fn from(_failed: SinkFailed) -> Stopped {
+        Stopped::SinkFault
+    }
+}
+
+/// Answers the records of these bytes in order, in a session that has stored nothing, and writes what each adds to the
+/// output before it takes the next.
+pub fn answer<W: Sink>(alloc: Global, input: &[u8], sink: &mut W) -> Status
+    requires { length input.now ≤ most_bytes }
+
+    // All of the output was written, and the status says whether some record was refused.
+    ensures done { result ≡ Done →
+        PutsSuch (IsOutput false input.now) (W.seen sink.old) (W.seen sink.new) }
+    ensures done_refused { result ≡ DoneRefused →
+        PutsSuch (IsOutput true input.now) (W.seen sink.old) (W.seen sink.new) }
+
+    // A write fault is the answer exactly where the sink counted one. What was written is a proper beginning of the output.
+    ensures write_fault { result ≡ WriteFault →
+        Rose (W.seen sink.old).faults (W.seen sink.new).faults }
+    ensures write_fault_cut { result ≡ WriteFault →
+        PutsSuch (IsCutShort input.now) (W.seen sink.old) (W.seen sink.new) }
+    ensures no_write_fault { result ≢ WriteFault →
+        (W.seen sink.new).faults ≡ (W.seen sink.old).faults }
+
+    // After want of memory the texts of the first records were written, whole.
+    ensures no_memory { result ≡ NoMemory →
+        PutsSuch (IsPart input.now) (W.seen sink.old) (W.seen sink.new) }
+
+    // There is no other answer.
+    ensures answers { (result ≡ done_status (refuses input.now))
+        ⊎ (result ≡ WriteFault) ⊎ (result ≡ NoMemory) }
+
+    // No empty piece was put.
+    ensures idle { (W.seen sink.new).idle ≡ (W.seen sink.old).idle }
+    ensures faults_stay { (W.seen sink.old).faults ≤ (W.seen sink.new).faults }
+{
+    let Ok(rows) = Rows::of(alloc, input) else {
+        return Status::NoMemory;
+    };
+    match answer_records(alloc, &rows, sink) {
+        Ok(false) => Status::Done,
+        Ok(true) => Status::DoneRefused,
+        Err(Stopped::SinkFault) => Status::WriteFault,
+        Err(Stopped::OutOfMemory) => Status::NoMemory,
+    }
+}
+
+// Takes the records in order and writes what each adds before it takes the next. True exactly where some record was refused.
+fn answer_records<W: Sink>(alloc: Global, rows: &Rows, sink: &mut W) -> Result<bool, Stopped>
+    requires { length rows.now < 2 ^ 32 }
+    ensures refused { IfOk result (λ refused. refused ≡ refuses_some new_session 1 rows.now) }
+    ensures whole { OnOk result (PutsSuch
+        (IsSessionText new_session 1 rows.now) (W.seen sink.old) (W.seen sink.new)) }
+    ensures cut { IfErr result (λ e. e ≡ Stopped.SinkFault → PutsSuch
+        (AreTextsCutShort new_session rows.now) (W.seen sink.old) (W.seen sink.new)) }
+    ensures some { IfErr result (λ e. e ≡ Stopped.OutOfMemory → PutsSuch
+        (AreTextsOfSome new_session rows.now) (W.seen sink.old) (W.seen sink.new)) }
+    ensures cause { IfErr result (λ e. e ≡ Stopped.SinkFault →
+        Rose (W.seen sink.old).faults (W.seen sink.new).faults) }
+    ensures no_fault { OnOk result ((W.seen sink.new).faults ≡ (W.seen sink.old).faults) }
+    ensures memory_no_fault { IfErr result (λ e. e ≡ Stopped.OutOfMemory →
+        (W.seen sink.new).faults ≡ (W.seen sink.old).faults) }
+    ensures idle { (W.seen sink.new).idle ≡ (W.seen sink.old).idle }
+    ensures faults_stay { (W.seen sink.old).faults ≤ (W.seen sink.new).faults }
+{
+    let mut session = Session::new(alloc, USUAL, Form::Csv);
+    let mut some_refused = false;
+    for i in 0..rows.len() {
+        some_refused |= answer_record(alloc, &mut session, i as u32 + 1, rows.at(i), sink)?;
+    }
+    Ok(some_refused)
+}
+
+// Takes one record and writes what it adds to the output. True exactly where the record was refused.
+fn answer_record<W: Sink>(
+    alloc: Global,
+    session: &mut Session,
+    at: u32,
+    fields: &Row,
+    sink: &mut W,
+) -> Result<bool, Stopped>
+    ensures stored { OnOk result (session.new ≡ state_after session.old at fields.now) }
+    ensures refused { IfOk result (λ refused.
+        refused ≡ is_refused (answer_of session.old.rows fields.now)) }
+    ensures whole { OnOk result (PutsSuch
+        (Adds session.old at fields.now) (W.seen sink.old) (W.seen sink.new)) }
+    ensures no_memory { IfErr result (λ e. e ≡ Stopped.OutOfMemory → sink.new ≡ sink.old) }
+    ensures cut { IfErr result (λ e. e ≡ Stopped.SinkFault → PutsSuch
+        (IsBeginningOf (Adds session.old at fields.now)) (W.seen sink.old) (W.seen sink.new)) }
+    ensures cause { IfErr result (λ e. e ≡ Stopped.SinkFault →
+        Rose (W.seen sink.old).faults (W.seen sink.new).faults) }
+    ensures no_fault { OnOk result ((W.seen sink.new).faults ≡ (W.seen sink.old).faults) }
+    ensures idle { (W.seen sink.new).idle ≡ (W.seen sink.old).idle }
+    ensures faults_stay { (W.seen sink.old).faults ≤ (W.seen sink.new).faults }
+{
+    let mut text = Vec::new(alloc);
+    let refused = session.row(at, fields, &mut text)?;
+    write_all(sink, text.as_slice())?;
+    Ok(refused)
+}
