@@ -1,4 +1,4 @@
 pub mod QuotientLaws
-pub mod SearchLaws
+mod SearchLaws
 pub mod RootLaws
 pub mod BlockLaws

@@ -106,5 +106,5 @@ scaled_root_mono (pos v) (pos w) h le = let m = root_floor_mono (v * 2 ^ 40) (w 
 scaled_root_mono (pos v) (negsuc w) h le = absurd (omega (arith, ints, le))
 scaled_root_mono (negsuc v) w h le = absurd (omega (arith, ints, h))
 
-pub scaled_root_width : (v r : ℤ) → IsScaledRoot v r → v ≤ℤ pos (2 ^ 85) → r <ℤ pos (2 ^ 63)
+pub scaled_root_width : (v r : ℤ) → IsScaledRoot v r → v <ℤ pos (2 ^ 86) → r <ℤ pos (2 ^ 63)
 scaled_root_width v r h le = let below = h.below in root_strict r (pos (2 ^ 63)) (omega (arith, ints)) (omega (arith, ints, below, le))

@@ -1,4 +1,5 @@
--- Block floating point: one power of two for a list of numbers, so that their squares can be added in few bits (Wilkinson, Rounding Errors in Algebraic Processes, chapter 1).
+-- Statement. Block floating point: one power of two for a list of numbers, so that their squares can
+-- be added in few bits (Wilkinson, Rounding Errors in Algebraic Processes, chapter 1).
 use Rattle.std.specs.Prelude.{ℕ, ◌+◌, ◌*◌, ◌^◌, ◌≤◌, Bool, ℤ, pos, ◌*ℤ◌, ◌≤ℤ◌, int_le, List, All, unsigned_abs}
 use Rattle.std.specs.List.{list_all}
 use Rattle.pb_integers.specs.Sums.{sum_over}
@@ -21,7 +22,7 @@ pub record IsBlockExponent (items : List ℤ) (h : ℕ) : Type 0 where
 abbrev pub fit_blocks : List ℤ → ℕ → Bool
 fit_blocks items h = list_all (λ a. int_le a (pos (2 ^ (57 + h)))) items
 
--- the least number h with every item at most 2 ^ (57 + h); the sum of the items is enough
+-- the least number h with every item at most 2 ^ (57 + h), found by a search that ends at the sum of the items, which is enough
 abbrev pub block_exponent_of : List ℤ → ℕ
 block_exponent_of items = least_upto (fit_blocks items) (unsigned_abs (sum_over (λ a. pos (unsigned_abs a)) items))
 
@@ -33,6 +34,7 @@ blocks_of h a = ceil_div a (pos (2 ^ h))
 abbrev pub block_squares_of : List ℤ → ℕ → ℤ
 block_squares_of items h = sum_over (λ a. blocks_of h a *ℤ blocks_of h a) items
 
--- root times g blocks of 2 ^ h, in units of 2 ^ 40, rounded up
+-- the half width of a bound in grams, rounded up: a standard deviation in units of 2 ^ -20 gram times a gap of g * 2 ^ h in units
+-- of 2 ^ -20 standard deviation
 abbrev pub half_width_of : ℤ → ℕ → ℕ → ℤ
 half_width_of root g h = ceil_div (root *ℤ pos (g * 2 ^ h)) (pos (2 ^ 40))

@@ -1,4 +1,4 @@
--- What follows from the definitions of quotients, roots and blocks.
+-- Statement. What follows from the definitions of quotients, roots and blocks.
 use Rattle.std.specs.Prelude.{◌≡◌, ℕ, ◌*◌, ◌≤◌, ℤ, pos, neg_ℤ, ◌+ℤ◌, ◌-ℤ◌, ◌*ℤ◌, ◌≤ℤ◌, ◌<ℤ◌, List}
 use Rattle.pb_fixed.specs.Quotients.{IsFloor, IsCeiling, IsNearest, floor_div, ceil_div, nearest_div}
 use Rattle.pb_fixed.specs.Roots.{IsRootFloor, IsRootCeiling, IsScaledRoot, root_floor_of, root_ceil_of, scaled_root_of}

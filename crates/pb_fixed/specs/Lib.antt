@@ -1,3 +1,4 @@
+-- Statement
 pub mod Quotients
 pub mod Search
 pub mod Roots

@@ -1,4 +1,4 @@
--- Directed quotients of whole numbers. The divisor is above 0 throughout.
+-- Statement. Directed quotients of whole numbers. The divisor is above 0 throughout.
 -- Floor and ceiling: Graham, Knuth and Patashnik, Concrete Mathematics, chapter 3.
 use Rattle.std.specs.Prelude.{ℤ, pos, neg_ℤ, ◌+ℤ◌, ◌*ℤ◌, ◌≤ℤ◌, ◌<ℤ◌}
 use Rattle.std.specs.Int.{int_div_euclid}

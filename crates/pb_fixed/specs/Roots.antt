@@ -1,4 +1,5 @@
--- Square roots of whole numbers, rounded down and up.
+-- Statement. Square roots of whole numbers, rounded down and up (integer square root: Knuth, The
+-- Art of Computer Programming, volume 2).
 use Rattle.std.specs.Prelude.{ℕ, ◌+◌, ◌*◌, ◌^◌, ◌≤◌, ◌<◌, ℤ, pos, ◌+ℤ◌, ◌*ℤ◌, ◌≤ℤ◌, ◌<ℤ◌, unsigned_abs, nat_le}
 use Rattle.pb_fixed.specs.Search.{greatest_upto, least_upto}
 

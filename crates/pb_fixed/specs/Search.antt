@@ -1,4 +1,5 @@
--- The greatest and the least number that passes a test.
+-- Statement. The greatest and the least number that passes a test (bounded search: Kleene,
+-- Introduction to Metamathematics).
 use Rattle.std.specs.Prelude.{ℕ, zero, suc, Bool, if◌then◌else◌}
 
 -- the greatest number up to n that passes, and 0 where none does

@@ -1,4 +1,4 @@
-//! Sums of squares in few bits: a list of numbers in blocks of one power of two.
+// Sums of squares in few bits: a list of numbers in blocks of one power of two.
 
 ghost use Rattle.std.specs.Prelude.{◌≡◌, ℕ, ◌*◌, ◌+◌, ◌^◌, ◌<◌, ◌≤◌, pos, ◌*ℤ◌, ◌≤ℤ◌, ◌<ℤ◌, All, length};
 ghost use Rattle.pb_fixed.specs.Quotients.{IsCeiling};
@@ -6,12 +6,8 @@ ghost use Rattle.pb_fixed.specs.Blocks.{IsBlockItem, IsBlockExponent, FitBlocks,
 
 use crate::quotients::div_ceil;
 
-/// The most items that a list of `block_exponent` and `block_squares` may have.
-pub const MOST_ITEMS: usize = 2_000;
-
 /// The least `h` with every item at most 2^(57 + h), for items from 0 to 2^89.
 pub fn block_exponent(items: &[i128]) -> u32
-    requires few { length items.now ≤ MOST_ITEMS }
     requires each { All IsBlockItem items.now }
     ensures value { result ≡ block_exponent_of items.now }
     ensures exponent { IsBlockExponent items.now result }
@@ -24,7 +20,7 @@ pub fn block_exponent(items: &[i128]) -> u32
     most
 }
 
-/// The least `h` with the item at most 2^(57 + h).
+// The least `h` with the item at most 2^(57 + h).
 fn exponent(item: i128) -> u32
     requires { IsBlockItem item }
     ensures fits { item ≤ℤ pos (2 ^ (57 + result)) }
@@ -38,15 +34,16 @@ fn exponent(item: i128) -> u32
     }
 }
 
-/// The sum of the squares of the items in blocks of 2^h, each item rounded up to whole blocks.
+/// The sum of the squares of the items in blocks of 2^h, each item rounded up to whole blocks. A
+/// square is at most 2^114, so the sum of fewer than 2^13 of them is within 128 bits.
 pub fn block_squares(items: &[i128], h: u32) -> i128
-    requires few { length items.now ≤ MOST_ITEMS }
+    requires few { length items.now < 2 ^ 13 }
     requires each { All IsBlockItem items.now }
     requires fit { FitBlocks h items.now }
     requires most { h ≤ 32 }
     ensures value { result ≡ block_squares_of items.now h }
     ensures nonneg { pos 0 ≤ℤ result }
-    ensures width { result ≤ℤ pos (2 ^ 125) }
+    ensures width { result ≤ℤ pos (length items.now * 2 ^ 114) }
 {
     let mut sum = 0;
     for item in items {
@@ -55,7 +52,7 @@ pub fn block_squares(items: &[i128], h: u32) -> i128
     sum
 }
 
-/// An item in blocks of 2^h, rounded up.
+// An item in blocks of 2^h, rounded up.
 fn blocks(item: i128, h: u32) -> i128
     requires nonneg { pos 0 ≤ℤ item }
     requires fits { item ≤ℤ pos (2 ^ (57 + h)) }
@@ -67,7 +64,7 @@ fn blocks(item: i128, h: u32) -> i128
     div_ceil(item, 1 << h)
 }
 
-/// The square of a number of blocks.
+// The square of a number of blocks.
 fn square(blocks: i128) -> i128
     requires nonneg { pos 0 ≤ℤ blocks }
     requires width { blocks ≤ℤ pos (2 ^ 57) }
@@ -78,7 +75,8 @@ fn square(blocks: i128) -> i128
     blocks * blocks
 }
 
-/// `root` times `g` blocks of 2^h, in units of 2^40, rounded up.
+/// The half width of a bound in grams, rounded up, from a standard deviation `root` in units of
+/// 2^-20 gram and a gap of `g` * 2^h in units of 2^-20 standard deviation.
 pub fn half_width(root: i128, g: u64, h: u32) -> i128
     requires root_from { pos 0 ≤ℤ root }
     requires root_to { root ≤ℤ pos (2 ^ 63) }

@@ -1,4 +1,4 @@
-//! What follows from the definitions: the functions are empty, and the contract of each is a law.
+// What follows from the definitions: the functions are empty, and the contract of each is a law.
 
 ghost use Rattle.pb_fixed.specs.Quotients.{floor_div, ceil_div, nearest_div};
 ghost use Rattle.pb_fixed.specs.Laws.{RoundsQuotients, AreDirected, AreRoots, AreBlockExponents};

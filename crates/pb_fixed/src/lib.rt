@@ -1,8 +1,8 @@
-//! Directed whole-number arithmetic: quotients and square roots whose direction of rounding is certain, and sums of squares that
-//! stay within 128 bits. No call takes memory and none refuses.
+//! Directed whole-number arithmetic: quotients and square roots whose direction of rounding is
+//! certain, and sums of squares that stay within 128 bits. No call takes memory and none refuses.
 //!
-//! A bound is only as good as the direction of its roundings: a lower end goes down, an upper end goes up, and a printed value
-//! goes to the nearest.
+//! A bound is only as good as the direction of its roundings: a lower end goes down, an upper end
+//! goes up, and a printed value goes to the nearest.
 #![tactic(auto)]
 
 mod blocks;
@@ -12,7 +12,7 @@ mod roots;
 #[cfg(test)]
 mod tests;
 
-pub use blocks::{MOST_ITEMS, block_exponent, block_squares, half_width};
+pub use blocks::{block_exponent, block_squares, half_width};
 pub use laws::{block_laws, quotient_laws, root_laws};
 pub use quotients::{div_ceil, div_floor, div_nearest};
 pub use roots::{root_ceil, root_floor, scaled_root};

@@ -1,4 +1,4 @@
-use Rattle.std.proofs.Common.{◌≡◌, ◌∙◌, ℤ, pos, ◌<◌, ◌≤◌, ◌+ℤ◌, ◌*ℤ◌, FitsSigned, to_z, get_or, length, ap₂, sym, rules, arith}
+use Rattle.std.proofs.Common.{◌≡◌, ◌∙◌, ℤ, pos, ◌<◌, ◌+ℤ◌, ◌*ℤ◌, FitsSigned, to_z, get_or, length, ap₂, sym, rules, arith}
 use mir.Syntax.{w128}
 use Rattle.std.proofs.lemmas.Int.{ints, to_z-of_z}
 use Rattle.pb_integers.proofs.Sums.{sum_over-take_more}
@@ -17,7 +17,7 @@ loop-item-preserved c =
     let fits_part : FitsSigned w128 part = record { sfits = c.square-sum.type_inv } in
     let blocks = simp to_z-of_z at c.blocks-in-loop-item.ensures.value in
     let square = simp to_z-of_z at c.square-sum.ensures.value in
-    let few : length items ≤ 2000 = c.requires.few in
+    let few = c.requires.few in
     let fits_sum : FitsSigned w128 (sum +ℤ part) = omega (arith, ints, c.loop-item.invariant.nonneg, c.loop-item.invariant.small, c.square-sum.ensures.nonneg, c.square-sum.ensures.width, here, few) in
     let value : part ≡ blocks_of c.args.h (get_or items i (pos 0)) *ℤ blocks_of c.args.h (get_or items i (pos 0)) = square ∙ ap₂ (λ (x y : ℤ). x *ℤ y) blocks blocks in
     let next = sum_over-take_more (λ a. blocks_of c.args.h a *ℤ blocks_of c.args.h a) items i (pos 0) here in
