@@ -3,5 +3,5 @@ pub mod MoveLaws
 pub mod CandidateLaws
 pub mod FitLaws
 pub mod SweepLaws
-pub mod ArcLaws
+pub mod BorderLemmas
 pub mod DualLaws

@@ -1,4 +1,4 @@
--- The best of the whole numbers in an interval, by a value of each.
+-- Statement. The best of the whole numbers in an interval, by a value of each.
 use Rattle.std.specs.Prelude.{ℕ, zero, suc, ℤ, pos, ◌+ℤ◌, ◌-ℤ◌, ◌≤ℤ◌, ◌<ℤ◌, int_lt, unsigned_abs, if◌then◌else◌}
 
 -- the best of the candidates from lo to n above it: each in turn, where its value is greater than that of the best before it

@@ -1,4 +1,4 @@
--- The candidates for the price of one group, and the best of them.
+-- Statement. The candidates for the price of one group, and the best of them.
 use Rattle.std.specs.Prelude.{◌==◌, ◌^◌, ℕ, ℤ, pos, neg_ℤ, ◌+ℤ◌, ◌-ℤ◌, List, [], ◌∷◌, Option, Some, None, if◌then◌else◌}
 use Rattle.std.specs.Int.{int_max, int_min}
 use Rattle.pb_fixed.specs.Quotients.{floor_div}

@@ -1,6 +1,7 @@
--- The dual of weighted least squares under the balances, which has a price for each node in place of its balance (Rockafellar,
+-- Statement. The dual of weighted least squares under the balances, which has a price for each node in place of its balance (Rockafellar,
 -- Network Flows and Monotropic Optimization).
-use Rattle.std.specs.Prelude.{◌^◌, ℕ, ℤ, pos, neg_ℤ, ◌+ℤ◌, ◌*ℤ◌, List, Option, Some, None}
+use Rattle.std.specs.Prelude.{◌+◌, ◌*◌, ◌^◌, ℕ, ℤ, pos, neg_ℤ, ◌+ℤ◌, ◌*ℤ◌, List, map, Option, Some, None}
+use Rattle.pb_limits.specs.Limits.{most_value}
 use Rattle.pb_integers.specs.Sums.{sum_over}
 use Rattle.pb_graph.specs.declared.records.Meas.{Meas}
 use Rattle.pb_graph.specs.declared.records.Stream.{Stream}
@@ -18,6 +19,14 @@ flow_at (Some m) d = (scale *ℤ m.value) +ℤ (m.variance *ℤ d)
 -- the dual flow of a stream, in units of 2^-56 gram
 abbrev pub dual_flow : (ℕ → ℤ) → Stream → ℤ
 dual_flow price s = flow_at s.meas (rise_of price s)
+
+-- the dual flow of each stream
+abbrev pub dual_flows_of : (ℕ → ℤ) → List Stream → List ℤ
+dual_flows_of price streams = map (dual_flow price) streams
+
+-- the greatest dual flow of prices that fit, either way: that of the greatest value, and the box
+abbrev pub most_dual_flow : ℕ
+most_dual_flow = most_value * 2 ^ 56 + 2 ^ 112
 
 -- what a measurement along which the price rises by d takes from the dual value
 abbrev pub cost_at : Option Meas → ℤ → ℤ

@@ -1,4 +1,4 @@
--- What is proved of candidates, best prices and sweeps.
+-- Statement. What is proved of candidates, best prices and sweeps.
 use Rattle.std.specs.Prelude.{◌≡◌, ◌↔◌, ℕ, suc, true, ℤ, ◌≤ℤ◌, List}
 use Rattle.pb_graph.specs.ProcessGraph.{ProcessGraph, IsProcessGraph}
 use Rattle.pb_graph.specs.Groups.{AreGroups, is_free_group}

@@ -1,4 +1,4 @@
--- How the dual value changes with the price of one group.
+-- Statement. How the dual value changes with the price of one group.
 use Rattle.std.specs.Prelude.{◌≡◌, ◌==◌, ℕ, ℤ, pos, neg_ℤ, ◌+ℤ◌, ◌-ℤ◌, ◌*ℤ◌, Bool, List, if◌then◌else◌}
 use Rattle.pb_integers.specs.Sums.{sum_over}
 use Rattle.pb_graph.specs.declared.records.Stream.{Stream}

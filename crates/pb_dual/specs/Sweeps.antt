@@ -1,4 +1,4 @@
--- Sweeps of best prices: coordinate ascent on the dual value, group by group (Bertsekas, Nonlinear Programming).
+-- Statement. Sweeps of best prices: coordinate ascent on the dual value, group by group (Bertsekas, Nonlinear Programming).
 use Rattle.std.specs.Prelude.{ℕ, zero, suc, ℤ, pos, List, if◌then◌else◌}
 use Rattle.pb_graph.specs.declared.records.Stream.{Stream}
 use Rattle.pb_graph.specs.ProcessGraph.{ProcessGraph}

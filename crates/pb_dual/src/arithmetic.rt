@@ -1,18 +1,21 @@
+// The arithmetic of prices and dual flows.
+
 ghost use Rattle.std.specs.Prelude.{◌≡◌, ◌*◌, ◌^◌, ◌<◌, ◌≤◌, pos, neg_ℤ, ◌+ℤ◌, ◌-ℤ◌, ◌*ℤ◌, ◌<ℤ◌, unsigned_abs, if◌then◌else◌};
 ghost use Rattle.std.specs.Int.{int_max, int_min};
 ghost use Rattle.pb_fixed.specs.Quotients.{nearest_div};
-ghost use Rattle.pb_dual.specs.DualValue.{scale};
+ghost use Rattle.pb_limits.specs.Limits.{most_streams, most_value};
+ghost use Rattle.pb_dual.specs.DualValue.{scale, most_dual_flow};
 ghost use Rattle.pb_dual.specs.Best.{clamped};
 
 use pb_fixed::div_nearest;
 
-/// The units of dual flow in a gram, 2^56.
-pub const SCALE: i128 = 72_057_594_037_927_936;
+/// The units of dual flow in a gram.
+pub const SCALE: i128 = 1 << 56;
 
-/// How much a price rises.
-pub fn difference(to: i128, from: i128) -> i128
-    requires to { unsigned_abs to ≤ 2 ^ 120 }
+/// How much the price rises from one end of a stream to the other.
+pub fn rise(from: i128, to: i128) -> i128
     requires from { unsigned_abs from ≤ 2 ^ 120 }
+    requires to { unsigned_abs to ≤ 2 ^ 120 }
     ensures { result ≡ to -ℤ from }
 {
     to - from
@@ -20,30 +23,12 @@ pub fn difference(to: i128, from: i128) -> i128
 
 /// The dual flow of a measurement along which the price rises.
 pub fn flow(value: i128, variance: i128, rise: i128) -> i128
-    requires value { unsigned_abs value ≤ 10 ^ 15 }
+    requires value { unsigned_abs value ≤ most_value }
     requires in_box { unsigned_abs (variance *ℤ rise) ≤ 2 ^ 112 }
     ensures value { result ≡ (scale *ℤ value) +ℤ (variance *ℤ rise) }
-    ensures within { unsigned_abs result < 2 ^ 113 }
+    ensures within { unsigned_abs result ≤ most_dual_flow }
 {
     SCALE * value + variance * rise
-}
-
-/// A flow with its sign turned.
-pub fn turned(flow: i128) -> i128
-    requires { unsigned_abs flow < 2 ^ 113 }
-    ensures value { result ≡ neg_ℤ flow }
-    ensures within { unsigned_abs result < 2 ^ 113 }
-{
-    -flow
-}
-
-/// A total and one part more.
-pub fn sum(total: i128, part: i128) -> i128
-    requires total { unsigned_abs total ≤ 2000 * 2 ^ 113 }
-    requires part { unsigned_abs part < 2 ^ 113 }
-    ensures { result ≡ total +ℤ part }
-{
-    total + part
 }
 
 /// A lower bound, raised to a price less a room.
@@ -64,12 +49,13 @@ pub fn lowered(hi: i128, price: i128, room: i128) -> i128
     hi.min(price + room)
 }
 
-/// A price less the nearest quotient of a net dual flow by a variance.
-pub fn moved(price: i128, net: i128, variance: i128) -> i128
+/// The whole price nearest to the peak of the dual value along a group's price, the lower one of two:
+/// the present price less the nearest quotient of the net dual flow by the variance.
+pub fn peak(price: i128, net: i128, variance: i128) -> i128
     requires price { unsigned_abs price ≤ 2 ^ 120 }
-    requires net { unsigned_abs net < 2 ^ 124 }
+    requires net { unsigned_abs net < 2 ^ 125 }
     requires positive { pos 0 <ℤ variance }
-    requires variance { variance <ℤ pos (2 ^ 86) }
+    requires variance { variance <ℤ pos (2 ^ 125) }
     ensures { result ≡ price -ℤ nearest_div net variance }
 {
     price - div_nearest(net, variance)

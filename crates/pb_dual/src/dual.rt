@@ -1,17 +1,21 @@
+// Prices for the groups of a graph, and sweeps of best prices.
+
 ghost use Rattle.std.specs.Prelude.{◌≡◌, ◌≢◌, ℕ, suc, ◌+◌, ◌^◌, ◌<◌, ◌≤◌, Some, true, max, pos, ◌≤ℤ◌, length, get_or, slice_get, unsigned_abs, All, IfOk};
+ghost use Rattle.pb_limits.specs.Limits.{most_nodes};
 ghost use Rattle.pb_graph.specs.ProcessGraph.{IsStream, IsWithinLimits};
 ghost use Rattle.pb_graph.specs.Groups.{AreGroups, group_at, group_count, is_free_group};
 ghost use Rattle.pb_graph.specs.Prices.{PricesFit, IsInBox};
-ghost use Rattle.pb_dual.specs.DualValue.{dual_flow, dual_value};
+ghost use Rattle.pb_dual.specs.DualValue.{dual_flow, dual_value, most_dual_flow};
 ghost use Rattle.pb_dual.specs.Moves.{with_price};
 ghost use Rattle.pb_dual.specs.Candidates.{best_price};
 ghost use Rattle.pb_dual.specs.Sweeps.{stepped, sweep_of, prices_after};
-ghost use Rattle.pb_dual.specs.Priced.{IsPriced, price_of};
+ghost use Rattle.pb_dual.specs.Priced.{price_of};
+ghost use Rattle.pb_dual.specs.Border.{IsPriced};
 ghost use Rattle.pb_graph.specs.declared.records.Stream.{Stream};
 
-use crate::arcs::{Arc, all_arcs};
-use crate::arithmetic::{difference, flow};
-use crate::passes::best_price_by;
+use crate::border::{BorderStream, all_borders};
+use crate::arithmetic::{flow, rise};
+use crate::best::best_price_by;
 use pb_graph::{Graph, List, Stream};
 use std::alloc::{AllocError, Global};
 use std::marker::Model;
@@ -24,23 +28,24 @@ pub struct Dual {
     streams: Vec<Stream>,
     group: Vec<u32>,
     prices: Vec<i128>,
-    arcs: Vec<List<Arc>>,
+    borders: Vec<List<BorderStream>>,
 }
 
 impl Model for Dual {
     ghost use Rattle.std.specs.Prelude.{length};
-    ghost use Rattle.pb_dual.specs.Priced.{Priced, HasArcs};
+    ghost use Rattle.pb_dual.specs.Priced.{Priced};
+    ghost use Rattle.pb_dual.specs.Border.{HasBorders};
 
     ghost Value = { Priced };
 
     ghost view = { λ a. record { graph = record { nodes = length a.group.items; streams = a.streams.items }; group = a.group.items; prices = a.prices.items } };
 
-    ghost invariant = { λ a. HasArcs (record { graph = record { nodes = length a.group.items; streams = a.streams.items }; group = a.group.items; prices = a.prices.items }) a.arcs.items };
+    ghost invariant = { λ a. HasBorders (record { graph = record { nodes = length a.group.items; streams = a.streams.items }; group = a.group.items; prices = a.prices.items }) a.borders.items };
 }
 
-/// The number of groups: one more than the greatest number of one.
+// The number of groups: one more than the greatest number of one.
 fn count(group: &[u32]) -> u32
-    requires { All (λ k. k < 1001) group.now }
+    requires { All (λ k. k < most_nodes) group.now }
     ensures { result ≡ group_count group.now }
 {
     let mut count = 0;
@@ -50,38 +55,39 @@ fn count(group: &[u32]) -> u32
     count
 }
 
-/// The dual flow of a stream, 0 where it is unmeasured.
-fn stream_flow(s: &Stream, group: &[u32], prices: &[i128]) -> i128
-    requires ends { IsStream (length group.now) s.now }
-    requires limits { IsWithinLimits s.now }
+// The dual flow of a stream, 0 where it is unmeasured.
+fn stream_flow(stream: &Stream, group: &[u32], prices: &[i128]) -> i128
+    requires ends { IsStream (length group.now) stream.now }
+    requires limits { IsWithinLimits stream.now }
     requires groups { All (λ k. k < length prices.now) group.now }
     requires small { All (λ p. unsigned_abs p ≤ 2 ^ 120) prices.now }
-    requires in_box { IsInBox (λ n. get_or prices.now (group_at group.now n) (pos 0)) s.now }
-    ensures value { result ≡ dual_flow (λ n. get_or prices.now (group_at group.now n) (pos 0)) s.now }
-    ensures within { unsigned_abs result < 2 ^ 113 }
+    requires in_box { IsInBox (λ n. get_or prices.now (group_at group.now n) (pos 0)) stream.now }
+    ensures value { result ≡ dual_flow (λ n. get_or prices.now (group_at group.now n) (pos 0)) stream.now }
+    ensures within { unsigned_abs result ≤ most_dual_flow }
 {
-    match s.meas {
+    match stream.meas {
         None => 0,
         Some(m) => {
-            let to = prices[group[s.to as usize] as usize];
-            let from = prices[group[s.from as usize] as usize];
-            flow(m.value, m.variance, difference(to, from))
+            let to = prices[group[stream.to as usize] as usize];
+            let from = prices[group[stream.from as usize] as usize];
+            flow(m.value, m.variance, rise(from, to))
         }
     }
 }
 
 impl Dual {
     /// Prices of 0. `group_of` is the number of each node's group.
-    pub fn new(alloc: Global, g: &Graph, group_of: &[u32]) -> Result<Dual, AllocError>
-        requires { AreGroups g.now group_of.now }
-        ensures graph { IfOk result (λ d. d.graph ≡ g.now) }
+    pub fn new(alloc: Global, graph: &Graph, group_of: &[u32]) -> Result<Dual, AllocError>
+        requires { AreGroups graph.now group_of.now }
+        ensures graph { IfOk result (λ d. d.graph ≡ graph.now) }
         ensures group { IfOk result (λ d. d.group ≡ group_of.now) }
-        ensures price { IfOk result (λ d. price_of d ≡ prices_after g.now group_of.now 0) }
+        ensures price { IfOk result (λ d. price_of d ≡ prices_after graph.now group_of.now 0) }
         ensures each { IfOk result (λ d. (k : ℕ) → get_or d.prices k (pos 0) ≡ pos 0) }
+        ensures fit { IfOk result (λ d. PricesFit d.graph (price_of d)) }
     {
-        let streams = g.streams();
+        let streams = graph.streams();
         let groups = count(group_of);
-        let arcs = all_arcs(alloc, groups, group_of, streams)?;
+        let borders = all_borders(alloc, groups, group_of, streams)?;
         let prices = vec![in alloc; 0i128; groups as usize]?;
         let group = Vec::from_slice(alloc, group_of)?;
         let streams = Vec::from_slice(alloc, streams)?;
@@ -89,11 +95,11 @@ impl Dual {
             streams,
             group,
             prices,
-            arcs,
+            borders,
         })
     }
 
-    /// The number of groups.
+    // The number of groups.
     fn groups(&self) -> u32
         ensures value { result ≡ group_count self.now.group }
         ensures priced { IsPriced self.now }
@@ -112,24 +118,24 @@ impl Dual {
     }
 
     /// The dual flow of a stream, in units of 2^-56 gram; 0 where the stream is unmeasured.
-    pub fn dual_flow(&self, j: u32) -> i128
-        requires { j < length self.now.graph.streams }
-        ensures value { (s : Stream) → slice_get self.now.graph.streams j ≡ Some s → result ≡ dual_flow (price_of self.now) s }
-        ensures within { unsigned_abs result < 2 ^ 113 }
+    pub fn dual_flow(&self, stream: u32) -> i128
+        requires { stream < length self.now.graph.streams }
+        ensures value { (s : Stream) → slice_get self.now.graph.streams stream ≡ Some s → result ≡ dual_flow (price_of self.now) s }
+        ensures within { unsigned_abs result ≤ most_dual_flow }
     {
-        stream_flow(&self.streams[j as usize], &self.group, &self.prices)
+        stream_flow(&self.streams[stream as usize], &self.group, &self.prices)
     }
 
-    /// Whether a group is free.
+    // Whether a group is free.
     fn is_free(&self, group: u32) -> bool
         requires { group < group_count self.now.group }
         ensures value { result ≡ is_free_group self.now.group self.now.graph.streams group }
         ensures priced { IsPriced self.now }
     {
-        group != 0 && self.arcs[group as usize].len() > 0
+        group != 0 && self.borders[group as usize].len() > 0
     }
 
-    /// Gives a free group its best price.
+    // Gives a free group its best price.
     fn set_best(&mut self, group: u32)
         requires group { group < group_count self.old.group }
         requires free { is_free_group self.old.group self.old.graph.streams group ≡ true }
@@ -138,7 +144,7 @@ impl Dual {
         ensures groups { self.new.group ≡ self.old.group }
         ensures others { (k : ℕ) → k ≢ group → get_or self.new.prices k (pos 0) ≡ get_or self.old.prices k (pos 0) }
     {
-        let price = best_price_by(self.arcs[group as usize].as_slice(), &self.prices, group);
+        let price = best_price_by(self.borders[group as usize].as_slice(), &self.prices, group);
         self.prices[group as usize] = price;
     }
 

@@ -1,4 +1,4 @@
-//! What is proved of the definitions alone. The functions are empty: the contract of each is a law.
+// What is proved of the definitions alone. The functions are empty: the contract of each is a law.
 
 ghost use Rattle.pb_dual.specs.Moves.{MoveLaw};
 ghost use Rattle.pb_dual.specs.Laws.{CandidateLaw, BestLaw, AscentLaw};

@@ -5,10 +5,11 @@
 //! and each sweep makes it no worse.
 #![tactic(auto)]
 
-mod arcs;
+mod border;
 mod arithmetic;
 mod dual;
 pub mod laws;
-mod passes;
+mod best;
 
+pub use arithmetic::SCALE;
 pub use dual::Dual;

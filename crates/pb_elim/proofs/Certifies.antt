@@ -17,7 +17,8 @@ use Rattle.pb_graph.specs.Balance.{IsBalanced}
 use Rattle.pb_graph.specs.Certificates.{Shows}
 use Rattle.pb_graph.specs.Squares.{Fractional, AreSquaresAtLeast, AreSquaresAtMost, whole_flows}
 use Rattle.pb_graph.specs.Prices.{PricesFit}
-use Rattle.pb_gap.specs.Gap.{Gap, IsGap, deviations_of, gap_of}
+use Rattle.pb_gap.specs.declared.gap.Gap.{Gap}
+use Rattle.pb_gap.specs.Gap.{IsGap, deviations_of, gap_of}
 use Rattle.pb_gap.specs.StreamBounds.{IsStreamWithin, stream_bounds}
 use Rattle.pb_gap.specs.Statistic.{low_of}
 use Rattle.pb_gap.specs.Laws.{IsDualPair}

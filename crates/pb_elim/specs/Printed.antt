@@ -4,7 +4,7 @@ use Rattle.pb_integers.specs.Sums.{item}
 use Rattle.pb_graph.specs.declared.records.Classified.{Classified}
 use Rattle.pb_graph.specs.declared.results.StreamResult.{StreamResult}
 use Rattle.pb_graph.specs.declared.results.Stage.{Stage}
-use Rattle.pb_gap.specs.Gap.{Gap}
+use Rattle.pb_gap.specs.declared.gap.Gap.{Gap}
 
 -- the price of each node
 abbrev pub printed_price : Stage → ℕ → ℤ

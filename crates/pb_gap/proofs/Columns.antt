@@ -6,6 +6,7 @@ use Rattle.std.proofs.lemmas.List.{ext_get_or, get_or_default, get_or-set_other,
 use Rattle.pb_integers.specs.Sums.{item}
 use Rattle.pb_graph.specs.declared.records.Meas.{Meas}
 use Rattle.pb_graph.specs.declared.records.Stream.{Stream}
+use Rattle.pb_dual.specs.DualValue.{dual_flow, dual_flows_of}
 use Rattle.pb_gap.specs.Gap.{deviation_of, deviations_of}
 use Rattle.pb_gap.specs.Statistic.{adjustments_by}
 
@@ -33,10 +34,15 @@ adjustment_item r (s ∷ ss) [] j d each lt = absurd (omega (arith, each))
 adjustment_item r (s ∷ ss) (p ∷ ps) zero d each lt = refl
 adjustment_item r (s ∷ ss) (p ∷ ps) (suc j) d each lt = adjustment_item r ss ps j d (omega (arith, each)) (omega (arith, lt))
 
-pub map_item : (f : Stream → ℤ) (ss : List Stream) (j : ℕ) (d : Stream) → j < length ss → item (map f ss) j ≡ f (get_or ss j d)
+pub map_item : {A : Type 0} (f : A → ℤ) (ss : List A) (j : ℕ) (d : A) → j < length ss → item (map f ss) j ≡ f (get_or ss j d)
 map_item f [] j d lt = absurd (omega (arith, lt))
 map_item f (s ∷ ss) zero d lt = refl
 map_item f (s ∷ ss) (suc j) d lt = map_item f ss j d (omega (arith, lt))
+
+-- the dual flow of a stream
+pub dual_item : (price : ℕ → ℤ) (ss : List Stream) (us : List ℤ) (j : ℕ) (d : Stream) → us ≡ dual_flows_of price ss → j < length ss
+    → item us j ≡ dual_flow price (get_or ss j d)
+dual_item price ss us j d is lt = ap (λ (us : List ℤ). item us j) is ∙ map_item (dual_flow price) ss j d lt
 
 -- one more number is written
 pub put_value : (out target : List ℤ) (j : ℕ) (x : ℤ) → j < length out → x ≡ item target j → ((k : ℕ) → k < j → item out k ≡ item target k)

@@ -1,17 +1,18 @@
 -- A graph has one state after each number of sweeps, and one solution.
-use Rattle.std.proofs.Common.{◌≡◌, ◌∙◌, ℕ, suc, ◌+◌, ◌≤◌, Bool, true, false, ℤ, List, ap, sym, subst, inl, inr, arith, rules}
+use Rattle.std.proofs.Common.{◌≡◌, ◌∙◌, ℕ, zero, suc, ◌+◌, ◌<◌, ◌≤◌, ◌⊎◌, Bool, true, false, ℤ, List, ap, ap₂, refl, sym, subst, inl, inr, arith, rules}
 use Rattle.std.specs.Prelude.{IsTrue, ◌↔◌}
 use Rattle.std.proofs.lemmas.Bool.{cases_lt}
+use Rattle.pb_graph.specs.declared.results.Solved.{Solved}
 use Rattle.pb_graph.specs.declared.results.Solved.TheVariants.{Converged, Unconverged}
 use Rattle.pb_graph.specs.ProcessGraph.{ProcessGraph, IsProcessGraph}
-use Rattle.pb_merge.proofs.GroupLaws.{numbering_law}
+use Rattle.pb_merge.proofs.GroupLaws.{numbering_law, some_groups_law}
 use Rattle.pb_forest.specs.Flows.{AgreeOffForest}
-use Rattle.pb_forest.proofs.ForestLaws.{one_forest_law}
-use Rattle.pb_forest.proofs.ForestLaws.{one_balanced_law}
+use Rattle.pb_forest.proofs.ForestLaws.{one_balanced_law, one_forest_law, some_balanced_law, some_forest_law}
 use Rattle.pb_dual.specs.Sweeps.{prices_after}
-use Rattle.pb_gap.specs.Gap.{MeetsGap, gap_of}
+use Rattle.pb_gap.specs.Gap.{MeetsGap, gap_of, gap_size}
 use Rattle.pb_gap.specs.State.{AreRoundedFlows, IsState, IsStateAfter, State, gap_in, nearest_flows, price_in}
-use Rattle.pb_gap.specs.Solution.{IsMetAfter, NoneMeetsBefore, OneStateLaw, OneSolutionLaw}
+use Rattle.pb_gap.specs.Statistic.{high_of, low_of}
+use Rattle.pb_gap.specs.Solution.{EachMissesBefore, IsMetAfter, IsSameState, IsSolution, IsSolvedStatistic, MissesAfter, OneSolutionLaw, OneSolvedStatisticLaw, OneStateLaw, SomeSolutionLaw, SomeSolvedStatisticLaw, SomeStateLaw}
 
 -- the flows that belong to prices are one vector
 pub one_rounded : (g : ProcessGraph) (price : ℕ → ℤ) (xs ys : List ℤ) → IsProcessGraph g → AreRoundedFlows g price xs → AreRoundedFlows g price ys → xs ≡ ys
@@ -26,39 +27,87 @@ one_state g k p q xs ys limits a b =
     let price = a.swept ∙ ap (λ (group : List ℕ). prices_after g group k) group ∙ sym b.swept in
     record { price = price; flows = one_rounded g q xs ys limits (subst (λ (f : ℕ → ℤ). AreRoundedFlows g f xs) price a.rounded) b.rounded }
 
--- no state after k sweeps or fewer meets the gap, where none after fewer does and that after k does not
-pub none_more : (g : ProcessGraph) (gap k : ℕ) (p : ℕ → ℤ) (xs : List ℤ) → IsProcessGraph g → IsStateAfter g k p xs → NoneMeetsBefore g gap k
-    → (MeetsGap gap (gap_of p g.streams xs) → ⊥) → NoneMeetsBefore g gap (suc k)
-none_more g gap k p xs limits state none far j q ys lt met = elim (cases_lt j k) [
-  | inl less ↦ none j q ys less met
-  | inr ge ↦
-      let j_is : j ≡ k = omega (arith, lt, ge) in
-      let there : IsStateAfter g k q ys = subst (λ (n : ℕ). IsStateAfter g n q ys) j_is met.state in
-      let same = one_state g k q p ys xs limits there state in
-      far (subst (λ (f : ℕ → ℤ). MeetsGap gap (gap_of f g.streams xs)) same.price (subst (λ (zs : List ℤ). MeetsGap gap (gap_of q g.streams zs)) same.flows met.met))
+pub some_state : SomeStateLaw
+some_state g k limits =
+    let (group, groups) = some_groups_law g limits in
+    let (held, forest) = some_forest_law g.streams in
+    let price = prices_after g group k in
+    let (flows, balanced, nearest) = some_balanced_law g held (nearest_flows price g.streams) forest in
+    (price, flows, record { group = group; groups = groups; swept = refl; rounded = record { held = held; forest = forest; balanced = balanced; nearest = nearest } })
+
+-- no state after so many sweeps both misses the gap and meets it
+pub not_both : (g : ProcessGraph) (gap k : ℕ) (p : ℕ → ℤ) (xs : List ℤ) → IsProcessGraph g → MissesAfter g gap k → IsMetAfter g gap k p xs → ⊥
+not_both g gap k p xs limits miss met =
+    let same = one_state g k p miss.price xs miss.flows limits met.state miss.state in
+    miss.missed (subst (λ (f : ℕ → ℤ). MeetsGap gap (gap_of f g.streams miss.flows)) same.price (subst (λ (ys : List ℤ). MeetsGap gap (gap_of p g.streams ys)) same.flows met.met))
+
+-- one number of sweeps more after which the gap is missed
+pub misses_more : (g : ProcessGraph) (gap k : ℕ) → EachMissesBefore g gap k → MissesAfter g gap k → EachMissesBefore g gap (suc k)
+misses_more g gap k each here j lt = elim (cases_lt j k) [
+  | inl less ↦ each j less
+  | inr ge ↦ let e : k ≡ j = omega (arith, lt, ge) in subst (MissesAfter g gap) e here
 ]
 
 -- neither of two solutions that converged comes after the other
-not_after : (g : ProcessGraph) (gap j k : ℕ) (p : ℕ → ℤ) (xs : List ℤ) → IsMetAfter g gap j p xs → NoneMeetsBefore g gap k → k ≤ j
-not_after g gap j k p xs met none = elim (cases_lt j k) [ inl less ↦ absurd (none j p xs less met) | inr ge ↦ ge ]
+not_after : (g : ProcessGraph) (gap j k : ℕ) (p : ℕ → ℤ) (xs : List ℤ) → IsProcessGraph g → IsMetAfter g gap j p xs → EachMissesBefore g gap k → k ≤ j
+not_after g gap j k p xs limits met each = elim (cases_lt j k) [ inl less ↦ absurd (not_both g gap j p xs limits (each j less) met) | inr ge ↦ ge ]
 
 pub one_solution : OneSolutionLaw
 one_solution g gap sweeps (Converged j) (Converged k) p q xs ys limits a b =
-    let is : j ≡ k = omega (arith, not_after g gap j k p xs a.here b.least, not_after g gap k j q ys b.here a.least) in
+    let is : j ≡ k = omega (arith, not_after g gap j k p xs limits a.here b.least, not_after g gap k j q ys limits b.here a.least) in
     (ap Converged is, one_state g k p q xs ys limits (subst (λ (n : ℕ). IsStateAfter g n p xs) is a.here.state) b.here.state)
-one_solution g gap sweeps (Converged j) (Unconverged k) p q xs ys limits a b = absurd (b.none j p xs (omega (arith, a.within, b.all)) a.here)
-one_solution g gap sweeps (Unconverged j) (Converged k) p q xs ys limits a b = absurd (a.none k q ys (omega (arith, b.within, a.all)) b.here)
+one_solution g gap sweeps (Converged j) (Unconverged k) p q xs ys limits a b =
+    absurd (not_both g gap j p xs limits (b.none j (omega (arith, a.within, b.done))) a.here)
+one_solution g gap sweeps (Unconverged j) (Converged k) p q xs ys limits a b =
+    absurd (not_both g gap k q ys limits (a.none k (omega (arith, b.within, a.done))) b.here)
 one_solution g gap sweeps (Unconverged j) (Unconverged k) p q xs ys limits a b =
-    let is = a.all ∙ sym b.all in
+    let is = a.done ∙ sym b.done in
     (ap Unconverged is, one_state g k p q xs ys limits (subst (λ (n : ℕ). IsStateAfter g n p xs) is a.here) b.here)
 
+-- ---- a solution is found by trying each number of sweeps
+HasFirst : ProcessGraph → ℕ → ℕ → ℕ → Type 0
+HasFirst g gap sweeps n = ((solved : Solved) × (price : ℕ → ℤ) × (flows : List ℤ) × IsSolution g gap sweeps solved price flows) ⊎ EachMissesBefore g gap n
+
+tried : (g : ProcessGraph) (gap sweeps n : ℕ) → IsProcessGraph g → n ≤ suc sweeps → HasFirst g gap sweeps n
+unfolding HasFirst
+tried g gap sweeps zero limits le = inr (λ k lt. absurd (omega (arith, lt)))
+tried g gap sweeps (suc n) limits le = elim (tried g gap sweeps n limits (omega (arith, le))) [
+  | inl found ↦ inl found
+  | inr each ↦
+      let (price, flows, state) = some_state g n limits in
+      elim (cases_lt (gap * 2 ^ 20) (gap_size (gap_of price g.streams flows) * 1000)) [
+        | inl far ↦ inr (misses_more g gap n each (record { price = price; flows = flows; state = state; missed = λ met. omega (arith, far, met) }))
+        | inr met ↦ inl (Converged n, price, flows, record { within = omega (arith, le); least = each; here = record { state = state; met = met } })
+      ]
+]
+
+pub some_solution : SomeSolutionLaw
+unfolding HasFirst
+some_solution g gap sweeps limits = elim (tried g gap sweeps (suc sweeps) limits (omega arith)) [
+  | inl found ↦ found
+  | inr each ↦
+      let (price, flows, state) = some_state g sweeps limits in
+      (Unconverged sweeps, price, flows, record { done = refl; none = each; here = state })
+]
+
+pub some_solved_statistic : SomeSolvedStatisticLaw
+some_solved_statistic g gap sweeps limits =
+    let (solved, price, flows, solution) = some_solution g gap sweeps limits in
+    (low_of g.streams flows (gap_of price g.streams flows), high_of g.streams flows,
+    record { solved = solved; price = price; flows = flows; solution = solution; is_low = refl; is_high = refl })
+
+pub one_solved_statistic : OneSolvedStatisticLaw
+one_solved_statistic g gap sweeps low other_low high other_high limits a b =
+    let same = (one_solution g gap sweeps a.solved b.solved a.price b.price a.flows b.flows limits a.solution b.solution).1 in
+    (a.is_low ∙ ap₂ (λ (f : ℕ → ℤ) (xs : List ℤ). low_of g.streams xs (gap_of f g.streams xs)) same.price same.flows ∙ sym b.is_low,
+    a.is_high ∙ ap (high_of g.streams) same.flows ∙ sym b.is_high)
+
 -- what a test of the present state says
-pub none_next : (g : ProcessGraph) (gap k : ℕ) (s : State) (met : Bool) → IsState s → s.graph ≡ g → IsStateAfter g k (price_in s) s.flows → NoneMeetsBefore g gap k
-    → (IsTrue met ↔ MeetsGap gap (gap_in s)) → met ≡ false → NoneMeetsBefore g gap (suc k)
-none_next g gap k s met is same after none test fails =
+pub misses_here : (g : ProcessGraph) (gap k : ℕ) (s : State) (met : Bool) → s.graph ≡ g → IsStateAfter g k (price_in s) s.flows
+    → (IsTrue met ↔ MeetsGap gap (gap_in s)) → met ≡ false → MissesAfter g gap k
+misses_here g gap k s met same after test fails =
     let not_met : MeetsGap gap (gap_in s) → ⊥ = λ meets. absurd (clash met (test.1 meets) fails) in
-    let limits = subst IsProcessGraph same is.limits in
-    none_more g gap k (price_in s) s.flows limits after none (subst (λ (h : ProcessGraph). MeetsGap gap (gap_of (price_in s) h.streams s.flows) → ⊥) same not_met)
+    record { price = price_in s; flows = s.flows; state = after; missed = subst (λ (h : ProcessGraph). MeetsGap gap (gap_of (price_in s) h.streams s.flows) → ⊥) same not_met }
   where
     clash : (met : Bool) → IsTrue met → met ≡ false → ⊥
     clash met yes_ no_ = search rules
@@ -78,5 +127,5 @@ next_state g k s t u same kept after more =
     subst (λ (h : ProcessGraph). IsStateAfter h k (price_in t) t.flows) (sym graph) (subst (λ (v : State). IsStateAfter g k (price_in v) v.flows) (sym kept) after) in
     subst (λ (n : ℕ). IsStateAfter g n (price_in u) u.flows) e (subst (λ (h : ProcessGraph). IsStateAfter h (suc k) (price_in u) u.flows) graph (more k here))
 
-pub none_to : (g : ProcessGraph) (gap k n : ℕ) → k ≡ n → NoneMeetsBefore g gap k → NoneMeetsBefore g gap n
-none_to g gap k n e none = subst (NoneMeetsBefore g gap) e none
+pub misses_to : (g : ProcessGraph) (gap k n : ℕ) → k ≡ n → EachMissesBefore g gap k → EachMissesBefore g gap n
+misses_to g gap k n is each = subst (EachMissesBefore g gap) is each

@@ -12,9 +12,8 @@ use Rattle.pb_fixed.proofs.RootLaws.{scaled_root_is, scaled_root_width}
 use Rattle.pb_graph.specs.declared.records.Meas.{Meas}
 use Rattle.pb_graph.specs.ProcessGraph.{IsMeasurement}
 use Rattle.pb_dual.specs.DualValue.{scale, flow_at}
-use Rattle.pb_gap.specs.Gap.{deviation_at}
+use Rattle.pb_gap.specs.Gap.{deviation_at, standard_deviation_of}
 use Rattle.pb_gap.specs.Statistic.{adjustment_at, adjustment_below, adjustment_above}
-use Rattle.pb_gap.specs.Iterate.{root_of}
 
 -- the scaled root of a variance
 pub record IsRoot (r : ℤ) : Type 0 where
@@ -50,10 +49,10 @@ pub record IsRootOf (m : Meas) (r : ℤ) : Type 0 where
   pub width : IsRoot r
   pub limits : IsMeasurement m
 
-pub rooted : (o : Option Meas) (m : Meas) (r : ℤ) → IfSome o IsMeasurement → r ≡ root_of o → o ≡ Some m → IsRootOf m r
+pub rooted : (o : Option Meas) (m : Meas) (r : ℤ) → IfSome o IsMeasurement → r ≡ standard_deviation_of o → o ≡ Some m → IsRootOf m r
 rooted o m r limits root is =
     let l : IsMeasurement m = subst (λ (o : Option Meas). IfSome o IsMeasurement) is limits in
-    let e : r ≡ scaled_root_of m.variance = root ∙ ap root_of is in
+    let e : r ≡ scaled_root_of m.variance = root ∙ ap standard_deviation_of is in
     record { is = e; width = subst IsRoot (sym e) (measured_root m l); limits = l }
 
 pub deviation_is : (o : Option Meas) (m : Meas) (d u p r x : ℤ) → o ≡ Some m → u ≡ flow_at o d → r ≡ scaled_root_of m.variance

@@ -1,4 +1,4 @@
--- Bounds of a signed sum of measured flows.
+-- Statement. Bounds of a signed sum of measured flows.
 use Rattle.std.specs.Prelude.{◌≡◌, ◌⊎◌, ℕ, ℤ, pos, negsuc, ◌+ℤ◌, ◌-ℤ◌, ◌*ℤ◌, ◌≤ℤ◌, List, [], ◌∷◌, Option, Some, None, slice_get}
 use Rattle.std.specs.List.{AllByRecursion}
 use Rattle.pb_integers.specs.Sums.{sum_over, AreDistinctBy}

@@ -1,5 +1,5 @@
--- The gap of prices and whole flows: how far the flows are from the dual flows, in standard deviations.
-use Rattle.std.specs.Prelude.{ℕ, ◌*◌, ◌^◌, ◌≤◌, ℤ, pos, ◌-ℤ◌, ◌*ℤ◌, ◌≤ℤ◌, unsigned_abs, List, [], ◌∷◌, Option, Some, None}
+-- Statement. The gap of prices and whole flows: how far the flows are from the dual flows, in standard deviations.
+use Rattle.std.specs.Prelude.{ℕ, ◌*◌, ◌^◌, ◌≤◌, ℤ, pos, ◌-ℤ◌, ◌*ℤ◌, ◌≤ℤ◌, unsigned_abs, List, [], ◌∷◌, map, Option, Some, None}
 use Rattle.pb_fixed.specs.Quotients.{ceil_div}
 use Rattle.pb_fixed.specs.Roots.{root_ceil_of, scaled_root_of}
 use Rattle.pb_fixed.specs.Blocks.{IsBlockExponent, block_exponent_of, block_squares_of}
@@ -7,6 +7,15 @@ use Rattle.pb_graph.specs.declared.records.Meas.{Meas}
 use Rattle.pb_graph.specs.declared.records.Stream.{Stream}
 use Rattle.pb_graph.specs.Prices.{rise_of}
 use Rattle.pb_dual.specs.DualValue.{scale, flow_at}
+pub use Rattle.pb_gap.specs.declared.gap.Gap.{Gap}
+
+-- the standard deviation of a measurement in units of 2^-20 gram, rounded down; 0 where there is none
+abbrev pub standard_deviation_of : Option Meas → ℤ
+standard_deviation_of None = pos 0
+standard_deviation_of (Some m) = scaled_root_of m.variance
+
+abbrev pub standard_deviations_of : List Stream → List ℤ
+standard_deviations_of streams = map (λ s. standard_deviation_of s.meas) streams
 
 -- how far the flow p of a measurement along which the price rises by d is from its dual flow, in standard deviations, in units of
 -- 2^-20, rounded up; 0 where there is no measurement
@@ -24,11 +33,6 @@ deviations_of price [] ps = []
 deviations_of price (s ∷ ss) [] = []
 deviations_of price (s ∷ ss) (p ∷ ps) = deviation_of price s p ∷ deviations_of price ss ps
 
--- a gap of g blocks of 2^h, in units of 2^-20 standard deviation
-pub record Gap : Type 0 where
-  pub g : ℕ
-  pub h : ℕ
-
 -- the size of a gap, in units of 2^-20 standard deviation
 abbrev pub gap_size : Gap → ℕ
 gap_size gap = gap.g * 2 ^ gap.h
@@ -45,7 +49,7 @@ abbrev pub gap_from : List ℤ → Gap
 gap_from deviations =
     record { g = root_ceil_of (unsigned_abs (block_squares_of deviations (block_exponent_of deviations))); h = block_exponent_of deviations }
 
--- The gap of prices and flows: the root of the sum of the squares of the deviations, rounded up. It bounds by how much the weighted
+-- Statement. The gap of prices and flows: the root of the sum of the squares of the deviations, rounded up. It bounds by how much the weighted
 -- squares of the flows are above the dual value (the duality gap: Rockafellar, Network Flows and Monotropic Optimization).
 abbrev pub gap_of : (ℕ → ℤ) → List Stream → List ℤ → Gap
 gap_of price ss ps = gap_from (deviations_of price ss ps)

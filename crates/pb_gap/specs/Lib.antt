@@ -1,10 +1,15 @@
-pub mod Residuals
+-- Statement
 pub mod Gap
+pub mod GapRange
+pub mod FlowPair
 pub mod Bounds
-pub mod Statistic
 pub mod StreamBounds
+pub mod Statistic
 pub mod State
 pub mod Solution
-pub mod Iterate
+pub mod Residuals
 pub mod Laws
 pub mod Least
+-- Inside
+pub mod Members
+pub mod Iterate

@@ -1,49 +1,86 @@
--- The solution of a graph: sweeps until the gap is met, at most so many.
-use Rattle.std.specs.Prelude.{◌≡◌, ℕ, suc, ◌<◌, ◌≤◌, ℤ, List}
+-- Statement. The solution of a graph: sweeps until the gap is met, at most so many.
+use Rattle.std.specs.Prelude.{◌≡◌, ℕ, suc, ◌<◌, ◌≤◌, ℤ, List, Option}
 use Rattle.pb_graph.specs.declared.results.Solved.{Solved}
 use Rattle.pb_graph.specs.declared.results.Solved.TheVariants.{Converged, Unconverged}
 use Rattle.pb_graph.specs.ProcessGraph.{ProcessGraph, IsProcessGraph}
 use Rattle.pb_gap.specs.Gap.{gap_of, MeetsGap}
 use Rattle.pb_gap.specs.State.{IsStateAfter}
+use Rattle.pb_gap.specs.Statistic.{low_of, high_of}
 
 -- the state after k sweeps, whose gap is met at so many thousandths of a standard deviation
-pub record IsMetAfter (g : ProcessGraph) (gap k : ℕ) (price : ℕ → ℤ) (flows : List ℤ) : Type 0 where
-  pub state : IsStateAfter g k price flows
-  pub met : MeetsGap gap (gap_of price g.streams flows)
+pub record IsMetAfter (graph : ProcessGraph) (gap k : ℕ) (price : ℕ → ℤ) (flows : List ℤ) : Type 0 where
+  pub state : IsStateAfter graph k price flows
+  pub met : MeetsGap gap (gap_of price graph.streams flows)
 
--- no state after fewer than n sweeps meets the gap
-abbrev pub NoneMeetsBefore : ProcessGraph → ℕ → ℕ → Type 0
-NoneMeetsBefore g gap n = (k : ℕ) (price : ℕ → ℤ) (flows : List ℤ) → k < n → IsMetAfter g gap k price flows → ⊥
+-- there is a state after k sweeps, and its gap isn't met
+pub record MissesAfter (graph : ProcessGraph) (gap k : ℕ) : Type 0 where
+  pub price : ℕ → ℤ
+  pub flows : List ℤ
+  pub state : IsStateAfter graph k price flows
+  pub missed : MeetsGap gap (gap_of price graph.streams flows) → ⊥
+
+-- after each number of sweeps below n there is a state, and its gap isn't met
+abbrev pub EachMissesBefore : ProcessGraph → ℕ → ℕ → Type 0
+EachMissesBefore graph gap n = (k : ℕ) → k < n → MissesAfter graph gap k
 
 -- k is the least number of sweeps after which the gap is met, at most so many; the state is that after k sweeps
-pub record IsConverged (g : ProcessGraph) (gap sweeps k : ℕ) (price : ℕ → ℤ) (flows : List ℤ) : Type 0 where
+pub record IsConverged (graph : ProcessGraph) (gap sweeps k : ℕ) (price : ℕ → ℤ) (flows : List ℤ) : Type 0 where
   pub within : k ≤ sweeps
-  pub least : NoneMeetsBefore g gap k
-  pub here : IsMetAfter g gap k price flows
+  pub least : EachMissesBefore graph gap k
+  pub here : IsMetAfter graph gap k price flows
 
--- after no number of sweeps up to k, which is all that were asked, is the gap met; the state is that after k sweeps
-pub record IsUnconverged (g : ProcessGraph) (gap sweeps k : ℕ) (price : ℕ → ℤ) (flows : List ℤ) : Type 0 where
-  pub all : k ≡ sweeps
-  pub none : NoneMeetsBefore g gap (suc k)
-  pub here : IsStateAfter g k price flows
+-- after each number of sweeps up to k, which is all that were asked, the gap isn't met; the state is that after k sweeps
+pub record IsUnconverged (graph : ProcessGraph) (gap sweeps k : ℕ) (price : ℕ → ℤ) (flows : List ℤ) : Type 0 where
+  pub done : k ≡ sweeps
+  pub none : EachMissesBefore graph gap (suc k)
+  pub here : IsStateAfter graph k price flows
 
 -- The solution of a graph at a gap in thousandths of a standard deviation with at most so many sweeps: the state after the least
 -- number of sweeps that meets the gap, and where none does, the state after all of them.
 abbrev pub IsSolution : ProcessGraph → ℕ → ℕ → Solved → (ℕ → ℤ) → List ℤ → Type 0
-IsSolution g gap sweeps (Converged k) price flows = IsConverged g gap sweeps k price flows
-IsSolution g gap sweeps (Unconverged k) price flows = IsUnconverged g gap sweeps k price flows
+IsSolution graph gap sweeps (Converged k) price flows = IsConverged graph gap sweeps k price flows
+IsSolution graph gap sweeps (Unconverged k) price flows = IsUnconverged graph gap sweeps k price flows
+
+-- the ends of the statistic of a graph, solved at a gap with at most so many sweeps
+pub record IsSolvedStatistic (graph : ProcessGraph) (gap sweeps : ℕ) (low : ℤ) (high : Option ℤ) : Type 0 where
+  pub solved : Solved
+  pub price : ℕ → ℤ
+  pub flows : List ℤ
+  pub solution : IsSolution graph gap sweeps solved price flows
+  pub is_low : low ≡ low_of graph.streams flows (gap_of price graph.streams flows)
+  pub is_high : high ≡ high_of graph.streams flows
 
 -- two states are one
-pub record IsSameState (p q : ℕ → ℤ) (xs ys : List ℤ) : Type 0 where
-  pub price : p ≡ q
-  pub flows : xs ≡ ys
+pub record IsSameState (first second : ℕ → ℤ) (these those : List ℤ) : Type 0 where
+  pub price : first ≡ second
+  pub flows : these ≡ those
 
--- a graph has one state after each number of sweeps
+-- a process graph has a state after each number of sweeps
+abbrev pub SomeStateLaw : Type 0
+SomeStateLaw = (graph : ProcessGraph) (k : ℕ) → IsProcessGraph graph → (price : ℕ → ℤ) × (flows : List ℤ) × IsStateAfter graph k price flows
+
+-- and at most one
 abbrev pub OneStateLaw : Type 0
-OneStateLaw = (g : ProcessGraph) (k : ℕ) (p q : ℕ → ℤ) (xs ys : List ℤ) → IsProcessGraph g → IsStateAfter g k p xs → IsStateAfter g k q ys
-    → IsSameState p q xs ys
+OneStateLaw = (graph : ProcessGraph) (k : ℕ) (price other : ℕ → ℤ) (flows others : List ℤ) → IsProcessGraph graph
+    → IsStateAfter graph k price flows → IsStateAfter graph k other others → IsSameState price other flows others
 
--- a graph has one solution at each gap and greatest number of sweeps
+-- a process graph has a solution at each gap and greatest number of sweeps
+abbrev pub SomeSolutionLaw : Type 0
+SomeSolutionLaw = (graph : ProcessGraph) (gap sweeps : ℕ) → IsProcessGraph graph
+    → (solved : Solved) × (price : ℕ → ℤ) × (flows : List ℤ) × IsSolution graph gap sweeps solved price flows
+
+-- and at most one
 abbrev pub OneSolutionLaw : Type 0
-OneSolutionLaw = (g : ProcessGraph) (gap sweeps : ℕ) (a b : Solved) (p q : ℕ → ℤ) (xs ys : List ℤ) → IsProcessGraph g
-    → IsSolution g gap sweeps a p xs → IsSolution g gap sweeps b q ys → (a ≡ b) × IsSameState p q xs ys
+OneSolutionLaw = (graph : ProcessGraph) (gap sweeps : ℕ) (solved again : Solved) (price other : ℕ → ℤ) (flows others : List ℤ)
+    → IsProcessGraph graph → IsSolution graph gap sweeps solved price flows → IsSolution graph gap sweeps again other others
+    → (solved ≡ again) × IsSameState price other flows others
+
+-- the statistic of a process graph, solved, has ends
+abbrev pub SomeSolvedStatisticLaw : Type 0
+SomeSolvedStatisticLaw = (graph : ProcessGraph) (gap sweeps : ℕ) → IsProcessGraph graph
+    → (low : ℤ) × (high : Option ℤ) × IsSolvedStatistic graph gap sweeps low high
+
+-- and no others
+abbrev pub OneSolvedStatisticLaw : Type 0
+OneSolvedStatisticLaw = (graph : ProcessGraph) (gap sweeps : ℕ) (low other_low : ℤ) (high other_high : Option ℤ) → IsProcessGraph graph
+    → IsSolvedStatistic graph gap sweeps low high → IsSolvedStatistic graph gap sweeps other_low other_high → (low ≡ other_low) × (high ≡ other_high)

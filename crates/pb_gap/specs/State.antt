@@ -1,4 +1,4 @@
--- The state of a graph after some sweeps: the price of each group, and the flows that belong to the prices.
+-- Statement. The state of a graph after some sweeps: the price of each group, and the flows that belong to the prices.
 use Rattle.std.specs.Prelude.{◌≡◌, ℕ, Bool, ℤ, pos, List, map, get_or}
 use Rattle.pb_fixed.specs.Quotients.{nearest_div}
 use Rattle.pb_graph.specs.declared.records.Stream.{Stream}
@@ -8,13 +8,17 @@ use Rattle.pb_graph.specs.Groups.{AreGroups, group_at}
 use Rattle.pb_graph.specs.Prices.{PricesFit}
 use Rattle.pb_forest.specs.Forest.{IsForest}
 use Rattle.pb_forest.specs.Flows.{AgreeOffForest}
-use Rattle.pb_dual.specs.DualValue.{scale, dual_flow}
+use Rattle.pb_dual.specs.DualValue.{scale, dual_flows_of}
 use Rattle.pb_dual.specs.Sweeps.{prices_after}
 use Rattle.pb_gap.specs.Gap.{Gap, gap_of}
 
+-- dual flows, each to the nearest gram
+abbrev pub nearest_grams : List ℤ → List ℤ
+nearest_grams dual_flows = map (λ flow. nearest_div flow scale) dual_flows
+
 -- the dual flow of each stream, to the nearest gram; 0 where the stream is unmeasured
 abbrev pub nearest_flows : (ℕ → ℤ) → List Stream → List ℤ
-nearest_flows price ss = map (λ s. nearest_div (dual_flow price s) scale) ss
+nearest_flows price streams = nearest_grams (dual_flows_of price streams)
 
 -- The flows that belong to prices: they balance, and each stream outside the spanning forest has its dual flow to the nearest gram.
 pub record AreRoundedFlows (g : ProcessGraph) (price : ℕ → ℤ) (flows : List ℤ) : Type 0 where

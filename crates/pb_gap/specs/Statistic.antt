@@ -1,4 +1,4 @@
--- The statistic: what the least weighted squares are at least, and at most, in thousandths (the objective function statistic of the
+-- Statement. The statistic: what the least weighted squares are at least, and at most, in thousandths (the objective function statistic of the
 -- global test: Narasimhan and Jordache).
 use Rattle.std.specs.Prelude.{◌^◌, ℤ, pos, ◌+ℤ◌, ◌-ℤ◌, ◌*ℤ◌, int_lt, nat_lt, unsigned_abs, List, [], ◌∷◌, Option, Some, None, if◌then◌else◌}
 use Rattle.std.specs.Int.{int_max, int_min}

@@ -1,21 +1,22 @@
-ghost use Rattle.std.specs.Prelude.{◌≡◌, ◌⊎◌, ◌*◌, ◌^◌, ◌<◌, ◌≤◌, pos, negsuc, ◌+ℤ◌, ◌-ℤ◌, ◌*ℤ◌, ◌≤ℤ◌, ◌<ℤ◌, unsigned_abs};
+// The arithmetic of one stream: how far a flow is from a dual flow and from a measured value.
+
+ghost use Rattle.std.specs.Prelude.{◌≡◌, ◌⊎◌, ◌+◌, ◌*◌, ◌^◌, ◌<◌, ◌≤◌, pos, negsuc, ◌+ℤ◌, ◌-ℤ◌, ◌*ℤ◌, ◌≤ℤ◌, ◌<ℤ◌, unsigned_abs};
 ghost use Rattle.std.specs.Int.{int_max, int_min};
 ghost use Rattle.pb_fixed.specs.Quotients.{floor_div, ceil_div, nearest_div};
 ghost use Rattle.pb_fixed.specs.Blocks.{IsBlockItem};
-ghost use Rattle.pb_dual.specs.DualValue.{scale};
+ghost use Rattle.pb_limits.specs.Limits.{most_streams, most_value};
+ghost use Rattle.pb_dual.specs.DualValue.{scale, most_dual_flow};
 ghost use Rattle.pb_gap.specs.Statistic.{most_adjustment};
 
+use pb_dual::SCALE;
 use pb_fixed::{div_ceil, div_floor, div_nearest};
 
-/// The units of dual flow in a gram, 2^56.
-pub const SCALE: i128 = 72_057_594_037_927_936;
-
-/// The most that an adjustment counts, 2^52.
-pub const MOST_ADJUSTMENT: i128 = 4_503_599_627_370_496;
+/// The most that an adjustment counts.
+pub const MOST_ADJUSTMENT: i128 = 1 << 52;
 
 /// A dual flow to the nearest gram.
 pub fn nearest_gram(dual_flow: i128) -> i128
-    requires { unsigned_abs dual_flow < 2 ^ 113 }
+    requires { unsigned_abs dual_flow ≤ most_dual_flow }
     ensures value { result ≡ nearest_div dual_flow scale }
     ensures within { unsigned_abs result ≤ 2 ^ 57 }
 {
@@ -25,7 +26,7 @@ pub fn nearest_gram(dual_flow: i128) -> i128
 /// How far a flow is from a dual flow, in units of 2^-56 gram.
 pub fn distance(flow: i128, dual_flow: i128) -> i128
     requires flow { unsigned_abs flow < 2 ^ 68 }
-    requires dual_flow { unsigned_abs dual_flow < 2 ^ 113 }
+    requires dual_flow { unsigned_abs dual_flow ≤ most_dual_flow }
     ensures value { result ≡ pos (unsigned_abs ((flow *ℤ scale) -ℤ dual_flow)) }
     ensures nonneg { pos 0 ≤ℤ result }
     ensures within { result <ℤ pos (2 ^ 125) }
@@ -37,24 +38,24 @@ pub fn distance(flow: i128, dual_flow: i128) -> i128
 /// units of 2^-20 gram.
 pub fn deviation(flow: i128, dual_flow: i128, root: i128) -> i128
     requires flow { unsigned_abs flow < 2 ^ 68 }
-    requires dual_flow { unsigned_abs dual_flow < 2 ^ 113 }
+    requires dual_flow { unsigned_abs dual_flow ≤ most_dual_flow }
     requires root_from { pos (2 ^ 20) ≤ℤ root }
     requires root_to { root <ℤ pos (2 ^ 63) }
     ensures value { result ≡ ceil_div (pos (unsigned_abs ((flow *ℤ scale) -ℤ dual_flow))) (root *ℤ pos (2 ^ 16)) }
     ensures within { IsBlockItem result }
 {
-    div_ceil(distance(flow, dual_flow), root * 65_536)
+    div_ceil(distance(flow, dual_flow), root * (1 << 16))
 }
 
 /// How far a flow is from a measured value, in units of 2^-40 gram.
 pub fn adjustment(flow: i128, value: i128) -> i128
     requires flow { unsigned_abs flow < 2 ^ 68 }
-    requires value { unsigned_abs value ≤ 10 ^ 15 }
+    requires value { unsigned_abs value ≤ most_value }
     ensures value { result ≡ pos (unsigned_abs (flow -ℤ value)) *ℤ pos (2 ^ 40) }
     ensures nonneg { pos 0 ≤ℤ result }
     ensures within { result <ℤ pos (2 ^ 109) }
 {
-    (flow - value).abs() * 1_099_511_627_776
+    (flow - value).abs() * (1 << 40)
 }
 
 /// An adjustment, counted up to the most.
@@ -81,16 +82,16 @@ pub fn square(adjustment: i128) -> i128
 /// A number with a sign.
 pub fn signed(sign: i8, x: i128) -> i128
     requires sign { (sign ≡ pos 1) ⊎ (sign ≡ negsuc 0) }
-    requires x { unsigned_abs x < 2 ^ 113 }
+    requires x { unsigned_abs x ≤ most_dual_flow }
     ensures value { result ≡ sign *ℤ x }
-    ensures within { unsigned_abs result < 2 ^ 113 }
+    ensures within { unsigned_abs result ≤ most_dual_flow }
 {
     if sign > 0 { x } else { -x }
 }
 
 /// A thousand times a sum of squares in units of 2^-40.
 pub fn thousandths(squares: i128) -> i128
-    requires { unsigned_abs squares ≤ 2001 * 2 ^ 104 }
+    requires { unsigned_abs squares ≤ (most_streams + 1) * 2 ^ 104 }
     ensures value { result ≡ pos 1000 *ℤ squares }
 {
     1_000 * squares
@@ -109,7 +110,7 @@ pub fn size_square(size: u128) -> i128
 /// A thousand times the squares of adjustments less that of the gap, in whole numbers, rounded down, and at least 0.
 pub fn low_end(squares: i128, size_square: i128) -> i128
     requires squares_from { pos 0 ≤ℤ squares }
-    requires squares_to { squares ≤ℤ pos (2000 * 2 ^ 104) }
+    requires squares_to { squares ≤ℤ pos (most_streams * 2 ^ 104) }
     requires size_from { pos 0 ≤ℤ size_square }
     requires size_to { size_square ≤ℤ pos (2 ^ 114) }
     ensures value { result ≡ int_max (pos 0) (floor_div (pos 1000 *ℤ (squares -ℤ size_square)) (pos (2 ^ 40))) }

@@ -2,7 +2,7 @@
 
 ghost use Rattle.pb_gap.specs.Laws.{WeightLaw, SchwarzLaw, IdentityLaw, DualityLaw, AreGaps, GapLaw, EnclosureLaw, StreamSumLaw, StreamLaw, LowLaw, HighLaw};
 ghost use Rattle.pb_gap.specs.Least.{OrthogonalityLaw, ExcessLaw, DistanceLaw};
-ghost use Rattle.pb_gap.specs.Solution.{OneStateLaw, OneSolutionLaw};
+ghost use Rattle.pb_gap.specs.Solution.{SomeStateLaw, OneStateLaw, SomeSolutionLaw, OneSolutionLaw, SomeSolvedStatisticLaw, OneSolvedStatisticLaw};
 
 /// The product of the variances over each of them is a whole number.
 pub fn weight_law()
@@ -54,12 +54,28 @@ pub fn statistic_law()
     ensures high { HighLaw }
 {}
 
-/// A graph has one state after each number of sweeps.
+/// A process graph has a state after each number of sweeps.
+pub fn some_state_law()
+    ensures { SomeStateLaw }
+{}
+
+/// And at most one.
 pub fn one_state_law()
     ensures { OneStateLaw }
 {}
 
-/// A graph has one solution at each gap and greatest number of sweeps.
+/// A process graph has a solution at each gap and greatest number of sweeps.
+pub fn some_solution_law()
+    ensures { SomeSolutionLaw }
+{}
+
+/// And at most one.
 pub fn one_solution_law()
     ensures { OneSolutionLaw }
+{}
+
+/// The statistic of a process graph, solved at a gap with at most so many sweeps, has one pair of ends.
+pub fn solved_statistic_law()
+    ensures some { SomeSolvedStatisticLaw }
+    ensures one { OneSolvedStatisticLaw }
 {}

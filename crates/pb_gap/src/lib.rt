@@ -8,17 +8,23 @@
 mod adjustments;
 mod arithmetic;
 mod deviations;
+mod flow_pair;
 mod flows;
+mod gap;
 mod iterate;
 mod laws;
-mod numbers;
+mod measurements;
 mod solver;
+
 mod sums;
 #[cfg(test)]
 mod tests;
 
+pub use flow_pair::FlowPair;
+pub use gap::Gap;
 pub use laws::{
     duality_law, enclosure_law, gap_law, least_law, one_solution_law, one_state_law, schwarz_law,
-    statistic_law, stream_law, weight_law,
+    solved_statistic_law, some_solution_law, some_state_law, statistic_law, stream_law, weight_law,
 };
 pub use solver::Solver;
+pub use measurements::standard_deviations;

@@ -1,4 +1,7 @@
+// The solver: the prices of a graph and the flows that belong to them, with their gap.
+
 ghost use Rattle.std.specs.Prelude.{◌≡◌, ℕ, ◌<◌, ◌≤◌, ◌^◌, pos, ◌≤ℤ◌, Bool, List as Seq, Some, length, slice_get, unsigned_abs, IfOk, IfSome};
+ghost use Rattle.pb_limits.specs.Limits.{most_gap, most_sweeps};
 ghost use Rattle.pb_graph.specs.Balance.{IsBalanced};
 ghost use Rattle.pb_graph.specs.Squares.{Fractional, IsBalancedFractional, IsNoWorse, AreSquaresAtLeast, AreSquaresAtMost, whole_flows};
 ghost use Rattle.pb_graph.specs.Prices.{PricesFit};
@@ -8,8 +11,8 @@ ghost use Rattle.pb_gap.specs.Statistic.{statistic_of};
 ghost use Rattle.pb_gap.specs.State.{IsState, IsStateAfter, price_in, gap_in};
 ghost use Rattle.pb_gap.specs.Solution.{IsSolution};
 
+use crate::gap::Gap;
 use crate::iterate::Iterate;
-use crate::numbers::GapNumbers;
 use pb_graph::{Bounds, Graph, Member, Solved};
 use std::alloc::{AllocError, Global};
 use std::marker::Model;
@@ -20,28 +23,28 @@ use std::marker::Model;
 #[derive(Drop)]
 pub struct Solver {
     iterate: Iterate,
-    gap: GapNumbers,
+    gap: Gap,
 }
 
 impl Model for Solver {
-    ghost use Rattle.pb_gap.specs.State.{State, gap_in};
+    ghost use Rattle.pb_gap.specs.State.{State};
     ghost use Rattle.pb_gap.specs.Iterate.{IsGapOf};
 
     ghost Value = { State };
 
     ghost view = { λ a. a.iterate };
 
-    ghost invariant = { λ a. IsGapOf (gap_in a.iterate) a.gap.g a.gap.h };
+    ghost invariant = { λ a. IsGapOf a.iterate a.gap };
 }
 
 impl Solver {
     /// The state of a graph after 0 sweeps.
-    pub fn new(alloc: Global, g: &Graph) -> Result<Solver, AllocError>
-        ensures graph { IfOk result (λ s. s.graph ≡ g.now) }
+    pub fn new(alloc: Global, graph: &Graph) -> Result<Solver, AllocError>
+        ensures graph { IfOk result (λ s. s.graph ≡ graph.now) }
         ensures state { IfOk result IsState }
-        ensures after { IfOk result (λ s. IsStateAfter g.now 0 (price_in s) s.flows) }
+        ensures after { IfOk result (λ s. IsStateAfter graph.now 0 (price_in s) s.flows) }
     {
-        let mut iterate = Iterate::new(alloc, g)?;
+        let mut iterate = Iterate::new(alloc, graph)?;
         let gap = iterate.gap();
         Ok(Solver { iterate, gap })
     }
@@ -50,8 +53,8 @@ impl Solver {
     /// from 1 to 1,000,000; there are at most 100,000 sweeps.
     pub fn solve(&mut self, gap: u32, sweeps: u32) -> Solved
         requires gap_from { 1 ≤ gap }
-        requires gap_to { gap ≤ 1000000 }
-        requires sweeps { sweeps ≤ 100000 }
+        requires gap_to { gap ≤ most_gap }
+        requires sweeps { sweeps ≤ most_sweeps }
         ensures graph { self.new.graph ≡ self.old.graph }
         ensures group { self.new.group ≡ self.old.group }
         ensures state { IsState self.new }
@@ -74,13 +77,13 @@ impl Solver {
     }
 
     /// The flow of a stream.
-    pub fn flow(&self, j: u32) -> i128
-        requires { j < length self.now.graph.streams }
-        ensures value { slice_get self.now.flows j ≡ Some result }
+    pub fn flow(&self, stream: u32) -> i128
+        requires { stream < length self.now.graph.streams }
+        ensures value { slice_get self.now.flows stream ≡ Some result }
         ensures within { unsigned_abs result < 2 ^ 68 }
         ensures balanced { IsBalanced self.now.graph self.now.flows }
     {
-        self.iterate.flow(j)
+        self.iterate.flow(stream)
     }
 
     /// How many blocks of 2^h the gap is of, at most 2^63.
@@ -117,7 +120,7 @@ impl Solver {
         ensures enclosure { (x : Fractional) → IsBalancedFractional self.now.graph x → IsNoWorse self.now.graph x (whole_flows self.now.flows)
             → IsWithin x members.now result }
     {
-        self.iterate.bounds(members, self.gap)
+        self.iterate.pair().bounds(members, self.gap)
     }
 
     /// The ends of the statistic in thousandths: the weighted squares of every balanced fractional vector are at least the low one,
@@ -132,6 +135,6 @@ impl Solver {
             → AreSquaresAtLeast self.now.graph x result.0 }
         ensures high { IfSome result.1 (AreSquaresAtMost self.now.graph (whole_flows self.now.flows)) }
     {
-        self.iterate.statistic(self.gap)
+        self.iterate.pair().statistic(self.gap)
     }
 }

@@ -1,42 +1,46 @@
 //! Sums over a signed list of measured streams.
 
-ghost use Rattle.std.specs.Prelude.{◌≡◌, ◌<◌, ◌≤◌, ◌^◌, pos, ◌≤ℤ◌, ◌+ℤ◌, ◌-ℤ◌, length, unsigned_abs, All};
-ghost use Rattle.std.specs.List.{AllByRecursion};
+ghost use Rattle.std.specs.Prelude.{◌≡◌, ◌<◌, ◌≤◌, ◌^◌, ℕ, ℤ, pos, ◌≤ℤ◌, ◌+ℤ◌, ◌-ℤ◌, length, unsigned_abs, All};
+ghost use Rattle.pb_limits.specs.Limits.{most_streams, most_variance};
 ghost use Rattle.pb_graph.specs.ProcessGraph.{IsWithinLimits};
 ghost use Rattle.pb_merge.specs.Variance.{variance_of};
 ghost use Rattle.pb_fixed.specs.Quotients.{floor_div, ceil_div};
-ghost use Rattle.pb_dual.specs.DualValue.{scale};
-ghost use Rattle.pb_dual.specs.Priced.{price_of};
-ghost use Rattle.pb_gap.specs.Bounds.{IsSigned, dual_flow_sum, variance_sum, half_width_in};
+ghost use Rattle.pb_dual.specs.DualValue.{scale, dual_flows_of};
+ghost use Rattle.pb_gap.specs.GapRange.{IsGapInRange};
+ghost use Rattle.pb_gap.specs.FlowPair.{AreDualFlows};
+ghost use Rattle.pb_gap.specs.Bounds.{dual_flow_sum, variance_sum, half_width_in};
+ghost use Rattle.pb_gap.specs.Members.{AreMembers};
 
-use crate::arithmetic::{SCALE, signed};
-use crate::numbers::GapNumbers;
-use pb_dual::Dual;
+use crate::arithmetic::signed;
+use crate::gap::Gap;
+use pb_dual::SCALE;
 use pb_fixed::{div_ceil, div_floor, half_width, scaled_root};
 use pb_graph::{Bounds, Member, Stream};
 
 /// The signed sum of the dual flows, in units of 2^-56 gram.
-pub fn dual_flow_sum(dual: &Dual, members: &[Member]) -> i128
-    requires few { length members.now ≤ 2000 }
-    requires members { AllByRecursion (IsSigned dual.now.graph) members.now }
-    ensures value { result ≡ dual_flow_sum (price_of dual.now) dual.now.graph.streams members.now }
+pub fn dual_flow_sum(streams: &[Stream], dual_flows: &[i128], members: &[Member]) -> i128
+    requires few { length members.now ≤ most_streams }
+    requires duals { AreDualFlows streams.now dual_flows.now }
+    requires members { AreMembers streams.now members.now }
+    ensures value { (price : ℕ → ℤ) → dual_flows.now ≡ dual_flows_of price streams.now
+        → result ≡ dual_flow_sum price streams.now members.now }
     ensures within { unsigned_abs result < 2 ^ 124 }
 {
     let mut total = 0;
-    for m in members {
-        total += signed(m.sign, dual.dual_flow(m.stream));
+    for member in members {
+        total += signed(member.sign, dual_flows[member.stream as usize]);
     }
     total
 }
 
 /// The variance of a stream, 0 where it is unmeasured.
-fn variance(s: &Stream) -> i128
-    requires { IsWithinLimits s.now }
-    ensures value { result ≡ variance_of s.now.meas }
+fn variance(stream: &Stream) -> i128
+    requires { IsWithinLimits stream.now }
+    ensures value { result ≡ variance_of stream.now.meas }
     ensures nonneg { pos 0 ≤ℤ result }
-    ensures within { result ≤ℤ pos (10 ^ 22) }
+    ensures within { result ≤ℤ pos most_variance }
 {
-    match s.meas {
+    match stream.meas {
         None => 0,
         Some(m) => m.variance,
     }
@@ -44,28 +48,27 @@ fn variance(s: &Stream) -> i128
 
 /// The sum of the variances, in squared grams.
 fn variance_sum(streams: &[Stream], members: &[Member]) -> i128
-    requires few { length members.now ≤ 2000 }
+    requires few { length members.now ≤ most_streams }
     requires limits { All IsWithinLimits streams.now }
-    requires members { All (λ m. m.stream < length streams.now) members.now }
+    requires members { AreMembers streams.now members.now }
     ensures value { result ≡ variance_sum streams.now members.now }
     ensures nonneg { pos 0 ≤ℤ result }
     ensures within { result ≤ℤ pos (2 ^ 85) }
 {
     let mut total = 0;
-    for m in members {
-        total += variance(&streams[m.stream as usize]);
+    for member in members {
+        total += variance(&streams[member.stream as usize]);
     }
     total
 }
 
 /// The half width of the bounds of a signed sum, in grams.
-pub fn half_width_of(streams: &[Stream], members: &[Member], gap: GapNumbers) -> i128
-    requires few { length members.now ≤ 2000 }
+pub fn half_width_of(streams: &[Stream], members: &[Member], gap: Gap) -> i128
+    requires few { length members.now ≤ most_streams }
     requires limits { All IsWithinLimits streams.now }
-    requires members { All (λ m. m.stream < length streams.now) members.now }
-    requires g { gap.g ≤ 2 ^ 63 }
-    requires h { gap.h ≤ 32 }
-    ensures value { result ≡ half_width_in streams.now (record { g = gap.g; h = gap.h }) members.now }
+    requires members { AreMembers streams.now members.now }
+    requires gap { IsGapInRange gap }
+    ensures value { result ≡ half_width_in streams.now gap members.now }
     ensures nonneg { pos 0 ≤ℤ result }
     ensures within { result ≤ℤ pos (2 ^ 118) }
 {

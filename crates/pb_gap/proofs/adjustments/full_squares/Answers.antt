@@ -6,6 +6,7 @@ use Rattle.std.proofs.lemmas.Int.{ints}
 use Rattle.std.proofs.lemmas.List.{take_all}
 use Rattle.std.proofs.lemmas.List.Folds.{list_any_at, list_any_more}
 use Rattle.std.proofs.Math.Facts.{to_z-of_z}
+use Rattle.pb_limits.specs.Limits.{most_streams}
 use Rattle.pb_integers.specs.Sums.{item}
 use Rattle.pb_integers.proofs.Sums.{sum_over-take_more}
 use Rattle.pb_graph.specs.ProcessGraph.{some_stream}
@@ -22,12 +23,12 @@ returns-then-adjustment-gt-MOST_ADJUSTMENT-clause-value c =
     let bs = adjustments_by adjustment_above ss ps in
     let j = c.loop-j.j in
     let there : j < length ss = c.loop-j-test.true in
-    let within : j < length bs = omega (arith, there, length-adjustments adjustment_above ss ps c.requires.flows) in
-    let small = c.requires.small j (pos 0) (omega (arith, there, c.requires.flows)) in
+    let within : j < length bs = omega (arith, there, length-adjustments adjustment_above ss ps c.requires.each) in
+    let small = c.requires.small j (pos 0) (omega (arith, there, c.requires.each)) in
     let fits_flow : FitsSigned w128 (item ps j) = omega (arith, ints, small) in
     let fits_above : FitsSigned w128 c.above-adjustment.result = record { sfits = c.above-adjustment.type_inv } in
     let above : c.above-adjustment.result ≡ adjustment_above (get_or ss j some_stream).meas (item ps j) = simp to_z-of_z at c.above-adjustment.ensures.value in
-    let own : c.above-adjustment.result ≡ item bs j = above ∙ sym (adjustment_item adjustment_above ss ps j some_stream c.requires.flows there) in
+    let own : c.above-adjustment.result ≡ item bs j = above ∙ sym (adjustment_item adjustment_above ss ps j some_stream c.requires.each there) in
     let more = simp to_z-of_z at c.if-adjustment-gt-MOST_ADJUSTMENT.true in
     let passes = int_lt_yes most_adjustment (item bs j) (omega (arith, ints, more, own)) in
     let any = list_any_at (λ b. int_lt most_adjustment b) bs j (pos 0) within passes in
@@ -42,16 +43,16 @@ loop-j-preserved c =
     let j = c.loop-j.j in
     let inv = c.loop-j.invariant in
     let there : j < length ss = c.loop-j-test.true in
-    let few : length ss ≤ 2000 = c.requires.few in
-    let within : j < length bs = omega (arith, there, length-adjustments adjustment_above ss ps c.requires.flows) in
-    let small = c.requires.small j (pos 0) (omega (arith, there, c.requires.flows)) in
+    let few : length ss ≤ most_streams = c.requires.few in
+    let within : j < length bs = omega (arith, there, length-adjustments adjustment_above ss ps c.requires.each) in
+    let small = c.requires.small j (pos 0) (omega (arith, there, c.requires.each)) in
     let fits_flow : FitsSigned w128 (item ps j) = omega (arith, ints, small) in
     let fits_above : FitsSigned w128 c.above-adjustment.result = record { sfits = c.above-adjustment.type_inv } in
     let part : ℤ = c.square-total.result in
     let fits_part : FitsSigned w128 part = record { sfits = c.square-total.type_inv } in
     let total = to_z w128 c.loop-j.total-bits in
     let above : c.above-adjustment.result ≡ adjustment_above (get_or ss j some_stream).meas (item ps j) = simp to_z-of_z at c.above-adjustment.ensures.value in
-    let own : c.above-adjustment.result ≡ item bs j = above ∙ sym (adjustment_item adjustment_above ss ps j some_stream c.requires.flows there) in
+    let own : c.above-adjustment.result ≡ item bs j = above ∙ sym (adjustment_item adjustment_above ss ps j some_stream c.requires.each there) in
     let square : part ≡ c.above-adjustment.result *ℤ c.above-adjustment.result = simp to_z-of_z at c.square-total.ensures.value in
     let value = square ∙ ap₂ (λ (x y : ℤ). x *ℤ y) own own in
     let next = sum_over-take_more (λ (b : ℤ). b *ℤ b) bs j (pos 0) within in
@@ -69,6 +70,6 @@ loop-j-preserved c =
 pub returns-clause-value : goal.returns-clause-value
 returns-clause-value c =
     let bs = adjustments_by adjustment_above c.args.streams.now c.args.flows.now in
-    let all = take_all c.loop-j.j bs (omega (arith, c.loop-j-test.false, length-adjustments adjustment_above c.args.streams.now c.args.flows.now c.requires.flows)) in
+    let all = take_all c.loop-j.j bs (omega (arith, c.loop-j-test.false, length-adjustments adjustment_above c.args.streams.now c.args.flows.now c.requires.each)) in
     let none = sym (ap (list_any (λ b. int_lt most_adjustment b)) all) ∙ c.loop-j.invariant.none in
     rw none (ap Some (c.loop-j.invariant.so_far ∙ ap full_squares all))

@@ -1,13 +1,12 @@
 use Rattle.std.proofs.Common.{◌≡◌, ℕ, ◌^◌, ◌<◌, ◌≤◌, length, unsigned_abs}
 use Rattle.pb_integers.specs.Sums.{item}
-use Rattle.pb_dual.specs.Priced.{price_of}
-use Rattle.pb_gap.specs.State.{nearest_flows}
+use Rattle.pb_gap.specs.State.{nearest_grams}
 use Rattle.pb_gap.proofs.flows.write_nearest.Given as goal
 
 -- the flows so far are written
 abbrev pub invariant-loop-j : goal.invariant-loop-j
 invariant-loop-j l = record {
-  room : length l.out ≡ length l.dual.graph.streams;
-  value : (k : ℕ) → k < l.j → item l.out k ≡ item (nearest_flows (price_of l.dual) l.dual.graph.streams) k;
+  room : length l.out ≡ length l.dual_flows;
+  value : (k : ℕ) → k < l.j → item l.out k ≡ item (nearest_grams l.dual_flows) k;
   within : (k : ℕ) → k < l.j → unsigned_abs (item l.out k) ≤ 2 ^ 57;
 }

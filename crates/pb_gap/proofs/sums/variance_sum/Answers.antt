@@ -4,6 +4,7 @@ use Rattle.std.proofs.lemmas.Int.{ints}
 use Rattle.std.proofs.lemmas.Option.{slice_get-get_or}
 use Rattle.std.proofs.Math.Facts.{to_z-of_z}
 use Rattle.std.specs.Prelude.{slice_get}
+use Rattle.pb_limits.specs.Limits.{most_streams}
 use Rattle.pb_integers.proofs.Sums.{sum_over-take_more}
 use Rattle.pb_graph.specs.declared.records.Member.{Member}
 use Rattle.pb_graph.specs.ProcessGraph.{some_stream}
@@ -12,18 +13,18 @@ use Rattle.pb_gap.proofs.MemberLists.{some_member}
 use Rattle.pb_gap.proofs.sums.variance_sum.Goals as goal
 
 -- the variance of one member more joins the total
-pub loop-m-preserved : goal.loop-m-preserved
-loop-m-preserved c =
+pub loop-member-preserved : goal.loop-member-preserved
+loop-member-preserved c =
     let ss = c.args.streams.now in
     let ms = c.args.members.now in
-    let i = c.loop-m.m-index in
-    let inv = c.loop-m.invariant in
-    let here : i < length ms = c.loop-m-test.true in
-    let few : length ms ≤ 2000 = c.requires.few in
+    let i = c.loop-member.member-index in
+    let inv = c.loop-member.invariant in
+    let here : i < length ms = c.loop-member-test.true in
+    let few : length ms ≤ most_streams = c.requires.few in
     let m : Member = get_or ms i some_member in
-    let there : m.stream < length ss = c.requires.members i some_member here in
+    let there : m.stream < length ss = (c.requires.members i some_member here).there in
     let part : ℤ = c.variance-total.result in
-    let total = to_z w128 c.loop-m.total-bits in
+    let total = to_z w128 c.loop-member.total-bits in
     let fits_part : FitsSigned w128 part = record { sfits = c.variance-total.type_inv } in
     let fits_sum : FitsSigned w128 (total +ℤ part) = omega (arith, ints, inv.nonneg, inv.small, c.variance-total.ensures.nonneg, c.variance-total.ensures.within, here, few) in
     let value : part ≡ variance_in (slice_get ss m.stream) = c.variance-total.ensures.value ∙ sym (ap variance_in (slice_get-get_or ss m.stream some_stream there)) in

@@ -33,9 +33,9 @@ returns-clause-value c =
     let fits : FitsSigned w128 c.stream_flow.result = omega (arith, ints, c.stream_flow.ensures.within) in
     let x = c.index.result.now in
     simp to_z-of_z (λ s at.
-    let there : slice_get d.graph.streams c.args.j ≡ Some s = ap (λ (p : Priced). slice_get p.graph.streams c.args.j) view ∙ at in
+    let there : slice_get d.graph.streams c.args.stream ≡ Some s = ap (λ (p : Priced). slice_get p.graph.streams c.args.stream) view ∙ at in
     c.stream_flow.ensures.value
     ∙ ap (λ (ks : List ℕ). listed_flow ks c.deref-2.result.now x) c.deref.ensures.value
     ∙ ap (λ (ps : List ℤ). listed_flow d.group ps x) c.deref-2.ensures.value
-    ∙ ap (listed_flow d.group d.prices) (c.index.ensures ∙ get_or_from_slice_get d.graph.streams c.args.j s x there)
+    ∙ ap (listed_flow d.group d.prices) (c.index.ensures ∙ get_or_from_slice_get d.graph.streams c.args.stream s x there)
     ∙ ap (λ (p : Priced). dual_flow (price_of p) s) view)

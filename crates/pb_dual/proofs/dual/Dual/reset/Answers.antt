@@ -8,13 +8,13 @@ invariant_of-self c =
     let d : Priced = record { graph = record { nodes = length c.self.inside.group.items; streams = c.self.inside.streams.items }; group = c.self.inside.group.items; prices = c.self.inside.prices.items } in
     let inv = c.loop-k.invariant in
     let prices = c.loop-k.self-inside.prices.items in
-    let kept = zero_kept d prices c.self.inside.arcs.items c.self.invariant inv.each (λ k lt. inv.none k (omega (arith, lt, inv.each, c.loop-k-test.false, c.len-k-end.ensures, c.self.inside.prices.ok.0))) in
-    rw (inv.group, inv.streams, inv.arcs) kept
+    let kept = zero_kept d prices c.self.inside.borders.items c.self.invariant inv.each (λ k lt. inv.none k (omega (arith, lt, inv.each, c.loop-k-test.false, c.len-k-end.ensures, c.self.inside.prices.ok.0))) in
+    rw (inv.group, inv.streams, inv.borders) kept
 
 pub returns-clause-fit : goal.returns-clause-fit
 returns-clause-fit c =
     let d : Priced = record { graph = record { nodes = length c.self.inside.group.items; streams = c.self.inside.streams.items }; group = c.self.inside.group.items; prices = c.self.inside.prices.items } in
     let inv = c.loop-k.invariant in
     let prices = c.loop-k.self-inside.prices.items in
-    let kept = zero_kept d prices c.self.inside.arcs.items c.self.invariant inv.each (λ k lt. inv.none k (omega (arith, lt, inv.each, c.loop-k-test.false, c.len-k-end.ensures, c.self.inside.prices.ok.0))) in
+    let kept = zero_kept d prices c.self.inside.borders.items c.self.invariant inv.each (λ k lt. inv.none k (omega (arith, lt, inv.each, c.loop-k-test.false, c.len-k-end.ensures, c.self.inside.prices.ok.0))) in
     rw (inv.group, inv.streams) kept.priced.fit

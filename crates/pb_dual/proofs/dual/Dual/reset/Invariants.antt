@@ -6,7 +6,7 @@ abbrev pub invariant-loop-k : goal.invariant-loop-k
 invariant-loop-k l = record {
   streams : l.self-inside.streams ≡ l.initial.self-inside.streams;
   group : l.self-inside.group ≡ l.initial.self-inside.group;
-  arcs : l.self-inside.arcs ≡ l.initial.self-inside.arcs;
+  borders : l.self-inside.borders ≡ l.initial.self-inside.borders;
   each : length l.self-inside.prices.items ≡ length l.initial.self-inside.prices.items;
   none : (j : ℕ) → j < l.k → get_or l.self-inside.prices.items j (pos 0) ≡ pos 0;
 }

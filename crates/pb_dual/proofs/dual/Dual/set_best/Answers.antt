@@ -5,14 +5,14 @@ use Rattle.std.proofs.lemmas.List.{get_or_default, get_or-set_other}
 use Rattle.std.proofs.Math.Facts.{to_z-of_z}
 use Rattle.pb_graph.specs.Groups.{group_count, is_free_group}
 use Rattle.pb_graph.specs.Prices.{PricesFit}
-use Rattle.pb_dual.specs.declared.arcs.Arc.{Arc}
+use Rattle.pb_dual.specs.declared.border.BorderStream.{BorderStream}
 use Rattle.pb_dual.specs.declared.dual.Dual.TheInside.{Inside}
 use Rattle.pb_dual.specs.Moves.{with_price}
 use Rattle.pb_dual.specs.Candidates.{best_price}
-use Rattle.pb_dual.specs.Arcs.{IsArc, arcs_of, arcs_variance}
+use Rattle.pb_dual.specs.Border.{AreBorder, border_of, border_variance}
 use Rattle.pb_dual.specs.Priced.{Priced, price_of}
 use Rattle.pb_dual.proofs.FitLaws.{best_fits}
-use Rattle.pb_dual.proofs.DualLaws.{arcs_few, arcs_fit, by_passes, can_move, free_positive, nearest_is_best, prices_small, set_price, set_priced}
+use Rattle.pb_dual.proofs.DualLaws.{border_few, border_fit, by_passes, can_move, free_positive, nearest_is_best, prices_small, set_price, set_priced}
 use Rattle.pb_dual.proofs.dual.Dual.set_best.Goals.{After-deref}
 use Rattle.pb_dual.proofs.dual.Dual.set_best.Goals as goal
 
@@ -26,21 +26,19 @@ below c = omega (arith, c.requires.group, ap (λ (p : Priced). group_count p.gro
 free : (c : After-deref) → is_free_group (view c.self.inside).group (view c.self.inside).graph.streams c.args.group ≡ true
 free c = ap (λ (p : Priced). is_free_group p.group p.graph.streams c.args.group) c.self.view_is ∙ c.requires.free
 
--- the slice has the arcs of the group
-arcs_are : (c : After-deref) → c.as_slice.result.now ≡ arcs_of (view c.self.inside).group c.args.group (view c.self.inside).graph.streams
-arcs_are c =
-    let arcs = c.self.inside.arcs.items in
+-- the slice has the border of the group
+border_is : (c : After-deref) → c.as_slice.result.now ≡ border_of (view c.self.inside).group c.args.group (view c.self.inside).graph.streams
+border_is c =
+    let border = c.self.inside.borders.items in
     let h = c.self.invariant in
-    let lt : c.args.group < length arcs = omega (arith, h.each, below c) in
-    c.as_slice.ensures ∙ c.index.ensures ∙ get_or_default arcs c.args.group c.index.result.now [] lt ∙ h.are c.args.group lt
+    let lt : c.args.group < length border = omega (arith, h.each, below c) in
+    c.as_slice.ensures ∙ c.index.ensures ∙ get_or_default border c.args.group c.index.result.now [] lt ∙ h.are c.args.group lt
 
-pub best_price_by-price-requires-clause-few : goal.best_price_by-price-requires-clause-few
-best_price_by-price-requires-clause-few c = subst (λ (arcs : List Arc). length arcs ≤ 2000) (sym (arcs_are c)) (arcs_few (view c.self.inside) c.args.group c.self.invariant.priced)
-
-pub best_price_by-price-requires-clause-arcs : goal.best_price_by-price-requires-clause-arcs
-best_price_by-price-requires-clause-arcs c =
-    subst (λ (prices : List ℤ). All (IsArc prices c.args.group) c.as_slice.result.now) (sym c.deref.ensures.value)
-    (subst (λ (arcs : List Arc). All (IsArc (view c.self.inside).prices c.args.group) arcs) (sym (arcs_are c)) (arcs_fit (view c.self.inside) c.args.group c.self.invariant.priced))
+pub best_price_by-price-requires-clause-border : goal.best_price_by-price-requires-clause-border
+best_price_by-price-requires-clause-border c =
+    subst (λ (prices : List ℤ). AreBorder prices c.args.group c.as_slice.result.now) (sym c.deref.ensures.value)
+    (subst (λ (border : List BorderStream). AreBorder (view c.self.inside).prices c.args.group border) (sym (border_is c))
+    (record { few = border_few (view c.self.inside) c.args.group c.self.invariant.priced; each = border_fit (view c.self.inside) c.args.group c.self.invariant.priced }))
 
 pub best_price_by-price-requires-clause-small : goal.best_price_by-price-requires-clause-small
 best_price_by-price-requires-clause-small c =
@@ -48,7 +46,7 @@ best_price_by-price-requires-clause-small c =
 
 pub best_price_by-price-requires-clause-positive : goal.best_price_by-price-requires-clause-positive
 best_price_by-price-requires-clause-positive c =
-    subst (λ (arcs : List Arc). pos 0 <ℤ arcs_variance arcs) (sym (arcs_are c)) (free_positive (view c.self.inside) c.args.group c.self.invariant.priced (free c))
+    subst (λ (border : List BorderStream). pos 0 <ℤ border_variance border) (sym (border_is c)) (free_positive (view c.self.inside) c.args.group c.self.invariant.priced (free c))
 
 -- the passes give the best price
 price_is : (c : After-deref) (price : ℤ) → price ≡ by_passes c.deref.result.now c.args.group c.as_slice.result.now
@@ -58,7 +56,7 @@ price_is c price is =
     let k = c.args.group in
     is
     ∙ ap (λ (prices : List ℤ). by_passes prices k c.as_slice.result.now) c.deref.ensures.value
-    ∙ ap (by_passes d.prices k) (arcs_are c)
+    ∙ ap (by_passes d.prices k) (border_is c)
     ∙ sym (nearest_is_best d k c.self.invariant.priced (free c))
 
 pub invariant_of-self : goal.invariant_of-self
@@ -72,7 +70,7 @@ invariant_of-self c =
     let is = price_is front price c.best_price_by-price.ensures in
     let best = best_fits d.graph d.group (price_of d) k (can_move d k h.priced (free front)) in
     let fit : PricesFit d.graph (with_price d.group (price_of d) k price) = subst (λ (x : ℤ). PricesFit d.graph (with_price d.group (price_of d) k x)) (sym is) best in
-    simp to_z-of_z (set_priced d c.self.inside.arcs.items k price h (below front) fit)
+    simp to_z-of_z (set_priced d c.self.inside.borders.items k price h (below front) fit)
 
 pub returns : goal.returns
 returns c =

@@ -6,4 +6,4 @@ use Rattle.pb_gap.proofs.iterate.Iterate.flow.Goals as goal
 pub returns-clause-state : goal.returns-clause-state
 returns-clause-state c =
     let i = c.self.inside in
-    subst IsState c.self.view_is (state_of i.graph i.groups i.forest i.dual i.roots.items i.nearest.items i.flows.items i.deviations.items c.self.invariant)
+    subst IsState c.self.view_is (state_of i.graph i.groups i.forest i.dual i.dual_flows.items i.flows.items c.self.invariant.parts c.self.invariant.belong)

@@ -1,5 +1,0 @@
-use Rattle.std.proofs.Common.{◌≡◌, ℕ, ◌<◌, [], get_or, vec_len}
-use Rattle.pb_dual.proofs.arcs.no_arcs.Given as goal
-
-abbrev pub invariant-loop-k : goal.invariant-loop-k
-invariant-loop-k l = record { each : vec_len l.arcs ≡ l._k; none : (k : ℕ) → k < l._k → get_or l.arcs.items k [] ≡ [] }

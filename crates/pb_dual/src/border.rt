@@ -1,0 +1,149 @@
+// A group's own view of the measured streams at its border.
+
+ghost use Rattle.std.specs.Prelude.{◌≡◌, ℕ, ◌^◌, ◌<◌, ◌≤◌, [], ◌++◌, pos, ◌<ℤ◌, length, get_or, set, vec_len, All, IfOk, OnOk};
+ghost use Rattle.std.specs.Option.{option_to_list};
+ghost use Rattle.pb_graph.specs.ProcessGraph.{IsStream, IsWithinLimits};
+ghost use Rattle.pb_graph.specs.Groups.{is_one_end};
+ghost use Rattle.pb_dual.specs.Candidates.{room_of};
+ghost use Rattle.pb_dual.specs.Border.{seen_at, border_of};
+
+use pb_fixed::div_floor;
+use pb_graph::{List, Stream};
+use std::alloc::{AllocError, Global};
+
+/// A measured stream with exactly one end in a group, seen from that group.
+#[derive(Clone, Copy, Debug)]
+pub struct BorderStream {
+    /// The number of the group at the other end.
+    pub other: u32,
+    pub enters: bool,
+    pub value: i128,
+    pub variance: i128,
+    /// The most by which the prices at its ends may differ.
+    pub room: i128,
+}
+
+// The most that a variance times a difference of prices may be.
+const BOX: i128 = 1 << 112;
+
+// The most by which the prices at the ends of a stream of this variance may differ.
+fn room(variance: i128) -> i128
+    requires { pos 0 <ℤ variance }
+    ensures { result ≡ room_of variance }
+{
+    div_floor(BOX, variance)
+}
+
+// Whether exactly one of two ends is in group `k`.
+fn is_one_end(from: u32, to: u32, k: u32) -> bool
+    ensures { result ≡ is_one_end from to k }
+{
+    if to == k { from != k } else { from == k }
+}
+
+// The stream as one at the border of group `k`, where it is there.
+fn seen_from(group: &[u32], k: u32, stream: &Stream) -> Option<BorderStream>
+    requires ends { IsStream (length group.now) stream.now }
+    requires limits { IsWithinLimits stream.now }
+    ensures { result ≡ seen_at group.now k stream.now }
+{
+    let from = group[stream.from as usize];
+    let to = group[stream.to as usize];
+    match stream.meas {
+        Some(m) if is_one_end(from, to, k) => Some(BorderStream {
+            other: if to == k { from } else { to },
+            enters: to == k,
+            value: m.value,
+            variance: m.variance,
+            room: room(m.variance),
+        }),
+        _ => None,
+    }
+}
+
+// Adds the stream to the border of group `k`, where it is there.
+fn add_border_stream(
+    borders: &mut [List<BorderStream>],
+    group: &[u32],
+    k: u32,
+    stream: &Stream,
+) -> Result<(), AllocError>
+    requires group { k < length borders.old }
+    requires ends { IsStream (length group.now) stream.now }
+    requires limits { IsWithinLimits stream.now }
+    ensures { OnOk result (borders.new ≡ set borders.old k (get_or borders.old k [] ++ option_to_list (seen_at group.now k stream.now))) }
+{
+    if let Some(seen) = seen_from(group, k, stream) {
+        let own = &mut borders[k as usize];
+        own.push(seen)?;
+    }
+    Ok(())
+}
+
+// Adds the stream to the borders of the groups of its ends, where these differ.
+fn add_stream(
+    borders: &mut [List<BorderStream>],
+    group: &[u32],
+    stream: &Stream,
+) -> Result<(), AllocError>
+    requires groups { All (λ k. k < length borders.old) group.now }
+    requires ends { IsStream (length group.now) stream.now }
+    requires limits { IsWithinLimits stream.now }
+    ensures { OnOk result ((k : ℕ) → k < length borders.old → get_or borders.new k [] ≡ get_or borders.old k [] ++ option_to_list (seen_at group.now k stream.now)) }
+{
+    let from = group[stream.from as usize];
+    let to = group[stream.to as usize];
+    if from != to {
+        add_border_stream(borders, group, from, stream)?;
+        add_border_stream(borders, group, to, stream)?;
+    }
+    Ok(())
+}
+
+// Adds all streams to borders that are empty.
+fn add_all(
+    borders: &mut [List<BorderStream>],
+    group: &[u32],
+    streams: &[Stream],
+) -> Result<(), AllocError>
+    requires groups { All (λ k. k < length borders.old) group.now }
+    requires ends { All (IsStream (length group.now)) streams.now }
+    requires limits { All IsWithinLimits streams.now }
+    requires none { (k : ℕ) → k < length borders.old → get_or borders.old k [] ≡ [] }
+    ensures { OnOk result ((k : ℕ) → k < length borders.old → get_or borders.new k [] ≡ border_of group.now k streams.now) }
+{
+    for stream in streams {
+        add_stream(borders, group, stream)?;
+    }
+    Ok(())
+}
+
+// So many empty borders.
+fn no_borders(alloc: Global, groups: u32) -> Result<Vec<List<BorderStream>>, AllocError>
+    ensures each { IfOk result (λ v. vec_len v ≡ groups) }
+    ensures none { IfOk result (λ v. (k : ℕ) → k < groups → get_or v.items k [] ≡ []) }
+{
+    let mut borders = Vec::new(alloc);
+    for _k in 0..groups {
+        borders.push(List::new(alloc))?;
+    }
+    Ok(borders)
+}
+
+/// The border of each of the groups, in order of streams.
+pub fn all_borders(
+    alloc: Global,
+    groups: u32,
+    group: &[u32],
+    streams: &[Stream],
+) -> Result<Vec<List<BorderStream>>, AllocError>
+    requires groups { All (λ k. k < groups) group.now }
+    requires ends { All (IsStream (length group.now)) streams.now }
+    requires limits { All IsWithinLimits streams.now }
+    ensures each { IfOk result (λ v. vec_len v ≡ groups) }
+    ensures value { IfOk result (λ v. (k : ℕ) → k < groups → get_or v.items k [] ≡ border_of group.now k streams.now) }
+{
+    let mut borders = no_borders(alloc, groups)?;
+    add_all(&mut borders, group, streams)?;
+    Ok(borders)
+}

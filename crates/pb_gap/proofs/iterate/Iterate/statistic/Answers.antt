@@ -1,9 +1,0 @@
-use Rattle.std.proofs.Common.{subst}
-use Rattle.pb_gap.specs.State.{IsState}
-use Rattle.pb_gap.proofs.Iterates.{state_of}
-use Rattle.pb_gap.proofs.iterate.Iterate.statistic.Goals as goal
-
-pub returns-clause-state : goal.returns-clause-state
-returns-clause-state c =
-    let i = c.self.inside in
-    subst IsState c.self.view_is (state_of i.graph i.groups i.forest i.dual i.roots.items i.nearest.items i.flows.items i.deviations.items c.self.invariant)
