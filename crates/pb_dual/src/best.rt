@@ -37,7 +37,11 @@ fn inflow(stream: &BorderStream, prices: &[i128], group: u32) -> i128
     ensures value { result ≡ inflow_of prices.now group stream.now }
     ensures within { unsigned_abs result ≤ most_dual_flow }
 {
-    let flow = flow(stream.value, stream.variance, rise_along(stream, prices, group));
+    let flow = flow(
+        stream.value,
+        stream.variance,
+        rise_along(stream, prices, group),
+    );
     if stream.enters { flow } else { -flow }
 }
 

@@ -13,9 +13,9 @@ ghost use Rattle.pb_dual.specs.Priced.{price_of};
 ghost use Rattle.pb_dual.specs.Border.{IsPriced};
 ghost use Rattle.pb_graph.specs.declared.records.Stream.{Stream};
 
-use crate::border::{BorderStream, all_borders};
 use crate::arithmetic::{flow, rise};
 use crate::best::best_price_by;
+use crate::border::{BorderStream, all_borders};
 use pb_graph::{Graph, List, Stream};
 use std::alloc::{AllocError, Global};
 use std::marker::Model;

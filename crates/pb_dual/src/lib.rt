@@ -5,11 +5,11 @@
 //! and each sweep makes it no worse.
 #![tactic(auto)]
 
-mod border;
 mod arithmetic;
+mod best;
+mod border;
 mod dual;
 pub mod laws;
-mod best;
 
 pub use arithmetic::SCALE;
 pub use dual::Dual;

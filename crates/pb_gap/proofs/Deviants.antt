@@ -1,5 +1,5 @@
 -- A gap that is met has no deviation above it.
-use Rattle.std.proofs.Common.{◌≡◌, ℕ, zero, suc, ◌*◌, ◌/◌, ◌^◌, ◌<◌, ◌≤◌, ℤ, pos, ◌+ℤ◌, ◌*ℤ◌, ◌≤ℤ◌, ◌<ℤ◌, Bool, true, false, List, [], ◌∷◌, length, get_or, refl, subst, arith, rules}
+use Rattle.std.proofs.Common.{◌≡◌, ℕ, zero, suc, ◌*◌, ◌/◌, ◌^◌, ◌<◌, ◌≤◌, ℤ, pos, ◌+ℤ◌, ◌*ℤ◌, ◌≤ℤ◌, ◌<ℤ◌, Bool, true, false, List, [], ◌∷◌, length, get_or, refl, subst, arith, rules, ◌∙◌, ap, sym}
 use Rattle.std.specs.Prelude.{IsTrue}
 use Rattle.std.specs.List.{Any}
 use Rattle.std.proofs.lemmas.Int.{ints}
@@ -8,7 +8,11 @@ use Rattle.pb_integers.proofs.Order.{le_trans, mul_mono, root_mono, square_pos}
 use Rattle.pb_integers.proofs.Sums.{sum_over-nonneg}
 use Rattle.pb_fixed.specs.Blocks.{IsBlockItem, block_squares_of, blocks_of}
 use Rattle.pb_fixed.proofs.QuotientLaws.{ceiling_is}
-use Rattle.pb_gap.specs.Gap.{MeetsGap, gap_from, gap_size}
+use Rattle.pb_graph.specs.declared.records.Stream.{Stream}
+use Rattle.pb_graph.specs.ProcessGraph.{ProcessGraph}
+use Rattle.pb_dual.specs.DualValue.{dual_flows_of}
+use Rattle.pb_gap.specs.Gap.{Gap, MeetsGap, deviations_of, gap_from, gap_of, gap_size}
+use Rattle.pb_gap.specs.FlowPair.{AreOfPrices, PairedFlows}
 use Rattle.pb_gap.proofs.Enclosure.{power_positive}
 use Rattle.pb_gap.proofs.Gaps.{gaps}
 
@@ -50,8 +54,24 @@ none_above xs thousandths limit is (k, a, lt, at, (more, item)) met =
     clash : (size n : ℕ) (a limit : ℤ) → size * 1000 ≤ n → limit ≡ pos (n / 1000) → a ≤ℤ pos size → limit <ℤ a → ⊥
     clash size n a limit met is within more = omega (arith, ints, met, is, within, more)
 
--- no deviation is above the greatest that there may be, so all are written
-pub all_written : (out target : List ℤ) (all : Bool) (limit : ℤ) → limit ≡ pos (2 ^ 89) → (IsTrue all → out ≡ target)
-    → (all ≡ false → Any (λ a. (limit <ℤ a) × IsBlockItem a) target) → out ≡ target
-all_written out target true limit is value above = value (search rules)
-all_written out target false limit is value above = let (k, a, lt, at, (more, item)) = above refl in absurd (omega (arith, ints, is, more, item.1))
+-- a gap is not met where a deviation is above the most of such a gap
+pub not_near : (p : PairedFlows) (g : ProcessGraph) (us xs : List ℤ) (ss : List Stream) (thousandths : ℕ) (near : Bool) (limit : ℤ) (price : ℕ → ℤ)
+    → record { graph = g; dual_flows = us; flows = xs } ≡ p → ss ≡ g.streams → limit ≡ pos (thousandths * 2 ^ 20 / 1000) → near ≡ false
+    → (near ≡ false → (price : ℕ → ℤ) → us ≡ dual_flows_of price ss → Any (λ a. (limit <ℤ a) × IsBlockItem a) (deviations_of price ss xs))
+    → AreOfPrices price p → MeetsGap thousandths (gap_of price p.graph.streams p.flows) → ⊥
+not_near p g us xs ss thousandths near limit price view streams is fails above of_price =
+    subst (λ (p : PairedFlows). AreOfPrices price p → MeetsGap thousandths (gap_of price p.graph.streams p.flows) → ⊥) view
+    (λ (here : us ≡ dual_flows_of price g.streams) (met : MeetsGap thousandths (gap_of price g.streams xs)).
+    none_above (deviations_of price ss xs) thousandths limit is (above fails price (here ∙ ap (dual_flows_of price) (sym streams)))
+    (subst (λ (ss : List Stream). MeetsGap thousandths (gap_from (deviations_of price ss xs))) (sym streams) met))
+    of_price
+
+-- the gap of the deviations that are written
+pub gap_written : (p : PairedFlows) (g : ProcessGraph) (us xs out : List ℤ) (ss : List Stream) (gap : Gap) (price : ℕ → ℤ)
+    → record { graph = g; dual_flows = us; flows = xs } ≡ p → ss ≡ g.streams → ((price : ℕ → ℤ) → us ≡ dual_flows_of price ss → out ≡ deviations_of price ss xs)
+    → gap ≡ gap_from out → AreOfPrices price p → gap ≡ gap_of price p.graph.streams p.flows
+gap_written p g us xs out ss gap price view streams written is of_price =
+    subst (λ (p : PairedFlows). AreOfPrices price p → gap ≡ gap_of price p.graph.streams p.flows) view
+    (λ (here : us ≡ dual_flows_of price g.streams).
+    is ∙ ap gap_from (written price (here ∙ ap (dual_flows_of price) (sym streams)) ∙ ap (λ (ss : List Stream). deviations_of price ss xs) streams))
+    of_price

@@ -1,7 +1,7 @@
 -- What a solver keeps, and the state that it is.
 use Rattle.std.proofs.Common.{◌≡◌, ◌∙◌, ℕ, suc, ◌≤◌, Bool, ℤ, pos, ◌+ℤ◌, ◌-ℤ◌, List, ◌++◌, take, drop, length, get_or, ap, ap₂, sym, subst, refl, inl, inr, arith}
 use Rattle.std.proofs.lemmas.Bool.{cases_lt}
-use Rattle.std.proofs.lemmas.List.{get_or_past, length-map, take-append-le, take_all}
+use Rattle.std.proofs.lemmas.List.{get_or_past, take-append-le, take_all}
 use Rattle.pb_graph.specs.declared.records.Stream.{Stream}
 use Rattle.pb_graph.specs.ProcessGraph.{ProcessGraph, IsProcessGraph}
 use Rattle.pb_graph.specs.Prices.{PricesFit}
@@ -13,12 +13,12 @@ use Rattle.pb_forest.specs.Forest.{SpanningForest, IsForest, degrees_of_freedom}
 use Rattle.pb_forest.proofs.ForestLaws.{one_forest_law}
 use Rattle.pb_merge.specs.Grouping.{Grouping}
 use Rattle.pb_dual.specs.Priced.{Priced, price_of}
-use Rattle.pb_dual.specs.DualValue.{dual_flow}
 use Rattle.pb_dual.specs.Sweeps.{prices_after}
 use Rattle.pb_merge.proofs.GroupLaws.{numbering_law}
 use Rattle.pb_gap.specs.State.{State, IsState, IsStateAfter, gap_in, price_in}
-use Rattle.pb_gap.specs.FlowPair.{AreOfPrices, ArePaired, PairedFlows}
-use Rattle.pb_gap.specs.Iterate.{AreFlowsOf, AreOfGraph, IsIterate}
+use Rattle.pb_gap.specs.Gap.{Gap, gap_of}
+use Rattle.pb_gap.specs.FlowPair.{AreOfPrices, PairedFlows}
+use Rattle.pb_gap.specs.Iterate.{AreFlowsOf, AreOfGraph}
 
 -- the state of what a solver keeps
 abbrev pub state_in : ProcessGraph → Priced → List ℤ → State
@@ -31,14 +31,6 @@ state_of g gs f d dual_flows flows parts belong = record {
   groups = parts.groups;
   fit = parts.fit;
   rounded = record { held = f.held; forest = parts.held; balanced = belong.balanced; nearest = belong.nearest };
-}
-
--- what a pair of its flows asks
-pub paired : (g : ProcessGraph) (gs : Grouping) (f : SpanningForest) (d : Priced) (standard_deviations dual_flows nearest flows deviations : List ℤ)
-    → IsIterate g gs f d standard_deviations dual_flows nearest flows deviations → ArePaired g standard_deviations dual_flows flows
-paired g gs f d standard_deviations dual_flows nearest flows deviations is = record {
-  measured = record { few = is.parts.limits.few_streams; limits = is.parts.limits.limits; roots = is.room.rooted; each = is.belong.balanced.each; small = is.belong.small };
-  duals = record { each = ap length is.belong.duals ∙ length-map g.streams (dual_flow (price_of d)); small = is.belong.dual_small };
 }
 
 pub state_after : (g h : ProcessGraph) (k : ℕ) (f : SpanningForest) (d : Priced) (group : List ℕ) (dual_flows flows written : List ℤ) → h ≡ g → AreGroups g group
@@ -109,7 +101,9 @@ pub written_flows : (g : ProcessGraph) (f : SpanningForest) (d : Priced) (dual_f
 written_flows g f d dual_flows dual_written flows written are dual_is is =
     subst (λ (xs : List ℤ). AreFlowsOf g f d dual_flows xs) (sym is) (subst (λ (us : List ℤ). AreFlowsOf g f d us written) (sym dual_is) are)
 
--- the gap of what is kept is that of the state
-pub gap_there : (g : ProcessGraph) (gs : Grouping) (f : SpanningForest) (d : Priced) (dual_flows flows : List ℤ) (p : PairedFlows) → AreFlowsOf g f d dual_flows flows
-    → p ≡ record { graph = g; dual_flows = dual_flows; flows = flows } → AreOfPrices (price_of d) p
-gap_there g gs f d dual_flows flows p belong is = subst (λ (p : PairedFlows). AreOfPrices (price_of d) p) (sym is) belong.duals
+-- what holds of the gap of the pair that is kept holds of the gap of the state
+pub at_state : (P : Gap → Type 0) (s : State) (g : ProcessGraph) (f : SpanningForest) (d : Priced) (us xs : List ℤ) (pair : PairedFlows) → state_in g d xs ≡ s → AreFlowsOf g f d us xs
+    → pair ≡ record { graph = g; dual_flows = us; flows = xs } → ((price : ℕ → ℤ) → AreOfPrices price pair → P (gap_of price pair.graph.streams pair.flows)) → P (gap_in s)
+at_state P s g f d us xs pair view belong is all =
+    subst (λ (s : State). P (gap_in s)) view
+    (subst (λ (p : PairedFlows). (price : ℕ → ℤ) → AreOfPrices price p → P (gap_of price p.graph.streams p.flows)) is all (price_of d) belong.duals)

@@ -15,3 +15,4 @@ pub mod Iterates
 pub mod Deviants
 pub mod StateLaws
 pub mod LeastLemmas
+pub mod OutsideLemmas

@@ -10,6 +10,7 @@ use Rattle.pb_integers.proofs.PartialSums.{partial_sum}
 use Rattle.pb_graph.specs.declared.records.Member.{Member}
 use Rattle.pb_graph.specs.ProcessGraph.{ProcessGraph}
 use Rattle.pb_gap.specs.Bounds.{AreSigned, IsSigned}
+use Rattle.pb_gap.specs.Members.{AreMembers, IsMemberOf}
 
 abbrev pub some_member : Member
 some_member = record { stream = 0; sign = pos 0 }
@@ -19,6 +20,11 @@ pub members_within : (g : ProcessGraph) (ms : List Member) → AreSigned g ms �
 members_within g ms h =
     All-from_recursion (λ (m : Member). m.stream < length g.streams) ms
     (AllByRecursion-map (IsSigned g) (λ (m : Member). m.stream < length g.streams) ms (λ m is. slice_get_within g.streams m.stream is.stream is.is) h.each)
+
+pub are_members : (g : ProcessGraph) (ms : List Member) → AreSigned g ms → AreMembers g.streams ms
+are_members g ms h =
+    All-from_recursion (IsMemberOf g.streams) ms
+    (AllByRecursion-map (IsSigned g) (IsMemberOf g.streams) ms (λ m is. record { there = slice_get_within g.streams m.stream is.stream is.is; sign = is.sign }) h.each)
 
 -- as many ones as streams
 ones_nonneg : (n : ℕ) → AllByRecursion (λ (x : ℤ). pos 0 ≤ℤ x) (replicate n (pos 1))

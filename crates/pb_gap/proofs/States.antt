@@ -1,5 +1,5 @@
 -- A graph has one state after each number of sweeps, and one solution.
-use Rattle.std.proofs.Common.{◌≡◌, ◌∙◌, ℕ, zero, suc, ◌+◌, ◌<◌, ◌≤◌, ◌⊎◌, Bool, true, false, ℤ, List, ap, ap₂, refl, sym, subst, inl, inr, arith, rules}
+use Rattle.std.proofs.Common.{◌≡◌, ◌∙◌, ℕ, zero, suc, ◌+◌, ◌*◌, ◌^◌, ◌<◌, ◌≤◌, ◌⊎◌, Bool, true, false, ℤ, List, ap, ap₂, refl, sym, subst, inl, inr, arith, rules}
 use Rattle.std.specs.Prelude.{IsTrue, ◌↔◌}
 use Rattle.std.proofs.lemmas.Bool.{cases_lt}
 use Rattle.pb_graph.specs.declared.results.Solved.{Solved}
@@ -92,15 +92,18 @@ some_solution g gap sweeps limits = elim (tried g gap sweeps (suc sweeps) limits
 
 pub some_solved_statistic : SomeSolvedStatisticLaw
 some_solved_statistic g gap sweeps limits =
-    let (solved, price, flows, solution) = some_solution g gap sweeps limits in
-    (low_of g.streams flows (gap_of price g.streams flows), high_of g.streams flows,
-    record { solved = solved; price = price; flows = flows; solution = solution; is_low = refl; is_high = refl })
+    let (solved, price, flows, solution) = some_solution g gap sweeps limits in (
+      low_of g.streams flows (gap_of price g.streams flows),
+      high_of g.streams flows,
+      record { solved = solved; price = price; flows = flows; solution = solution; is_low = refl; is_high = refl },
+    )
 
 pub one_solved_statistic : OneSolvedStatisticLaw
 one_solved_statistic g gap sweeps low other_low high other_high limits a b =
-    let same = (one_solution g gap sweeps a.solved b.solved a.price b.price a.flows b.flows limits a.solution b.solution).1 in
-    (a.is_low ∙ ap₂ (λ (f : ℕ → ℤ) (xs : List ℤ). low_of g.streams xs (gap_of f g.streams xs)) same.price same.flows ∙ sym b.is_low,
-    a.is_high ∙ ap (high_of g.streams) same.flows ∙ sym b.is_high)
+    let same = (one_solution g gap sweeps a.solved b.solved a.price b.price a.flows b.flows limits a.solution b.solution).1 in (
+      a.is_low ∙ ap₂ (λ (f : ℕ → ℤ) (xs : List ℤ). low_of g.streams xs (gap_of f g.streams xs)) same.price same.flows ∙ sym b.is_low,
+      a.is_high ∙ ap (high_of g.streams) same.flows ∙ sym b.is_high,
+    )
 
 -- what a test of the present state says
 pub misses_here : (g : ProcessGraph) (gap k : ℕ) (s : State) (met : Bool) → s.graph ≡ g → IsStateAfter g k (price_in s) s.flows

@@ -1,5 +1,5 @@
 -- Statement. The solution of a graph: sweeps until the gap is met, at most so many.
-use Rattle.std.specs.Prelude.{◌≡◌, ℕ, suc, ◌<◌, ◌≤◌, ℤ, List, Option}
+use Rattle.std.specs.Prelude.{◌≡◌, ℕ, suc, ◌<◌, ◌≤◌, ℤ, pos, List, Option}
 use Rattle.pb_graph.specs.declared.results.Solved.{Solved}
 use Rattle.pb_graph.specs.declared.results.Solved.TheVariants.{Converged, Unconverged}
 use Rattle.pb_graph.specs.ProcessGraph.{ProcessGraph, IsProcessGraph}
@@ -63,6 +63,11 @@ SomeStateLaw = (graph : ProcessGraph) (k : ℕ) → IsProcessGraph graph → (pr
 abbrev pub OneStateLaw : Type 0
 OneStateLaw = (graph : ProcessGraph) (k : ℕ) (price other : ℕ → ℤ) (flows others : List ℤ) → IsProcessGraph graph
     → IsStateAfter graph k price flows → IsStateAfter graph k other others → IsSameState price other flows others
+
+-- a node outside the graph has the price 0 in each state
+abbrev pub OutsideLaw : Type 0
+OutsideLaw = (graph : ProcessGraph) (k : ℕ) (price : ℕ → ℤ) (flows : List ℤ) (node : ℕ) → IsProcessGraph graph
+    → IsStateAfter graph k price flows → graph.nodes ≤ node → price node ≡ pos 0
 
 -- a process graph has a solution at each gap and greatest number of sweeps
 abbrev pub SomeSolutionLaw : Type 0

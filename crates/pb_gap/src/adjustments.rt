@@ -88,7 +88,10 @@ pub fn low(streams: &[Stream], standard_deviations: &[i128], flows: &[i128], gap
     if size > 1 << 57 {
         return 0;
     }
-    low_end(capped_squares(streams, standard_deviations, flows), size_square(size))
+    low_end(
+        capped_squares(streams, standard_deviations, flows),
+        size_square(size),
+    )
 }
 
 /// The high end of the statistic, in thousandths.

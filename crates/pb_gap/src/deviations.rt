@@ -42,6 +42,7 @@ pub fn write_deviations(
     ensures value { IsTrue result → (price : ℕ → ℤ) → dual_flows.now ≡ dual_flows_of price streams.now
         → out.new ≡ deviations_of price streams.now flows.now }
     ensures within { IsTrue result → All IsBlockItem out.new }
+    ensures all { pos (2 ^ 89) ≤ℤ limit → IsTrue result }
     ensures above { result ≡ false → (price : ℕ → ℤ) → dual_flows.now ≡ dual_flows_of price streams.now
         → Any (λ a. (limit <ℤ a) × IsBlockItem a) (deviations_of price streams.now flows.now) }
 {

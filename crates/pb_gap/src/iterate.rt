@@ -62,7 +62,14 @@ impl Iterate {
         let mut nearest = vec![in alloc; 0i128; count]?;
         let mut flows = vec![in alloc; 0i128; count]?;
         let deviations = vec![in alloc; 0i128; count]?;
-        write_flows(&own, &forest, &dual, &mut dual_flows, &mut nearest, &mut flows);
+        write_flows(
+            &own,
+            &forest,
+            &dual,
+            &mut dual_flows,
+            &mut nearest,
+            &mut flows,
+        );
         Ok(Iterate {
             graph: own,
             groups,

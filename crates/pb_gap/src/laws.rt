@@ -2,7 +2,7 @@
 
 ghost use Rattle.pb_gap.specs.Laws.{WeightLaw, SchwarzLaw, IdentityLaw, DualityLaw, AreGaps, GapLaw, EnclosureLaw, StreamSumLaw, StreamLaw, LowLaw, HighLaw};
 ghost use Rattle.pb_gap.specs.Least.{OrthogonalityLaw, ExcessLaw, DistanceLaw};
-ghost use Rattle.pb_gap.specs.Solution.{SomeStateLaw, OneStateLaw, SomeSolutionLaw, OneSolutionLaw, SomeSolvedStatisticLaw, OneSolvedStatisticLaw};
+ghost use Rattle.pb_gap.specs.Solution.{SomeStateLaw, OneStateLaw, OutsideLaw, SomeSolutionLaw, OneSolutionLaw, SomeSolvedStatisticLaw, OneSolvedStatisticLaw};
 
 /// The product of the variances over each of them is a whole number.
 pub fn weight_law()
@@ -62,6 +62,11 @@ pub fn some_state_law()
 /// And at most one.
 pub fn one_state_law()
     ensures { OneStateLaw }
+{}
+
+/// A node outside the graph has the price 0 in each state.
+pub fn outside_law()
+    ensures { OutsideLaw }
 {}
 
 /// A process graph has a solution at each gap and greatest number of sweeps.

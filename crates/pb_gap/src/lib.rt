@@ -15,7 +15,6 @@ mod iterate;
 mod laws;
 mod measurements;
 mod solver;
-
 mod sums;
 #[cfg(test)]
 mod tests;
@@ -23,8 +22,9 @@ mod tests;
 pub use flow_pair::FlowPair;
 pub use gap::Gap;
 pub use laws::{
-    duality_law, enclosure_law, gap_law, least_law, one_solution_law, one_state_law, schwarz_law,
-    solved_statistic_law, some_solution_law, some_state_law, statistic_law, stream_law, weight_law,
+    duality_law, enclosure_law, gap_law, least_law, one_solution_law, one_state_law, outside_law,
+    schwarz_law, solved_statistic_law, some_solution_law, some_state_law, statistic_law,
+    stream_law, weight_law,
 };
-pub use solver::Solver;
 pub use measurements::standard_deviations;
+pub use solver::Solver;

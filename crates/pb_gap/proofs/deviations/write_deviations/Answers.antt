@@ -64,3 +64,11 @@ pub returns-clause-within : goal.returns-clause-within
 returns-clause-within c _ =
     let inv = c.loop-j.invariant in
     all_put IsBlockItem c.loop-j.out (λ k lt. inv.within k (omega (arith, c.loop-j-test.false, lt, inv.room)))
+
+pub returns-then-deviation-limit-clause-all : goal.returns-then-deviation-limit-clause-all
+returns-then-deviation-limit-clause-all c enough =
+    let item = c.stream_deviation-deviation.ensures.within in
+    let fits : FitsSigned w128 c.stream_deviation-deviation.result = omega (arith, ints, item) in
+    let fits_limit : FitsSigned w128 c.args.limit = c.ranges.limit in
+    let more = simp to_z-of_z at c.if-deviation-limit.true in
+    absurd (omega (arith, ints, enough, more, item.1))
