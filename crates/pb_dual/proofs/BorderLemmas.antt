@@ -13,12 +13,12 @@ use Rattle.pb_fixed.proofs.QuotientLaws.{floor_size}
 use Rattle.pb_graph.specs.declared.records.Meas.{Meas}
 use Rattle.pb_graph.specs.declared.records.Stream.{Stream}
 use Rattle.pb_graph.specs.ProcessGraph.{IsMeasurement, IsWithinLimits, is_measured}
-use Rattle.pb_graph.specs.Groups.{group_at, has_one_end}
+use Rattle.pb_graph.specs.Groups.{entering, group_at, has_one_end}
 use Rattle.pb_graph.specs.Prices.{IsInBox}
 use Rattle.pb_merge.specs.Variance.{variance_of, crossing_variance, group_variance}
 use Rattle.pb_dual.specs.declared.border.BorderStream.{BorderStream}
 use Rattle.pb_dual.specs.DualValue.{scale, flow_at, dual_flow}
-use Rattle.pb_dual.specs.Moves.{entering, group_flow}
+use Rattle.pb_dual.specs.Moves.{group_flow}
 use Rattle.pb_dual.specs.Candidates.{room_of, raised, lowered, raised_at, lowered_at, low_from, high_from}
 use Rattle.pb_dual.specs.Border.{seen_of, seen_at, border_of, border_flow, border_variance, border_low, border_high, IsBorderStream}
 

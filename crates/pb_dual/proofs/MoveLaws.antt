@@ -7,11 +7,11 @@ use Rattle.pb_integers.specs.Sums.{sum_over}
 use Rattle.pb_integers.proofs.Ring.{Expr, var, lit, plus, times, minus, ring}
 use Rattle.pb_graph.specs.declared.records.Meas.{Meas}
 use Rattle.pb_graph.specs.declared.records.Stream.{Stream}
-use Rattle.pb_graph.specs.Groups.{group_at}
+use Rattle.pb_graph.specs.Groups.{entering, group_at}
 use Rattle.pb_graph.specs.Prices.{rise_of}
 use Rattle.pb_merge.specs.Variance.{variance_of, group_variance}
 use Rattle.pb_dual.specs.DualValue.{scale, flow_at, cost_at, dual_flow, dual_value}
-use Rattle.pb_dual.specs.Moves.{with_price, entering, group_flow, FallsAlong, MoveLaw}
+use Rattle.pb_dual.specs.Moves.{with_price, group_flow, FallsAlong, MoveLaw}
 
 abbrev pick : Bool → ℤ → ℤ → ℤ
 pick a c x = if a then c else x

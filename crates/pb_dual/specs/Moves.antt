@@ -1,18 +1,14 @@
 -- Statement. How the dual value changes with the price of one group.
-use Rattle.std.specs.Prelude.{◌≡◌, ◌==◌, ℕ, ℤ, pos, neg_ℤ, ◌+ℤ◌, ◌-ℤ◌, ◌*ℤ◌, Bool, List, if◌then◌else◌}
+use Rattle.std.specs.Prelude.{◌≡◌, ◌==◌, ℕ, ℤ, pos, ◌+ℤ◌, ◌-ℤ◌, ◌*ℤ◌, Bool, List, if◌then◌else◌}
 use Rattle.pb_integers.specs.Sums.{sum_over}
 use Rattle.pb_graph.specs.declared.records.Stream.{Stream}
-use Rattle.pb_graph.specs.Groups.{group_at}
+use Rattle.pb_graph.specs.Groups.{entering, group_at}
 use Rattle.pb_merge.specs.Variance.{group_variance}
 use Rattle.pb_dual.specs.DualValue.{dual_flow, dual_value}
 
 -- the prices with group k at c
 abbrev pub with_price : List ℕ → (ℕ → ℤ) → ℕ → ℤ → ℕ → ℤ
 with_price group price k c n = if group_at group n == k then c else price n
-
--- x where a stream enters a group, less x where it leaves it, by which of its ends are in the group
-abbrev pub entering : Bool → Bool → ℤ → ℤ
-entering from_in to_in x = if to_in then (if from_in then pos 0 else x) else (if from_in then neg_ℤ x else pos 0)
 
 -- the net dual flow of group k: what enters it less what leaves it
 abbrev pub group_flow : List ℕ → (ℕ → ℤ) → ℕ → List Stream → ℤ

@@ -3,6 +3,7 @@ use Rattle.std.proofs.Common.{◌≡◌, ◌∙◌, ◌^◌, ℤ, pos, ◌+ℤ�
 use Rattle.std.specs.Prelude.{IfSome, int_lt, true, false}
 use Rattle.std.proofs.lemmas.Bool.{cases_Bool}
 use Rattle.std.proofs.lemmas.Int.{ints}
+use Rattle.pb_limits.specs.Limits.{most_variance}
 use Rattle.pb_integers.proofs.Order.{root_strict}
 use Rattle.pb_fixed.specs.Quotients.{floor_div, ceil_div}
 use Rattle.pb_fixed.specs.Roots.{scaled_root_of}
@@ -24,7 +25,7 @@ root_from : (r v : ℤ) → pos 1 ≤ℤ v → pos 0 ≤ℤ r → (v *ℤ pos (2
 root_from r v v_pos r_pos next =
     let less = root_strict (pos (2 ^ 20)) (r +ℤ pos 1) (omega (arith, ints, r_pos)) (omega (arith, ints, next, v_pos)) in omega (arith, ints, less)
 
-pub root_width : (v : ℤ) → pos 1 ≤ℤ v → v ≤ℤ pos (10 ^ 22) → IsRoot (scaled_root_of v)
+pub root_width : (v : ℤ) → pos 1 ≤ℤ v → v ≤ℤ pos most_variance → IsRoot (scaled_root_of v)
 root_width v v_pos most =
     let is = scaled_root_is v (omega (arith, ints, v_pos)) in
     record { from = root_from (scaled_root_of v) v v_pos is.nonneg is.next; to = scaled_root_width v (scaled_root_of v) is (omega (arith, ints, most)) }

@@ -5,7 +5,7 @@ use Rattle.std.proofs.lemmas.List.{get_or_default}
 use Rattle.std.proofs.Math.Facts.{to_z-of_z}
 use Rattle.pb_integers.specs.Sums.{item}
 use Rattle.pb_fixed.specs.Blocks.{IsBlockItem}
-use Rattle.pb_graph.specs.Search.{some_stream}
+use Rattle.pb_graph.specs.ProcessGraph.{some_stream}
 use Rattle.pb_dual.specs.DualValue.{dual_flow, dual_flows_of}
 use Rattle.pb_gap.specs.Gap.{deviation_of, deviations_of}
 use Rattle.pb_gap.proofs.Columns.{all_put, deviation_item, dual_item, length-deviations, put_fact, put_value, whole}

@@ -5,7 +5,7 @@ use Rattle.std.proofs.lemmas.List.{length-map}
 use Rattle.std.proofs.lemmas.Option.{slice_get-get_or}
 use Rattle.std.proofs.Math.Facts.{to_z-of_z}
 use Rattle.pb_integers.specs.Sums.{item}
-use Rattle.pb_graph.specs.Search.{some_stream}
+use Rattle.pb_graph.specs.ProcessGraph.{some_stream}
 use Rattle.pb_dual.specs.DualValue.{dual_flow, dual_flows_of, most_dual_flow}
 use Rattle.pb_dual.specs.Priced.{price_of}
 use Rattle.pb_gap.proofs.Columns.{all_put, map_item, put_fact, put_value, whole}

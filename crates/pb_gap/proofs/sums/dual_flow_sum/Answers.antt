@@ -8,7 +8,7 @@ use Rattle.pb_limits.specs.Limits.{most_streams}
 use Rattle.pb_integers.specs.Sums.{item}
 use Rattle.pb_integers.proofs.Sums.{sum_over-take_more}
 use Rattle.pb_graph.specs.declared.records.Member.{Member}
-use Rattle.pb_graph.specs.Search.{some_stream}
+use Rattle.pb_graph.specs.ProcessGraph.{some_stream}
 use Rattle.pb_dual.specs.DualValue.{dual_flows_of, most_dual_flow}
 use Rattle.pb_gap.specs.Bounds.{dual_flow_in, dual_flow_sum}
 use Rattle.pb_gap.specs.Members.{IsMemberOf}
