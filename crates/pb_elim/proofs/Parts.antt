@@ -110,7 +110,7 @@ pub record AreNarrow (stage : Stage) : Type 0 where
 
 sweeps_within : (g : ProcessGraph) (gap sweeps : ℕ) (solved : Solved) (price : ℕ → ℤ) (flows : List ℤ) → IsSolution g gap sweeps solved price flows → sweeps ≤ 100000 → sweeps_of solved ≤ 100000
 sweeps_within g gap sweeps (Converged k) price flows is most = omega (arith, is.within, most)
-sweeps_within g gap sweeps (Unconverged k) price flows is most = omega (arith, is.all, most)
+sweeps_within g gap sweeps (Unconverged k) price flows is most = omega (arith, is.done, most)
 
 results_within : (s : State) (classes : List Classified) (results : List StreamResult) → IsClassification s.graph classes → AreResultsOf s classes results → All (IsResultWithin s.graph) results
 results_within s classes results classified are k d lt =
