@@ -13,7 +13,7 @@ use Rattle.pb_graph.specs.Path.{is_open}
 use Rattle.pb_graph.specs.Boundary.{boundary_of}
 use Rattle.pb_graph.proofs.WalkLemmas.{some_same}
 use Rattle.pb_forest.specs.Forest.{IsForest}
-use Rattle.pb_forest.proofs.ForestLaws.{some_reach}
+use Rattle.pb_graph.proofs.ReachLemmas.{some_reach}
 use Rattle.pb_forest.proofs.ForestLaws.{some_forest_law}
 use Rattle.pb_forest.proofs.ForestLaws.{some_path_law}
 use Rattle.pb_classify.specs.Certificate.{IsCycleOf}

@@ -12,7 +12,7 @@ use Rattle.pb_forest.specs.Forest.{is_before, IsDecided, IsForest}
 use Rattle.pb_forest.specs.Laws.{held_before, except, IsAcyclic, IsPart, AcyclicLaw, OneForestLaw}
 use Rattle.pb_forest.proofs.OrderLemmas.{before_earlier, before_other}
 use Rattle.pb_forest.proofs.SpansLemmas.{before_unmeasured}
-use Rattle.pb_forest.proofs.ReachLemmas.{IsPartBut, more_cases}
+use Rattle.pb_graph.proofs.ReachLemmas.{IsPartBut, more_cases}
 
 -- a part of a set without cycle has none
 pub acyclic_part : (ss : List Stream) (some may : ℕ → Stream → Bool) → IsPart ss some may → IsAcyclic ss may → IsAcyclic ss some

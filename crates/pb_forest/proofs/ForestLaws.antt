@@ -2,7 +2,6 @@
 pub use Rattle.pb_forest.proofs.SpansLemmas.{spans_law, chord_law, along_reach}
 pub use Rattle.pb_forest.proofs.AcyclicLemmas.{acyclic_law, one_forest_law}
 pub use Rattle.pb_forest.proofs.PathLemmas.{unique_law, part_law, begin_is, walk_without, streams_once}
-pub use Rattle.pb_forest.proofs.ReachLemmas.{some_reach}
 pub use Rattle.pb_forest.proofs.SomePathLemmas.{some_path_law}
 pub use Rattle.pb_forest.proofs.SomeForestLemmas.{some_forest_law}
 pub use Rattle.pb_forest.proofs.SomeBalancedLemmas.{some_balanced_law}

@@ -1,6 +1,5 @@
 mod OrderLemmas
 mod SpansLemmas
-mod ReachLemmas
 mod AcyclicLemmas
 mod PathLemmas
 mod LabelLemmas

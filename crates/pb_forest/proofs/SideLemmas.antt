@@ -8,7 +8,7 @@ use Rattle.pb_graph.specs.Path.{is_open}
 use Rattle.pb_graph.specs.ProcessGraph.{some_stream}
 use Rattle.pb_graph.proofs.WalkLemmas.{some_same}
 use Rattle.pb_forest.specs.Flows.{OneBalancedLaw}
-use Rattle.pb_forest.proofs.ReachLemmas.{some_reach}
+use Rattle.pb_graph.proofs.ReachLemmas.{some_reach}
 use Rattle.pb_forest.proofs.FlowLemmas.{balanced_one}
 
 pub one_balanced_law : OneBalancedLaw

@@ -9,7 +9,7 @@ use Rattle.pb_graph.specs.Walk.{ends_of, Reaches}
 use Rattle.pb_graph.proofs.WalkLemmas.{some_same}
 use Rattle.pb_forest.specs.Forest.{is_before, IsDecided}
 use Rattle.pb_forest.specs.Laws.{SomeForestLaw}
-use Rattle.pb_forest.proofs.ReachLemmas.{IsDecidable, reach_decided}
+use Rattle.pb_graph.proofs.ReachLemmas.{IsDecidable, reach_decided}
 
 mark_by : (ss : List Stream) (j : ℕ) (s : Stream) → slice_get ss j ≡ Some s → IsDecidable (Reaches (ends_of (is_before (is_measured s) j) ss) s.from s.to)
     → (b : Bool) × IsDecided ss j b

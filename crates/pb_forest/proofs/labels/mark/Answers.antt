@@ -1,19 +1,17 @@
-use Rattle.std.proofs.Common.{◌≡◌, Some, None, length, get_or, slice_get, refl, inl, inr, arith}
+use Rattle.std.proofs.Common.{◌≡◌, Some, length, slice_get, get_or, inl, inr, arith}
 use Rattle.std.proofs.lemmas.Bool.{cases_Bool}
 use Rattle.std.proofs.lemmas.Option.{slice_get-get_or}
 use Rattle.pb_graph.specs.declared.records.Stream.{Stream}
-use Rattle.pb_graph.specs.ProcessGraph.{is_measured}
-use Rattle.pb_forest.proofs.LabelLemmas.{numbers_label, labels_between}
+use Rattle.pb_graph.specs.ProcessGraph.{is_measured, some_stream}
+use Rattle.pb_forest.proofs.LabelLemmas.{labels_between}
 use Rattle.pb_forest.proofs.labels.mark.Goals as goal
 
-abbrev some_stream : Stream
-some_stream = record { from = 0; to = 0; meas = None }
+pub pass-requires-2-clause-ends : goal.pass-requires-2-clause-ends
+pass-requires-2-clause-ends c = rw c.pass.ensures.parts.each c.requires.ends
 
-pub pass-requires-clause-begins : goal.pass-requires-clause-begins
-pass-requires-clause-begins c = numbers_label c.args.streams.now (length c.args.labels.now) c.args.labels.now refl c.requires.numbers
-
+-- the unmeasured streams are those before the first measured one
 pub pass-requires-2-clause-begins : goal.pass-requires-2-clause-begins
-pass-requires-2-clause-begins c = rw c.pass.auto.labels (labels_between c.args.streams.now (length c.args.labels.now) c.pass.new.labels c.pass.ensures.labels)
+pass-requires-2-clause-begins c = rw c.pass.ensures.parts.each (labels_between c.args.streams.now (length c.args.parts.now) c.pass.new.parts c.pass.ensures.parts)
 
 -- a measured stream has its mark from the second pass, an unmeasured one from the first
 pub returns : goal.returns
