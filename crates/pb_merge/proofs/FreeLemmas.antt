@@ -12,7 +12,7 @@ use Rattle.pb_graph.specs.declared.records.Stream.{Stream}
 use Rattle.pb_graph.specs.ProcessGraph.{ProcessGraph, IsStream, IsMeasurement, IsWithinLimits, is_measured}
 use Rattle.pb_graph.specs.Groups.{CrossesGroup, IsFreeGroup, AreGroups, group_at, is_one_end, has_one_end, is_free_group}
 use Rattle.pb_merge.specs.Variance.{variance_of, group_variance}
-use Rattle.pb_merge.proofs.RootLemmas.{stream_joins}
+use Rattle.pb_merge.proofs.SameGroupLemmas.{stream_joins}
 
 -- exactly one of two numbers is k
 pub one_end_cases : (from to k : ℕ) → is_one_end from to k ≡ true → ((from ≡ k) × (to ≢ k)) ⊎ ((from ≢ k) × (to ≡ k))

@@ -1,4 +1,5 @@
-mod RootLemmas
+mod SameGroupLemmas
+mod PartLemmas
 mod NumberLemmas
 mod VarianceLemmas
 mod GroupLemmas

@@ -1,11 +1,13 @@
--- The groups that roots, numbers and variances make.
-use Rattle.std.proofs.Common.{◌≡◌, ◌∙◌, ◌==◌, ◌*◌, ◌^◌, ℕ, ◌<◌, ◌≤◌, ℤ, pos, ◌≤ℤ◌, Bool, true, false, not, List, length, get_or, unsigned_abs, ap, sym, subst, arith}
+-- The groups that labels, numbers and variances make.
+use Rattle.std.proofs.Common.{◌≡◌, ◌∙◌, ◌==◌, ℕ, ◌<◌, ◌≤◌, ℤ, pos, ◌≤ℤ◌, Bool, true, false, not, List, length, get_or, unsigned_abs, ap, sym, subst, arith}
 use Rattle.std.specs.Prelude.{◌&&◌, int_lt, IsTrue}
 use Rattle.std.proofs.lemmas.Int.{ints}
 use Rattle.std.proofs.lemmas.List.{get_or_default, take_all}
 use Rattle.pb_graph.specs.ProcessGraph.{ProcessGraph, IsProcessGraph}
 use Rattle.pb_graph.specs.Groups.{group_at, group_count, is_free_group, AreGroups}
-use Rattle.pb_merge.specs.Roots.{AreRoots, AreNumbered}
+use Rattle.pb_graph.specs.Walk.{unmeasured}
+use Rattle.pb_graph.specs.Parts.{IsLabelling}
+use Rattle.pb_merge.specs.Numbers.{AreNumbered}
 use Rattle.pb_merge.specs.Variance.{group_variance, most_group_variance}
 use Rattle.pb_merge.specs.Grouping.{Grouping, IsGrouping, AreGroupsOf}
 use Rattle.pb_merge.proofs.GroupLemmas.{count_is, groups_are, least_are, number_below}
@@ -13,10 +15,10 @@ use Rattle.pb_merge.proofs.FreeLemmas.{crossings_add, free_is, free_means, varia
 use Rattle.pb_merge.proofs.VarianceLemmas.{variance_room}
 
 -- how the parts were made
-pub record IsMade (g : ProcessGraph) (root : List ℕ) (gs : Grouping) : Type 0 where
+pub record IsMade (g : ProcessGraph) (labels : List ℕ) (gs : Grouping) : Type 0 where
   pub limits : IsProcessGraph g
-  pub roots : AreRoots g.nodes g.streams (length g.streams) root
-  pub numbers : AreNumbered root g.nodes gs.group gs.least
+  pub labelled : IsLabelling g.streams g.nodes unmeasured labels
+  pub numbers : AreNumbered labels g.nodes gs.group gs.least
   pub variances : length gs.variance ≡ length gs.least
   pub variance : (k : ℕ) → k < length gs.least → get_or gs.variance k (pos 0) ≡ group_variance gs.group k g.streams
   pub frees : length gs.free ≡ length gs.variance
@@ -34,17 +36,17 @@ variance_range g group k h limits =
     (variance_nonneg group k g.streams (crossings_add g group k h limits.joins limits.limits))
     (subst (λ ss. unsigned_abs (group_variance group k ss) ≤ most_group_variance) all whole)
 
-pub made_groups : (g : ProcessGraph) (root : List ℕ) (gs : Grouping) → IsMade g root gs → AreGroupsOf g gs
-made_groups g root gs h =
-    let groups = groups_are g root gs.group gs.least h.roots h.numbers in
-    let count = count_is root g.nodes gs.group gs.least h.numbers in
+pub made_groups : (g : ProcessGraph) (labels : List ℕ) (gs : Grouping) → IsMade g labels gs → AreGroupsOf g gs
+made_groups g labels gs h =
+    let groups = groups_are g labels gs.group gs.least h.labelled h.numbers in
+    let count = count_is labels g.nodes gs.group gs.least h.numbers in
     let is_free : (k : ℕ) → k < group_count gs.group → get_or gs.free k false ≡ is_free_group gs.group g.streams k = λ k lt.
     h.free k (omega (arith, h.variances, count, lt))
     ∙ ap (λ (v : ℤ). not (0 == k) && int_lt (pos 0) v) (h.variance k (omega (arith, count, lt)))
     ∙ sym (free_is g gs.group k groups h.limits.env h.limits.joins h.limits.limits) in
     record {
       groups = groups;
-      least = λ k lt. least_are g root gs.group gs.least h.roots h.numbers k (omega (arith, count, lt));
+      least = λ k lt. least_are g labels gs.group gs.least h.labelled h.numbers k (omega (arith, count, lt));
       free = λ n lt.
           let within = number_below gs.group n (omega (arith, groups.each, lt)) in
           let is = is_free (group_at gs.group n) within in
@@ -59,10 +61,10 @@ made_groups g root gs h =
     is_true : (b : Bool) → b ≡ true → IsTrue b
     is_true b t = t
 
-pub made_grouping : (g : ProcessGraph) (root : List ℕ) (gs : Grouping) → IsMade g root gs → IsGrouping gs
-made_grouping g root gs h =
-    let groups = groups_are g root gs.group gs.least h.roots h.numbers in
-    let count = count_is root g.nodes gs.group gs.least h.numbers in
+pub made_grouping : (g : ProcessGraph) (labels : List ℕ) (gs : Grouping) → IsMade g labels gs → IsGrouping gs
+made_grouping g labels gs h =
+    let groups = groups_are g labels gs.group gs.least h.labelled h.numbers in
+    let count = count_is labels g.nodes gs.group gs.least h.numbers in
     record {
       few = omega (arith, count, h.numbers.few, h.limits.few_nodes);
       each_least = omega (arith, count);

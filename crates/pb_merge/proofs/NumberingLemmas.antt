@@ -9,7 +9,7 @@ use Rattle.pb_graph.specs.ProcessGraph.{ProcessGraph, IsStream}
 use Rattle.pb_graph.specs.Groups.{AreGroups, group_at, group_count}
 use Rattle.pb_merge.specs.Laws.{FreeLaw, CrossingLaw, NumberingLaw}
 use Rattle.pb_merge.specs.Variance.{group_variance}
-use Rattle.pb_merge.proofs.RootLemmas.{all_at}
+use Rattle.pb_merge.proofs.SameGroupLemmas.{all_at}
 use Rattle.pb_merge.proofs.FreeLemmas.{first_number, crossing_measured, crossings_add, crossed_is, free_means}
 use Rattle.pb_merge.proofs.GroupLemmas.{count_le, number_below}
 

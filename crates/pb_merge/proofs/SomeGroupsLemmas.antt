@@ -1,70 +1,93 @@
--- Each process graph has groups: stream by stream the nodes get roots, and then node by node their numbers.
-use Rattle.std.proofs.Common.{◌≡◌, ℕ, zero, suc, ◌+◌, ◌<◌, ◌≤◌, List, [], ◌∷◌, ◌++◌, length, None, get_or, refl, subst, inl, inr, arith}
-use Rattle.std.specs.List.{All}
-use Rattle.std.proofs.lemmas.Bool.{cases_eq}
-use Rattle.std.proofs.lemmas.Option.{slice_get-get_or}
+-- Each process graph has groups: each node has a least one that unmeasured streams join it to, and so, node by node, its number.
+use Rattle.std.proofs.Common.{◌≡◌, ℕ, zero, suc, ◌+◌, ◌<◌, ◌≤◌, ◌⊎◌, List, [], ◌∷◌, ◌++◌, length, refl, sym, subst, inl, inr, arith}
+use Rattle.std.proofs.lemmas.Bool.{cases_eq, cases_lt}
 use Rattle.pb_graph.specs.declared.records.Stream.{Stream}
-use Rattle.pb_graph.specs.ProcessGraph.{IsStream}
-use Rattle.pb_graph.specs.Groups.{group_at}
-use Rattle.pb_merge.specs.Roots.{AreRoots, AreNumbered, joined_by, root_at}
+use Rattle.pb_graph.specs.Walk.{unmeasured, ends_of}
+use Rattle.pb_graph.specs.Groups.{SameGroup, group_at}
+use Rattle.pb_graph.specs.Parts.{IsLabelling, label_at}
+use Rattle.pb_graph.proofs.WalkLemmas.{reach_none}
+use Rattle.pb_graph.proofs.ReachLemmas.{reach_decided}
+use Rattle.pb_graph.proofs.PartLemmas.{label_low, label_own}
+use Rattle.pb_merge.specs.Numbers.{AreNumbered}
 use Rattle.pb_merge.specs.Laws.{SomeGroupsLaw}
-use Rattle.pb_merge.proofs.RootLemmas.{roots_none, roots_more}
 use Rattle.pb_merge.proofs.NumberLemmas.{length_push, push_below, push_at, last_or, numbered_none, numbered_new, numbered_old}
 use Rattle.pb_merge.proofs.GroupLemmas.{groups_are}
 
--- each node its own root
-record AreOwn (nodes : ℕ) : Type 0 where
-  root : List ℕ
-  each : length root ≡ nodes
-  own : (n : ℕ) → n < nodes → root_at root n ≡ n
+-- the least node of the group of node n
+record IsLeast (ss : List Stream) (n m : ℕ) : Type 0 where
+  reached : SameGroup ss n m
+  least : (k : ℕ) → SameGroup ss n k → m ≤ k
 
-own_roots : (nodes : ℕ) → AreOwn nodes
-own_roots zero = record { root = []; each = refl; own = λ n lt. absurd (omega (arith, lt)) }
-own_roots (suc nodes) =
-    let less = own_roots nodes in
+none_below : (ss : List Stream) (n most : ℕ) → ((m : ℕ) × IsLeast ss n m) ⊎ ((k : ℕ) → k < most → SameGroup ss n k → ⊥)
+none_below ss n zero = inr (λ k lt. absurd (omega (arith, lt)))
+none_below ss n (suc most) = elim (none_below ss n most) [
+  | inl found ↦ inl found
+  | inr none ↦ elim (reach_decided ss unmeasured n most) [
+    | inl r ↦ inl (
+      most,
+      record {
+        reached = r;
+        least = λ k joined. elim (cases_lt k most) [ inl lt ↦ absurd (none k lt joined) | inr ge ↦ ge ];
+      },
+    )
+    | inr apart ↦ inr (λ k lt joined. elim (cases_eq k most) [
+      | inl e ↦ apart (subst (λ (i : ℕ). SameGroup ss n i) e joined)
+      | inr ne ↦ none k (omega (arith, lt, ne)) joined
+    ])
+  ]
+]
+
+some_least : (ss : List Stream) (n : ℕ) → (m : ℕ) × IsLeast ss n m
+some_least ss n = elim (none_below ss n (n + 1)) [ inl found ↦ found | inr none ↦ absurd (none n (omega arith) (reach_none (ends_of unmeasured ss) n)) ]
+
+-- the first nodes with their labels
+record HasLabels (ss : List Stream) (nodes : ℕ) : Type 0 where
+  labels : List ℕ
+  each : length labels ≡ nodes
+  least : (n : ℕ) → n < nodes → IsLeast ss n (label_at labels n)
+
+some_labels : (ss : List Stream) (nodes : ℕ) → HasLabels ss nodes
+some_labels ss zero = record { labels = []; each = refl; least = λ n lt. absurd (omega (arith, lt)) }
+some_labels ss (suc nodes) =
+    let less = some_labels ss nodes in
+    let (label, is) = some_least ss nodes in
     record {
-      root = less.root ++ nodes ∷ [];
-      each = omega (arith, length_push less.root nodes, less.each);
-      own = λ n lt. last_or (λ n. root_at (less.root ++ nodes ∷ []) n ≡ n) nodes n (omega (arith, lt))
-          (push_at less.root nodes nodes less.each)
-          (λ l. let is = push_below less.root nodes n (omega (arith, l, less.each)) in let e = less.own n l in omega (arith, is, e));
+      labels = less.labels ++ label ∷ [];
+      each = omega (arith, length_push less.labels label, less.each);
+      least = λ n lt. last_or (λ n. IsLeast ss n (label_at (less.labels ++ label ∷ []) n)) nodes n (omega (arith, lt))
+          (subst (λ (m : ℕ). IsLeast ss nodes m) (sym (push_at less.labels label nodes less.each)) is)
+          (λ l. subst (λ (m : ℕ). IsLeast ss n m) (sym (push_below less.labels label n (omega (arith, l, less.each)))) (less.least n l));
     }
 
-some_roots : (nodes : ℕ) (ss : List Stream) (j : ℕ) → All (IsStream nodes) ss → j ≤ length ss → (root : List ℕ) × AreRoots nodes ss j root
-some_roots nodes ss zero all le = let own = own_roots nodes in (own.root, roots_none nodes ss own.root own.each own.own)
-some_roots nodes ss (suc j) all le =
-    let (root, are) = some_roots nodes ss j all (omega (arith, le)) in
-    let s : Stream = get_or ss j (record { from = 0; to = 0; meas = None }) in
-    let next : j + 1 ≡ suc j = omega arith in
-    (joined_by root s, subst (λ (n : ℕ). AreRoots nodes ss n (joined_by root s)) next (roots_more nodes ss j root s all are (slice_get-get_or ss j _ (omega (arith, le)))))
-
 -- the first n nodes with their numbers
-record HasNumbers (root : List ℕ) (n : ℕ) : Type 0 where
+record HasNumbers (labels : List ℕ) (n : ℕ) : Type 0 where
   group : List ℕ
   least : List ℕ
-  numbered : AreNumbered root n group least
+  numbered : AreNumbered labels n group least
 
-some_numbers : (nodes : ℕ) (ss : List Stream) (root : List ℕ) (n : ℕ) → AreRoots nodes ss (length ss) root → n ≤ nodes → HasNumbers root n
-some_numbers nodes ss root zero are le = record { group = []; least = []; numbered = numbered_none root }
-some_numbers nodes ss root (suc n) are le =
-    let so_far = some_numbers nodes ss root n are (omega (arith, le)) in
+some_numbers : (nodes : ℕ) (ss : List Stream) (labels : List ℕ) (n : ℕ) → IsLabelling ss nodes unmeasured labels → n ≤ nodes → HasNumbers labels n
+some_numbers nodes ss labels zero are le = record { group = []; least = []; numbered = numbered_none labels }
+some_numbers nodes ss labels (suc n) are le =
+    let so_far = some_numbers nodes ss labels n are (omega (arith, le)) in
     let group = so_far.group in
     let least = so_far.least in
     let next : n + 1 ≡ suc n = omega arith in
     let lt : n < nodes = omega (arith, le) in
-    subst (HasNumbers root) next (elim (cases_eq (root_at root n) n) [
-      | inl own ↦ record { group = group ++ length least ∷ []; least = least ++ n ∷ []; numbered = numbered_new root n group least so_far.numbered own }
+    subst (HasNumbers labels) next (elim (cases_eq (label_at labels n) n) [
+      | inl own ↦ record { group = group ++ length least ∷ []; least = least ++ n ∷ []; numbered = numbered_new labels n group least so_far.numbered own }
       | inr other ↦
-          let low = are.low n lt in
+          let low = label_low ss nodes unmeasured labels n lt are in
           record {
-            group = group ++ group_at group (root_at root n) ∷ [];
+            group = group ++ group_at group (label_at labels n) ∷ [];
             least = least;
-            numbered = numbered_old root n group least so_far.numbered (omega (arith, low, other)) (are.own n lt);
+            numbered = numbered_old labels n group least so_far.numbered (omega (arith, low, other)) (label_own ss nodes unmeasured labels n lt are);
           }
     ])
 
 pub some_groups_law : SomeGroupsLaw
 some_groups_law graph is =
-    let (root, are) = some_roots graph.nodes graph.streams (length graph.streams) is.joins (omega arith) in
-    let made = some_numbers graph.nodes graph.streams root graph.nodes are (omega arith) in
-    (made.group, groups_are graph root made.group made.least are made.numbered)
+    let made = some_labels graph.streams graph.nodes in
+    let are : IsLabelling graph.streams graph.nodes unmeasured made.labels =
+    record { each = made.each; reached = λ n lt. (made.least n lt).reached; least = λ n m lt r. (made.least n lt).least m r } in
+    let numbers = some_numbers graph.nodes graph.streams made.labels graph.nodes are (omega arith) in
+    (numbers.group, groups_are graph made.labels numbers.group numbers.least are numbers.numbered)

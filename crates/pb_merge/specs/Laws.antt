@@ -1,5 +1,5 @@
 -- Statement. What is proved of the groups of a graph, law by law.
-use Rattle.std.specs.Prelude.{◌≡◌, ◌↔◌, ℕ, ◌<◌, ◌≤◌, true, pos, ◌<ℤ◌, List, length, Some, slice_get, IsSome}
+use Rattle.std.specs.Prelude.{◌≡◌, ◌↔◌, ℕ, ◌<◌, ◌≤◌, true, pos, ◌<ℤ◌, List, Some, slice_get, IsSome}
 use Rattle.std.specs.List.{list_any}
 use Rattle.pb_graph.specs.declared.records.Stream.{Stream}
 use Rattle.pb_graph.specs.ProcessGraph.{ProcessGraph, IsProcessGraph}

@@ -3,4 +3,4 @@ pub mod Variance
 pub mod Grouping
 pub mod Laws
 -- Inside
-pub mod Roots
+pub mod Numbers

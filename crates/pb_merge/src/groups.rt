@@ -6,7 +6,7 @@ ghost use Rattle.pb_merge.specs.Variance.{most_group_variance};
 ghost use Rattle.pb_merge.specs.Grouping.{AreGroupsOf, least_at};
 
 use crate::numbers::{Numbers, number_all};
-use crate::roots::roots;
+use crate::parts::unmeasured_parts;
 use crate::variance::{free_groups, variances};
 use pb_graph::Graph;
 use std::alloc::{AllocError, Global};
@@ -37,8 +37,8 @@ impl Groups {
     pub fn of(alloc: Global, graph: &Graph) -> Result<Groups, AllocError>
         ensures { IfOk result (AreGroupsOf graph.now) }
     {
-        let root = roots(alloc, graph.nodes(), graph.streams())?;
-        let Numbers { group, least } = number_all(alloc, &root)?;
+        let parts = unmeasured_parts(alloc, graph.nodes(), graph.streams())?;
+        let Numbers { group, least } = number_all(alloc, parts.labels())?;
         let variance = variances(alloc, least.len(), &group, graph.streams())?;
         let free = free_groups(alloc, &variance)?;
         Ok(Groups {

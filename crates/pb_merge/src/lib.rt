@@ -7,7 +7,7 @@
 mod groups;
 mod laws;
 mod numbers;
-mod roots;
+mod parts;
 mod variance;
 
 pub use groups::Groups;
