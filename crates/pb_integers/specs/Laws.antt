@@ -1,19 +1,25 @@
--- What is proved of signed whole numbers and their sums, law by law.
-use Rattle.std.specs.Prelude.{◌≡◌, ℕ, ◌+◌, ◌*◌, ◌≤◌, ℤ, pos, ◌+ℤ◌, ◌*ℤ◌, ◌≤ℤ◌, ◌<ℤ◌, List, length, unsigned_abs}
+-- Statement. What is proved of signed whole numbers and their sums, law by law.
+use Rattle.std.specs.Prelude.{◌≡◌, ℕ, ◌+◌, ◌*◌, ◌≤◌, ℤ, pos, neg_ℤ, ◌+ℤ◌, ◌*ℤ◌, ◌≤ℤ◌, ◌<ℤ◌, List, length, unsigned_abs}
 use Rattle.std.specs.List.{AllByRecursion}
 use Rattle.pb_integers.specs.Sums.{sum_over, total, item, AreDistinctBy}
 
--- whole numbers with their sum and product are a commutative ring; what the kit does not have of its laws
+-- whole numbers with their sum and product are a commutative ring
 pub record IsRing : Type 0 where
+  pub add_assoc : (a b c : ℤ) → (a +ℤ b) +ℤ c ≡ a +ℤ (b +ℤ c)
+  pub add_comm : (a b : ℤ) → a +ℤ b ≡ b +ℤ a
+  pub zero_add : (a : ℤ) → pos 0 +ℤ a ≡ a
+  pub neg_add : (a : ℤ) → neg_ℤ a +ℤ a ≡ pos 0
   pub mul_assoc : (a b c : ℤ) → (a *ℤ b) *ℤ c ≡ a *ℤ (b *ℤ c)
-  pub add_mul : (a b c : ℤ) → (a +ℤ b) *ℤ c ≡ (a *ℤ c) +ℤ (b *ℤ c)
+  pub mul_comm : (a b : ℤ) → a *ℤ b ≡ b *ℤ a
+  pub one_mul : (a : ℤ) → pos 1 *ℤ a ≡ a
   pub mul_add : (a b c : ℤ) → a *ℤ (b +ℤ c) ≡ (a *ℤ b) +ℤ (a *ℤ c)
 
--- the order goes with the ring: products with a positive factor keep it, squares are not negative
+-- The order goes with the ring: a factor that isn't negative keeps it, a positive one cancels, squares aren't negative, and of
+-- numbers that aren't negative the lesser has the lesser square.
 pub record IsOrderedRing : Type 0 where
   pub mul_mono : (a b c : ℤ) → a ≤ℤ b → pos 0 ≤ℤ c → (a *ℤ c) ≤ℤ (b *ℤ c)
   pub mul_cancel : (a b c : ℤ) → (a *ℤ c) ≤ℤ (b *ℤ c) → pos 0 <ℤ c → a ≤ℤ b
-  pub square_pos : (a : ℤ) → pos 0 ≤ℤ (a *ℤ a)
+  pub square_nonneg : (a : ℤ) → pos 0 ≤ℤ (a *ℤ a)
   pub root_mono : (a b : ℤ) → pos 0 ≤ℤ b → (a *ℤ a) ≤ℤ (b *ℤ b) → a ≤ℤ b
 
 -- the triangle inequality, of two numbers and of a sum over a list
@@ -22,7 +28,7 @@ pub record HasTriangle (A : Type 0) : Type 0 where
   pub of_sum : (f : A → ℤ) (xs : List A) → pos (unsigned_abs (sum_over f xs)) ≤ℤ sum_over (λ x. pos (unsigned_abs (f x))) xs
   pub of_bound : (f : A → ℤ) (bound : ℕ) (xs : List A) → AllByRecursion (λ x. unsigned_abs (f x) ≤ bound) xs → unsigned_abs (sum_over f xs) ≤ length xs * bound
 
--- what a weighted sum of squares is made of: a positive variance, and a weight that is some number over it
+-- what a weighted sum of squares is made of: a positive variance, and a weight that is some number over the variance
 pub record IsWeighed {A : Type 0} (variance weight : A → ℤ) (l : ℤ) (x : A) : Type 0 where
   pub positive : pos 0 <ℤ variance x
   pub weight_is : weight x *ℤ variance x ≡ l
@@ -32,7 +38,7 @@ abbrev pub SchwarzLaw : Type 0 → Type 0
 SchwarzLaw A = (f variance weight : A → ℤ) (l : ℤ) (xs : List A) → pos 0 ≤ℤ l → AllByRecursion (IsWeighed variance weight l) xs
     → (l *ℤ (sum_over f xs *ℤ sum_over f xs)) ≤ℤ (sum_over variance xs *ℤ sum_over (λ x. weight x *ℤ (f x *ℤ f x)) xs)
 
--- a sum over some places of a list of numbers none of which is negative, no place twice, is at most the sum of the list
+-- a sum over some places of a list of numbers that aren't negative, no place twice, is at most the sum of the list
 abbrev pub PartialSumLaw : Type 0 → Type 0
 PartialSumLaw A = (key : A → ℕ) (xs : List ℤ) (some : List A) → AllByRecursion (λ x. pos 0 ≤ℤ x) xs → AreDistinctBy key some
     → sum_over (λ m. item xs (key m)) some ≤ℤ total xs

@@ -1,2 +1,3 @@
+-- Statement
 pub mod Sums
 pub mod Laws

@@ -1,4 +1,4 @@
--- Sums over lists of signed whole numbers.
+-- Statement. Sums over lists of signed whole numbers.
 use Rattle.std.specs.Prelude.{ℕ, zero, suc, ℤ, pos, ◌+ℤ◌, ◌≢◌, List, [], ◌∷◌, get_or}
 use Rattle.std.specs.List.{AllByRecursion}
 

@@ -10,7 +10,7 @@ pub fn ring_laws()
     ensures { IsRing }
 {}
 
-/// Products with a factor that is not negative keep the order, and squares are not negative.
+/// A factor that isn't negative keeps the order, a positive one cancels, and squares aren't negative.
 pub fn order_laws()
     ensures { IsOrderedRing }
 {}
@@ -25,7 +25,7 @@ pub fn schwarz_law<T>()
     ensures { SchwarzLaw T }
 {}
 
-/// A sum over some places of a list of numbers that are not negative is at most the sum of the list.
+/// A sum over some places of a list of numbers that aren't negative is at most the sum of the list.
 pub fn partial_sum_law<T>()
     ensures { PartialSumLaw T }
 {}
