@@ -1,6 +1,7 @@
-pub mod Prices
-pub mod Cuts
-pub mod Turns
-pub mod Cycles
-pub mod Reach
-pub mod Classes
+mod PriceLemmas
+mod CutLemmas
+mod TurnLemmas
+mod CycleLemmas
+mod ReachLemmas
+mod ClassLemmas
+pub mod BalanceLaws

@@ -1,2 +1,3 @@
+-- Statement
 pub mod PricedSums
 pub mod Laws

@@ -9,7 +9,7 @@ use Rattle.pb_graph.specs.Walk.{ends_of, unmeasured_but, Walks, Reaches}
 use Rattle.pb_graph.specs.Path.{is_open}
 use Rattle.pb_graph.specs.Certificates.{GoesRound}
 use Rattle.pb_graph.proofs.WalkLemmas.{some_same, ends_is, stream_of, reach_one, reach_both, reach_back}
-use Rattle.pb_balance.proofs.Reach.{no_meas}
+use Rattle.pb_balance.proofs.BalanceLaws.{no_meas}
 use Rattle.pb_forest.specs.Forest.{IsForest}
 use Rattle.pb_forest.specs.Laws.{except}
 use Rattle.pb_forest.proofs.ForestLaws.{along_reach}

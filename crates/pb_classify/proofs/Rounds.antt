@@ -11,7 +11,7 @@ use Rattle.pb_graph.specs.Cycle.{is_distinct, begin_of}
 use Rattle.pb_graph.specs.Path.{IsPath, is_open}
 use Rattle.pb_graph.specs.Certificates.{GoesRound}
 use Rattle.pb_graph.proofs.WalkLemmas.{ends_is, IsWithin, walk_more, reach_more, reach_back}
-use Rattle.pb_balance.proofs.Reach.{others_walk}
+use Rattle.pb_balance.proofs.BalanceLaws.{others_walk}
 use Rattle.pb_forest.specs.Forest.{is_before, IsForest}
 use Rattle.pb_forest.specs.Laws.{held_unmeasured}
 use Rattle.pb_forest.proofs.ForestLaws.{spans_law, chord_law}

@@ -17,8 +17,8 @@ use Rattle.pb_graph.specs.Groups.{entering}
 use Rattle.pb_graph.specs.Balance.{IsBalanced}
 use Rattle.pb_graph.proofs.WalkLemmas.{some_same, ends_is, stream_of, reach_one, reach_both, reach_more, walk_keeps, IsWithin}
 use Rattle.pb_balance.specs.PricedSums.{priced_streams}
-use Rattle.pb_balance.proofs.Prices.{balanced_sum}
-use Rattle.pb_balance.proofs.Cuts.{unit_price, side_price}
+use Rattle.pb_balance.proofs.BalanceLaws.{balanced_sum}
+use Rattle.pb_balance.proofs.BalanceLaws.{unit_price, side_price}
 use Rattle.pb_forest.specs.Forest.{IsForest}
 use Rattle.pb_forest.specs.Laws.{except}
 use Rattle.pb_forest.specs.Flows.{AgreeOffForest}

@@ -15,8 +15,8 @@ use Rattle.pb_graph.specs.Groups.{entering}
 use Rattle.pb_graph.specs.Balance.{brought_to, net_of, IsBalanced}
 use Rattle.pb_graph.proofs.WalkLemmas.{some_same}
 use Rattle.pb_balance.specs.PricedSums.{priced_nodes, priced_streams}
-use Rattle.pb_balance.proofs.Prices.{priced_sums}
-use Rattle.pb_balance.proofs.Cuts.{unit_price}
+use Rattle.pb_balance.proofs.BalanceLaws.{priced_sums}
+use Rattle.pb_balance.proofs.BalanceLaws.{unit_price}
 use Rattle.pb_forest.specs.Forest.{IsForest}
 use Rattle.pb_forest.specs.Trees.{RootedTrees, node_at, root_of, up_of, end_from, IsBranch, AreTrees, AreWhole}
 use Rattle.pb_limits.specs.Limits.{most_streams}

@@ -12,7 +12,7 @@ use Rattle.pb_graph.specs.Walk.{any_stream, ends_of, Walks}
 use Rattle.pb_graph.specs.Path.{is_open}
 use Rattle.pb_graph.specs.Balance.{brought_to, net_of, IsBalanced}
 use Rattle.pb_graph.proofs.WalkLemmas.{ends_is, stream_of, walk_more, reach_one, reach_back}
-use Rattle.pb_balance.proofs.Turns.{turns, takes, length_turns, round_net, not_taken, first_unit}
+use Rattle.pb_balance.proofs.BalanceLaws.{turns, takes, length_turns, round_net, not_taken, first_unit}
 use Rattle.pb_forest.specs.Forest.{IsForest}
 use Rattle.pb_forest.specs.Flows.{SomeBalancedLaw}
 use Rattle.pb_forest.proofs.SpansLemmas.{spans_law}

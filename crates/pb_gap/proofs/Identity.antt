@@ -9,7 +9,7 @@ use Rattle.pb_graph.specs.declared.records.Stream.{Stream}
 use Rattle.pb_graph.specs.Squares.{variance_product, weighted_squares, squares_unit}
 use Rattle.pb_graph.specs.Prices.{rise_of}
 use Rattle.pb_balance.specs.PricedSums.{priced_streams}
-use Rattle.pb_balance.proofs.Prices.{balanced_sum}
+use Rattle.pb_balance.proofs.BalanceLaws.{balanced_sum}
 use Rattle.pb_dual.specs.DualValue.{scale, cost_at}
 use Rattle.pb_gap.specs.Residuals.{residual_squares, residuals_of}
 use Rattle.pb_gap.specs.Laws.{IdentityLaw, DualityLaw}

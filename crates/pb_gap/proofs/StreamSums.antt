@@ -20,7 +20,7 @@ use Rattle.pb_graph.specs.Boundary.{sign_at, member_by, with_first, members_from
 use Rattle.pb_graph.specs.Certificates.{CutsOff, Shows}
 use Rattle.pb_graph.specs.Squares.{Fractional, IsNoWorse, whole_flows}
 use Rattle.pb_balance.specs.PricedSums.{signed_sum}
-use Rattle.pb_balance.proofs.Cuts.{boundary_sum}
+use Rattle.pb_balance.proofs.BalanceLaws.{boundary_sum}
 use Rattle.pb_gap.specs.Gap.{gap_of}
 use Rattle.pb_gap.specs.Bounds.{IsSigned, bounds_of}
 use Rattle.pb_gap.specs.StreamBounds.{IsStreamWithin, sign_in, others_times, sum_for}

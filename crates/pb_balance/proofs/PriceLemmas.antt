@@ -1,10 +1,10 @@
 -- A sum over the nodes of price times net flow, taken stream by stream.
-use Rattle.std.proofs.Common.{◌≡◌, ◌∙◌, ℕ, zero, suc, ◌<◌, ℤ, pos, ◌+ℤ◌, ◌-ℤ◌, ◌*ℤ◌, List, [], ◌∷◌, cond, ◌==◌, refl, sym, ap, ap₂, arith}
+use Rattle.std.proofs.Common.{◌≡◌, ◌∙◌, ℕ, zero, suc, ◌<◌, ℤ, pos, ◌+ℤ◌, ◌-ℤ◌, ◌*ℤ◌, List, [], ◌∷◌, length, cond, ◌==◌, refl, sym, ap, ap₂, inl, inr, arith}
 use Rattle.std.specs.List.{AllByRecursion}
-use Rattle.std.proofs.lemmas.Bool.{eq-eqb, ne_eqb}
+use Rattle.std.proofs.lemmas.Bool.{cases_eq, eq-eqb, ne_eqb}
 use Rattle.std.proofs.lemmas.Int.{ints}
 use Rattle.pb_integers.specs.Sums.{sum_below}
-use Rattle.pb_integers.proofs.RingLaws.{mul_add, mul_zero}
+use Rattle.pb_integers.proofs.RingLaws.{mul_add, mul_zero, one_mul, zero_mul}
 use Rattle.pb_integers.proofs.Ring.{var, times, less, ring}
 use Rattle.pb_integers.proofs.Lists.{AllByRecursion-from_all}
 use Rattle.pb_integers.proofs.Sums.{sum_below-add, sum_below-none, sum_below-same, sum_below-single}
@@ -61,3 +61,30 @@ pub balanced_sum : (g : ProcessGraph) (price : ℕ → ℤ) (xs : List ℤ) → 
 balanced_sum g price xs is balanced =
     sym (priced_sums g price xs is)
     ∙ sum_below-none (λ n. price n *ℤ net_of n g.streams xs) g.nodes (λ k less. ap (λ (z : ℤ). price k *ℤ z) (balanced.even k less) ∙ mul_zero (price k))
+
+-- at one price everywhere the sum over the streams is 0
+same_price : (price : ℕ → ℤ) (ss : List Stream) (xs : List ℤ) → ((a b : ℕ) → price a ≡ price b) → priced_streams price ss xs ≡ pos 0
+same_price price [] xs same = refl
+same_price price (s ∷ ss) [] same = refl
+same_price price (s ∷ ss) (x ∷ xs) same =
+    let rest = same_price price ss xs same in
+    let level : price s.to -ℤ price s.from ≡ pos 0 = omega (arith, ints, same s.to s.from) in
+    let none : (price s.to -ℤ price s.from) *ℤ x ≡ pos 0 = ap (λ (z : ℤ). z *ℤ x) level ∙ zero_mul x in
+    omega (arith, ints, rest, none)
+
+-- flows that balance at every node but the environment balance there too
+pub env_balances : (g : ProcessGraph) (xs : List ℤ) → IsProcessGraph g → length xs ≡ length g.streams
+    → ((n : ℕ) → 0 < n → n < g.nodes → net_of n g.streams xs ≡ pos 0) → IsBalanced g xs
+env_balances g xs is each others =
+    let price = λ (n : ℕ). pos 1 in
+    let own : (n : ℕ) → price n *ℤ net_of n g.streams xs ≡ net_of n g.streams xs = λ n. one_mul (net_of n g.streams xs) in
+    let whole : sum_below (λ n. price n *ℤ net_of n g.streams xs) g.nodes ≡ pos 0 = priced_sums g price xs is ∙ same_price price g.streams xs (λ a b. refl) in
+    let single = sum_below-single (λ n. price n *ℤ net_of n g.streams xs) g.nodes 0 is.env (λ k lt ne. own k ∙ others k (omega (arith, ne)) lt) in
+    let env : net_of 0 g.streams xs ≡ pos 0 = sym (own 0) ∙ sym single ∙ whole in
+    record {
+      each = each;
+      even = λ n lt. elim (cases_eq n 0) [
+        | inl zero_n ↦ ap (λ (k : ℕ). net_of k g.streams xs) zero_n ∙ env
+        | inr some ↦ others n (omega (arith, some)) lt
+      ];
+    }

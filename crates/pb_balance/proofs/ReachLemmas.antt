@@ -13,9 +13,9 @@ use Rattle.pb_graph.specs.Classes.{IsDetermined, IsFree}
 use Rattle.pb_graph.specs.Certificates.{CutsOff}
 use Rattle.pb_graph.proofs.WalkLemmas.{some_same, stream_of, ends_is, walk_more, reach_none, reach_one, reach_both, reach_back}
 use Rattle.pb_balance.specs.Laws.{IsDecidedBy}
-use Rattle.pb_balance.proofs.Cuts.{member_stream, cut_determines}
-use Rattle.pb_balance.proofs.Turns.{takes, first_taken}
-use Rattle.pb_balance.proofs.Cycles.{AreUnmeasuredBut, round_frees}
+use Rattle.pb_balance.proofs.CutLemmas.{member_stream, cut_determines}
+use Rattle.pb_balance.proofs.TurnLemmas.{takes, first_taken}
+use Rattle.pb_balance.proofs.CycleLemmas.{AreUnmeasuredBut, round_frees}
 
 -- ---- where it is reached
 -- a walk over the other unmeasured streams does not take stream j, and no measured one
@@ -133,6 +133,6 @@ reach_decides g j s side is at reach =
     let cuts : is_in side s.to ≡ false → CutsOff g j side (boundary_of side g.streams) = λ out. side_cuts_off g j s side at reach out in
     record {
       determined = ((λ d. false_from_ne_true (is_in side s.to) (λ inside. not_both g j d (frees inside))), (λ out. cut_determines g j side (boundary_of side g.streams) is (cuts out)));
-      free = frees;
+      free = ((λ f. elim (cases_Bool (is_in side s.to)) [ inl inside ↦ inside | inr out ↦ absurd (not_both g j (cut_determines g j side (boundary_of side g.streams) is (cuts out)) f) ]), frees);
       cut = cuts;
     }

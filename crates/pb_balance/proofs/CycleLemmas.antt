@@ -13,7 +13,7 @@ use Rattle.pb_graph.specs.Balance.{IsBalanced}
 use Rattle.pb_graph.specs.Classes.{IsFree}
 use Rattle.pb_graph.specs.Certificates.{GoesRound}
 use Rattle.pb_graph.proofs.WalkLemmas.{stream_of}
-use Rattle.pb_balance.proofs.Turns.{turns, takes, length_turns, round_net, not_taken, taken_once}
+use Rattle.pb_balance.proofs.TurnLemmas.{turns, takes, length_turns, round_net, not_taken, taken_once}
 
 -- a stream of these steps, unless it is the j-th, is unmeasured
 abbrev pub AreUnmeasuredBut : ℕ → List Stream → List Step → Type 0

@@ -15,7 +15,7 @@ use Rattle.pb_graph.specs.Classes.{IsDetermined}
 use Rattle.pb_graph.specs.Certificates.{CutsOff}
 use Rattle.pb_graph.proofs.WalkLemmas.{some_same}
 use Rattle.pb_balance.specs.PricedSums.{priced_streams, signed_sum}
-use Rattle.pb_balance.proofs.Prices.{balanced_sum}
+use Rattle.pb_balance.proofs.PriceLemmas.{balanced_sum}
 
 -- the price of a node: 1 in the side, 0 outside
 abbrev pub unit_price : Bool → ℤ
