@@ -66,11 +66,11 @@ each_class g j is lt =
     let decided = reach_decides g j s side is at reach in
     elim (cases_Bool (is_measured s)) [
       | inl measured ↦ elim (cases_Bool (is_in side s.to)) [
-        | inl inside ↦ (Nonredundant, s, at, (measured, decided.free.1 inside))
-        | inr out ↦ (Redundant, s, at, (measured, decided.determined.1 out))
+        | inl inside ↦ (Nonredundant, (s, at, (measured, decided.free.1 inside)))
+        | inr out ↦ (Redundant, (s, at, (measured, decided.determined.1 out)))
       ]
       | inr plain ↦ elim (cases_Bool (is_in side s.to)) [
-        | inl inside ↦ (Unobservable, s, at, (no_meas s plain, decided.free.1 inside))
-        | inr out ↦ (Observable, s, at, (no_meas s plain, decided.determined.1 out))
+        | inl inside ↦ (Unobservable, (s, at, (no_meas s plain, decided.free.1 inside)))
+        | inr out ↦ (Observable, (s, at, (no_meas s plain, decided.determined.1 out)))
       ]
     ]
