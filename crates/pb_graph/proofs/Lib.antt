@@ -1,11 +1,11 @@
-pub mod BalanceLemmas
+mod BalanceLemmas
 pub mod BoundaryLemmas
 pub mod CertificateLemmas
-pub mod CycleLemmas
-pub mod FoundLemmas
-pub mod NeighbourLemmas
+mod CycleLemmas
+mod FoundLemmas
+mod NeighbourLemmas
 pub mod PartLemmas
 pub mod ReachLemmas
-pub mod SearchLemmas
-pub mod UnmeasureLemmas
+mod SearchLemmas
+mod UnmeasureLemmas
 pub mod WalkLemmas

@@ -303,12 +303,6 @@ listed_within ends nodes i t tree lt = elim (cases_lt (get_or t.order i 0) nodes
   | inr past ↦ absurd (omega (arith, tree.listed i lt, get_or_past t.place (get_or t.order i 0) 0 (omega (arith, past, tree.places))))
 ]
 
--- a fact of all items is one of the item at a place
-pub all_at : {A : Type 0} (P : A → Type 0) (xs : List A) (i : ℕ) (d : A) → AllByRecursion P xs → i < length xs → P (get_or xs i d)
-all_at P [] i d all lt = absurd (omega (arith, lt))
-all_at P (x ∷ xs) zero d all lt = all.0
-all_at P (x ∷ xs) (suc i) d all lt = all_at P xs i d all.1 (omega (arith, lt))
-
 -- one more stream of a node is followed
 pub follow_more : (marks : List Bool) (ss : List Stream) (nodes node j : ℕ) (t : SearchTree)
     → ((j : ℕ) (s : Stream) → slice_get ss j ≡ Some s → IsStream nodes s) → TouchesAt ss node j
@@ -318,10 +312,6 @@ pub follow_more : (marks : List Bool) (ss : List Stream) (nodes node j : ℕ) (t
 follow_more marks ss nodes node j t each touch tree some =
     let v = visits marks ss nodes node (j ∷ []) t each (touch, tt) tree some in
     (v.tree, omega (arith, grows_found t (followed node j (get_or marks j false) (get_or ss j some_stream) t) node v.grows some, some))
-
--- a fact of each item of a list, by its place
-pub all_each : {A : Type 0} (P : A → Type 0) (xs : List A) → All P xs → (k : ℕ) (x : A) → slice_get xs k ≡ Some x → P x
-all_each P xs all k x at = subst P (get_or_from_slice_get xs k x x at) (all k x (slice_get_within xs k x at))
 
 followed_root : (node j : ℕ) (may : Bool) (s : Stream) (t : SearchTree) → (followed node j may s t).root ≡ t.root
 followed_root node j false s t = refl

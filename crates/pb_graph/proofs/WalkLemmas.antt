@@ -1,13 +1,11 @@
 -- Walks: one step, one walk behind another, the same walk back, the same walk where more streams may be taken.
 use Rattle.std.proofs.Common.{◌≡◌, ◌∙◌, ℕ, ◌<◌, Bool, true, false, not, List, [], ◌∷◌, ◌++◌, Option, Some, None, slice_get, ap, sym, refl, subst, inl, inr, arith}
 use Rattle.std.proofs.lemmas.Bool.{cases_Bool}
+pub use Rattle.pb_integers.proofs.Lists.{some_same}
 use Rattle.pb_graph.specs.declared.records.Stream.{Stream}
 use Rattle.pb_graph.specs.declared.records.Step.{Step}
 use Rattle.pb_graph.specs.ProcessGraph.{IsStream}
 use Rattle.pb_graph.specs.Walk.{along, ends_at, ends_of, Walks, Reaches, IsStricter}
-
-pub some_same : {A : Type 0} {x y : A} → Some x ≡ Some y → x ≡ y
-some_same e = cc e
 
 -- a step along a stream that is there and may be taken
 pub ends_is : (may : ℕ → Stream → Bool) (ss : List Stream) (k : ℕ) (s : Stream) (forward : Bool) → slice_get ss k ≡ Some s → may k s ≡ true

@@ -3,7 +3,7 @@ use Rattle.std.specs.Prelude.{◌≡◌, ℕ, Bool, false, ◌==◌, List, Optio
 use Rattle.std.specs.List.{list_any}
 use Rattle.pb_graph.specs.declared.records.Stream.{Stream}
 use Rattle.pb_graph.specs.declared.records.Step.{Step}
-use Rattle.pb_graph.specs.Walk.{Walks}
+use Rattle.pb_graph.specs.Walk.{ends_of, Walks}
 use Rattle.pb_graph.specs.Cycle.{is_distinct, begin_of}
 
 -- A path from a to b: a walk on which no node comes twice.
@@ -15,3 +15,7 @@ pub record IsPath (ends : Step → Option (ℕ × ℕ)) (nodes : ℕ) (streams :
 -- the streams of a list of marks that may be taken: those that are marked
 abbrev pub is_open : List Bool → ℕ → Stream → Bool
 is_open marks stream_id stream = get_or marks stream_id false
+
+-- the ends of a step along a marked stream
+abbrev pub open_ends : List Bool → List Stream → Step → Option (ℕ × ℕ)
+open_ends marks streams = ends_of (is_open marks) streams

@@ -2,7 +2,6 @@
 
 ghost use Rattle.std.specs.Prelude.{◌≡◌, ◌<◌, ◌≤◌, ◌^◌, ◌↔◌, unsigned_abs, length, All, IsTrue};
 ghost use Rattle.pb_limits.specs.Limits.{most_streams};
-ghost use Rattle.pb_graph.specs.ProcessGraph.{ProcessGraph};
 ghost use Rattle.pb_graph.specs.Balance.{brought_to, net_of, IsBalanced};
 
 use crate::records::Stream;
@@ -38,7 +37,8 @@ pub fn is_balanced(nodes: u32, streams: &[Stream], flows: &[i128]) -> bool
     requires few { length streams.now ≤ most_streams }
     requires each { length flows.now ≡ length streams.now }
     requires within { All (λ flow. unsigned_abs flow < 2 ^ 100) flows.now }
-    ensures { IsTrue result ↔ IsBalanced (record { nodes = nodes; streams = streams.now }) flows.now }
+    ensures { IsTrue result
+        ↔ IsBalanced (record { nodes = nodes; streams = streams.now }) flows.now }
 {
     for node in 0..nodes {
         if net(streams, flows, node) != 0 {

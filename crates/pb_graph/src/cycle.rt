@@ -2,7 +2,7 @@
 
 ghost use Rattle.std.specs.Prelude.{◌≡◌, ◌≤◌, ◌↔◌, true, false, length, All, IsTrue};
 ghost use Rattle.pb_limits.specs.Limits.{most_nodes};
-ghost use Rattle.pb_graph.specs.ProcessGraph.{ProcessGraph, IsStream};
+ghost use Rattle.pb_graph.specs.ProcessGraph.{IsStream};
 ghost use Rattle.pb_graph.specs.Walk.{ends_of, any_stream, Walks};
 ghost use Rattle.pb_graph.specs.Cycle.{is_distinct, begin_of, IsCycle};
 ghost use Rattle.pb_graph.specs.Steps.{is_there_and_back};

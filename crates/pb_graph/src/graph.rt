@@ -56,7 +56,8 @@ impl Graph {
     /// Appends a stream. Without memory the graph is as before.
     pub fn push(&mut self, stream: Stream) -> Result<(), AllocError>
         requires { Fits self.old stream }
-        ensures ok { OnOk result (self.new ≡ record self.old { streams = self.old.streams ++ stream ∷ [] }) }
+        ensures ok { OnOk result
+            (self.new ≡ record self.old { streams = self.old.streams ++ stream ∷ [] }) }
         ensures err { OnErr result (self.new ≡ self.old) }
     {
         self.streams.push(stream)?;

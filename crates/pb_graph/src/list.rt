@@ -83,6 +83,24 @@ impl<T> List<T> {
     }
 }
 
+impl<T: PartialEq> PartialEq for List<T> {
+    ghost use Rattle.std.specs.Cmp.Lexicographic.{pointwise, lists_per};
+
+    ghost eq = { λ x y. pointwise T.eq x y };
+
+    ghost laws = { lists_per T.laws };
+
+    fn eq(&self, other: &Self) -> bool {
+        self.as_slice() == other.as_slice()
+    }
+}
+
+impl<T: Eq> Eq for List<T> {
+    ghost use Rattle.std.specs.Cmp.Lexicographic.{lists_equiv};
+
+    ghost laws = { lists_equiv T.Eq.laws };
+}
+
 impl<T: Copy> List<T> {
     /// An equal list.
     pub fn copy(&self, alloc: Global) -> Result<List<T>, AllocError>

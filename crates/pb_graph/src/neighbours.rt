@@ -58,7 +58,8 @@ fn empty_lists(alloc: Global, nodes: u32) -> Result<Vec<List<u32>>, AllocError>
 // Notes a stream in the list of one node.
 fn note(lists: &mut [List<u32>], node: u32, stream_id: u32) -> Result<(), AllocError>
     requires { node < length lists.old }
-    ensures { OnOk result (lists.new ≡ set lists.old node (get_or lists.old node [] ++ stream_id ∷ [])) }
+    ensures { OnOk result
+        (lists.new ≡ set lists.old node (get_or lists.old node [] ++ stream_id ∷ [])) }
 {
     lists[node as usize].push(stream_id)
 }

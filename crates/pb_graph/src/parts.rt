@@ -39,7 +39,8 @@ impl Parts {
     /// Joins the parts at the ends of a stream, and says whether they were two.
     pub fn join(&mut self, stream: &Stream) -> bool
         requires { IsStream (length self.old) stream.now }
-        ensures apart { result ≡ not (label_at self.old stream.now.from == label_at self.old stream.now.to) }
+        ensures apart { result
+            ≡ not (label_at self.old stream.now.from == label_at self.old stream.now.to) }
         ensures each { length self.new ≡ length self.old }
         ensures joined { (streams : Seq Stream) (may more : ℕ → Stream → Bool) (stream_id : ℕ)
             → IsOneMore streams may more stream_id stream.now

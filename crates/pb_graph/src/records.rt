@@ -61,7 +61,7 @@ pub enum Class {
 }
 
 /// Why a stream has its class: a cut with its members in order of streams, or a cycle.
-#[derive(Debug, Drop)]
+#[derive(Debug, Drop, PartialEq, Eq)]
 pub enum Witness {
     /// A side, which has one item for each node, and the streams with exactly one end in it.
     Cut {
@@ -92,7 +92,7 @@ impl Witness {
 }
 
 /// The class of a stream with its certificate.
-#[derive(Debug, Drop)]
+#[derive(Debug, Drop, PartialEq, Eq)]
 pub struct Classified {
     pub class: Class,
     pub witness: Witness,

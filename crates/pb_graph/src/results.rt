@@ -37,7 +37,7 @@ pub enum Solved {
 
 /// A stream of a stage: its class with certificate, its reconciled flow in grams, and the bounds of it (none where the stream is
 /// unobservable).
-#[derive(Debug, Drop)]
+#[derive(Debug, Drop, PartialEq, Eq)]
 pub struct StreamResult {
     pub classified: Classified,
     pub flow: i128,
@@ -72,7 +72,7 @@ pub struct MeasureTest {
 }
 
 /// The tests of a stage.
-#[derive(Debug, Drop)]
+#[derive(Debug, Drop, PartialEq, Eq)]
 pub struct Tests {
     pub global: GlobalTest,
     pub nodal: List<NodalTest>,
@@ -145,7 +145,7 @@ pub struct CriticalRow {
 }
 
 /// The critical values that were handed in, in thousandths.
-#[derive(Debug, Drop)]
+#[derive(Debug, Drop, PartialEq, Eq)]
 pub struct Critical {
     pub global: List<CriticalRow>,
     pub nodal: Option<i64>,

@@ -3,8 +3,8 @@
 ghost use Rattle.std.specs.Prelude.{◌≡◌, ◌<◌, ◌≤◌, false, All, length, get_or, replicate, IfOk, IsTrue, ◌↔◌, MatchOption, map, not, ◌==◌};
 ghost use Rattle.pb_limits.specs.Limits.{most_nodes};
 ghost use Rattle.pb_graph.specs.ProcessGraph.{IsStream, some_stream};
-ghost use Rattle.pb_graph.specs.Walk.{ends_of, Reaches, IsReach};
-ghost use Rattle.pb_graph.specs.Path.{IsPath, is_open};
+ghost use Rattle.pb_graph.specs.Walk.{Reaches, IsReach};
+ghost use Rattle.pb_graph.specs.Path.{IsPath, open_ends};
 ghost use Rattle.pb_graph.specs.Neighbours.{touching, IsNeighbours};
 ghost use Rattle.pb_graph.specs.Search.{IsTree, IsSearch, place_of, hung, step_back, followed, visited, begun, way_of, end_of};
 
@@ -99,9 +99,10 @@ impl Tree {
         marks: &[bool],
         from: u32,
     ) -> Result<List<Step>, AllocError>
-        requires tree { IsTree (ends_of (is_open marks.now) streams.now) (length self.now.place) self.now }
+        requires tree { IsTree (open_ends marks.now streams.now) (length self.now.place) self.now }
         requires found { 0 < place_of self.now from }
-        ensures { IfOk result (λ steps. IsPath (ends_of (is_open marks.now) streams.now) (length self.now.place) streams.now from steps self.now.root) }
+        ensures { IfOk result (λ steps. IsPath (open_ends marks.now streams.now)
+            (length self.now.place) streams.now from steps self.now.root) }
     {
         let mut steps = List::new(alloc);
         let mut at = from;
@@ -132,9 +133,11 @@ impl Tree {
         requires few { length self.old.place ≤ most_nodes }
         requires ends { All (IsStream (length self.old.place)) streams.now }
         requires marks { length marks.now ≡ length streams.now }
-        requires tree { IsTree (ends_of (is_open marks.now) streams.now) (length self.old.place) self.old }
+        requires tree { IsTree (open_ends marks.now streams.now) (length self.old.place) self.old }
         requires stream { stream_id < length streams.now }
-        ensures { self.new ≡ followed node stream_id (get_or marks.now stream_id false) (get_or streams.now stream_id some_stream) self.old }
+        ensures { self.new
+            ≡ followed node stream_id (get_or marks.now stream_id false)
+            (get_or streams.now stream_id some_stream) self.old }
     {
         let stream = &streams[stream_id as usize];
         let other = stream.end_from(node);
@@ -148,7 +151,7 @@ impl Tree {
         requires few { length self.old.place ≤ most_nodes }
         requires ends { All (IsStream (length self.old.place)) streams.now }
         requires marks { length marks.now ≡ length streams.now }
-        requires tree { IsTree (ends_of (is_open marks.now) streams.now) (length self.old.place) self.old }
+        requires tree { IsTree (open_ends marks.now streams.now) (length self.old.place) self.old }
         requires found { 0 < place_of self.old node }
         requires list { list.now ≡ touching node streams.now }
         ensures { self.new ≡ visited streams.now marks.now node list.now self.old }
@@ -163,9 +166,10 @@ impl Tree {
         requires few { length self.old.place ≤ most_nodes }
         requires ends { All (IsStream (length self.old.place)) streams.now }
         requires marks { length marks.now ≡ length streams.now }
-        requires tree { IsTree (ends_of (is_open marks.now) streams.now) (length self.old.place) self.old }
+        requires tree { IsTree (open_ends marks.now streams.now) (length self.old.place) self.old }
         requires near { IsNeighbours (record { nodes = length self.old.place; streams = streams.now }) near.now }
-        ensures search { IsSearch (ends_of (is_open marks.now) streams.now) (length self.old.place) self.new }
+        ensures search { IsSearch (open_ends marks.now streams.now)
+            (length self.old.place) self.new }
         ensures root { self.new.root ≡ self.old.root }
     {
         let mut done = 0;
@@ -220,7 +224,7 @@ fn search(
     requires near { IsNeighbours graph.now near.now }
     requires marks { length marks.now ≡ length graph.now.streams }
     requires root { root < graph.now.nodes }
-    ensures search { IfOk result (λ t. IsSearch (ends_of (is_open marks.now) graph.now.streams) graph.now.nodes t) }
+    ensures search { IfOk result (IsSearch (open_ends marks.now graph.now.streams) graph.now.nodes) }
     ensures root { IfOk result (λ t. t.root ≡ root) }
 {
     let mut tree = begin(alloc, graph.nodes(), root)?;
@@ -241,7 +245,7 @@ pub fn reach(
     requires near { IsNeighbours graph.now near.now }
     requires marks { length marks.now ≡ length graph.now.streams }
     requires start { start < graph.now.nodes }
-    ensures { IfOk result (λ side. IsReach (ends_of (is_open marks.now) graph.now.streams) graph.now.nodes start side) }
+    ensures { IfOk result (IsReach (open_ends marks.now graph.now.streams) graph.now.nodes start) }
 {
     search(alloc, graph, near, marks, start)?.side(alloc)
 }
@@ -261,7 +265,10 @@ pub fn path(
     requires marks { length marks.now ≡ length graph.now.streams }
     requires from { from < graph.now.nodes }
     requires to { to < graph.now.nodes }
-    ensures { IfOk result (λ o. MatchOption o (Reaches (ends_of (is_open marks.now) graph.now.streams) from to → ⊥) (λ steps. IsPath (ends_of (is_open marks.now) graph.now.streams) graph.now.nodes graph.now.streams from steps to)) }
+    ensures { IfOk result (λ found. MatchOption found
+        (Reaches (open_ends marks.now graph.now.streams) from to → ⊥)
+        (λ steps. IsPath (open_ends marks.now graph.now.streams)
+        graph.now.nodes graph.now.streams from steps to)) }
 {
     let tree = search(alloc, graph, near, marks, to)?;
     if !tree.has(from) {

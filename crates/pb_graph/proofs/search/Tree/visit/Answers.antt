@@ -5,7 +5,8 @@ use Rattle.pb_graph.specs.ProcessGraph.{IsStream}
 use Rattle.pb_graph.specs.Search.{followed, visited}
 use Rattle.pb_graph.specs.ProcessGraph.{some_stream}
 use Rattle.pb_integers.proofs.Lists.{drop_next}
-use Rattle.pb_graph.proofs.SearchLemmas.{TouchesAt, touching_all, all_at, all_each, follow_more}
+use Rattle.pb_integers.proofs.Lists.{all_at, all_each}
+use Rattle.pb_graph.proofs.SearchLemmas.{TouchesAt, touching_all, follow_more}
 use Rattle.pb_graph.proofs.search.Tree.visit.Goals as goal
 
 -- the streams of the list touch the node
