@@ -1,11 +1,11 @@
 // Prices for the groups of a graph, and sweeps of best prices.
 
-ghost use Rattle.std.specs.Prelude.{◌≡◌, ◌≢◌, ℕ, suc, ◌+◌, ◌^◌, ◌<◌, ◌≤◌, Some, true, max, pos, ◌≤ℤ◌, length, get_or, slice_get, unsigned_abs, All, IfOk};
+ghost use Rattle.std.specs.Prelude.{◌≡◌, ◌≢◌, ℕ, suc, ◌+◌, ◌^◌, ◌<◌, ◌≤◌, Some, true, max, pos, ◌-ℤ◌, ◌*ℤ◌, ◌≤ℤ◌, length, get_or, slice_get, unsigned_abs, All, IfOk, IfSome};
 ghost use Rattle.pb_limits.specs.Limits.{most_nodes};
 ghost use Rattle.pb_graph.specs.ProcessGraph.{IsStream, IsWithinLimits};
 ghost use Rattle.pb_graph.specs.Groups.{AreGroups, group_at, group_count, is_free_group};
 ghost use Rattle.pb_graph.specs.Prices.{PricesFit, IsInBox};
-ghost use Rattle.pb_dual.specs.DualValue.{dual_flow, dual_value, most_dual_flow};
+ghost use Rattle.pb_dual.specs.DualValue.{flow_at, dual_flow, dual_value, most_dual_flow};
 ghost use Rattle.pb_dual.specs.Moves.{with_price};
 ghost use Rattle.pb_dual.specs.Candidates.{best_price};
 ghost use Rattle.pb_dual.specs.Sweeps.{stepped, sweep_of, prices_after};
@@ -55,6 +55,22 @@ fn count(group: &[u32]) -> u32
     count
 }
 
+/// The dual flow of a stream whose ends have these prices, in units of 2^-56 gram; 0 where it is
+/// unmeasured.
+pub fn dual_flow(stream: &Stream, from: i128, to: i128) -> i128
+    requires limits { IsWithinLimits stream.now }
+    requires from { unsigned_abs from ≤ 2 ^ 120 }
+    requires to { unsigned_abs to ≤ 2 ^ 120 }
+    requires in_box { IfSome stream.now.meas (λ m. unsigned_abs (m.variance *ℤ (to -ℤ from)) ≤ 2 ^ 112) }
+    ensures value { result ≡ flow_at stream.now.meas (to -ℤ from) }
+    ensures within { unsigned_abs result ≤ most_dual_flow }
+{
+    match stream.meas {
+        None => 0,
+        Some(m) => flow(m.value, m.variance, rise(from, to)),
+    }
+}
+
 // The dual flow of a stream, 0 where it is unmeasured.
 fn stream_flow(stream: &Stream, group: &[u32], prices: &[i128]) -> i128
     requires ends { IsStream (length group.now) stream.now }
@@ -65,14 +81,9 @@ fn stream_flow(stream: &Stream, group: &[u32], prices: &[i128]) -> i128
     ensures value { result ≡ dual_flow (λ n. get_or prices.now (group_at group.now n) (pos 0)) stream.now }
     ensures within { unsigned_abs result ≤ most_dual_flow }
 {
-    match stream.meas {
-        None => 0,
-        Some(m) => {
-            let to = prices[group[stream.to as usize] as usize];
-            let from = prices[group[stream.from as usize] as usize];
-            flow(m.value, m.variance, rise(from, to))
-        }
-    }
+    let from = prices[group[stream.from as usize] as usize];
+    let to = prices[group[stream.to as usize] as usize];
+    dual_flow(stream, from, to)
 }
 
 impl Dual {

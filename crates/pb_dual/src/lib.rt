@@ -12,4 +12,4 @@ mod dual;
 pub mod laws;
 
 pub use arithmetic::SCALE;
-pub use dual::Dual;
+pub use dual::{Dual, dual_flow};

@@ -8,6 +8,7 @@
 mod adjustments;
 mod arithmetic;
 mod deviations;
+mod dual_flows;
 mod flow_pair;
 mod flows;
 mod gap;
@@ -19,6 +20,7 @@ mod sums;
 #[cfg(test)]
 mod tests;
 
+pub use dual_flows::write_dual_flows;
 pub use flow_pair::FlowPair;
 pub use gap::Gap;
 pub use laws::{
