@@ -12,8 +12,8 @@ use Rattle.pb_graph.proofs.WalkLemmas.{stream_of}
 use Rattle.pb_forest.specs.Forest.{IsForest}
 use Rattle.pb_classify.specs.Certificate.{IsCycleOf, has_stream}
 use Rattle.pb_classify.specs.Chords.{IsChord, IsFirstBefore, AreFirstBefore, after_cycle}
-use Rattle.pb_classify.proofs.Rounds.{round_of}
-use Rattle.pb_classify.proofs.Chords.{first_none, first_more}
+use Rattle.pb_classify.proofs.RoundLemmas.{round_of}
+use Rattle.pb_classify.proofs.ChordLemmas.{first_none, first_more}
 
 -- stream j's cycle after some steps of a new one
 abbrev pub after_steps : List Step → List Step → ℕ → Option (List Step) → Option (List Step)

@@ -1,8 +1,8 @@
-pub mod Unique
-pub mod Rounds
-pub mod Chords
-pub mod CutLemmas
-pub mod CycleLemmas
-pub mod MarkLemmas
-pub mod Items
-pub mod SomeClassificationLemmas
+mod UniqueLemmas
+mod RoundLemmas
+mod ChordLemmas
+mod CycleLemmas
+mod MarkLemmas
+mod ItemLemmas
+mod SomeClassificationLemmas
+pub mod ClassificationLaws

@@ -20,9 +20,9 @@ use Rattle.pb_classify.specs.Certificate.{IsCycleOf}
 use Rattle.pb_classify.specs.Classification.{IsClassified}
 use Rattle.pb_classify.specs.Chords.{IsChord, IsFirstBefore, after_cycle}
 use Rattle.pb_classify.specs.Laws.{SomeClassificationLaw}
-use Rattle.pb_classify.proofs.Rounds.{back_there, chord_joined, measured_joined, measured_outside}
-use Rattle.pb_classify.proofs.Chords.{some_has, first_none, first_more}
-use Rattle.pb_classify.proofs.Items.{determined_class, determined_item, nonredundant_item, unobservable_item, stream_is, items_more}
+use Rattle.pb_classify.proofs.RoundLemmas.{back_there, chord_joined, measured_joined, measured_outside}
+use Rattle.pb_classify.proofs.ChordLemmas.{some_has, first_none, first_more}
+use Rattle.pb_classify.proofs.ItemLemmas.{determined_class, determined_item, nonredundant_item, unobservable_item, stream_is, items_more}
 
 -- a stream outside the forest whose ends held streams join has a cycle
 some_cycle : (g : ProcessGraph) (held : List Bool) (j : ℕ) (s : Stream) → slice_get g.streams j ≡ Some s → get_or held j false ≡ false

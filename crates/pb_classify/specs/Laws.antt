@@ -1,4 +1,4 @@
--- What is proved of classifications.
+-- Statement. What is proved of classifications.
 use Rattle.std.specs.Prelude.{◌≡◌, List}
 use Rattle.pb_graph.specs.declared.records.Classified.{Classified}
 use Rattle.pb_graph.specs.ProcessGraph.{ProcessGraph, IsProcessGraph}
@@ -10,4 +10,4 @@ SomeClassificationLaw = (graph : ProcessGraph) → IsProcessGraph graph → (cla
 
 -- a graph has one classification, certificates and all
 abbrev pub OneClassificationLaw : Type 0
-OneClassificationLaw = (g : ProcessGraph) (one other : List Classified) → IsClassification g one → IsClassification g other → one ≡ other
+OneClassificationLaw = (graph : ProcessGraph) (one other : List Classified) → IsClassification graph one → IsClassification graph other → one ≡ other

@@ -1,5 +1,7 @@
+-- Statement
 pub mod Certificate
 pub mod Classification
+pub mod Laws
+-- Inside
 pub mod Marks
 pub mod Chords
-pub mod Laws

@@ -1,3 +1,5 @@
+// The class of each stream, with its certificate.
+
 ghost use Rattle.std.specs.Prelude.{◌≡◌, ◌<◌, Some, length, slice_get, IfOk, if◌then◌else◌};
 ghost use Rattle.pb_graph.specs.ProcessGraph.{IsProcessGraph, is_measured};
 ghost use Rattle.pb_graph.specs.Walk.{ends_of, unmeasured_but, is_in, Reaches};
@@ -5,36 +7,38 @@ ghost use Rattle.pb_graph.specs.Neighbours.{IsNeighbours};
 ghost use Rattle.pb_classify.specs.Chords.{IsForestOf, IsFirstBefore, AreFirstBefore};
 ghost use Rattle.pb_classify.specs.Classification.{IsClassified, IsClassification};
 
-use crate::cut::{boundary, side_of};
+use crate::cut::side_of;
 use crate::cycles::{cycle_of, first_cycles};
 use pb_forest::Forest;
-use pb_graph::{Class, Classified, Graph, List, Neighbours, Step, Stream, Witness};
+use pb_graph::{Class, Classified, Graph, List, Neighbours, Step, Stream, Witness, boundary};
 use std::alloc::{AllocError, Global};
 
-/// Stream j, whose ends other unmeasured streams join, with its cycle: a measured stream has its own, another the first that has it.
+// Stream j, whose ends other unmeasured streams join, with its cycle: a measured stream has its own, another the first that
+// has it.
 fn free_stream(
     alloc: Global,
-    g: &Graph,
+    graph: &Graph,
     forest: &Forest,
     j: u32,
-    s: &Stream,
+    stream: &Stream,
     first: Option<List<Step>>,
 ) -> Result<Classified, AllocError>
-    requires limits { IsProcessGraph g.now }
-    requires forest { IsForestOf g.now forest.now }
-    requires stream { slice_get g.now.streams j ≡ Some s.now }
-    requires joined { Reaches (ends_of (unmeasured_but j) g.now.streams) s.now.from s.now.to }
-    requires first { IsFirstBefore g.now forest.now.held (length g.now.streams) j first }
-    ensures { IfOk result (λ c. IsClassified g.now j c) }
+    requires limits { IsProcessGraph graph.now }
+    requires forest { IsForestOf graph.now forest.now }
+    requires stream { slice_get graph.now.streams j ≡ Some stream.now }
+    requires joined { Reaches (ends_of (unmeasured_but j) graph.now.streams) stream.now.from stream.now.to }
+    requires first { IsFirstBefore graph.now forest.now.held (length graph.now.streams) j first }
+    ensures { IfOk result (λ c. IsClassified graph.now j c) }
 {
-    if s.meas.is_some() {
-        let steps = cycle_of(alloc, g, forest, j)?;
+    if stream.meas.is_some() {
+        let steps = cycle_of(alloc, graph, forest, j)?;
         return Ok(Classified {
             class: Class::Nonredundant,
             witness: Witness::Cycle { steps },
         });
     }
     match first {
+        // its ends are joined, so the cycle of some chord has it
         None => unreachable!(),
         Some(steps) => Ok(Classified {
             class: Class::Unobservable,
@@ -43,81 +47,81 @@ fn free_stream(
     }
 }
 
-/// The class of a stream that the other measured flows determine.
-fn determined_class(s: &Stream) -> Class
-    ensures { result ≡ (if is_measured s.now then Class.Redundant else Class.Observable) }
+// The class of a stream that the other measured flows determine.
+fn determined_class(stream: &Stream) -> Class
+    ensures { result ≡ (if is_measured stream.now then Class.Redundant else Class.Observable) }
 {
-    if s.meas.is_some() {
+    if stream.meas.is_some() {
         Class::Redundant
     } else {
         Class::Observable
     }
 }
 
-/// Whether a stream's `to` end is in a side.
-fn ends_in(side: &[bool], s: &Stream) -> bool
-    requires { s.now.to < length side.now }
-    ensures { result ≡ is_in side.now s.now.to }
+// Whether a stream's `to` end is in a side.
+fn ends_in(side: &[bool], stream: &Stream) -> bool
+    requires { stream.now.to < length side.now }
+    ensures { result ≡ is_in side.now stream.now.to }
 {
-    side[s.to as usize]
+    side[stream.to as usize]
 }
 
-/// The class of stream j with its canonical certificate.
+// The class of stream j with its canonical certificate.
 fn classified(
     alloc: Global,
-    g: &Graph,
+    graph: &Graph,
     near: &Neighbours,
     forest: &Forest,
     j: u32,
     first: Option<List<Step>>,
 ) -> Result<Classified, AllocError>
-    requires limits { IsProcessGraph g.now }
-    requires near { IsNeighbours g.now near.now }
-    requires forest { IsForestOf g.now forest.now }
-    requires stream { j < length g.now.streams }
-    requires first { IsFirstBefore g.now forest.now.held (length g.now.streams) j first }
-    ensures { IfOk result (λ c. IsClassified g.now j c) }
+    requires limits { IsProcessGraph graph.now }
+    requires near { IsNeighbours graph.now near.now }
+    requires forest { IsForestOf graph.now forest.now }
+    requires stream { j < length graph.now.streams }
+    requires first { IsFirstBefore graph.now forest.now.held (length graph.now.streams) j first }
+    ensures { IfOk result (λ c. IsClassified graph.now j c) }
 {
-    let s = g.stream(j);
-    let side = side_of(alloc, g, near, j, &s)?;
+    let stream = graph.stream(j);
+    let side = side_of(alloc, graph, near, j, &stream)?;
     let within = side.as_slice();
-    if ends_in(within, &s) {
-        return free_stream(alloc, g, forest, j, &s, first);
+    if ends_in(within, &stream) {
+        return free_stream(alloc, graph, forest, j, &stream, first);
     }
-    let members = boundary(alloc, g.streams(), within)?;
+    let members = boundary(alloc, graph.streams(), within)?;
     Ok(Classified {
-        class: determined_class(&s),
+        class: determined_class(&stream),
         witness: Witness::Cut { side, members },
     })
 }
 
-/// Classifies each stream, taking the cycles from the list.
+// Classifies each stream, taking the cycles from the list.
 fn classify_each(
     alloc: Global,
-    g: &Graph,
+    graph: &Graph,
     near: &Neighbours,
     forest: &Forest,
     cycles: &mut [Option<List<Step>>],
 ) -> Result<List<Classified>, AllocError>
-    requires near { IsNeighbours g.now near.now }
-    requires forest { IsForestOf g.now forest.now }
-    requires cycles { AreFirstBefore g.now forest.now.held (length g.now.streams) cycles.old }
-    ensures { IfOk result (λ classes. IsClassification g.now classes) }
+    requires near { IsNeighbours graph.now near.now }
+    requires forest { IsForestOf graph.now forest.now }
+    requires cycles { AreFirstBefore graph.now forest.now.held (length graph.now.streams) cycles.old }
+    ensures { IfOk result (λ classes. IsClassification graph.now classes) }
 {
     let mut classes = List::new(alloc);
-    for j in 0..g.len() {
+    for j in 0..graph.len() {
         let first = cycles[j as usize].take();
-        classes.push(classified(alloc, g, near, forest, j, first)?)?;
+        classes.push(classified(alloc, graph, near, forest, j, first)?)?;
     }
     Ok(classes)
 }
 
 /// The class of each stream, in order, with its canonical certificate.
-pub fn classify(alloc: Global, g: &Graph) -> Result<List<Classified>, AllocError>
-    ensures { IfOk result (λ classes. IsClassification g.now classes) }
+pub fn classify(alloc: Global, graph: &Graph) -> Result<List<Classified>, AllocError>
+    ensures { IfOk result (λ classes. IsClassification graph.now classes) }
 {
-    let near = Neighbours::of(alloc, g)?;
-    let forest = Forest::of(alloc, g)?;
-    let mut cycles = first_cycles(alloc, g, &forest)?;
-    classify_each(alloc, g, &near, &forest, &mut cycles)
+    let near = Neighbours::of(alloc, graph)?;
+    let forest = Forest::of(alloc, graph)?;
+    let mut cycles = first_cycles(alloc, graph, &forest)?;
+    classify_each(alloc, graph, &near, &forest, &mut cycles)
 }

@@ -1,3 +1,5 @@
+// The cycles of the streams outside the forest.
+
 ghost use Rattle.std.specs.Prelude.{◌≡◌, ℕ, ◌+◌, ◌<◌, ◌∷◌, true, false, None, All, length, get_or, IfOk, OnOk};
 ghost use Rattle.pb_graph.specs.ProcessGraph.{IsProcessGraph};
 ghost use Rattle.pb_classify.specs.Certificate.{IsCycleOf};
@@ -7,7 +9,7 @@ use pb_forest::Forest;
 use pb_graph::{Graph, List, Step};
 use std::alloc::{AllocError, Global};
 
-/// A stream forward, and then these steps.
+// A stream forward, and then these steps.
 fn forward_then(alloc: Global, stream: u32, back: &[Step]) -> Result<List<Step>, AllocError>
     ensures { IfOk result (λ steps. steps ≡ record { stream = stream; forward = true } ∷ back.now) }
 {
@@ -21,35 +23,41 @@ fn forward_then(alloc: Global, stream: u32, back: &[Step]) -> Result<List<Step>,
 }
 
 /// The cycle of stream j, which is outside the forest.
-pub fn cycle_of(alloc: Global, g: &Graph, forest: &Forest, j: u32) -> Result<List<Step>, AllocError>
-    requires limits { IsProcessGraph g.now }
-    requires forest { IsForestOf g.now forest.now }
-    requires stream { j < length g.now.streams }
+pub fn cycle_of(
+    alloc: Global,
+    graph: &Graph,
+    forest: &Forest,
+    j: u32,
+) -> Result<List<Step>, AllocError>
+    requires limits { IsProcessGraph graph.now }
+    requires forest { IsForestOf graph.now forest.now }
+    requires stream { j < length graph.now.streams }
     requires outside { get_or forest.now.held j false ≡ false }
-    requires joined { IsJoined g.now forest.now.held j }
-    ensures { IfOk result (λ steps. IsCycleOf g.now forest.now.held j steps) }
+    requires joined { IsJoined graph.now forest.now.held j }
+    ensures { IfOk result (λ steps. IsCycleOf graph.now forest.now.held j steps) }
 {
-    let s = g.stream(j);
-    match forest.path(alloc, s.to, s.from)? {
+    let stream = graph.stream(j);
+    match forest.path(alloc, stream.to, stream.from)? {
+        // held streams join its ends
         None => unreachable!(),
         Some(back) => forward_then(alloc, j, back.as_slice()),
     }
 }
 
-/// Gives a cycle to each stream on it that has none yet.
+// Gives a cycle to each stream on it that has none yet.
 fn give(alloc: Global, steps: &[Step], cycles: &mut [Option<List<Step>>]) -> Result<(), AllocError>
     requires { All (λ t. t.stream < length cycles.old) steps.now }
     ensures { OnOk result ((j : ℕ) → j < length cycles.old → get_or cycles.new j None ≡ after_cycle steps.now j (get_or cycles.old j None)) }
 {
-    for t in steps {
-        if cycles[t.stream as usize].is_none() {
-            cycles[t.stream as usize] = Some(List::from_vec(Vec::from_slice(alloc, steps)?));
+    for step in steps {
+        if cycles[step.stream as usize].is_none() {
+            cycles[step.stream as usize] = Some(List::from_vec(Vec::from_slice(alloc, steps)?));
         }
     }
     Ok(())
 }
 
-/// As many streams without a cycle.
+// As many streams without a cycle.
 fn no_cycles(alloc: Global, count: u32) -> Result<Vec<Option<List<Step>>>, AllocError>
     ensures each { IfOk result (λ cycles. length cycles.items ≡ count) }
     ensures none { IfOk result (λ cycles. (j : ℕ) → get_or cycles.items j None ≡ None) }
@@ -61,40 +69,40 @@ fn no_cycles(alloc: Global, count: u32) -> Result<Vec<Option<List<Step>>>, Alloc
     Ok(cycles)
 }
 
-/// Goes on by one stream: gives its cycle, if it is unmeasured and outside the forest.
+// Goes on by one stream: gives its cycle, if it is unmeasured and outside the forest.
 fn give_next(
     alloc: Global,
-    g: &Graph,
+    graph: &Graph,
     forest: &Forest,
     e: u32,
     cycles: &mut [Option<List<Step>>],
 ) -> Result<(), AllocError>
-    requires limits { IsProcessGraph g.now }
-    requires forest { IsForestOf g.now forest.now }
-    requires stream { e < length g.now.streams }
-    requires known { AreFirstBefore g.now forest.now.held e cycles.old }
-    ensures { OnOk result (AreFirstBefore g.now forest.now.held (e + 1) cycles.new) }
+    requires limits { IsProcessGraph graph.now }
+    requires forest { IsForestOf graph.now forest.now }
+    requires stream { e < length graph.now.streams }
+    requires known { AreFirstBefore graph.now forest.now.held e cycles.old }
+    ensures { OnOk result (AreFirstBefore graph.now forest.now.held (e + 1) cycles.new) }
 {
-    if g.stream(e).meas.is_some() || forest.holds(e) {
+    if graph.stream(e).meas.is_some() || forest.holds(e) {
         return Ok(());
     }
-    let steps = cycle_of(alloc, g, forest, e)?;
+    let steps = cycle_of(alloc, graph, forest, e)?;
     give(alloc, steps.as_slice(), cycles)
 }
 
-/// Goes through the streams in order.
+// Goes through the streams in order.
 fn give_all(
     alloc: Global,
-    g: &Graph,
+    graph: &Graph,
     forest: &Forest,
     cycles: &mut [Option<List<Step>>],
 ) -> Result<(), AllocError>
-    requires forest { IsForestOf g.now forest.now }
-    requires begins { AreFirstBefore g.now forest.now.held 0 cycles.old }
-    ensures { OnOk result (AreFirstBefore g.now forest.now.held (length g.now.streams) cycles.new) }
+    requires forest { IsForestOf graph.now forest.now }
+    requires begins { AreFirstBefore graph.now forest.now.held 0 cycles.old }
+    ensures { OnOk result (AreFirstBefore graph.now forest.now.held (length graph.now.streams) cycles.new) }
 {
-    for e in 0..g.len() {
-        give_next(alloc, g, forest, e, cycles)?;
+    for e in 0..graph.len() {
+        give_next(alloc, graph, forest, e, cycles)?;
     }
     Ok(())
 }
@@ -102,13 +110,13 @@ fn give_all(
 /// For each stream the cycle of the first unmeasured stream outside the forest whose cycle has it, if there is one.
 pub fn first_cycles(
     alloc: Global,
-    g: &Graph,
+    graph: &Graph,
     forest: &Forest,
 ) -> Result<Vec<Option<List<Step>>>, AllocError>
-    requires { IsForestOf g.now forest.now }
-    ensures { IfOk result (λ cycles. AreFirstBefore g.now forest.now.held (length g.now.streams) cycles.items) }
+    requires { IsForestOf graph.now forest.now }
+    ensures { IfOk result (λ cycles. AreFirstBefore graph.now forest.now.held (length graph.now.streams) cycles.items) }
 {
-    let mut cycles = no_cycles(alloc, g.len())?;
-    give_all(alloc, g, forest, &mut cycles)?;
+    let mut cycles = no_cycles(alloc, graph.len())?;
+    give_all(alloc, graph, forest, &mut cycles)?;
     Ok(cycles)
 }

@@ -1,3 +1,5 @@
+// What is proved of the definitions alone. The functions are empty: the contract of each is a law.
+
 ghost use Rattle.pb_classify.specs.Laws.{SomeClassificationLaw, OneClassificationLaw};
 
 /// Each process graph has a classification.

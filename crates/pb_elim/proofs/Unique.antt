@@ -10,7 +10,7 @@ use Rattle.pb_graph.specs.ProcessGraph.{ProcessGraph, IsProcessGraph}
 use Rattle.pb_graph.proofs.WalkLemmas.{some_same}
 use Rattle.pb_forest.specs.Forest.{degrees_of_freedom}
 use Rattle.pb_forest.proofs.ForestLaws.{one_forest_law}
-use Rattle.pb_classify.proofs.Unique.{one_classification}
+use Rattle.pb_classify.proofs.ClassificationLaws.{one_classification}
 use Rattle.pb_gap.specs.declared.gap.Gap.{Gap}
 use Rattle.pb_gap.specs.Gap.{gap_of}
 use Rattle.pb_gap.specs.StreamBounds.{stream_bounds}

@@ -3,13 +3,13 @@ use Rattle.std.proofs.lemmas.List.{get_or-set_other}
 use Rattle.pb_graph.specs.declared.records.Classified.{Classified}
 use Rattle.pb_classify.specs.Chords.{IsFirstBefore}
 use Rattle.pb_classify.specs.Classification.{IsClassified}
-use Rattle.pb_classify.proofs.Items.{items_more}
+use Rattle.pb_classify.proofs.ItemLemmas.{items_more}
 use Rattle.pb_classify.proofs.classes.classify_each.Goals as goal
 
 -- one more stream is classified, and no later one has lost its cycle
 pub loop-j-preserved : goal.loop-j-preserved
 loop-j-preserved c =
-    let g = c.args.g.now in
+    let g = c.args.graph.now in
     let held = c.args.forest.now.held in
     let so_far = c.loop-j.invariant in
     let classes = c.loop-j.classes in

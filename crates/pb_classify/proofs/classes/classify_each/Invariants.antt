@@ -8,6 +8,6 @@ use Rattle.pb_classify.proofs.classes.classify_each.Given as goal
 abbrev pub invariant-loop-j : goal.invariant-loop-j
 invariant-loop-j l = record {
   each : length l.classes ≡ l.j;
-  right : (j : ℕ) (c : Classified) → slice_get l.classes j ≡ Some c → IsClassified l.g j c;
-  left : (j : ℕ) → l.j ≤ j → j < length l.g.streams → IsFirstBefore l.g l.forest.held (length l.g.streams) j (get_or l.cycles j None);
+  right : (j : ℕ) (c : Classified) → slice_get l.classes j ≡ Some c → IsClassified l.graph j c;
+  left : (j : ℕ) → l.j ≤ j → j < length l.graph.streams → IsFirstBefore l.graph l.forest.held (length l.graph.streams) j (get_or l.cycles j None);
 }

@@ -17,8 +17,8 @@ use Rattle.pb_forest.proofs.ForestLaws.{acyclic_law}
 use Rattle.pb_classify.specs.Certificate.{IsCycleOf, IsFirstCycle, IsUnmeasured, has_stream}
 use Rattle.pb_classify.specs.Chords.{IsChord, IsCycleWithout, IsFirstBefore, after_cycle}
 use Rattle.pb_forest.proofs.ForestLaws.{walk_without}
-use Rattle.pb_classify.proofs.Rounds.{round_of, cycle_round, chord_joined}
-use Rattle.pb_classify.proofs.Unique.{one_cycle}
+use Rattle.pb_classify.proofs.RoundLemmas.{round_of, cycle_round, chord_joined}
+use Rattle.pb_classify.proofs.UniqueLemmas.{one_cycle}
 
 bare_meas : (s : Stream) → s.meas ≡ None → is_measured s ≡ false
 bare_meas s none = ap (λ o. is_some o) none

@@ -10,10 +10,11 @@ use Rattle.pb_graph.specs.declared.records.Witness.{Witness}
 use Rattle.pb_graph.specs.declared.records.Witness.TheVariants.{Cut, Cycle}
 use Rattle.pb_graph.specs.declared.records.Classified.{Classified}
 use Rattle.pb_graph.specs.ProcessGraph.{ProcessGraph}
-use Rattle.pb_graph.specs.Walk.{ends_of, is_in, IsReach}
+use Rattle.pb_graph.specs.Walk.{ends_of, unmeasured_but}
 use Rattle.pb_graph.specs.Boundary.{boundary_of}
 use Rattle.pb_graph.specs.Path.{IsPath, is_open}
 use Rattle.pb_graph.proofs.WalkLemmas.{some_same}
+use Rattle.pb_graph.proofs.ReachLemmas.{one_reach}
 use Rattle.pb_balance.proofs.BalanceLaws.{one_class}
 use Rattle.pb_forest.specs.Forest.{IsForest}
 use Rattle.pb_forest.proofs.ForestLaws.{unique_law}
@@ -27,22 +28,6 @@ same_items [] [] len each = refl
 same_items [] (y ∷ ys) len each = absurd (omega (arith, len))
 same_items (x ∷ xs) [] len each = absurd (omega (arith, len))
 same_items {A} (x ∷ xs) (y ∷ ys) len each = ap₂ (λ (a : A) (rest : List A). a ∷ rest) (each zero x y refl refl) (same_items xs ys (omega (arith, len)) (λ k a b f g. each (suc k) a b f g))
-
-same_bits : (xs ys : List Bool) → length xs ≡ length ys → ((k : ℕ) → get_or xs k false ≡ get_or ys k false) → xs ≡ ys
-same_bits [] [] len each = refl
-same_bits [] (y ∷ ys) len each = absurd (omega (arith, len))
-same_bits (x ∷ xs) [] len each = absurd (omega (arith, len))
-same_bits (x ∷ xs) (y ∷ ys) len each = ap₂ (λ (a : Bool) (rest : List Bool). a ∷ rest) (each zero) (same_bits xs ys (omega (arith, len)) (λ k. each (suc k)))
-
--- one set of nodes is reached
-one_reach : (ends : Step → Option (ℕ × ℕ)) (nodes a : ℕ) (side other : List Bool) → IsReach ends nodes a side → IsReach ends nodes a other → side ≡ other
-one_reach ends nodes a side other r q = same_bits side other (r.each ∙ sym q.each) (λ n. elim (cases_Bool (is_in side n)) [
-  | inl inside ↦ inside ∙ sym (q.whole n (r.reached n inside))
-  | inr outside ↦ elim (cases_Bool (is_in other n)) [
-    | inl inside ↦ r.whole n (q.reached n inside) ∙ sym inside
-    | inr out ↦ outside ∙ sym out
-  ]
-])
 
 -- one walk leads back in the forest
 pub one_cycle : (g : ProcessGraph) (held : List Bool) (j : ℕ) (steps other : List Step) → IsForest g.streams held → IsCycleOf g held j steps → IsCycleOf g held j other → steps ≡ other
@@ -66,7 +51,7 @@ one_first g held j steps other forest x y = elim (cases_order x.e y.e) [
 one_cut : (g : ProcessGraph) (j : ℕ) (s : Stream) (side other : List Bool) (members others : List Member) → IsCutOf g j s side members → IsCutOf g j s other others
     → Cut side members ≡ Cut other others
 one_cut g j s side other members others x y =
-    let same = one_reach _ _ _ side other x.reach y.reach in
+    let same = one_reach (ends_of (unmeasured_but j) g.streams) g.nodes s.from side other x.reach y.reach in
     ap₂ (λ (a : List Bool) (b : List Member). Cut a b) same (x.cut.boundary ∙ ap (λ (a : List Bool). boundary_of a g.streams) same ∙ sym y.cut.boundary)
 
 one_witness : (g : ProcessGraph) (held : List Bool) (j : ℕ) (s : Stream) (class : Class) (w v : Witness) → IsForest g.streams held → IsCanonical g held j s class w

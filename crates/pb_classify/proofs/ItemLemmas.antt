@@ -20,8 +20,8 @@ use Rattle.pb_balance.proofs.BalanceLaws.{no_meas, side_cuts_off}
 use Rattle.pb_forest.specs.Forest.{IsForest}
 use Rattle.pb_classify.specs.Certificate.{IsCutOf, IsCycleOf, IsFirstCycle, IsCanonical}
 use Rattle.pb_classify.specs.Classification.{IsClassified}
-use Rattle.pb_classify.proofs.Rounds.{cycle_round, measured_joined}
-use Rattle.pb_classify.proofs.Chords.{first_round}
+use Rattle.pb_classify.proofs.RoundLemmas.{cycle_round, measured_joined}
+use Rattle.pb_classify.proofs.ChordLemmas.{first_round}
 
 -- a class that is shown, by the canonical certificate
 item : (g : ProcessGraph) (held : List Bool) (j : ℕ) (s : Stream) (class : Class) (w : Witness) → IsProcessGraph g → IsForest g.streams held → slice_get g.streams j ≡ Some s
