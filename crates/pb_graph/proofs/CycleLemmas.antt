@@ -1,17 +1,17 @@
 -- A closed walk on which no node comes twice: it has no more steps than nodes, and a stream comes twice on it only there and back.
-use Rattle.std.proofs.Common.{◌≡◌, ◌≢◌, ◌⊎◌, ◌∙◌, ℕ, zero, suc, ◌+◌, ◌<◌, ◌≤◌, Bool, true, false, not, ◌&&◌, ◌||◌, ◌==◌, List, [], ◌∷◌, ◌++◌, length, get_or, take, drop, set, replicate, Option, Some, slice_get, ap, sym, refl, subst, inl, inr, arith}
-use Rattle.std.specs.List.{AllByRecursion, list_any}
-use Rattle.std.proofs.lemmas.Bool.{cases_Bool, cases_eq, and_parts, and_from, or_right, eq-eqb, ne_eqb, eqb-true, not-true, not-false}
+use Rattle.std.proofs.Common.{◌≡◌, ◌≢◌, ◌⊎◌, ◌∙◌, ℕ, zero, suc, ◌+◌, ◌<◌, ◌≤◌, Bool, true, false, not, ◌||◌, ◌==◌, List, [], ◌∷◌, ◌++◌, length, get_or, take, drop, set, replicate, Some, slice_get, ap, sym, refl, subst, inl, inr, arith}
+use Rattle.std.specs.List.{list_any}
+use Rattle.std.proofs.lemmas.Bool.{cases_Bool, cases_eq, and_parts, or_right, eq-eqb, ne_eqb, not-true}
 use Rattle.std.proofs.lemmas.List.{take_more, take-append-drop, get_or-set_same, get_or-set_other, length-set, length-replicate}
 use Rattle.pb_integers.proofs.Lists.{drop_next}
 use Rattle.pb_graph.specs.declared.records.Stream.{Stream}
 use Rattle.pb_graph.specs.declared.records.Step.{Step}
 use Rattle.pb_graph.specs.ProcessGraph.{ProcessGraph, IsStream}
 use Rattle.pb_graph.specs.Walk.{along, ends_of, any_stream, Walks}
-use Rattle.pb_graph.specs.Cycle.{is_distinct, begin_of, first_or, start_of, IsCycle}
+use Rattle.pb_graph.specs.Cycle.{is_distinct, begin_of, first_or, start_of}
 use Rattle.pb_graph.specs.Steps.{is_there_and_back}
 use Rattle.pb_graph.specs.Search.{unfound}
-use Rattle.pb_graph.proofs.WalkLemmas.{stream_of, along_within, along_back, some_same}
+use Rattle.pb_graph.proofs.WalkLemmas.{stream_of, along_within, some_same}
 use Rattle.pb_graph.proofs.SearchLemmas.{unfound-set, unfound-zeros, zero_at}
 
 -- ---- lists of distinct keys

@@ -1,9 +1,7 @@
-use Rattle.std.proofs.Common.{◌≡◌, ◌∙◌, ℕ, ◌<◌, true, false, List, [], ◌∷◌, length, Some, slice_get, sym, ap, subst, arith, rules}
-use Rattle.std.specs.Bool.{IsTrue}
-use Rattle.pb_graph.specs.declared.records.Step.{Step}
+use Rattle.std.proofs.Common.{◌≡◌, ◌∙◌, ℕ, sym, subst}
 use Rattle.pb_graph.specs.ProcessGraph.{ProcessGraph, IsStream}
 use Rattle.pb_graph.specs.Walk.{ends_of, any_stream, Walks}
-use Rattle.pb_graph.specs.Cycle.{begin_of, start_of, IsCycle}
+use Rattle.pb_graph.specs.Cycle.{start_of}
 use Rattle.pb_integers.proofs.Lists.{all_each}
 use Rattle.pb_graph.proofs.CycleLemmas.{round_streams, not_there_and_back, walk_few, start_first}
 use Rattle.pb_graph.proofs.cycle.is_cycle.Goals as goal

@@ -1,4 +1,4 @@
-use Rattle.std.proofs.Common.{◌≡◌, ◌∙◌, ℕ, ◌+◌, ◌<◌, ◌≤◌, true, false, length, get_or, set, sym, ap, refl, subst, arith, Bool, List}
+use Rattle.std.proofs.Common.{◌≡◌, ◌∙◌, ℕ, ◌+◌, ◌≤◌, true, false, get_or, sym, ap, refl, arith}
 use Rattle.std.proofs.lemmas.List.{length-set, length-replicate}
 use Rattle.pb_limits.specs.Limits.{most_nodes}
 use Rattle.pb_graph.specs.declared.records.Step.{Step}
