@@ -1,2 +1,4 @@
-pub mod TextLemmas
-pub mod StudyLemmas
+mod RowLemmas
+mod OutputLemmas
+mod PieceLemmas
+mod StudyLemmas

@@ -1,38 +1,90 @@
--- The rows that frame a block of a report, and the row of a stream in it.
-use Rattle.std.specs.Prelude.{ℕ, ℤ, pos, List, [], ◌∷◌, ◌++◌, length, Option, Some, None, option_map, codes}
+-- Statement. The block of a stage: what frames it, its nodes, its streams, and how it was solved.
+use Rattle.std.specs.Prelude.{ℕ, ℤ, pos, List, [], ◌∷◌, ◌++◌, length, option_map, codes}
 use Rattle.pb_rows.specs.declared.name.Names.{Names}
-use Rattle.pb_rows.specs.Number.{whole_text}
 use Rattle.pb_graph.specs.declared.records.Meas.{Meas}
 use Rattle.pb_graph.specs.declared.records.Stream.{Stream}
-use Rattle.pb_graph.specs.declared.records.Classified.{Classified}
 use Rattle.pb_graph.specs.declared.results.Bounds.{Bounds}
+use Rattle.pb_graph.specs.declared.results.StreamResult.{StreamResult}
+use Rattle.pb_graph.specs.declared.results.Solved.{Solved}
+use Rattle.pb_graph.specs.declared.results.Solved.TheVariants.{Converged, Unconverged}
+use Rattle.pb_graph.specs.declared.results.Options.{Options}
+use Rattle.pb_graph.specs.declared.results.Stage.{Stage}
 use Rattle.pb_graph.specs.ProcessGraph.{ProcessGraph}
-use Rattle.pb_report.specs.Design.{name_at, class_word, certificate_columns}
-
--- a number, or nothing where there is none
-abbrev pub optional_text : Option ℤ → List ℕ
-optional_text None = []
-optional_text (Some z) = whole_text z
+use Rattle.pb_graph.specs.WellFormed.{sweeps_of}
+use Rattle.pb_report.specs.Certificate.{certificate_columns, class_word}
+use Rattle.pb_report.specs.Design.{stream_columns}
+use Rattle.pb_report.specs.Row.{Columns, number, optional, row_of, text}
+use Rattle.pb_report.specs.Rows.{rows_with}
+use Rattle.pb_report.specs.Tests.{tests_rows}
 
 -- the row that opens a block: the period and the round, how many nodes (the environment among them) and streams, the gap in
 -- thousandths and the greatest number of sweeps
-abbrev pub report_row : List ℕ → ℕ → ProcessGraph → ℕ → ℕ → List (List ℕ)
-report_row period round g gap sweeps =
-    codes "report" ∷ period ∷ whole_text (pos round) ∷ whole_text (pos g.nodes) ∷ whole_text (pos (length g.streams)) ∷ whole_text (pos gap) ∷ whole_text (pos sweeps) ∷ []
+abbrev pub report_row : List ℕ → ℕ → ProcessGraph → Options → Columns
+report_row period round graph options =
+    row_of (codes "report")
+    (text (codes "period") period ∷ number (codes "round") (pos round) ∷ number (codes "nodes") (pos graph.nodes)
+    ∷ number (codes "streams") (pos (length graph.streams)) ∷ number (codes "gap") (pos options.gap)
+    ∷ number (codes "sweeps") (pos options.sweeps) ∷ [])
 
 -- the row that closes a block
-abbrev pub end_row : List ℕ → ℕ → List (List ℕ)
-end_row period round = codes "end" ∷ period ∷ whole_text (pos round) ∷ []
+abbrev pub end_row : List ℕ → ℕ → Columns
+end_row period round = row_of (codes "end") (text (codes "period") period ∷ number (codes "round") (pos round) ∷ [])
 
--- the first columns of the row of the j-th stream: its name, its ends, and what was measured
-abbrev pub measured_columns : Names → ℕ → Stream → List (List ℕ)
-measured_columns names j s =
-    codes "stream" ∷ name_at names.streams j ∷ name_at names.nodes s.from ∷ name_at names.nodes s.to ∷
-    optional_text (option_map (λ (m : Meas). m.value) s.meas) ∷ optional_text (option_map (λ (m : Meas). m.variance) s.meas) ∷ []
+-- a node's name and its price
+abbrev pub node_row : List ℕ → ℤ → Columns
+node_row name price = row_of (codes "node") (text (codes "name") name ∷ number (codes "price") price ∷ [])
 
--- the row of the j-th stream: behind these columns its class, its reconciled flow and the bounds of it where there are some, and
--- the certificate of the class
-abbrev pub stream_row : Names → ℕ → Stream → Classified → Option ℤ → Option Bounds → List (List ℕ)
-stream_row names j s c flow bounds =
-    measured_columns names j s ++ (class_word c.class ∷ optional_text flow ∷ optional_text (option_map (λ (b : Bounds). b.lo) bounds) ∷
-    optional_text (option_map (λ (b : Bounds). b.hi) bounds) ∷ certificate_columns names c.witness)
+-- the rows of the nodes
+abbrev pub node_rows : List (List ℕ) → List ℤ → List Columns
+node_rows names prices = rows_with (λ n name price. node_row name price) 0 names prices
+
+-- what was measured of a stream, if it was: the value and its variance
+abbrev pub measured_columns : Stream → Columns
+measured_columns stream =
+    optional (codes "value") (option_map (λ (meas : Meas). meas.value) stream.meas)
+    ∷ optional (codes "variance") (option_map (λ (meas : Meas). meas.variance) stream.meas) ∷ []
+
+-- a stream's class, and its reconciled flow
+abbrev pub flow_columns : StreamResult → Columns
+flow_columns result =
+    text (codes "class") (class_word result.classified.class) ∷ number (codes "flow") result.flow ∷ []
+
+-- the bounds of a stream's flow, if there are any
+abbrev pub bounds_columns : StreamResult → Columns
+bounds_columns result =
+    optional (codes "lo") (option_map (λ (bounds : Bounds). bounds.lo) result.bounds)
+    ∷ optional (codes "hi") (option_map (λ (bounds : Bounds). bounds.hi) result.bounds) ∷ []
+
+-- the row of the stream at a place with its result: at the end the certificate of its class
+abbrev pub result_row : Names → ℕ → Stream → StreamResult → Columns
+result_row names id stream result =
+    row_of (codes "stream")
+    (stream_columns names id stream
+    ++ (measured_columns stream
+    ++ (flow_columns result ++ (bounds_columns result ++ certificate_columns names result.classified.witness))))
+
+-- the rows of the streams
+abbrev pub result_rows : Names → List Stream → List StreamResult → List Columns
+result_rows names streams results = rows_with (result_row names) 0 streams results
+
+-- whether the gap was met
+abbrev pub state_word : Solved → List ℕ
+state_word (Converged sweeps) = codes "converged"
+state_word (Unconverged sweeps) = codes "unconverged"
+
+-- how the stage was solved: the sweeps done and whether the gap was met, its two numbers, the degrees of freedom, and the
+-- bounds of the weighted squares
+abbrev pub solved_row : Stage → Columns
+solved_row stage =
+    row_of (codes "solved")
+    (number (codes "k") (pos (sweeps_of stage.solved)) ∷ text (codes "state") (state_word stage.solved)
+    ∷ number (codes "g") (pos stage.g) ∷ number (codes "h") (pos stage.h) ∷ number (codes "dof") (pos stage.dof)
+    ∷ number (codes "low") stage.low ∷ optional (codes "high") stage.high ∷ [])
+
+-- the block of a stage
+abbrev pub block_rows : Names → List ℕ → Options → ℕ → Stage → List Columns
+block_rows names period options round stage =
+    report_row period round stage.graph options
+    ∷ (node_rows names.nodes stage.prices
+    ++ (result_rows names stage.graph.streams stage.streams
+    ++ (solved_row stage ∷ (tests_rows names stage.tests ++ end_row period round ∷ []))))

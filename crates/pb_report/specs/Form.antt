@@ -1,9 +1,19 @@
--- The form of the output.
-use Rattle.std.specs.Prelude.{ℕ, List}
-use Rattle.pb_rows.specs.Written.{text_of_rows}
+-- Statement. The form of the output: how rows become text.
+use Rattle.std.specs.Prelude.{◌≡◌, ◌++◌, ℕ, List}
+use Rattle.std.specs.List.{flat_map}
+use Rattle.pb_rows.specs.Written.{line_of}
 use Rattle.pb_report.specs.declared.form.Form.{Form}
 use Rattle.pb_report.specs.declared.form.Form.TheVariants.{Csv}
+use Rattle.pb_report.specs.Row.{Columns, values_of}
 
--- the text of rows in a form: as `csv` writes them, one after the other
-abbrev pub text_in : Form → List (List (List ℕ)) → List ℕ
-text_in Csv rows = text_of_rows rows
+-- the text of a row in a form: its values, as `csv` writes them
+abbrev pub row_text : Form → Columns → List ℕ
+row_text Csv row = line_of (values_of row)
+
+-- the text of rows in a form, one after the other
+abbrev pub text_in : Form → List Columns → List ℕ
+text_in form rows = flat_map (row_text form) rows
+
+-- a text gains rows in a form
+abbrev pub AppendsRows : Form → List ℕ → List ℕ → List Columns → Type 0
+AppendsRows form old new rows = new ≡ old ++ text_in form rows

@@ -1,11 +1,14 @@
 // The class of a stream and its certificate, as words and columns.
 
-ghost use Rattle.std.specs.Prelude.{◌≡◌, ◌++◌, IfOk, OnOk};
-ghost use Rattle.pb_report.specs.Design.{IsNamed, IsWitnessWithin, class_word, shape_word, side_text, parts_text, certificate_columns};
+ghost use Rattle.std.specs.Prelude.{◌≡◌, ◌++◌, IfOk};
+ghost use Rattle.pb_graph.specs.WellFormed.{IsWitnessWithin};
+ghost use Rattle.pb_report.specs.Certificate.{certificate_columns, class_word, parts_text, shape_word, side_text};
+ghost use Rattle.pb_report.specs.Names.{IsNamed};
 
 use crate::parts;
+use crate::row::OutputRow;
 use pb_graph::{Class, Graph, Witness};
-use pb_rows::{Names, RowWriter};
+use pb_rows::Names;
 use std::alloc::{AllocError, Global};
 
 /// The word of a class.
@@ -20,21 +23,24 @@ pub fn class_word(class: Class) -> &'static [u8]
     }
 }
 
-/// Appends the columns of a certificate to the row of a stream.
-pub fn certificate_columns(
+/// The row of a stream with the columns of its certificate behind it.
+pub fn with_certificate(
     alloc: Global,
+    row: OutputRow,
     names: &Names,
-    g: &Graph,
+    graph: &Graph,
     witness: &Witness,
-    writer: &mut RowWriter,
-) -> Result<(), AllocError>
-    requires named { IsNamed names.now g.now }
-    requires within { IsWitnessWithin g.now witness.now }
-    ensures { OnOk result (writer.new ≡ record { text = writer.old.text; row = writer.old.row ++ certificate_columns names.now witness.now }) }
+) -> Result<OutputRow, AllocError>
+    requires named { IsNamed names.now graph.now }
+    requires within { IsWitnessWithin graph.now witness.now }
+    ensures { IfOk result (λ whole. whole ≡ row ++ certificate_columns names.now witness.now) }
 {
-    writer.field(shape_word(witness))?;
-    writer.field(side_text(alloc, names, g, witness)?.as_slice())?;
-    writer.field(parts_text(alloc, names, g, witness)?.as_slice())
+    row.text("shape", shape_word(witness))?
+        .text("side", side_text(alloc, names, graph, witness)?.as_slice())?
+        .text(
+            "parts",
+            parts_text(alloc, names, graph, witness)?.as_slice(),
+        )
 }
 
 // The word of a certificate's shape.
@@ -51,11 +57,11 @@ fn shape_word(witness: &Witness) -> &'static [u8]
 fn side_text(
     alloc: Global,
     names: &Names,
-    g: &Graph,
+    graph: &Graph,
     witness: &Witness,
 ) -> Result<Vec<u8>, AllocError>
-    requires named { IsNamed names.now g.now }
-    requires within { IsWitnessWithin g.now witness.now }
+    requires named { IsNamed names.now graph.now }
+    requires within { IsWitnessWithin graph.now witness.now }
     ensures { IfOk result (λ text. text.items ≡ side_text names.now.nodes witness.now) }
 {
     match witness {
@@ -68,11 +74,11 @@ fn side_text(
 fn parts_text(
     alloc: Global,
     names: &Names,
-    g: &Graph,
+    graph: &Graph,
     witness: &Witness,
 ) -> Result<Vec<u8>, AllocError>
-    requires named { IsNamed names.now g.now }
-    requires within { IsWitnessWithin g.now witness.now }
+    requires named { IsNamed names.now graph.now }
+    requires within { IsWitnessWithin graph.now witness.now }
     ensures { IfOk result (λ text. text.items ≡ parts_text names.now.streams witness.now) }
 {
     match witness {

@@ -1,15 +1,21 @@
 // The rows of a design.
 
-ghost use Rattle.std.specs.Prelude.{◌≡◌, ◌<◌, ◌++◌, [], length, All, OnOk, OnErr, IfOk};
-ghost use Rattle.pb_rows.specs.Written.{line_of, text_of_rows};
-ghost use Rattle.pb_report.specs.Form.{text_in};
+ghost use Rattle.std.specs.Prelude.{◌≡◌, ◌<◌, ◌∷◌, ◌++◌, [], length, All, IfOk, OnOk, OnErr};
+ghost use Rattle.pb_graph.specs.declared.records.Classified.{Classified};
 ghost use Rattle.pb_graph.specs.ProcessGraph.{IsStream, is_measured};
-ghost use Rattle.pb_report.specs.Design.{IsNamed, IsWithin, design_rows, graph_row, class_row, class_rows, measured_word};
+ghost use Rattle.pb_graph.specs.WellFormed.{IsWitnessWithin};
+ghost use Rattle.pb_report.specs.Design.{class_row, class_rows, design_rows, graph_row, measured_word, stream_columns};
+ghost use Rattle.pb_report.specs.Form.{AppendsRows};
+ghost use Rattle.pb_report.specs.Names.{IsNamed};
+ghost use Rattle.pb_report.specs.Output.{AddsRows};
+ghost use Rattle.pb_report.specs.Row.{row_of};
 
-use crate::certificate::{certificate_columns, class_word};
+use crate::certificate::{class_word, with_certificate};
 use crate::form::Form;
+use crate::output::Output;
+use crate::row::OutputRow;
 use pb_graph::{Classified, Graph, List, Stream};
-use pb_rows::{Names, RowWriter};
+use pb_rows::Names;
 use std::alloc::{AllocError, Global};
 
 /// Appends the rows of a design: `design` with the numbers of nodes and streams, and one `class` row for each stream, with its
@@ -17,106 +23,95 @@ use std::alloc::{AllocError, Global};
 pub fn write_design(
     alloc: Global,
     names: &Names,
-    g: &Graph,
+    graph: &Graph,
     classes: &List<Classified>,
     form: Form,
     out: &mut Vec<u8>,
 ) -> Result<(), AllocError>
-    requires named { IsNamed names.now g.now }
-    requires each { length classes.now ≡ length g.now.streams }
-    requires within { All (IsWithin g.now) classes.now }
-    ensures appended { OnOk result (out.new.items ≡ out.old.items ++ text_in form (design_rows names.now g.now classes.now)) }
-    ensures unchanged { OnErr result (out.new.items ≡ out.old.items) }
+    requires named { IsNamed names.now graph.now }
+    requires each { length classes.now ≡ length graph.now.streams }
+    requires within { All (λ (classified : Classified). IsWitnessWithin graph.now classified.witness) classes.now }
+    ensures ok { OnOk result (AppendsRows form out.old.items out.new.items (design_rows names.now graph.now classes.now)) }
+    ensures err { OnErr result (out.new.items ≡ out.old.items) }
 {
-    match form {
-        Form::Csv => {
-            let writer = design_lines(alloc, names, g, classes)?;
-            out.extend_from_slice(writer.bytes())?;
-        }
-    }
-    Ok(())
+    let mut output = Output::new(alloc, form);
+    output.push(&graph_row(alloc, graph)?)?;
+    write_classes(names, graph, classes, &mut output)?;
+    output.append_to(out)
 }
 
-// A writer that has written the rows of a design alone.
-fn design_lines(
-    alloc: Global,
-    names: &Names,
-    g: &Graph,
-    classes: &List<Classified>,
-) -> Result<RowWriter, AllocError>
-    requires named { IsNamed names.now g.now }
-    requires each { length classes.now ≡ length g.now.streams }
-    requires within { All (IsWithin g.now) classes.now }
-    ensures { IfOk result (λ writer. writer ≡ record { text = text_of_rows (design_rows names.now g.now classes.now); row = [] }) }
+fn graph_row(alloc: Global, graph: &Graph) -> Result<OutputRow, AllocError>
+    ensures { IfOk result (λ row. row ≡ graph_row graph.now) }
 {
-    let mut writer = RowWriter::new(alloc);
-    graph_line(g, &mut writer)?;
-    class_lines(alloc, names, g, classes, &mut writer)?;
-    Ok(writer)
-}
-
-// Writes the row of the graph.
-fn graph_line(g: &Graph, writer: &mut RowWriter) -> Result<(), AllocError>
-    requires { writer.old.row ≡ [] }
-    ensures { OnOk result (writer.new ≡ record { text = writer.old.text ++ line_of (graph_row g.now); row = [] }) }
-{
-    writer.field(b"design")?;
-    writer.whole(i128::from(g.nodes()))?;
-    writer.whole(i128::from(g.len()))?;
-    writer.end_row()
+    OutputRow::of(alloc, "design")?
+        .number("nodes", i128::from(graph.nodes()))?
+        .number("streams", i128::from(graph.len()))
 }
 
 // Writes the rows of the streams.
-fn class_lines(
-    alloc: Global,
+fn write_classes(
     names: &Names,
-    g: &Graph,
+    graph: &Graph,
     classes: &List<Classified>,
-    writer: &mut RowWriter,
+    output: &mut Output,
 ) -> Result<(), AllocError>
-    requires begun { writer.old.row ≡ [] }
-    requires named { IsNamed names.now g.now }
-    requires each { length classes.now ≡ length g.now.streams }
-    requires within { All (IsWithin g.now) classes.now }
-    ensures { OnOk result (writer.new ≡ record { text = writer.old.text ++ text_of_rows (class_rows names.now g.now.streams classes.now); row = [] }) }
+    requires named { IsNamed names.now graph.now }
+    requires each { length classes.now ≡ length graph.now.streams }
+    requires within { All (λ (classified : Classified). IsWitnessWithin graph.now classified.witness) classes.now }
+    ensures { OnOk result (AddsRows output.old output.new (class_rows names.now graph.now.streams classes.now)) }
 {
-    for (j, s) in g.streams().iter().enumerate() {
-        class_line(alloc, names, g, j, s, classes.at(j), writer)?;
+    for (id, stream) in graph.streams().iter().enumerate() {
+        let row = class_row(output.allocator(), names, graph, id, stream, classes.at(id))?;
+        output.push(&row)?;
     }
     Ok(())
 }
 
-// Writes the row of one stream.
-fn class_line(
+// The row of one stream.
+fn class_row(
     alloc: Global,
     names: &Names,
-    g: &Graph,
-    j: usize,
-    s: &Stream,
-    c: &Classified,
-    writer: &mut RowWriter,
-) -> Result<(), AllocError>
-    requires begun { writer.old.row ≡ [] }
-    requires named { IsNamed names.now g.now }
-    requires place { j < length g.now.streams }
-    requires ends { IsStream g.now.nodes s.now }
-    requires within { IsWithin g.now c.now }
-    ensures { OnOk result (writer.new ≡ record { text = writer.old.text ++ line_of (class_row names.now j s.now c.now); row = [] }) }
+    graph: &Graph,
+    id: usize,
+    stream: &Stream,
+    classified: &Classified,
+) -> Result<OutputRow, AllocError>
+    requires named { IsNamed names.now graph.now }
+    requires place { id < length graph.now.streams }
+    requires ends { IsStream graph.now.nodes stream.now }
+    requires within { IsWitnessWithin graph.now classified.now.witness }
+    ensures { IfOk result (λ row. row ≡ class_row names.now id stream.now classified.now) }
 {
-    writer.field(b"class")?;
-    writer.field(names.streams.at(j).bytes())?;
-    writer.field(names.nodes.at(s.from as usize).bytes())?;
-    writer.field(names.nodes.at(s.to as usize).bytes())?;
-    writer.field(measured_word(s))?;
-    writer.field(class_word(c.class))?;
-    certificate_columns(alloc, names, g, &c.witness, writer)?;
-    writer.end_row()
+    let row = stream_row(alloc, "class", names, graph, id, stream)?
+        .text("measured", measured_word(stream))?
+        .text("class", class_word(classified.class))?;
+    with_certificate(alloc, row, names, graph, &classified.witness)
 }
 
-fn measured_word(s: &Stream) -> &'static [u8]
-    ensures { result.now ≡ measured_word (is_measured s.now) }
+/// A row of a kind that begins with the name of a stream and those of its ends.
+pub fn stream_row(
+    alloc: Global,
+    kind: &str,
+    names: &Names,
+    graph: &Graph,
+    id: usize,
+    stream: &Stream,
+) -> Result<OutputRow, AllocError>
+    requires named { IsNamed names.now graph.now }
+    requires place { id < length graph.now.streams }
+    requires ends { IsStream graph.now.nodes stream.now }
+    ensures { IfOk result (λ row. row ≡ row_of kind.now (stream_columns names.now id stream.now)) }
 {
-    match s.meas {
+    OutputRow::of(alloc, kind)?
+        .text("name", names.streams.at(id).bytes())?
+        .text("from", names.nodes.at(stream.from as usize).bytes())?
+        .text("to", names.nodes.at(stream.to as usize).bytes())
+}
+
+fn measured_word(stream: &Stream) -> &'static [u8]
+    ensures { result.now ≡ measured_word (is_measured stream.now) }
+{
+    match stream.meas {
         Some(_) => b"yes",
         None => b"no",
     }

@@ -1,18 +1,18 @@
 //! The rows of a session's output: refused records, the classes of a design, and reports.
 //!
-//! Each call appends whole rows to `out`. After want of memory `out` is as it was.
+//! Each call appends whole rows to `out`, in a form. After want of memory `out` is as it was.
+//! A row is made as a value, its columns with their keys, and one function writes rows in a form.
 #![tactic(auto)]
 
 mod block;
 mod certificate;
-#[cfg(test)]
-mod conditions;
 mod design;
 mod form;
+mod output;
 mod over;
 mod parts;
 mod refused;
-mod stage;
+mod row;
 mod study;
 #[cfg(test)]
 mod tests;

@@ -1,9 +1,10 @@
 // The side and the parts of a certificate, as texts.
 
-ghost use Rattle.std.specs.Prelude.{◌≡◌, ◌<◌, ◌++◌, [], length, All, IfOk, OnOk, if◌then◌else◌, codes};
+ghost use Rattle.std.specs.Prelude.{◌≡◌, ◌<◌, ◌++◌, [], length, All, IfOk, OnOk};
 ghost use Rattle.pb_graph.specs.declared.records.Member.{Member};
 ghost use Rattle.pb_graph.specs.declared.records.Step.{Step};
-ghost use Rattle.pb_report.specs.Design.{names_in, spaced, member_text, step_text};
+ghost use Rattle.pb_report.specs.Pieces.{gap_before};
+ghost use Rattle.pb_report.specs.Certificate.{names_in, spaced, member_text, step_text};
 
 use pb_graph::{Member, Step};
 use pb_rows::{Name, NameList};
@@ -16,9 +17,9 @@ pub fn side_text(alloc: Global, nodes: &NameList, side: &[bool]) -> Result<Vec<u
 {
     let mut text = Vec::new(alloc);
     let mut first = true;
-    for (n, inside) in side.iter().enumerate() {
+    for (node, inside) in side.iter().enumerate() {
         if *inside {
-            add_piece(&mut text, first, b"", nodes.at(n))?;
+            add_piece(&mut text, first, b"", nodes.at(node))?;
             first = false;
         }
     }
@@ -31,33 +32,38 @@ pub fn members_text(
     streams: &NameList,
     members: &[Member],
 ) -> Result<Vec<u8>, AllocError>
-    requires { All (λ (m : Member). m.stream < length streams.now) members.now }
+    requires { All (λ (member : Member). member.stream < length streams.now) members.now }
     ensures { IfOk result (λ text. text.items ≡ spaced (member_text streams.now) members.now) }
 {
     let mut text = Vec::new(alloc);
-    for (i, m) in members.iter().enumerate() {
-        let sign = if m.sign < 0 { b"-" } else { b"+" };
-        add_piece(&mut text, i == 0, sign, streams.at(m.stream as usize))?;
+    for (i, member) in members.iter().enumerate() {
+        let sign = if member.sign < 0 { b"-" } else { b"+" };
+        add_piece(&mut text, i == 0, sign, streams.at(member.stream as usize))?;
     }
     Ok(text)
 }
 
 /// The steps of a cycle in order, each with its direction before its name, with one space between.
 pub fn steps_text(alloc: Global, streams: &NameList, steps: &[Step]) -> Result<Vec<u8>, AllocError>
-    requires { All (λ (t : Step). t.stream < length streams.now) steps.now }
+    requires { All (λ (step : Step). step.stream < length streams.now) steps.now }
     ensures { IfOk result (λ text. text.items ≡ spaced (step_text streams.now) steps.now) }
 {
     let mut text = Vec::new(alloc);
-    for (i, t) in steps.iter().enumerate() {
-        let direction = if t.forward { b"+" } else { b"-" };
-        add_piece(&mut text, i == 0, direction, streams.at(t.stream as usize))?;
+    for (i, step) in steps.iter().enumerate() {
+        let direction = if step.forward { b"+" } else { b"-" };
+        add_piece(
+            &mut text,
+            i == 0,
+            direction,
+            streams.at(step.stream as usize),
+        )?;
     }
     Ok(text)
 }
 
 // Appends a piece of a list: a mark and a name, behind a space unless it is the first.
 fn add_piece(text: &mut Vec<u8>, first: bool, mark: &[u8], name: &Name) -> Result<(), AllocError>
-    ensures { OnOk result (text.new.items ≡ text.old.items ++ ((if first then [] else codes " ") ++ (mark.now ++ name.now))) }
+    ensures { OnOk result (text.new.items ≡ text.old.items ++ (gap_before first ++ (mark.now ++ name.now))) }
 {
     if !first {
         text.push(b' ')?;

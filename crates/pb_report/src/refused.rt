@@ -1,12 +1,11 @@
 // The row of a refused record.
 
-ghost use Rattle.std.specs.Prelude.{◌≡◌, ◌≤◌, ◌∷◌, ◌++◌, [], OnOk, OnErr, IfOk};
-ghost use Rattle.pb_rows.specs.Written.{line_of};
-ghost use Rattle.pb_report.specs.Form.{text_in};
+ghost use Rattle.std.specs.Prelude.{◌≡◌, ◌≤◌, ◌∷◌, [], IfOk, OnOk, OnErr};
+ghost use Rattle.pb_report.specs.Form.{AppendsRows};
 ghost use Rattle.pb_report.specs.Refusal.{refusal_word, refused_row};
 
-use crate::form::Form;
-use pb_rows::RowWriter;
+use crate::form::{Form, write_row};
+use crate::row::OutputRow;
 use std::alloc::{AllocError, Global};
 
 /// Appends the row of a refused record: `refused`, the record's number `at`, the refusal's code from 1 to 13, and its word.
@@ -19,35 +18,24 @@ pub fn write_refused(
 ) -> Result<(), AllocError>
     requires least { 1 ≤ code }
     requires most { code ≤ 13 }
-    ensures appended { OnOk result (out.new.items ≡ out.old.items ++ text_in form (refused_row at code ∷ [])) }
-    ensures unchanged { OnErr result (out.new.items ≡ out.old.items) }
+    ensures ok { OnOk result (AppendsRows form out.old.items out.new.items (refused_row at code ∷ [])) }
+    ensures err { OnErr result (out.new.items ≡ out.old.items) }
 {
-    match form {
-        Form::Csv => {
-            let writer = refused_line(alloc, at, code)?;
-            out.extend_from_slice(writer.bytes())?;
-        }
-    }
-    Ok(())
+    write_row(&refused_row(alloc, at, code)?, form, out)
 }
 
-// A writer that has written the row alone.
-fn refused_line(alloc: Global, at: u32, code: u32) -> Result<RowWriter, AllocError>
+fn refused_row(alloc: Global, at: u32, code: u32) -> Result<OutputRow, AllocError>
     requires least { 1 ≤ code }
     requires most { code ≤ 13 }
-    ensures { IfOk result (λ writer. writer ≡ record { text = line_of (refused_row at code); row = [] }) }
+    ensures { IfOk result (λ row. row ≡ refused_row at code) }
 {
-    let mut writer = RowWriter::new(alloc);
-    writer.field(b"refused")?;
-    writer.whole(i128::from(at))?;
-    writer.whole(i128::from(code))?;
-    writer.field(word(code))?;
-    writer.end_row()?;
-    Ok(writer)
+    OutputRow::of(alloc, "refused")?
+        .number("at", i128::from(at))?
+        .number("code", i128::from(code))?
+        .text("word", refusal_word(code))
 }
 
-// The word of a refusal.
-fn word(code: u32) -> &'static [u8]
+fn refusal_word(code: u32) -> &'static [u8]
     requires least { 1 ≤ code }
     requires most { code ≤ 13 }
     ensures { result.now ≡ refusal_word code }

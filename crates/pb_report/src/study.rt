@@ -1,15 +1,17 @@
 // The rows of a study.
 
-ghost use Rattle.std.specs.Prelude.{◌≡◌, ◌+◌, ◌<◌, ◌∷◌, ◌++◌, [], length, All, OnOk, OnErr, IfOk};
-ghost use Rattle.pb_rows.specs.Written.{line_of, text_of_rows};
-ghost use Rattle.pb_report.specs.Form.{text_in};
-ghost use Rattle.pb_report.specs.Stage.{IsStageWithin, block_rows};
-ghost use Rattle.pb_report.specs.Study.{IsStudyWithin, taken_row, round_rows, stage_rows, stop_word, stop_row, stop_rows, study_rows};
+ghost use Rattle.std.specs.Prelude.{◌≡◌, ◌<◌, ◌++◌, length, IfOk, OnOk, OnErr};
+ghost use Rattle.pb_report.specs.Form.{AppendsRows};
+ghost use Rattle.pb_report.specs.Names.{IsNamedStudy};
+ghost use Rattle.pb_report.specs.Output.{AddsRows};
+ghost use Rattle.pb_report.specs.Study.{stage_rows, stop_row, stop_rows, stop_word, study_rows, taken_row};
 
+use crate::block::write_block;
 use crate::form::Form;
-use crate::stage::block_lines;
+use crate::output::Output;
+use crate::row::OutputRow;
 use pb_graph::{Options, Stop, Study, Taken};
-use pb_rows::{Name, Names, RowWriter};
+use pb_rows::{Name, Names};
 use std::alloc::{AllocError, Global};
 
 /// Appends the report of a period: for each stage of its study a block (`report`, the nodes with their prices in units of 2^-56,
@@ -20,119 +22,91 @@ pub fn write_study(
     names: &Names,
     period: &Name,
     options: &Options,
-    s: &Study,
+    study: &Study,
     form: Form,
     out: &mut Vec<u8>,
 ) -> Result<(), AllocError>
-    requires within { IsStudyWithin names.now s.now }
-    ensures appended { OnOk result (out.new.items ≡ out.old.items ++ text_in form (study_rows names.now period.now options.now s.now)) }
-    ensures unchanged { OnErr result (out.new.items ≡ out.old.items) }
+    requires named { IsNamedStudy names.now study.now }
+    ensures ok { OnOk result (AppendsRows form out.old.items out.new.items (study_rows names.now period.now options.now study.now)) }
+    ensures err { OnErr result (out.new.items ≡ out.old.items) }
 {
-    match form {
-        Form::Csv => {
-            let writer = study_lines(alloc, names, period, options, s)?;
-            out.extend_from_slice(writer.bytes())?;
-        }
-    }
-    Ok(())
-}
-
-// A writer that has written the rows of a study alone.
-fn study_lines(
-    alloc: Global,
-    names: &Names,
-    period: &Name,
-    options: &Options,
-    s: &Study,
-) -> Result<RowWriter, AllocError>
-    requires within { IsStudyWithin names.now s.now }
-    ensures { IfOk result (λ writer. writer ≡ record { text = text_of_rows (study_rows names.now period.now options.now s.now); row = [] }) }
-{
-    let mut writer = RowWriter::new(alloc);
-    stage_lines(alloc, names, period, options, s, &mut writer)?;
-    stop_line(period, s.taken.len(), s.stop, &mut writer)?;
-    Ok(writer)
+    let mut output = Output::new(alloc, form);
+    write_stages(names, period, options, study, &mut output)?;
+    write_stop(period, study.taken.len(), study.stop, &mut output)?;
+    output.append_to(out)
 }
 
 // Writes the blocks and the suspects between them.
-fn stage_lines(
-    alloc: Global,
+fn write_stages(
     names: &Names,
     period: &Name,
     options: &Options,
-    s: &Study,
-    writer: &mut RowWriter,
+    study: &Study,
+    output: &mut Output,
 ) -> Result<(), AllocError>
-    requires begun { writer.old.row ≡ [] }
-    requires within { IsStudyWithin names.now s.now }
-    ensures { OnOk result (writer.new ≡ record { text = writer.old.text ++ text_of_rows (stage_rows names.now period.now options.now s.now.taken s.now.stages); row = [] }) }
+    requires { IsNamedStudy names.now study.now }
+    ensures { OnOk result (AddsRows output.old output.new (stage_rows names.now period.now options.now study.now.taken study.now.stages)) }
 {
-    block_lines(alloc, names, period, options, 0, s.stages.at(0), writer)?;
-    for (i, t) in s.taken.as_slice().iter().enumerate() {
-        taken_line(names, period, i + 1, t, writer)?;
-        block_lines(
-            alloc,
+    write_block(names, period, options, 0, study.stages.at(0), output)?;
+    for (i, suspect) in study.taken.as_slice().iter().enumerate() {
+        output.push(&taken_row(output.allocator(), names, period, i + 1, suspect)?)?;
+        write_block(
             names,
             period,
             options,
             i + 1,
-            s.stages.at(i + 1),
-            writer,
+            study.stages.at(i + 1),
+            output,
         )?;
     }
     Ok(())
 }
 
-// Writes the row of a suspect that was taken before a round.
-fn taken_line(
+// The row of a suspect that was taken before a round.
+fn taken_row(
+    alloc: Global,
     names: &Names,
     period: &Name,
     round: usize,
-    t: &Taken,
-    writer: &mut RowWriter,
-) -> Result<(), AllocError>
-    requires begun { writer.old.row ≡ [] }
-    requires within { t.now.stream < length names.now.streams }
-    ensures { OnOk result (writer.new ≡ record { text = writer.old.text ++ line_of (taken_row names.now period.now round t.now); row = [] }) }
+    suspect: &Taken,
+) -> Result<OutputRow, AllocError>
+    requires { suspect.now.stream < length names.now.streams }
+    ensures { IfOk result (λ row. row ≡ taken_row names.now period.now round suspect.now) }
 {
-    writer.field(b"taken")?;
-    writer.field(period.bytes())?;
-    writer.whole(round as i128)?;
-    writer.field(names.streams.at(t.stream as usize).bytes())?;
-    writer.whole(t.low)?;
-    writer.end_row()
+    OutputRow::of(alloc, "taken")?
+        .text("period", period.bytes())?
+        .number("round", round as i128)?
+        .text("stream", names.streams.at(suspect.stream as usize).bytes())?
+        .number("low", suspect.low)
 }
 
 // Writes why the elimination stopped, if it was asked.
-fn stop_line(
+fn write_stop(
     period: &Name,
     rounds: usize,
     stop: Option<Stop>,
-    writer: &mut RowWriter,
+    output: &mut Output,
 ) -> Result<(), AllocError>
-    requires begun { writer.old.row ≡ [] }
-    ensures { OnOk result (writer.new ≡ record { text = writer.old.text ++ text_of_rows (stop_rows period.now rounds stop); row = [] }) }
+    ensures { OnOk result (AddsRows output.old output.new (stop_rows period.now rounds stop)) }
 {
     match stop {
         None => Ok(()),
-        Some(reason) => reason_line(period, rounds, reason, writer),
+        Some(reason) => output.push(&stop_row(output.allocator(), period, rounds, reason)?),
     }
 }
 
-fn reason_line(
+fn stop_row(
+    alloc: Global,
     period: &Name,
     rounds: usize,
     reason: Stop,
-    writer: &mut RowWriter,
-) -> Result<(), AllocError>
-    requires begun { writer.old.row ≡ [] }
-    ensures { OnOk result (writer.new ≡ record { text = writer.old.text ++ line_of (stop_row period.now rounds reason); row = [] }) }
+) -> Result<OutputRow, AllocError>
+    ensures { IfOk result (λ row. row ≡ stop_row period.now rounds reason) }
 {
-    writer.field(b"stop")?;
-    writer.field(period.bytes())?;
-    writer.field(stop_word(reason))?;
-    writer.whole(rounds as i128)?;
-    writer.end_row()
+    OutputRow::of(alloc, "stop")?
+        .text("period", period.bytes())?
+        .text("reason", stop_word(reason))?
+        .number("rounds", rounds as i128)
 }
 
 fn stop_word(stop: Stop) -> &'static [u8]

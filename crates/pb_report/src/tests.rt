@@ -2,7 +2,6 @@
 
 ghost use Rattle.std.specs.Prelude.{◌≡◌, ◌≤◌};
 
-use crate::conditions::{are_within, is_named, is_study_within};
 use crate::{Form, write_design, write_over, write_refused, write_study};
 use pb_graph::{
     Bounds, Class, Classified, GlobalTest, Graph, List, Meas, MeasureTest, Member, NodalTest,

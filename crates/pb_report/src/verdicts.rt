@@ -1,116 +1,116 @@
 // The rows of the tests of a stage.
 
-ghost use Rattle.std.specs.Prelude.{◌≡◌, ◌<◌, ◌++◌, ◌∷◌, [], Some, length, map, All, IfSome, OnOk};
-ghost use Rattle.pb_rows.specs.Written.{line_of, text_of_rows};
+ghost use Rattle.std.specs.Prelude.{◌≡◌, ◌<◌, Some, length, map, All, IfOk, IfSome, OnOk};
 ghost use Rattle.pb_graph.specs.declared.results.NodalTest.{NodalTest};
 ghost use Rattle.pb_graph.specs.declared.results.MeasureTest.{MeasureTest};
-ghost use Rattle.pb_report.specs.Block.{optional_text};
-ghost use Rattle.pb_report.specs.Tests.{IsTestsWithin, verdict_word, global_row, nodal_row, measure_row, tests_rows};
+ghost use Rattle.pb_graph.specs.WellFormed.{AreTestsWithin};
+ghost use Rattle.pb_report.specs.Names.{IsNamed};
+ghost use Rattle.pb_report.specs.Output.{AddsRows};
+ghost use Rattle.pb_report.specs.Tests.{global_row, measure_row, nodal_row, tests_rows, verdict_word};
 
-use crate::block::optional;
-use pb_graph::{GlobalTest, List, MeasureTest, NodalTest, Tests, Verdict};
-use pb_rows::{Names, RowWriter};
-use std::alloc::AllocError;
+use crate::output::Output;
+use crate::row::OutputRow;
+use pb_graph::{GlobalTest, Graph, List, MeasureTest, NodalTest, Tests, Verdict};
+use pb_rows::Names;
+use std::alloc::{AllocError, Global};
 
 /// Writes the rows of the tests, where tests were made.
-pub fn tests_lines(
+pub fn write_tests(
     names: &Names,
+    graph: &Graph,
     tests: &Option<Tests>,
-    writer: &mut RowWriter,
+    output: &mut Output,
 ) -> Result<(), AllocError>
-    requires begun { writer.old.row ≡ [] }
-    requires within { IfSome tests.now (IsTestsWithin names.now) }
-    ensures { OnOk result (writer.new ≡ record { text = writer.old.text ++ text_of_rows (tests_rows names.now tests.now); row = [] }) }
+    requires named { IsNamed names.now graph.now }
+    requires within { IfSome tests.now (AreTestsWithin graph.now) }
+    ensures { OnOk result (AddsRows output.old output.new (tests_rows names.now tests.now)) }
 {
     match tests {
         None => Ok(()),
-        Some(tests) => some_tests_lines(names, tests, writer),
+        Some(tests) => write_some_tests(names, graph, tests, output),
     }
 }
 
-fn some_tests_lines(names: &Names, tests: &Tests, writer: &mut RowWriter) -> Result<(), AllocError>
-    requires begun { writer.old.row ≡ [] }
-    requires within { IsTestsWithin names.now tests.now }
-    ensures { OnOk result (writer.new ≡ record { text = writer.old.text ++ text_of_rows (tests_rows names.now (Some tests.now)); row = [] }) }
+fn write_some_tests(
+    names: &Names,
+    graph: &Graph,
+    tests: &Tests,
+    output: &mut Output,
+) -> Result<(), AllocError>
+    requires named { IsNamed names.now graph.now }
+    requires within { AreTestsWithin graph.now tests.now }
+    ensures { OnOk result (AddsRows output.old output.new (tests_rows names.now (Some tests.now))) }
 {
-    global_line(&tests.global, writer)?;
-    nodal_lines(names, &tests.nodal, writer)?;
-    measure_lines(names, &tests.measure, writer)
+    output.push(&global_row(output.allocator(), &tests.global)?)?;
+    write_nodal(names, &tests.nodal, output)?;
+    write_measure(names, &tests.measure, output)
 }
 
-fn global_line(t: &GlobalTest, writer: &mut RowWriter) -> Result<(), AllocError>
-    requires begun { writer.old.row ≡ [] }
-    ensures { OnOk result (writer.new ≡ record { text = writer.old.text ++ line_of (global_row t.now); row = [] }) }
+fn global_row(alloc: Global, test: &GlobalTest) -> Result<OutputRow, AllocError>
+    ensures { IfOk result (λ row. row ≡ global_row test.now) }
 {
-    writer.field(b"global")?;
-    critical(t.critical, writer)?;
-    writer.field(verdict_word(t.verdict))?;
-    writer.end_row()
+    OutputRow::of(alloc, "global")?
+        .optional("critical", critical(test.critical))?
+        .text("verdict", verdict_word(test.verdict))
 }
 
-fn nodal_lines(
+fn write_nodal(
     names: &Names,
     tests: &List<NodalTest>,
-    writer: &mut RowWriter,
+    output: &mut Output,
 ) -> Result<(), AllocError>
-    requires begun { writer.old.row ≡ [] }
-    requires within { All (λ (t : NodalTest). t.node < length names.now.nodes) tests.now }
-    ensures { OnOk result (writer.new ≡ record { text = writer.old.text ++ text_of_rows (map (nodal_row names.now) tests.now); row = [] }) }
+    requires { All (λ (test : NodalTest). test.node < length names.now.nodes) tests.now }
+    ensures { OnOk result (AddsRows output.old output.new (map (nodal_row names.now) tests.now)) }
 {
-    for t in tests.as_slice() {
-        nodal_line(names, t, writer)?;
+    for test in tests.as_slice() {
+        output.push(&nodal_row(output.allocator(), names, test)?)?;
     }
     Ok(())
 }
 
-fn nodal_line(names: &Names, t: &NodalTest, writer: &mut RowWriter) -> Result<(), AllocError>
-    requires begun { writer.old.row ≡ [] }
-    requires within { t.now.node < length names.now.nodes }
-    ensures { OnOk result (writer.new ≡ record { text = writer.old.text ++ line_of (nodal_row names.now t.now); row = [] }) }
+fn nodal_row(alloc: Global, names: &Names, test: &NodalTest) -> Result<OutputRow, AllocError>
+    requires { test.now.node < length names.now.nodes }
+    ensures { IfOk result (λ row. row ≡ nodal_row names.now test.now) }
 {
-    writer.field(b"nodal")?;
-    writer.field(names.nodes.at(t.node as usize).bytes())?;
-    writer.whole(t.net)?;
-    writer.whole(t.variance)?;
-    critical(t.critical, writer)?;
-    writer.field(verdict_word(t.verdict))?;
-    writer.end_row()
+    OutputRow::of(alloc, "nodal")?
+        .text("node", names.nodes.at(test.node as usize).bytes())?
+        .number("net", test.net)?
+        .number("variance", test.variance)?
+        .optional("critical", critical(test.critical))?
+        .text("verdict", verdict_word(test.verdict))
 }
 
-fn measure_lines(
+fn write_measure(
     names: &Names,
     tests: &List<MeasureTest>,
-    writer: &mut RowWriter,
+    output: &mut Output,
 ) -> Result<(), AllocError>
-    requires begun { writer.old.row ≡ [] }
-    requires within { All (λ (t : MeasureTest). t.stream < length names.now.streams) tests.now }
-    ensures { OnOk result (writer.new ≡ record { text = writer.old.text ++ text_of_rows (map (measure_row names.now) tests.now); row = [] }) }
+    requires { All (λ (test : MeasureTest). test.stream < length names.now.streams) tests.now }
+    ensures { OnOk result (AddsRows output.old output.new (map (measure_row names.now) tests.now)) }
 {
-    for t in tests.as_slice() {
-        measure_line(names, t, writer)?;
+    for test in tests.as_slice() {
+        output.push(&measure_row(output.allocator(), names, test)?)?;
     }
     Ok(())
 }
 
-fn measure_line(names: &Names, t: &MeasureTest, writer: &mut RowWriter) -> Result<(), AllocError>
-    requires begun { writer.old.row ≡ [] }
-    requires within { t.now.stream < length names.now.streams }
-    ensures { OnOk result (writer.new ≡ record { text = writer.old.text ++ line_of (measure_row names.now t.now); row = [] }) }
+fn measure_row(alloc: Global, names: &Names, test: &MeasureTest) -> Result<OutputRow, AllocError>
+    requires { test.now.stream < length names.now.streams }
+    ensures { IfOk result (λ row. row ≡ measure_row names.now test.now) }
 {
-    writer.field(b"measure")?;
-    writer.field(names.streams.at(t.stream as usize).bytes())?;
-    writer.whole(t.low)?;
-    optional(t.high, writer)?;
-    critical(t.critical, writer)?;
-    writer.field(verdict_word(t.verdict))?;
-    writer.end_row()
+    OutputRow::of(alloc, "measure")?
+        .text("stream", names.streams.at(test.stream as usize).bytes())?
+        .number("low", test.low)?
+        .optional("high", test.high)?
+        .optional("critical", critical(test.critical))?
+        .text("verdict", verdict_word(test.verdict))
 }
 
-// Appends a critical value as a field, or an empty field where none was given.
-fn critical(value: Option<i64>, writer: &mut RowWriter) -> Result<(), AllocError>
-    ensures { OnOk result (writer.new ≡ record { text = writer.old.text; row = writer.old.row ++ optional_text value ∷ [] }) }
+// A critical value, if there is one, as a number of a column.
+fn critical(value: Option<i64>) -> Option<i128>
+    ensures { result ≡ value }
 {
-    optional(value.map(i128::from), writer)
+    value.map(i128::from)
 }
 
 fn verdict_word(verdict: Verdict) -> &'static [u8]

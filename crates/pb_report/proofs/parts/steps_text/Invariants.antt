@@ -1,6 +1,6 @@
 use Rattle.std.proofs.Common.{◌≡◌, ◌++◌, ◌==◌, drop}
-use Rattle.pb_report.specs.Design.{spaced, step_text}
-use Rattle.pb_report.proofs.TextLemmas.{rest_of}
+use Rattle.pb_report.specs.Certificate.{spaced, step_text}
+use Rattle.pb_report.proofs.PieceLemmas.{rest_of}
 use Rattle.pb_report.proofs.parts.steps_text.Given as goal
 
 abbrev pub invariant-loop-i : goal.invariant-loop-i
