@@ -12,6 +12,20 @@ use crate::results::{
 };
 use pb_limits::{MOST_CRITICAL, MOST_FREEDOM, MOST_SWEEPS};
 
+impl Witness {
+    /// Whether the certificate speaks of nodes and streams of the graph alone, and a side has one item for each node.
+    pub fn is_within(&self, graph: &Graph) -> bool
+        ensures { IsTrue result ↔ IsWitnessWithin graph.now self.now }
+    {
+        match self {
+            Witness::Cut { side, members } => {
+                side.len() == graph.nodes() as usize && are_members(graph, members.as_slice())
+            }
+            Witness::Cycle { steps } => are_steps(graph, steps.as_slice()),
+        }
+    }
+}
+
 impl Stage {
     /// Whether the stage has one price for each node and one result for each stream, its certificates and tests speak of nodes
     /// and streams of its graph alone, and each number is in its range.
@@ -61,18 +75,6 @@ fn are_steps(graph: &Graph, steps: &[Step]) -> bool
     steps.iter().all(|step| step.stream < graph.len())
 }
 
-// Whether a certificate speaks of the graph alone.
-fn is_witness(graph: &Graph, witness: &Witness) -> bool
-    ensures { IsTrue result ↔ IsWitnessWithin graph.now witness.now }
-{
-    match witness {
-        Witness::Cut { side, members } => {
-            side.len() == graph.nodes() as usize && are_members(graph, members.as_slice())
-        }
-        Witness::Cycle { steps } => are_steps(graph, steps.as_slice()),
-    }
-}
-
 // Whether a flow is in its range.
 fn is_flow(grams: i128) -> bool
     ensures { IsTrue result ↔ IsFlow grams }
@@ -111,9 +113,7 @@ fn are_bounds(bounds: &Option<Bounds>) -> bool
 fn is_result(graph: &Graph, stream: &StreamResult) -> bool
     ensures { IsTrue result ↔ IsResultWithin graph.now stream.now }
 {
-    is_witness(graph, &stream.classified.witness)
-        && is_flow(stream.flow)
-        && are_bounds(&stream.bounds)
+    stream.classified.witness.is_within(graph) && is_flow(stream.flow) && are_bounds(&stream.bounds)
 }
 
 // Whether each result keeps the ranges.

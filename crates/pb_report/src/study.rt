@@ -49,7 +49,8 @@ fn write_stages(
 {
     write_block(names, period, options, 0, study.stages.at(0), output)?;
     for (i, suspect) in study.taken.as_slice().iter().enumerate() {
-        output.push(&taken_row(output.allocator(), names, period, i + 1, suspect)?)?;
+        let row = taken_row(output.allocator(), names, period, i + 1, suspect)?;
+        output.push(&row)?;
         write_block(
             names,
             period,

@@ -1,12 +1,15 @@
 // What no clause says: that calls succeed where memory is ample, and rows from outside.
 
-ghost use Rattle.std.specs.Prelude.{◌≡◌, ◌≤◌};
+ghost use Rattle.std.specs.Prelude.{All, IsTrue};
+ghost use Rattle.pb_graph.specs.declared.records.Classified.{Classified};
+ghost use Rattle.pb_graph.specs.WellFormed.{IsWitnessWithin};
+ghost use Rattle.pb_report.specs.Names.{IsNamed};
 
 use crate::{Form, write_design, write_over, write_refused, write_study};
 use pb_graph::{
-    Bounds, Class, Classified, GlobalTest, Graph, List, Meas, MeasureTest, Member, NodalTest,
-    Options, Solved, Stage, Step, Stop, Stream, StreamResult, Study, Taken, Tests, Verdict,
-    Witness,
+    Bounds, Class, Classified, GlobalTest, Graph, List, MOST_NODES, Meas, MeasureTest, Member,
+    NodalTest, Options, Solved, Stage, Step, Stop, Stream, StreamResult, Study, Taken, Tests,
+    Verdict, Witness,
 };
 use pb_rows::{Name, NameList, Names};
 use std::alloc::Global;
@@ -33,7 +36,10 @@ fn writes_refusals(rt: HostRuntime) -> Result<(), Fail> {
         let mut out = Vec::from_slice(rt.alloc(), b"before\n")?;
         assert!(rt; code >= 1 && code <= 13);
         write_refused(rt.alloc(), at, code, Form::Csv, &mut out)?;
-        assert!(rt; out.as_slice().strip_prefix(b"before\n") == Some(line));
+        assert!(rt;
+            out.as_slice().strip_prefix(b"before\n") == Some(line),
+            "code {code}"
+        );
     }
     Ok(())
 }
@@ -71,17 +77,17 @@ fn metered(from: u32, to: u32, value: i128, variance: i128) -> Stream {
 }
 
 fn graph(alloc: Global, nodes: u32, streams: &[Stream]) -> Result<Graph, Fail> {
-    if nodes < 1 || nodes > 1001 {
+    if nodes < 1 || nodes > MOST_NODES {
         return Err(Fail::new("the number of nodes"));
     }
-    let mut g = Graph::new(alloc, nodes);
-    for s in streams {
-        if !g.fits(s) {
+    let mut graph = Graph::new(alloc, nodes);
+    for stream in streams {
+        if !graph.fits(stream) {
             return Err(Fail::new("a stream that doesn't fit"));
         }
-        g.push(*s)?;
+        graph.push(*stream)?;
     }
-    Ok(g)
+    Ok(graph)
 }
 
 fn enters(stream: u32) -> Member {
@@ -142,14 +148,37 @@ fn options(tests: bool, eliminate: u32) -> Options {
     }
 }
 
+// Whether there is one name for each node, and one for each stream.
+fn is_named(names: &Names, graph: &Graph) -> bool
+    ensures { IsTrue result → IsNamed names.now graph.now }
+{
+    names.nodes.len() == graph.nodes() as usize && names.streams.len() == graph.len() as usize
+}
+
+// Whether each certificate speaks of the graph alone.
+fn are_within(graph: &Graph, classes: &[Classified]) -> bool
+    ensures { IsTrue result → All (λ (classified : Classified). IsWitnessWithin graph.now classified.witness) classes.now }
+{
+    classes
+        .iter()
+        .all(|classified| classified.witness.is_within(graph))
+}
+
 fn report(
     alloc: Global,
     names: &Names,
     period: &[u8],
     options: &Options,
-    s: &Study,
+    study: &Study,
 ) -> Result<Vec<u8>, Fail> {
-    if !is_study_within(names, s) {
+    if study.stages.is_empty() {
+        return Err(Fail::new("a study without a stage"));
+    }
+    let graph = &study.stages.at(0).graph;
+    if !is_named(names, graph) {
+        return Err(Fail::new("a graph with other names"));
+    }
+    if !study.is_well_formed(graph) {
         return Err(Fail::new("a study that isn't well formed"));
     }
     let mut out = Vec::new(alloc);
@@ -158,7 +187,7 @@ fn report(
         names,
         &name(period)?,
         options,
-        s,
+        study,
         Form::Csv,
         &mut out,
     )?;
@@ -180,7 +209,7 @@ fn writes_a_design(rt: HostRuntime) -> Result<(), Fail> {
         nodes: name_list(alloc, &[b"env", b"U", b"V"])?,
         streams: name_list(alloc, &[b"P", b"M"])?,
     };
-    let g = graph(alloc, 3, &[plain(1, 2), metered(1, 2, 0, 1)])?;
+    let plant = graph(alloc, 3, &[plain(1, 2), metered(1, 2, 0, 1)])?;
     let mut classes = List::new(alloc);
     classes.push(cut(
         alloc,
@@ -189,10 +218,10 @@ fn writes_a_design(rt: HostRuntime) -> Result<(), Fail> {
         &[leaves(0), leaves(1)],
     )?)?;
     classes.push(cycle(alloc, Class::Nonredundant, &[forward(1), backward(0)])?)?;
-    assert!(rt; is_named(&names, &g) && are_within(&g, classes.as_slice()));
-    assert!(rt; classes.len() == g.len() as usize);
+    assert!(rt; is_named(&names, &plant) && are_within(&plant, classes.as_slice()));
+    assert!(rt; classes.len() == plant.len() as usize);
     let mut out = Vec::new(alloc);
-    write_design(alloc, &names, &g, &classes, Form::Csv, &mut out)?;
+    write_design(alloc, &names, &plant, &classes, Form::Csv, &mut out)?;
     assert_eq!(rt;
         out.as_slice(),
         b"design,3,2
