@@ -1,8 +1,8 @@
 -- The columns of a row, from its keys and its values.
-use Rattle.std.proofs.Common.{◌≡◌, ◌∙◌, ℕ, suc, List, [], ◌∷◌, ◌++◌, length, map, refl, ap, arith, sym}
+use Rattle.std.proofs.Common.{◌≡◌, ◌∙◌, ℕ, List, [], ◌∷◌, ◌++◌, length, map, refl, ap, arith, sym}
 use Rattle.std.specs.Prelude.{IfOk, Result, Ok, Err}
 use Rattle.std.proofs.lemmas.List.{length-map, map-append}
-use Rattle.pb_report.specs.Row.{Column, Columns, text, values_of}
+use Rattle.pb_report.specs.Row.{Columns, text, values_of}
 use Rattle.pb_report.specs.Columns.{columns_of}
 
 -- one more column

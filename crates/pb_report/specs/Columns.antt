@@ -1,6 +1,6 @@
 -- Inside. The columns of a row, from its keys and its values.
 use Rattle.std.specs.Prelude.{ℕ, List, [], ◌∷◌}
-use Rattle.pb_report.specs.Row.{Column, Columns}
+use Rattle.pb_report.specs.Row.{Columns}
 
 -- each key with the value at its place
 abbrev pub columns_of : List (List ℕ) → List (List ℕ) → Columns

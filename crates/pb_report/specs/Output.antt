@@ -1,5 +1,5 @@
 -- Inside. What is written so far, and what is still to be written.
-use Rattle.std.specs.Prelude.{◌≡◌, ◌++◌, ℕ, List, [], ◌∷◌}
+use Rattle.std.specs.Prelude.{◌≡◌, ◌++◌, ℕ, List}
 use Rattle.pb_report.specs.declared.form.Form.{Form}
 use Rattle.pb_report.specs.Row.{Columns}
 use Rattle.pb_report.specs.Form.{text_in}

@@ -11,7 +11,7 @@ use Rattle.pb_site.specs.Site.{arc_between, arc_names, arcs_of, links_of, names_
 use Rattle.pb_book.specs.declared.rows.StoredRow.{StoredRow}
 use Rattle.pb_book.specs.Rows.{declared_of}
 use Rattle.pb_period.specs.PeriodGraph.{graph_with, stream_with}
-use Rattle.pb_report.specs.Design.{IsNamed}
+use Rattle.pb_report.specs.Names.{IsNamed}
 use Rattle.pb_session.specs.Accepted.{IsGraphOf}
 
 as_many_arcs : (declared : List Declared) → length (arc_names declared) ≡ length (arcs_of declared)

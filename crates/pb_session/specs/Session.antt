@@ -22,7 +22,9 @@ use Rattle.pb_period.specs.PeriodGraph.{assembly_of}
 use Rattle.pb_report.specs.declared.form.Form.{Form}
 use Rattle.pb_report.specs.Form.{text_in}
 use Rattle.pb_report.specs.Refusal.{refused_row}
-use Rattle.pb_report.specs.Design.{design_rows, name_at}
+use Rattle.pb_report.specs.Design.{design_rows}
+use Rattle.pb_report.specs.Names.{name_at}
+use Rattle.pb_report.specs.Row.{Columns}
 use Rattle.pb_report.specs.Over.{over_row}
 use Rattle.pb_report.specs.Study.{study_rows}
 
@@ -33,7 +35,7 @@ pub record SessionState : Type 0 where
   pub rows : List StoredRow
 
 -- a text is these rows in the form of the session
-abbrev pub IsTextOf : SessionState → List (List (List ℕ)) → List ℕ → Type 0
+abbrev pub IsTextOf : SessionState → List Columns → List ℕ → Type 0
 IsTextOf state rows text = text ≡ text_in state.form rows
 
 -- a text is the rows of the design of what is stored: every stream of its graph with its class and certificate

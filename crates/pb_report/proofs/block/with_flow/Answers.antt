@@ -2,7 +2,6 @@ use Rattle.std.proofs.Common.{◌≡◌, ◌++◌, ◌∷◌, [], List, ℕ, Fit
 use Rattle.std.proofs.lemmas.Int.{to_z-of_z}
 use mir.Syntax.{w128}
 use Rattle.pb_report.specs.Block.{flow_columns}
-use Rattle.pb_report.specs.Certificate.{class_word}
 use Rattle.pb_report.specs.Row.{Columns, number, text}
 use Rattle.pb_report.proofs.RowLemmas.{made_is}
 use Rattle.pb_report.proofs.block.with_flow.Goals as goal

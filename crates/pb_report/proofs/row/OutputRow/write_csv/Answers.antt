@@ -1,7 +1,4 @@
 use Rattle.std.proofs.Common.{Bor, List, ℕ}
-use Rattle.std.specs.Prelude.{OnOk}
-use Rattle.pb_rows.specs.Written.{AddsLine}
-use Rattle.pb_report.specs.Row.{values_of}
 use Rattle.pb_report.proofs.RowLemmas.{values_now}
 use Rattle.pb_report.proofs.row.OutputRow.write_csv.Goals as goal
 

@@ -11,4 +11,4 @@ pub returns-clause-ok : goal.returns-clause-ok
 returns-clause-ok c =
     let text : Form → ℕ → List ℕ = λ form code. text_in form (refused_row c.args.at code ∷ []) in
     let is_text = ap₂ text (ap (λ (s : SessionState). s.form) c.self.view_is) c.code.ensures.value in
-    appends_such _ (IsTextOf c.args.self.now (refused_row c.args.at (code_of c.args.cause) ∷ [])) _ _ _ is_text c.write_refused.ensures.appended
+    appends_such _ (IsTextOf c.args.self.now (refused_row c.args.at (code_of c.args.cause) ∷ [])) _ _ _ is_text c.write_refused.ensures.ok

@@ -17,4 +17,4 @@ returns-clause-ok c =
     let is_text = design_text state c.in_ok-names.names c.in_ok-graph.graph c.in_ok-classes.classes (c.in_ok-names.ensures ∙ ap names_of c.site.ensures) c.in_ok-graph.ensures c.in_ok-classes.ensures in
     let text = text_in state.form (design_rows c.in_ok-names.names c.in_ok-graph.graph c.in_ok-classes.classes) in
     let here : IsDesignText c.args.self.now text = subst (λ (s : SessionState). IsDesignText s text) c.self.view_is is_text in
-    appends_such _ (IsDesignText c.args.self.now) _ _ text here c.write_design.ensures.appended
+    appends_such _ (IsDesignText c.args.self.now) _ _ text here c.write_design.ensures.ok

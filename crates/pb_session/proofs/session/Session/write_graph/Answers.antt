@@ -22,4 +22,4 @@ returns-clause-ok c =
     report state c.args.names.now c.args.period.now c.args.graph.now critical study names_are none c.requires.limits c.in_ok-study.ensures.study c.in_ok-study.ensures.certified in
     let here : IsReport c.args.self.now c.args.period.now c.args.graph.now text =
     subst (λ (s : SessionState). IsReport s c.args.period.now c.args.graph.now text) c.self.view_is is_text in
-    appends_such _ (IsReport c.args.self.now c.args.period.now c.args.graph.now) _ _ text here c.write_study.ensures.appended
+    appends_such _ (IsReport c.args.self.now c.args.period.now c.args.graph.now) _ _ text here c.write_study.ensures.ok
