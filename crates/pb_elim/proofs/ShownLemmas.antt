@@ -8,7 +8,6 @@ use Rattle.pb_graph.specs.declared.records.Class.TheVariants.{Observable, Unobse
 use Rattle.pb_graph.specs.declared.records.Witness.{Witness}
 use Rattle.pb_graph.specs.declared.records.Witness.TheVariants.{Cut, Cycle}
 use Rattle.pb_graph.specs.declared.results.Bounds.{Bounds}
-use Rattle.pb_graph.specs.declared.results.Stage.{Stage}
 use Rattle.pb_graph.specs.ProcessGraph.{ProcessGraph}
 use Rattle.pb_graph.specs.Certificates.{Shows}
 use Rattle.pb_graph.specs.Squares.{Fractional, IsBalancedFractional, AreSquaresAtLeast, AreSquaresAtMost, whole_flows}
@@ -20,7 +19,6 @@ use Rattle.pb_gap.specs.Statistic.{low_of}
 use Rattle.pb_gap.specs.Laws.{IsDualPair, AreGaps, StreamLaw, LowLaw, HighLaw}
 use Rattle.pb_gap.specs.Least.{AreWithinGap, DistanceLaw}
 use Rattle.pb_elim.specs.Printed.{printed_price, printed_flows, printed_gap}
-use Rattle.pb_elim.specs.Certified.{IsShownStage, IsCertifiedStage}
 use Rattle.pb_elim.specs.Laws.{ShownLaw}
 
 -- only an unobservable stream has no bounds

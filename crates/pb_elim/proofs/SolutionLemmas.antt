@@ -1,5 +1,5 @@
 -- A stage of a study is shown, and its prices and flows are the solution of its graph.
-use Rattle.std.proofs.Common.{◌≡◌, ◌∙◌, ℕ, ℤ, List, sym, subst}
+use Rattle.std.proofs.Common.{◌∙◌, ℕ, ℤ, List, sym, subst}
 use Rattle.std.proofs.lemmas.List.{length-map}
 use Rattle.pb_graph.specs.declared.records.Classified.{Classified}
 use Rattle.pb_graph.specs.declared.results.Solved.{Solved}
@@ -14,7 +14,7 @@ use Rattle.pb_gap.specs.Gap.{IsGap, deviations_of}
 use Rattle.pb_gap.specs.State.{IsStateAfter}
 use Rattle.pb_gap.specs.Solution.{IsSolution}
 use Rattle.pb_gap.specs.Laws.{AreGaps}
-use Rattle.pb_elim.specs.Printed.{printed_price, printed_flows, printed_gap}
+use Rattle.pb_elim.specs.Printed.{printed_price, printed_flows}
 use Rattle.pb_elim.specs.Stage.{IsStageOf}
 use Rattle.pb_elim.specs.Certified.{IsShownStage, IsCertifiedStage}
 use Rattle.pb_elim.specs.Laws.{ShownLaw, CertifiedLaw, IsSolved, SolutionLaw}

@@ -1,5 +1,5 @@
 -- A process graph has a study.
-use Rattle.std.proofs.Common.{◌≡◌, ◌∙◌, ◌+◌, ◌<◌, ◌≤◌, ℕ, zero, suc, ℤ, pos, List, [], ◌∷◌, length, map, Option, Some, None, slice_get, refl, sym, ap, subst, inl, inr, arith}
+use Rattle.std.proofs.Common.{◌≡◌, ◌∙◌, ◌+◌, ◌<◌, ◌≤◌, ℕ, zero, suc, ℤ, pos, List, [], ◌∷◌, length, map, Some, None, slice_get, refl, sym, ap, subst, inl, inr, arith}
 use Rattle.std.proofs.lemmas.Bool.{cases_lt}
 use Rattle.std.proofs.lemmas.List.{get_or_past}
 use Rattle.pb_integers.specs.Sums.{item}
@@ -20,7 +20,7 @@ use Rattle.pb_gap.specs.Gap.{gap_of}
 use Rattle.pb_gap.specs.StreamBounds.{stream_bounds}
 use Rattle.pb_gap.specs.Statistic.{low_of, high_of}
 use Rattle.pb_gap.specs.Solution.{IsSolution, OutsideLaw, SomeSolutionLaw}
-use Rattle.pb_elim.specs.Printed.{printed_price, printed_flows, printed_classes, printed_gap}
+use Rattle.pb_elim.specs.Printed.{printed_price, printed_flows, printed_classes}
 use Rattle.pb_elim.specs.Stage.{IsStageOf}
 use Rattle.pb_elim.specs.Laws.{SomeStudyLaw}
 use Rattle.pb_elim.proofs.OneStageLemmas.{study_of_one}
