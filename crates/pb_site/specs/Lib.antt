@@ -1,5 +1,6 @@
+-- Statement
 pub mod Row
 pub mod Site
 pub mod Faults
-pub mod AtHand
+-- Inside
 pub mod Kept

@@ -6,9 +6,8 @@
 mod declared;
 mod index;
 mod site;
-mod table;
 #[cfg(test)]
 mod tests;
 
-pub use declared::{Arc, ArcKind, Declared, Kind, Link, SiteFault};
-pub use site::{MOST_ARCS, MOST_PLACES, Site};
+pub use declared::{Arc, ArcKind, Declared, Kind, SiteFault};
+pub use site::Site;
