@@ -176,10 +176,10 @@ impl Site {
     }
 
     /// The strapping table of the tank of a name; `None` exactly where no tank has it.
-    pub fn strap_of(&self, tank: &Name) -> Option<&Strap>
-        ensures { option_copied result ≡ table_of self.now tank.now }
+    pub fn strap_of(&self, name: &Name) -> Option<&Strap>
+        ensures { option_copied result ≡ table_of self.now name.now }
     {
-        self.index.straps.get(tank)
+        self.index.straps.get(name)
     }
 
     /// The critical value of the global test with these degrees of freedom; `None` exactly where none was declared.
