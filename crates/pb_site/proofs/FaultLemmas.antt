@@ -4,7 +4,7 @@ use Rattle.std.specs.Cmp.Lexicographic.{bytes_decides}
 use Rattle.std.proofs.Common.{◌≡◌, ◌∙◌, ℕ, ◌+◌, ◌<◌, ◌≤◌, List, [], ◌∷◌, length, Bool, true, false, None, codes, refl, sym, ap, arith, inl, inr}
 use Rattle.std.proofs.lemmas.Bool.{cases_Bool, leb-false, or_parts}
 use Rattle.std.proofs.lemmas.List.{length-map}
-use Rattle.pb_limits.specs.Limits.{most_points, most_streams, most_units_and_tanks}
+use Rattle.pb_limits.specs.Limits.{most_nodes, most_points, most_streams, most_units_and_tanks}
 use Rattle.pb_rows.specs.Name.{same_name}
 use Rattle.pb_site.specs.declared.declared.Arc.{Arc}
 use Rattle.pb_site.specs.declared.declared.Declared.{Declared}
@@ -134,8 +134,8 @@ new_row declared index (Stream name from to kind base) kept good ranges =
 new_row declared index row kept good ranges = tt
 
 -- there is room for one more unit or tank
-pub room_nodes : (declared : List Declared) (row : Declared) → IsFine declared row → length (filter_map node_name declared) ≤ most_units_and_tanks
-    → length (filter_map node_name declared) + length (filter_map node_name (row ∷ [])) ≤ most_units_and_tanks
+pub room_nodes : (declared : List Declared) (row : Declared) → IsFine declared row → length (node_names declared) ≤ most_nodes
+    → length (node_names declared) + length (filter_map node_name (row ∷ [])) ≤ most_nodes
 room_nodes declared (UnitRow name) good few = let less = below most_units_and_tanks (length (filter_map node_name declared)) good.room in omega (arith, less)
 room_nodes declared (Tank name base) good few =
     let parts = or_parts (has_most_nodes declared) (has_most_arcs declared) good.room in

@@ -3,12 +3,13 @@ use Rattle.std.specs.Prelude.{◌||◌, ◌==◌, is_some, if◌then◌else◌, 
 use Rattle.std.specs.Option.{option_map}
 use Rattle.std.specs.Cmp.Lexicographic.{bytes_decides}
 use Rattle.std.specs.List.{cons_option}
-use Rattle.std.proofs.Common.{◌≡◌, ◌≢◌, ◌∙◌, ◌+◌, ◌<◌, ℕ, suc, ℤ, List, [], ◌∷◌, ◌++◌, length, get_or, All, Bool, true, false, Option, Some, None, slice_get, codes, refl, sym, ap, ap₂, subst, arith, inl, inr, length-append}
+use Rattle.std.proofs.Common.{◌≡◌, ◌≢◌, ◌∙◌, ◌+◌, ◌<◌, ◌≤◌, ℕ, suc, ℤ, List, [], ◌∷◌, ◌++◌, length, get_or, All, Bool, true, false, Option, Some, None, slice_get, codes, refl, sym, ap, ap₂, subst, arith, inl, inr, length-append}
 use Rattle.std.proofs.lemmas.Bool.{cases_Bool, eqb-false, eqb-true, or_parts}
 use Rattle.std.proofs.lemmas.List.{append-nil}
 use Rattle.std.proofs.lemmas.List.Elements.{All-append, All-cons, All-nil, All-weaker, filter_map-append}
 use Rattle.std.proofs.lemmas.List.Folds.{list_any-append, list_any_at}
 use Rattle.std.proofs.lemmas.List.Quantifiers.{all_pairs_push}
+use Rattle.pb_limits.specs.Limits.{most_nodes, most_streams}
 use Rattle.pb_rows.specs.Name.{same_name}
 use Rattle.pb_strap.specs.declared.strap.Point.{Point}
 use Rattle.pb_site.specs.declared.declared.Arc.{Arc}
@@ -19,8 +20,9 @@ use Rattle.pb_site.specs.declared.index.Index.{Index}
 use Rattle.pb_site.specs.Row.{IsArcBase, IsInRange, arc_in, arc_kind, declared_name, declares_tank, global_value, measure_value, nodal_value, node_at, node_name, point_of}
 use Rattle.pb_site.specs.Site.{AreDistinct, HasDistinctNames, IsArc, arc_names, arcs_of, global_of, is_tank, measure_of, nodal_of, node_names, points_of, table_of}
 use Rattle.pb_site.specs.Faults.{is_among, is_node}
+use Rattle.pb_site.specs.Laws.{IsPlant, PlantLaw}
 use Rattle.pb_site.specs.Kept.{IsKept, Notes, SameIndex, arc_name, nodes_in, table_with, value_with}
-use Rattle.pb_site.proofs.FaultLemmas.{IsFine, arc_names-are, both, free, no_name, no_tank, not_false, room_arcs, room_nodes, same_self, same_sym}
+use Rattle.pb_site.proofs.FaultLemmas.{IsFine, arc_names-are, both, fine, free, no_name, no_tank, not_false, room_arcs, room_nodes, same_self, same_sym}
 use Rattle.pb_site.proofs.LookUpLemmas.{any_place, place_is, place_last, place_more}
 
 -- an index that gives the same is kept
@@ -33,11 +35,8 @@ kept_same declared old new kept same = record {
   global = λ dof. same.global dof ∙ kept.global dof;
   nodal = same.nodal ∙ kept.nodal;
   measure = same.measure ∙ kept.measure;
-  distinct = kept.distinct;
-  joined = kept.joined;
+  plant = kept.plant;
   no_points = kept.no_points;
-  few_nodes = kept.few_nodes;
-  few_arcs = kept.few_arcs;
 }
 
 -- ---- critical values
@@ -264,6 +263,19 @@ distinct_more declared row good apart =
 
 -- ---- one more declaration
 
+plant_more : (declared : List Declared) (row : Declared) → IsPlant declared → IsFine declared row → IsInRange row → IsPlant (declared ++ row ∷ [])
+plant_more declared row plant good ranges =
+    let more = filter_map node_name (row ∷ []) in
+    let arcs = filter_map (arc_in (node_names declared ++ more)) (row ∷ []) in
+    record {
+      distinct = distinct_more declared row good plant.distinct;
+      joined = joined_more declared row good ranges plant.joined;
+      few_nodes = subst (λ (names : List (List ℕ)). length names ≤ most_nodes) (sym (nodes_more declared row))
+          (subst (λ (n : ℕ). n ≤ most_nodes) (sym (length-append (node_names declared) more)) (room_nodes declared row good plant.few_nodes));
+      few_arcs = subst (λ (all : List Arc). length all ≤ most_streams) (sym (arcs_more declared row plant.joined))
+          (subst (λ (n : ℕ). n ≤ most_streams) (sym (length-append (arcs_of declared) arcs)) (room_arcs declared row (node_names declared ++ more) good plant.few_arcs));
+    }
+
 pub kept_more : (declared : List Declared) (old new : Index) (row : Declared) → IsKept declared old → Notes old new row → IsFine declared row → IsInRange row → IsKept (declared ++ row ∷ []) new
 kept_more declared old new row kept notes good ranges =
     let last = row ∷ [] in
@@ -273,16 +285,25 @@ kept_more declared old new row kept notes good ranges =
       nodes = nodes;
       arc_names = notes.arc_names ∙ ap (λ (names : List (List ℕ)). names ++ filter_map arc_name last) (kept.arc_names ∙ arc_names-are (node_names declared) declared)
           ∙ sym (filter_map-append arc_name declared last) ∙ sym (arc_names-are (node_names (declared ++ last)) (declared ++ last));
-      arcs = notes.arcs ∙ ap₂ (λ (arcs : List Arc) (names : List (List ℕ)). arcs ++ filter_map (arc_in names) last) kept.arcs in_new ∙ sym (arcs_more declared row kept.joined);
+      arcs = notes.arcs ∙ ap₂ (λ (arcs : List Arc) (names : List (List ℕ)). arcs ++ filter_map (arc_in names) last) kept.arcs in_new ∙ sym (arcs_more declared row kept.plant.joined);
       straps = λ name. notes.straps name ∙ ap (table_with row name) (kept.straps name) ∙ sym (table_more declared row name good kept.no_points);
       global = λ dof. notes.global dof ∙ ap (value_with (global_value dof row)) (kept.global dof) ∙ sym (value_more (global_value dof) declared row (fresh_global declared row dof good));
       nodal = notes.nodal ∙ ap (value_with (nodal_value row)) kept.nodal ∙ sym (value_more nodal_value declared row (fresh_nodal declared row good));
       measure = notes.measure ∙ ap (value_with (measure_value row)) kept.measure ∙ sym (value_more measure_value declared row (fresh_measure declared row good));
-      distinct = distinct_more declared row good kept.distinct;
-      joined = joined_more declared row good ranges kept.joined;
+      plant = plant_more declared row kept.plant good ranges;
       no_points = λ name undeclared. none_more declared row name good kept.no_points undeclared;
-      few_nodes = rw (filter_map-append node_name declared last, length-append (filter_map node_name declared) (filter_map node_name last)) (room_nodes declared row good kept.few_nodes);
-      few_arcs =
-          let arcs = filter_map (arc_in (node_names declared ++ filter_map node_name last)) last in
-          rw (arcs_more declared row kept.joined, length-append (arcs_of declared) arcs) (room_arcs declared row (node_names declared ++ filter_map node_name last) good kept.few_arcs);
     }
+
+-- ---- the law of the plant
+
+pub plant_law : PlantLaw
+plant_law = (
+  record { distinct = record { nodes = one (codes "env"); arcs = none; all = one (codes "env") }; joined = All-nil (IsArc 1); few_nodes = omega arith; few_arcs = omega arith },
+  λ declared row plant ranges no_fault. plant_more declared row plant (fine declared row no_fault) ranges,
+)
+  where
+    none : AreDistinct []
+    none = λ i j d before within. absurd (omega (arith, within))
+
+    one : (name : List ℕ) → AreDistinct (name ∷ [])
+    one name = λ i j d before within. absurd (omega (arith, before, within))

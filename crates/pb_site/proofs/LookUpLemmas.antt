@@ -129,7 +129,7 @@ is_at declared index j arc kept found within =
     let at : arc ≡ get_or (arcs_of declared) j arc = rw kept.arcs at found in
     record {
       here = slice_get-get_or (arcs_of declared) j arc within ∙ ap Some (sym at);
-      right = subst (IsArc (length (node_names declared))) (sym at) (kept.joined j arc within);
+      right = subst (IsArc (length (node_names declared))) (sym at) (kept.plant.joined j arc within);
     }
 
 -- ---- the table of an arc

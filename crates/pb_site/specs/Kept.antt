@@ -1,9 +1,9 @@
 -- Inside. What a site keeps beside the declarations, so that no look-up walks them.
-use Rattle.std.specs.Prelude.{◌≡◌, ℕ, ◌≤◌, ◌<◌, nat_eq, ℤ, true, false, List, [], ◌∷◌, ◌++◌, length, filter_map, All, Option, Some, None, IsSomeAnd, if◌then◌else◌, codes, vec_len, vec_capacity}
+use Rattle.std.specs.Prelude.{◌≡◌, ℕ, ◌<◌, nat_eq, ℤ, true, false, List, [], ◌∷◌, ◌++◌, length, filter_map, Option, Some, None, IsSomeAnd, if◌then◌else◌, codes, vec_len, vec_capacity}
 use Rattle.std.specs.Option.{option_map}
 use Rattle.std.specs.HashMap.{get, spare}
 use Rattle.indexmap.specs.IndexSet as set
-use Rattle.pb_limits.specs.Limits.{most_points, most_streams, most_units_and_tanks}
+use Rattle.pb_limits.specs.Limits.{most_points}
 use Rattle.pb_limits.specs.Ranges.{IsLevel, IsVolume}
 use Rattle.pb_rows.specs.Name.{same_name}
 use Rattle.pb_strap.specs.declared.strap.Point.{Point}
@@ -12,8 +12,9 @@ use Rattle.pb_site.specs.declared.index.Index.{Index}
 use Rattle.pb_site.specs.declared.declared.Declared.{Declared}
 use Rattle.pb_site.specs.declared.declared.Declared.TheVariants.{Unit as UnitRow, Tank, Strap, Stream}
 use Rattle.pb_site.specs.Row.{arc_in, global_value, measure_value, nodal_value, node_name}
-use Rattle.pb_site.specs.Site.{HasDistinctNames, IsArc, arc_names, arcs_of, global_of, is_tank, measure_of, nodal_of, node_names, points_of, table_of}
+use Rattle.pb_site.specs.Site.{arc_names, arcs_of, global_of, is_tank, measure_of, nodal_of, points_of, table_of}
 use Rattle.pb_site.specs.Faults.{is_among}
+use Rattle.pb_site.specs.Laws.{IsPlant}
 
 -- the name of the stream or tank that a declaration declares
 abbrev pub arc_name : Declared → Option (List ℕ)
@@ -25,8 +26,7 @@ arc_name row = None
 abbrev pub nodes_in : Index → List (List ℕ)
 nodes_in index = codes "env" ∷ index.nodes.keys
 
--- The index gives the names, arcs, tables and critical values of the declarations; names are distinct, each arc leads from a node
--- to another one, no table is of a tank that isn't declared, and there are not too many units, tanks and streams.
+-- the index gives the names, arcs, tables and critical values of a plant, and no table is of a tank that isn't declared
 pub record IsKept (declared : List Declared) (index : Index) : Type 0 where
   pub nodes : index.nodes.keys ≡ filter_map node_name declared
   pub arc_names : index.arc_names.keys ≡ arc_names declared
@@ -35,11 +35,8 @@ pub record IsKept (declared : List Declared) (index : Index) : Type 0 where
   pub global : (dof : ℕ) → get nat_eq index.global dof ≡ global_of declared dof
   pub nodal : index.nodal ≡ nodal_of declared
   pub measure : index.measure ≡ measure_of declared
-  pub distinct : HasDistinctNames declared
-  pub joined : All (IsArc (length (node_names declared))) (arcs_of declared)
+  pub plant : IsPlant declared
   pub no_points : (name : List ℕ) → is_tank declared name ≡ false → points_of declared name ≡ []
-  pub few_nodes : length (filter_map node_name declared) ≤ most_units_and_tanks
-  pub few_arcs : length (arcs_of declared) ≤ most_streams
 
 -- the table at a name behind one more declaration
 abbrev pub table_with : Declared → List ℕ → Option (List Point) → Option (List Point)

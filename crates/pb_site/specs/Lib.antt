@@ -2,5 +2,6 @@
 pub mod Row
 pub mod Site
 pub mod Faults
+pub mod Laws
 -- Inside
 pub mod Kept

@@ -5,9 +5,11 @@
 
 mod declared;
 mod index;
+mod laws;
 mod site;
 #[cfg(test)]
 mod tests;
 
 pub use declared::{Arc, ArcKind, Declared, Kind, SiteFault};
+pub use laws::plant_law;
 pub use site::Site;
