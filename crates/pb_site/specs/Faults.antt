@@ -26,7 +26,8 @@ is_taken declared name = is_node declared name || is_among (arc_names declared) 
 -- a point of a table names no declared tank, or an end of a stream no node
 abbrev pub is_unknown : List Declared → Declared → Bool
 is_unknown declared (Strap tank mm ml) = not (is_tank declared tank)
-is_unknown declared (Stream name from to kind base) = not (is_node declared from && is_node declared to)
+is_unknown declared (Stream name from to kind base) =
+    not (is_node declared from && is_node declared to)
 is_unknown declared row = false
 
 -- the name is taken, or such a critical value is declared
@@ -51,7 +52,8 @@ is_one_node from to = false
 
 -- a stream from a node to itself
 abbrev pub is_mismatch : List Declared → Declared → Bool
-is_mismatch declared (Stream name from to kind base) = is_one_node (node_of declared from) (node_of declared to)
+is_mismatch declared (Stream name from to kind base) =
+    is_one_node (node_of declared from) (node_of declared to)
 is_mismatch declared row = false
 
 -- as many units and tanks are declared as there may be

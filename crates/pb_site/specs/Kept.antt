@@ -42,7 +42,8 @@ pub record IsKept (declared : List Declared) (index : Index) : Type 0 where
 abbrev pub table_with : Declared → List ℕ → Option (List Point) → Option (List Point)
 table_with (Tank name base) wanted table = if same_name name wanted then Some [] else table
 table_with (Strap name mm ml) wanted table =
-    if same_name name wanted then option_map (λ points. points ++ record { mm = mm; ml = ml } ∷ []) table else table
+    if same_name name wanted then option_map (λ points. points ++ record { mm = mm; ml = ml } ∷ []) table
+    else table
 table_with row wanted table = table
 
 -- a critical value behind one more declaration, which may declare one
@@ -73,8 +74,10 @@ pub record Notes (old new : Index) (row : Declared) : Type 0 where
   pub nodes : new.nodes.keys ≡ old.nodes.keys ++ filter_map node_name (row ∷ [])
   pub arc_names : new.arc_names.keys ≡ old.arc_names.keys ++ filter_map arc_name (row ∷ [])
   pub arcs : new.arcs.items ≡ old.arcs.items ++ filter_map (arc_in (nodes_in new)) (row ∷ [])
-  pub straps : (name : List ℕ) → get same_name new.straps name ≡ table_with row name (get same_name old.straps name)
-  pub global : (dof : ℕ) → get nat_eq new.global dof ≡ value_with (global_value dof row) (get nat_eq old.global dof)
+  pub straps : (name : List ℕ)
+      → get same_name new.straps name ≡ table_with row name (get same_name old.straps name)
+  pub global : (dof : ℕ)
+      → get nat_eq new.global dof ≡ value_with (global_value dof row) (get nat_eq old.global dof)
   pub nodal : new.nodal ≡ value_with (nodal_value row) old.nodal
   pub measure : new.measure ≡ value_with (measure_value row) old.measure
 
@@ -88,8 +91,10 @@ pub record CanAdd (mm ml : ℤ) (points : List Point) : Type 0 where
 -- the names of a declaration are new, its ends are nodes, and the table of its point is there and takes it
 abbrev pub IsNew : Index → Declared → Type 0
 IsNew index (UnitRow name) = is_among index.nodes.keys name ≡ false
-IsNew index (Tank name base) = (is_among (nodes_in index) name ≡ false) × (is_among index.arc_names.keys name ≡ false)
+IsNew index (Tank name base) =
+    (is_among (nodes_in index) name ≡ false) × (is_among index.arc_names.keys name ≡ false)
 IsNew index (Strap tank mm ml) = IsSomeAnd (get same_name index.straps tank) (CanAdd mm ml)
 IsNew index (Stream name from to kind base) =
-    (is_among index.arc_names.keys name ≡ false) × (is_among (nodes_in index) from ≡ true) × (is_among (nodes_in index) to ≡ true)
+    (is_among index.arc_names.keys name ≡ false)
+    × (is_among (nodes_in index) from ≡ true) × (is_among (nodes_in index) to ≡ true)
 IsNew index row = Unit {0}

@@ -16,5 +16,6 @@ pub record IsPlant (declared : List Declared) : Type 0 where
 -- each plant whose declarations had no fault is one
 abbrev pub PlantLaw : Type 0
 PlantLaw =
-    IsPlant [] × ((declared : List Declared) (row : Declared) → IsPlant declared → IsInRange row → fault_of declared row ≡ None
-    → IsPlant (declared ++ row ∷ []))
+    IsPlant []
+    × ((declared : List Declared) (row : Declared) → IsPlant declared → IsInRange row
+    → fault_of declared row ≡ None → IsPlant (declared ++ row ∷ []))

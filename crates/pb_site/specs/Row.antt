@@ -57,7 +57,9 @@ abbrev pub arc_in : List (List ℕ) → Declared → Option Arc
 arc_in nodes (Tank name base) =
     Some (record { name = name; from = node_at nodes name; to = 0; kind = TankArc; base = base })
 arc_in nodes (Stream name from to kind base) =
-    Some (record { name = name; from = node_at nodes from; to = node_at nodes to; kind = arc_kind kind; base = base })
+    let begins = node_at nodes from in
+    let ends = node_at nodes to in
+    Some (record { name = name; from = begins; to = ends; kind = arc_kind kind; base = base })
 arc_in nodes row = None
 
 -- a declaration of the tank of this name
@@ -67,7 +69,8 @@ declares_tank tank row = false
 
 -- the point of the table of this tank that a declaration declares
 abbrev pub point_of : List ℕ → Declared → Option Point
-point_of tank (Strap name mm ml) = if same_name name tank then Some (record { mm = mm; ml = ml }) else None
+point_of tank (Strap name mm ml) =
+    if same_name name tank then Some (record { mm = mm; ml = ml }) else None
 point_of tank row = None
 
 -- the critical value of the global test with these degrees of freedom that a declaration declares

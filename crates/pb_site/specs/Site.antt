@@ -36,7 +36,9 @@ arc_names declared = map (λ (arc : Arc). arc.name) (arcs_of declared)
 
 -- the kind of the arc of this name
 abbrev pub kind_of : List Declared → List ℕ → Option ArcKind
-kind_of declared name = option_map (λ (arc : Arc). arc.kind) (find (λ (arc : Arc). same_name name arc.name) (arcs_of declared))
+kind_of declared name =
+    option_map (λ (arc : Arc). arc.kind)
+    (find (λ (arc : Arc). same_name name arc.name) (arcs_of declared))
 
 -- the names of the nodes and arcs
 abbrev pub names_of : List Declared → Names

@@ -178,7 +178,8 @@ fn add_point(
     requires { IsSomeAnd (get same_name straps.old tank.now) (CanAdd mm ml) }
     ensures ok { OnOk result ((name : List ℕ) → get same_name straps.new name
         ≡ table_with (StrapRow tank.now mm ml) name (get same_name straps.old name)) }
-    ensures err { OnErr result ((name : List ℕ) → get same_name straps.new name ≡ get same_name straps.old name) }
+    ensures err { OnErr result ((name : List ℕ)
+        → get same_name straps.new name ≡ get same_name straps.old name) }
 {
     match straps.get_mut(tank) {
         Some(strap) => strap.add(mm, ml),

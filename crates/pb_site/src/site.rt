@@ -132,7 +132,8 @@ impl Site {
     /// The strapping table of the arc at a place; `None` exactly where the arc isn't a tank's.
     pub fn strap(&self, place: u32) -> Option<&Strap>
         requires { place < length (arcs_of self.now) }
-        ensures { option_copied result ≡ option_and_then (table_of_arc self.now) (slice_get (arcs_of self.now) place) }
+        ensures { option_copied result
+            ≡ option_and_then (table_of_arc self.now) (slice_get (arcs_of self.now) place) }
     {
         let arc = &self.index.arcs[place as usize];
         match arc.kind {
