@@ -1,5 +1,3 @@
-pub mod ArcLemmas
-pub mod KeptLemmas
-pub mod NameLemmas
-pub mod FieldLemmas
-pub mod RowLemmas
+mod FieldLemmas
+mod NameLemmas
+mod PeriodLemmas
