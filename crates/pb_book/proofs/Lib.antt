@@ -1,3 +1,5 @@
+mod AcceptedLemmas
 mod FieldLemmas
 mod NameLemmas
 mod PeriodLemmas
+mod RequestLemmas

@@ -3,6 +3,8 @@ use Rattle.std.specs.Prelude.{ℤ, pos, ◌-ℤ◌, ◌≤ℤ◌, ◌<ℤ◌}
 use Rattle.pb_limits.specs.Limits.{most_days_of_period}
 use Rattle.pb_site.specs.Row.{IsInRange as IsDeclaredInRange}
 use Rattle.pb_facts.specs.Fact.{IsDay, IsInRange as IsFactInRange}
+use Rattle.pb_book.specs.declared.requests.Request.{Request}
+use Rattle.pb_book.specs.declared.requests.Request.TheVariants.{Store}
 use Rattle.pb_book.specs.declared.rows.BookRow.{BookRow}
 use Rattle.pb_book.specs.declared.rows.BookRow.TheVariants.{Declaration, Period as PeriodRow, Fact as FactRow}
 use Rattle.pb_book.specs.declared.rows.Period.{Period}
@@ -17,7 +19,12 @@ IsRowInRange (Declaration declared) = IsDeclaredInRange declared
 IsRowInRange (PeriodRow name first last) = IsDay first × IsDay last
 IsRowInRange (FactRow fact) = IsFactInRange fact
 
--- a period has from 1 to 100 days
+-- so do those of a row that is asked to be stored
+abbrev pub IsRequestInRange : Request → Type 0
+IsRequestInRange (Store row) = IsRowInRange row
+IsRequestInRange request = Unit {0}
+
+-- a period has at least one day, and as many as it may have
 pub record IsPeriod (period : Period) : Type 0 where
   pub begins : IsDay period.first
   pub ends : IsDay period.last

@@ -1,7 +1,10 @@
 // What the book answers to a record.
 
 ghost use Rattle.std.specs.Prelude.{◌≡◌, ◌≤◌};
+ghost use Rattle.pb_book.specs.Answer.{code_of};
 
+use pb_facts::FactFault;
+use pb_site::SiteFault;
 use std::alloc::AllocError;
 
 /// What the book did with a record that it accepted.
@@ -56,6 +59,7 @@ pub enum NotAccepted {
 impl Refused {
     /// The number of the cause in the output, from 1 to 13.
     pub fn code(self) -> u32
+        ensures value { result ≡ code_of self }
         ensures least { 1 ≤ result }
         ensures most { result ≤ 13 }
     {
@@ -95,3 +99,18 @@ impl From<AllocError> for NotAccepted {
     }
 }
 
+impl From<SiteFault> for Refused {
+    ghost use Rattle.pb_book.specs.Refusals.{cause_of_declaration};
+
+    ghost from_gives = { λ fault cause. cause ≡ cause_of_declaration fault };
+
+    fn from(fault: SiteFault) -> Refused {
+        match fault {
+            SiteFault::Unknown => Refused::Unknown,
+            SiteFault::Duplicate => Refused::Duplicate,
+            SiteFault::Order => Refused::Order,
+            SiteFault::Mismatch => Refused::Mismatch,
+            SiteFault::Full => Refused::Full,
+        }
+    }
+}

@@ -5,10 +5,12 @@
 
 mod answer;
 mod fields;
+mod laws;
 mod periods;
 mod requests;
 mod rows;
 
 pub use answer::{Accepted, NotAccepted, Refused};
+pub use laws::requests_law;
 pub use requests::{Request, RowKind, Version, read_request};
 pub use rows::{BookRow, Part, Period, Place};

@@ -35,7 +35,7 @@ pub struct Place {
 /// A part of the book, and a place in it.
 #[derive(Clone, Copy)]
 pub enum Part {
-    Declaration(u32),
+    Declaration(usize),
     Period(u32),
     Fact(u32),
 }
