@@ -1,5 +1,7 @@
 mod AcceptedLemmas
+mod ConsistentLemmas
 mod FieldLemmas
+mod KeptLemmas
 mod NameLemmas
 mod PeriodLemmas
 mod RequestLemmas

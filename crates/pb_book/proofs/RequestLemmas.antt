@@ -89,7 +89,9 @@ asked texts UnitRow (name ∷ []) fine = tt
 asked texts Tank (name ∷ base ∷ []) fine = between (pos 1) (pos most_row_variance) base (last_fine _ fine.numbers)
 asked texts Strap (tank ∷ mm ∷ ml ∷ []) fine =
     let parts = or_parts (is_bad_number level_column mm) (is_bad_number volume_column ml || false) fine.numbers in
-    (between (pos 0) (pos most_level) mm parts.0, between (pos 0) (pos most_volume) ml (last_fine _ parts.1))
+    let level = between (pos 0) (pos most_level) mm parts.0 in
+    let volume = between (pos 0) (pos most_volume) ml (last_fine _ parts.1) in
+    (level.0, level.1, volume.0, volume.1)
 asked texts (Stream kind) (name ∷ from ∷ to ∷ word ∷ base ∷ []) fine = base_in_range kind base (last_fine _ fine.numbers)
 asked texts Period (name ∷ first ∷ last ∷ []) fine =
     let parts = or_parts (is_bad_date Date first) (is_bad_date Date last || false) fine.dates in
@@ -134,3 +136,9 @@ requests_in_range texts version (word ∷ fields) row is = by (kind_of version w
     by : (kind : Result RowKind Refused) → request_if kind fields ≡ Ok (Store row) → IsRowInRange row
     by (Ok kind) is = by_kind texts kind fields row is
     by (Err fault) is = cc is
+
+-- the same of a request
+pub request_in_range : RequestsLaw → (version : Version) (fields : List (List ℕ)) (request : Request) → (let asked : Result Request Refused = Ok request in asked) ≡ request_in version fields
+    → IsRequestInRange request
+request_in_range law version fields (Store row) is = law version fields row (sym is)
+request_in_range law version fields request is = tt

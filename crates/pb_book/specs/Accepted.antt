@@ -3,10 +3,11 @@ use Rattle.std.specs.Prelude.{◌≡◌, ℕ, false, List, [], take, All, None, 
 use Rattle.pb_facts.specs.declared.facts.KeptFact.{KeptFact}
 use Rattle.pb_site.specs.declared.declared.Declared.{Declared}
 use Rattle.pb_book.specs.declared.rows.BookRow.{BookRow}
+use Rattle.pb_book.specs.declared.rows.Period.{Period}
 use Rattle.pb_book.specs.Apart.{AreApart}
 use Rattle.pb_book.specs.Ranges.{IsPeriod, IsRowInRange}
 use Rattle.pb_book.specs.Refusals.{is_outside_table, refusal_of}
-use Rattle.pb_book.specs.Rows.{StoredRow, declared_of, facts_of, periods_of}
+use Rattle.pb_book.specs.Rows.{StoredRow}
 
 -- a row may join the stored ones: there is no cause to refuse it, and its numbers and days lie in their ranges
 pub record IsAcceptable (rows : List StoredRow) (row : BookRow) : Type 0 where
@@ -22,8 +23,9 @@ AreAccepted rows =
 abbrev pub AreInTables : List Declared → List KeptFact → Type 0
 AreInTables declared kept = All (λ (k : KeptFact). is_outside_table declared k.fact ≡ false) kept
 
--- what follows of accepted rows
-pub record AreConsistent (rows : List StoredRow) : Type 0 where
-  pub days : All IsPeriod (periods_of rows)
-  pub apart : AreApart (periods_of rows)
-  pub in_tables : AreInTables (declared_of rows) (facts_of rows)
+-- What follows of accepted rows: each period has as many days as it may have, no two share a name or a day, and
+-- each dip lies in its tank's table, which may have grown since.
+pub record AreConsistent (declared : List Declared) (kept : List KeptFact) (periods : List Period) : Type 0 where
+  pub days : All IsPeriod periods
+  pub apart : AreApart periods
+  pub in_tables : AreInTables declared kept

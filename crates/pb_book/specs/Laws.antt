@@ -7,7 +7,7 @@ use Rattle.pb_book.specs.Requests.{request_in}
 use Rattle.pb_book.specs.Accepted.{AreAccepted, AreConsistent}
 use Rattle.pb_book.specs.Answer.{after}
 use Rattle.pb_book.specs.Ranges.{IsRowInRange}
-use Rattle.pb_book.specs.Rows.{StoredRow}
+use Rattle.pb_book.specs.Rows.{StoredRow, declared_of, facts_of, periods_of}
 
 -- the numbers and days of a row that a record asks to be stored lie in their ranges
 abbrev pub RequestsLaw : Type 0
@@ -20,4 +20,5 @@ pub record AcceptedLaw : Type 0 where
   pub begin : AreAccepted []
   pub go_on : (rows : List StoredRow) (at : ℕ) (fields : List (List ℕ)) → AreAccepted rows
       → AreAccepted (after rows at fields)
-  pub consistent : (rows : List StoredRow) → AreAccepted rows → AreConsistent rows
+  pub consistent : (rows : List StoredRow) → AreAccepted rows
+      → AreConsistent (declared_of rows) (facts_of rows) (periods_of rows)

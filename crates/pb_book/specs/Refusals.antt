@@ -10,10 +10,7 @@ use Rattle.pb_site.specs.declared.declared.ArcKind.TheVariants.{Metered, Batch, 
 use Rattle.pb_site.specs.declared.declared.Declared.{Declared}
 use Rattle.pb_site.specs.declared.declared.SiteFault.{SiteFault}
 use Rattle.pb_site.specs.declared.declared.SiteFault.TheVariants.{Unknown as UnknownDeclared, Duplicate as DuplicateDeclared, Order as OrderDeclared, Mismatch as MismatchDeclared, Full as FullDeclared}
-use Rattle.pb_site.specs.Site.{links_of, table_of}
-use Rattle.pb_rows.specs.Name.{same_name}
-use Rattle.pb_site.specs.declared.declared.Link.{Link}
-use Rattle.std.specs.Prelude.{find, option_map}
+use Rattle.pb_site.specs.Site.{kind_of, table_of}
 use Rattle.pb_site.specs.Faults.{is_unknown as is_unknown_declared, is_duplicate as is_duplicate_declared, is_out_of_order as is_out_of_order_declared, is_mismatch as is_mismatch_declared, is_full as is_full_declared}
 use Rattle.pb_facts.specs.declared.fact.Fact.{Fact}
 use Rattle.pb_facts.specs.declared.fact.Fact.TheVariants.{Reading, Transfer, Dip}
@@ -27,10 +24,6 @@ use Rattle.pb_book.specs.declared.rows.BookRow.TheVariants.{Declaration, Period 
 use Rattle.pb_book.specs.declared.rows.Period.{Period}
 use Rattle.pb_book.specs.Apart.{is_named, shares_a_day}
 use Rattle.pb_book.specs.Rows.{StoredRow, declared_of, facts_of, periods_of}
-
--- TEMPORARY
-abbrev pub kind_of : List Declared → List ℕ → Option ArcKind
-kind_of declared name = option_map (λ (link : Link). link.kind) (find (λ (link : Link). same_name name link.name) (links_of declared))
 
 -- the kind of the stream, or of the tank, that a fact names, if one is declared
 abbrev pub kind_of_fact : List Declared → Fact → Option ArcKind

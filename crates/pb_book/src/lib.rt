@@ -4,13 +4,16 @@
 #![tactic(auto)]
 
 mod answer;
+mod book;
 mod fields;
+mod judge;
 mod laws;
 mod periods;
 mod requests;
 mod rows;
 
+pub use book::Book;
 pub use answer::{Accepted, NotAccepted, Refused};
-pub use laws::requests_law;
+pub use laws::{accepted_law, requests_law};
 pub use requests::{Request, RowKind, Version, read_request};
 pub use rows::{BookRow, Part, Period, Place};
