@@ -91,7 +91,7 @@ asked texts Strap (tank ∷ mm ∷ ml ∷ []) fine =
     let parts = or_parts (is_bad_number level_column mm) (is_bad_number volume_column ml || false) fine.numbers in
     let level = between (pos 0) (pos most_level) mm parts.0 in
     let volume = between (pos 0) (pos most_volume) ml (last_fine _ parts.1) in
-    (level.0, level.1, volume.0, volume.1)
+    (level, volume)
 asked texts (Stream kind) (name ∷ from ∷ to ∷ word ∷ base ∷ []) fine = base_in_range kind base (last_fine _ fine.numbers)
 asked texts Period (name ∷ first ∷ last ∷ []) fine =
     let parts = or_parts (is_bad_date Date first) (is_bad_date Date last || false) fine.dates in

@@ -22,6 +22,9 @@ use pb_site::Site;
 use std::alloc::{AllocError, Global};
 use std::marker::Model;
 
+#[cfg(test)]
+mod tests;
+
 /// The accepted rows of a session, in order: the places of all, and what they hold by its parts.
 #[derive(Drop)]
 pub struct Book {

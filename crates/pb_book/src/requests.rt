@@ -14,6 +14,9 @@ use pb_facts::Fact;
 use pb_rows::{Name, Row};
 use pb_site::{Declared, Kind};
 
+#[cfg(test)]
+mod tests;
+
 /// The version of a session, which decides what kinds of rows it has.
 #[derive(Clone, Copy, PartialEq, Eq, Debug)]
 pub enum Version {

@@ -168,6 +168,7 @@ impl Facts {
         requires { (last -ℤ first) <ℤ pos most_days_of_period }
         ensures transfers { HoldsTransfers self.now stream.now first last result.now }
         ensures places { All (λ place. place < length self.now) result.now }
+        ensures within { length result.now ≤ most_facts }
     {
         match self.places.transfers.get(&(*stream, block_of(last))) {
             Some(places) => places,

@@ -1,7 +1,7 @@
 use Rattle.std.proofs.Common.{FitsSigned, refl, arith, ◌+ℤ◌, ◌-ℤ◌}
 use mir.Syntax.{w128}
 use Rattle.std.proofs.lemmas.Int.{ints, to_z-of_z}
-use Rattle.pb_period.proofs.readings.less.Goals as goal
+use Rattle.pb_period.proofs.measured.difference.Goals as goal
 
 pub returns-clause-value : goal.returns-clause-value
 returns-clause-value c =

@@ -2,7 +2,7 @@ use Rattle.std.proofs.Common.{◌≤ℤ◌, FitsSigned, arith}
 use mir.Syntax.{w32}
 use Rattle.std.proofs.lemmas.Int.{ints, to_z-of_z}
 use Rattle.pb_period.proofs.DayLemmas.{span}
-use Rattle.pb_period.proofs.moved.share_on.Goals as goal
+use Rattle.pb_period.proofs.transfers.share_on.Goals as goal
 
 pub share_amount-requires-clause-span : goal.share_amount-requires-clause-span
 share_amount-requires-clause-span c =
