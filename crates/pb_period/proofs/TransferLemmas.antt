@@ -4,7 +4,7 @@ use Rattle.std.specs.Int.{int_max, int_min}
 use Rattle.std.specs.List.{cons_option}
 use Rattle.std.proofs.Common.{◌≡◌, ◌∙◌, ◌<◌, ◌≤◌, ◌+◌, ℕ, ℤ, suc, List, [], ◌∷◌, length, drop, get_or, Bool, true, false, Option, Some, None, refl, sym, ap, arith, inl, inr, drop-cons}
 use Rattle.std.proofs.lemmas.Bool.{and_parts, cases_Bool}
-use Rattle.std.proofs.lemmas.Int.{ints}
+use Rattle.std.proofs.lemmas.Int.{int_max_is, int_min_is, ints}
 use Rattle.std.proofs.Math.ListN.{drop_of_length-le}
 use Rattle.pb_rows.specs.Name.{same_name}
 use Rattle.pb_facts.specs.declared.fact.Fact.{Fact}
@@ -23,13 +23,16 @@ use Rattle.pb_period.proofs.AmountLemmas.{more_none, none_more, sum_assoc}
 -- days that have none in common
 apart : (first last from to : ℤ) → (int_le first to && int_le from last) ≡ false → int_le (int_max from first) (int_min to last) ≡ false
 apart first last from to none = elim (cases_Bool (int_le (int_max from first) (int_min to last))) [
-  | inl some ↦ elim (cases_Bool (int_le first to)) [
-    | inl begins ↦ elim (cases_Bool (int_le from last)) [
-      | inl ends ↦ cc (rw (begins, ends) at none)
-      | inr late ↦ absurd (omega (arith, ints, some, late))
-    ]
-    | inr early ↦ absurd (omega (arith, ints, some, early))
-  ]
+  | inl some ↦
+      let greatest = int_max_is from first in
+      let least = int_min_is to last in
+      elim (cases_Bool (int_le first to)) [
+        | inl begins ↦ elim (cases_Bool (int_le from last)) [
+          | inl ends ↦ absurd (cc (rw (begins, ends) at none))
+          | inr late ↦ absurd (omega (arith, ints, some, late, greatest, least))
+        ]
+        | inr early ↦ absurd (omega (arith, ints, some, early, greatest, least))
+      ]
   | inr is ↦ is
 ]
 
@@ -79,13 +82,14 @@ chained f None xs = refl
 chained f (Some x) xs = refl
 
 -- one more place
-pub place_more : (days : Days) (stream : List ℕ) (kept : List KeptFact) (places : List ℕ) (i place : ℕ) (total : Amount) → i < length places → place ≡ get_or places i place
+pub place_more : (days : Days) (stream : List ℕ) (kept : List KeptFact) (places : List ℕ) (i d : ℕ) (total : Amount) → i < length places
     → sum_of_two total (moved_from days stream kept places i)
-    ≡ sum_of_two (with_more total (option_and_then (transferred days stream) (live_at kept place))) (moved_from days stream kept places (i + 1))
-place_more days stream kept places i place total lt is =
+    ≡ sum_of_two (with_more total (option_and_then (transferred days stream) (live_at kept (get_or places i d)))) (moved_from days stream kept places (i + 1))
+place_more days stream kept places i d total lt =
     let f = transferred days stream in
+    let place = get_or places i d in
     let next : suc i ≡ i + 1 = omega arith in
-    let split : drop i places ≡ place ∷ drop (i + 1) places = drop-cons places i place lt ∙ ap (λ (n : ℕ). n ∷ drop (suc i) places) (sym is) ∙ ap (λ (k : ℕ). place ∷ drop k places) next in
+    let split : drop i places ≡ place ∷ drop (i + 1) places = drop-cons places i d lt ∙ ap (λ (k : ℕ). place ∷ drop k places) next in
     let rest = filter_map (live_at kept) (drop (i + 1) places) in
     ap (λ (ns : List ℕ). sum_of_two total (total_of (filter_map f (filter_map (live_at kept) ns)))) split
     ∙ ap (λ (ys : List Amount). sum_of_two total (total_of ys)) (chained f (live_at kept place) rest)

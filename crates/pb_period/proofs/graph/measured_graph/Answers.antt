@@ -13,7 +13,7 @@ use Rattle.pb_period.proofs.GraphLemmas.{finished, next, nothing_left, not_over,
 use Rattle.pb_period.proofs.graph.measured_graph.Goals as goal
 
 pub is_over-requires-clause-room : goal.is_over-requires-clause-room
-is_over-requires-clause-room c = omega (arith, c.loop-j.invariant.counted, c.loop-j-test.true, c.arcs-j-end.ensures.few)
+is_over-requires-clause-room c = omega (arith, c.loop-j.invariant.counted, c.loop-j-test.true, c.arcs-j-end.ensures.within)
 
 pub is_over-requires-clause-joins : goal.is_over-requires-clause-joins
 is_over-requires-clause-joins c = rw c.loop-j.invariant.nodes c.measured_stream-stream.ensures.joins

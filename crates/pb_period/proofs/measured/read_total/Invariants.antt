@@ -11,8 +11,8 @@ use Rattle.pb_period.proofs.measured.read_total.Given as goal
 abbrev pub invariant-loop-day : goal.invariant-loop-day
 invariant-loop-day l =
     record {
-      from : l.days.first ≤ℤ l.day;
+      from : l.fn.days.first ≤ℤ l.day;
       to : l.day ≤ℤ l.day-end;
-      so_far : read_more l.total (read_on (live_facts l.facts) l.stream) (days_until l.day l.day-end) ≡ read_total (read_on (live_facts l.facts) l.stream) (each_of l.days);
-      small : IsAmount (int_gap l.days.first l.day) l.total;
+      so_far : read_more l.total (read_on (live_facts l.facts) l.stream) (days_until l.day l.day-end) ≡ read_total (read_on (live_facts l.facts) l.stream) (each_of l.fn.days);
+      small : IsAmount (int_gap l.fn.days.first l.day) l.total;
     }
