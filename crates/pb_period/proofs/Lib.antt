@@ -1,5 +1,4 @@
-pub mod LiveLemmas
-pub mod AmountLemmas
-pub mod DayLemmas
-pub mod TotalLemmas
-pub mod GraphLemmas
+mod AmountLemmas
+mod DayLemmas
+mod GraphLemmas
+mod TransferLemmas

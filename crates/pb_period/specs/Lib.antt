@@ -1,6 +1,7 @@
+-- Statement
 pub mod Days
-pub mod Amount
-pub mod Bounds
-pub mod Totals
+pub mod Facts
 pub mod Measurement
 pub mod PeriodGraph
+-- Inside
+pub mod Amounts

@@ -5,9 +5,8 @@ use Rattle.pb_rows.specs.declared.name.Names.{Names}
 use Rattle.pb_graph.specs.ProcessGraph.{ProcessGraph}
 use Rattle.pb_graph.specs.declared.records.Meas.{Meas}
 use Rattle.pb_site.specs.declared.declared.Arc.{Arc}
-use Rattle.pb_site.specs.declared.declared.Link.{Link}
 use Rattle.pb_site.specs.declared.declared.Declared.{Declared}
-use Rattle.pb_site.specs.Site.{arc_between, arc_names, arcs_of, links_of, names_of, node_names}
+use Rattle.pb_site.specs.Site.{arc_names, arcs_of, names_of, node_names}
 use Rattle.pb_book.specs.declared.rows.StoredRow.{StoredRow}
 use Rattle.pb_book.specs.Rows.{declared_of}
 use Rattle.pb_period.specs.PeriodGraph.{graph_with, stream_with}
@@ -15,7 +14,7 @@ use Rattle.pb_report.specs.Names.{IsNamed}
 use Rattle.pb_session.specs.Accepted.{IsGraphOf}
 
 as_many_arcs : (declared : List Declared) → length (arc_names declared) ≡ length (arcs_of declared)
-as_many_arcs declared = length-map (links_of declared) (λ (link : Link). link.name) ∙ sym (length-map (links_of declared) (arc_between (node_names declared)))
+as_many_arcs declared = length-map (arcs_of declared) (λ (arc : Arc). arc.name)
 
 -- a graph with whatever measurements
 pub is_graph_of : (measure : Arc → Option Meas) (rows : List StoredRow) (g : ProcessGraph) → g ≡ graph_with measure rows → IsGraphOf rows g
