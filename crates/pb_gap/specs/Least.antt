@@ -2,7 +2,7 @@
 use Rattle.std.specs.Prelude.{◌≡◌, ◌^◌, ℕ, ℤ, pos, neg_ℤ, ◌+ℤ◌, ◌*ℤ◌, ◌≤ℤ◌, List, [], ◌∷◌}
 use Rattle.pb_graph.specs.ProcessGraph.{ProcessGraph, IsProcessGraph}
 use Rattle.pb_graph.specs.Squares.{Fractional, IsBalancedFractional, IsLeast, variance_product, inner_product, weighted_sum_of_squares, errors_of, weighted_squares, squares_unit, whole_flows}
-use Rattle.pb_gap.specs.Gap.{gap_of, gap_size}
+use Rattle.pb_gap.specs.Gap.{Gap, gap_of, gap_size}
 use Rattle.pb_gap.specs.Laws.{IsDualPair}
 
 -- a·x + b·y, stream by stream
@@ -37,11 +37,14 @@ ExcessLaw = (graph : ProcessGraph) (p x : Fractional) → IsProcessGraph graph �
     → (x.denominator *ℤ x.denominator) *ℤ weighted_squares graph p
     ≡ ((p.denominator *ℤ p.denominator) *ℤ weighted_squares graph x) +ℤ squared_distance graph p x
 
--- Balanced whole flows are at most their gap, for any prices that fit, from a least vector: so many standard deviations, all streams
--- together.
+-- two flow vectors are at most a gap apart: so many standard deviations, all streams together
+abbrev pub AreWithinGap : ProcessGraph → Gap → Fractional → Fractional → Type 0
+AreWithinGap graph gap p x =
+    (squared_distance graph p x *ℤ pos (2 ^ 40))
+    ≤ℤ ((pos (gap_size gap) *ℤ pos (gap_size gap)) *ℤ squares_unit graph (difference_of p x))
+
+-- Balanced whole flows are at most their gap, for any prices that fit, from a least vector.
 abbrev pub DistanceLaw : Type 0
 DistanceLaw = (graph : ProcessGraph) (price : ℕ → ℤ) (flows : List ℤ) (x : Fractional)
     → IsDualPair graph price (whole_flows flows) → IsLeast graph x
-    → (squared_distance graph (whole_flows flows) x *ℤ pos (2 ^ 40))
-    ≤ℤ ((pos (gap_size (gap_of price graph.streams flows)) *ℤ pos (gap_size (gap_of price graph.streams flows)))
-    *ℤ squares_unit graph (difference_of (whole_flows flows) x))
+    → AreWithinGap graph (gap_of price graph.streams flows) (whole_flows flows) x
