@@ -4,3 +4,4 @@ mod ShownLemmas
 mod SolutionLemmas
 mod UniqueLemmas
 mod StageLemmas
+mod SomeStudyLemmas

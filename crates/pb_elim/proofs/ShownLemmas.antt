@@ -13,7 +13,8 @@ use Rattle.pb_graph.specs.ProcessGraph.{ProcessGraph}
 use Rattle.pb_graph.specs.Certificates.{Shows}
 use Rattle.pb_graph.specs.Squares.{Fractional, IsBalancedFractional, AreSquaresAtLeast, AreSquaresAtMost, whole_flows}
 use Rattle.pb_balance.specs.Laws.{CertificateLaw}
-use Rattle.pb_gap.specs.Gap.{Gap, deviations_of, gap_of}
+use Rattle.pb_gap.specs.declared.gap.Gap.{Gap}
+use Rattle.pb_gap.specs.Gap.{deviations_of, gap_of}
 use Rattle.pb_gap.specs.StreamBounds.{IsStreamWithin, stream_bounds}
 use Rattle.pb_gap.specs.Statistic.{low_of}
 use Rattle.pb_gap.specs.Laws.{IsDualPair, AreGaps, StreamLaw, LowLaw, HighLaw}

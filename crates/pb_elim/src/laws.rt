@@ -1,12 +1,14 @@
 // What is proved of the definitions alone. The functions only call other laws: the contract of each is a law.
 
-ghost use Rattle.pb_elim.specs.Laws.{ShownLaw, OneStageLaw, CertifiedLaw, SolutionLaw, OneStudyLaw};
+ghost use Rattle.pb_elim.specs.Laws.{ShownLaw, OneStageLaw, CertifiedLaw, SolutionLaw, SomeStudyLaw, OneStudyLaw};
 
 use pb_balance::certificate_law;
-use pb_classify::one_classification_law;
+use pb_classify::{one_classification_law, some_classification_law};
 use pb_dual::laws::ascent_law;
 use pb_forest::one_forest_law;
-use pb_gap::{gap_law, least_law, one_solution_law, statistic_law, stream_law};
+use pb_gap::{
+    gap_law, least_law, one_solution_law, outside_law, some_solution_law, statistic_law, stream_law,
+};
 
 /// A stage that is shown is certified, whatever made it.
 pub fn shown_law()
@@ -37,6 +39,15 @@ pub fn certified_law()
 pub fn solution_law()
     ensures { SolutionLaw }
 {}
+
+/// A process graph has a study, at all options that ask for one stage.
+pub fn some_study_law()
+    ensures { SomeStudyLaw }
+{
+    some_classification_law();
+    some_solution_law();
+    outside_law();
+}
 
 /// A graph has at most one study with the same options and critical values, so a text made of it is one text.
 pub fn one_study_law()

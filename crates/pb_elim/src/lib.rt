@@ -11,6 +11,6 @@ mod studies;
 mod tests;
 
 pub use laws::{
-    certified_law, one_stage_law, one_study_law, shown_law, solution_law,
+    certified_law, one_stage_law, one_study_law, shown_law, solution_law, some_study_law,
 };
 pub use studies::study;
