@@ -53,7 +53,7 @@ study_of_one graph options critical study asked is =
     record {
       asked = asked;
       stages = each (λ i stage. IsStageOf (without_taken graph (take i study.taken)) options stage)
-      (subst (λ (ts : List Taken). IsStageOf (without_taken graph (take 0 ts)) options is.stage) (sym is.taken) is.is);
+          (subst (λ (ts : List Taken). IsStageOf (without_taken graph (take 0 ts)) options is.stage) (sym is.taken) is.is);
       between = omega (arith, ap length is.one, ap length is.taken);
       rounds = omega (arith, ap length is.taken);
       tests = each (λ i stage. is_some stage.tests ≡ options.tests) (ap is_some is.untested ∙ sym asked.no_tests);

@@ -109,8 +109,7 @@ some_stage laws g options limits =
     let each : length flows ≡ length classes = state.rounded.balanced.each ∙ sym classified.each in
     let same_price : price ≡ printed_price stage = λ i n. sym (item_each price g.nodes none n) i in
     let same_flows : flows ≡ printed_flows stage = sym (flows_same price ss gap 0 classes flows each) in
-    let same_classes : classes ≡ printed_classes stage = sym (classes_same price ss gap 0 classes flows each) in
-    (
+    let same_classes : classes ≡ printed_classes stage = sym (classes_same price ss gap 0 classes flows each) in (
       stage,
       record {
         graph_is = refl;

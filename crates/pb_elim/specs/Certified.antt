@@ -19,8 +19,12 @@ use Rattle.pb_elim.specs.Printed.{printed_price, printed_flows, printed_gap, Eac
 -- The gap, the bounds, the degrees of freedom and the statistic are what the rules make of the printed flows, prices and
 -- certificates.
 pub record AreNumbersOf (stage : Stage) : Type 0 where
-  pub deviation : IsGap (deviations_of (printed_price stage) stage.graph.streams (printed_flows stage)) (printed_gap stage)
-  pub bounded : EachStream stage (λ j r. r.bounds ≡ stream_bounds (printed_price stage) stage.graph.streams (printed_gap stage) j r.classified)
+  pub deviation :
+      IsGap (deviations_of (printed_price stage) stage.graph.streams (printed_flows stage))
+      (printed_gap stage)
+  pub bounded :
+      EachStream stage (λ j r. r.bounds
+      ≡ stream_bounds (printed_price stage) stage.graph.streams (printed_gap stage) j r.classified)
   pub freedom : HasFreedom stage.graph.streams stage.dof
   pub from_below : stage.low ≡ low_of stage.graph.streams (printed_flows stage) (printed_gap stage)
   pub from_above : stage.high ≡ high_of stage.graph.streams (printed_flows stage)
@@ -60,6 +64,7 @@ pub record IsCertifiedStage (stage : Stage) : Type 0 where
   pub near : (x : Fractional) → IsLeast stage.graph x
       → AreWithinGap stage.graph (printed_gap stage) (whole_flows (printed_flows stage)) x
   -- no balanced flows have weighted squares below the low end of the statistic
-  pub least : (x : Fractional) → IsBalancedFractional stage.graph x → AreSquaresAtLeast stage.graph x stage.low
+  pub least : (x : Fractional) → IsBalancedFractional stage.graph x
+      → AreSquaresAtLeast stage.graph x stage.low
   -- the printed flows have weighted squares not above its high end, where there is one
   pub most : IfSome stage.high (AreSquaresAtMost stage.graph (whole_flows (printed_flows stage)))

@@ -26,18 +26,20 @@ pub record HasOneStage (graph : ProcessGraph) (options : Options) (study : Study
 
 -- where neither tests nor elimination are asked, a study is one stage
 abbrev pub OneStageLaw : Type 0
-OneStageLaw = (graph : ProcessGraph) (options : Options) (critical : Critical) (study : Study) → AsksOneStage options
-    → (IsStudyOf graph options critical study ↔ HasOneStage graph options study)
+OneStageLaw = (graph : ProcessGraph) (options : Options) (critical : Critical) (study : Study)
+    → AsksOneStage options → (IsStudyOf graph options critical study ↔ HasOneStage graph options study)
 
 -- each stage of a study is certified
 abbrev pub CertifiedLaw : Type 0
 CertifiedLaw = (graph : ProcessGraph) (options : Options) (critical : Critical) (study : Study)
-    → IsProcessGraph graph → IsStudyOf graph options critical study → All IsCertifiedStage study.stages
+    → IsProcessGraph graph → IsStudyOf graph options critical study
+    → All IsCertifiedStage study.stages
 
 -- prices, flows and sweeps of a stage are the solution of its graph
 abbrev pub IsSolved : Options → Stage → Type 0
 IsSolved options stage =
-    IsSolution stage.graph options.gap options.sweeps stage.solved (printed_price stage) (printed_flows stage)
+    IsSolution stage.graph options.gap options.sweeps stage.solved
+    (printed_price stage) (printed_flows stage)
 
 abbrev pub SolutionLaw : Type 0
 SolutionLaw = (graph : ProcessGraph) (options : Options) (critical : Critical) (study : Study)
@@ -45,10 +47,11 @@ SolutionLaw = (graph : ProcessGraph) (options : Options) (critical : Critical) (
 
 -- a process graph has a study, at all options that ask for one stage
 abbrev pub SomeStudyLaw : Type 0
-SomeStudyLaw = (graph : ProcessGraph) (options : Options) (critical : Critical) → IsProcessGraph graph → AsksOneStage options
-    → (study : Study) × IsStudyOf graph options critical study
+SomeStudyLaw = (graph : ProcessGraph) (options : Options) (critical : Critical)
+    → IsProcessGraph graph → AsksOneStage options → (study : Study) × IsStudyOf graph options critical study
 
 -- a graph has at most one study, so a text made of it is determined by the graph, the options and the critical values
 abbrev pub OneStudyLaw : Type 0
 OneStudyLaw = (graph : ProcessGraph) (options : Options) (critical : Critical) (one other : Study)
-    → IsProcessGraph graph → IsStudyOf graph options critical one → IsStudyOf graph options critical other → one ≡ other
+    → IsProcessGraph graph → IsStudyOf graph options critical one
+    → IsStudyOf graph options critical other → one ≡ other

@@ -15,6 +15,9 @@ pub record IsResultOf (state : State) (j : ℕ) (c : Classified) (r : StreamResu
   pub within : IfSome r.bounds AreBoundsWithin
 
 -- one result for each stream, in order
-pub record AreResultsOf (state : State) (classes : List Classified) (results : List StreamResult) : Type 0 where
+pub record AreResultsOf (state : State) (classes : List Classified) (results : List StreamResult)
+    : Type 0 where
   pub each : length results ≡ length classes
-  pub right : (j : ℕ) (c : Classified) (r : StreamResult) → slice_get classes j ≡ Some c → slice_get results j ≡ Some r → IsResultOf state j c r
+  pub right :
+      (j : ℕ) (c : Classified) (r : StreamResult) → slice_get classes j ≡ Some c
+      → slice_get results j ≡ Some r → IsResultOf state j c r

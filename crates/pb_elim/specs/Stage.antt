@@ -29,9 +29,13 @@ pub record IsStageOf (graph : ProcessGraph) (options : Options) (stage : Stage) 
   pub graph_is : stage.graph ≡ graph
   pub classes : IsClassification graph (printed_classes stage)
   pub priced : length stage.prices ≡ graph.nodes
-  pub solution : IsSolution graph options.gap options.sweeps stage.solved (printed_price stage) (printed_flows stage)
+  pub solution :
+      IsSolution graph options.gap options.sweeps stage.solved (printed_price stage)
+      (printed_flows stage)
   pub gap : printed_gap stage ≡ gap_of (printed_price stage) graph.streams (printed_flows stage)
-  pub bounds : EachStream stage (λ j r. r.bounds ≡ stream_bounds (printed_price stage) graph.streams (printed_gap stage) j r.classified)
+  pub bounds :
+      EachStream stage (λ j r. r.bounds
+      ≡ stream_bounds (printed_price stage) graph.streams (printed_gap stage) j r.classified)
   pub freedom : HasFreedom graph.streams stage.dof
   pub low : stage.low ≡ low_of graph.streams (printed_flows stage) (printed_gap stage)
   pub high : stage.high ≡ high_of graph.streams (printed_flows stage)
@@ -40,17 +44,19 @@ pub record IsStageOf (graph : ProcessGraph) (options : Options) (stage : Stage) 
 abbrev pub without_taken : ProcessGraph → List Taken → ProcessGraph
 without_taken graph [] = graph
 without_taken graph (t ∷ taken) =
-    without_taken (record { nodes = graph.nodes; streams = unmeasured_at t.stream graph.streams }) taken
+    without_taken (record graph { streams = unmeasured_at t.stream graph.streams }) taken
 
 -- what holds of each stage of a study and its number
 abbrev pub EachStage : Study → (ℕ → Stage → Type 0) → Type 0
 EachStage study P = (i : ℕ) (stage : Stage) → slice_get study.stages i ≡ Some stage → P i stage
 
 -- The study of a graph where neither tests nor elimination are asked.
-pub record IsStudyOf (graph : ProcessGraph) (options : Options) (critical : Critical) (study : Study) : Type 0 where
+pub record IsStudyOf (graph : ProcessGraph) (options : Options) (critical : Critical) (study : Study)
+    : Type 0 where
   pub asked : AsksOneStage options
   -- each stage is that of the graph without the measurements that were taken before it
-  pub stages : EachStage study (λ i stage. IsStageOf (without_taken graph (take i study.taken)) options stage)
+  pub stages :
+      EachStage study (λ i stage. IsStageOf (without_taken graph (take i study.taken)) options stage)
   -- one stream is taken between each stage and the next, in at most as many rounds as are asked
   pub between : length study.stages ≡ length study.taken + 1
   pub rounds : length study.taken ≤ options.eliminate

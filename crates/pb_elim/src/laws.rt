@@ -1,4 +1,4 @@
-// What is proved of the definitions alone. The functions only call other laws: the contract of each is a law.
+// What is proved of the definitions alone. The contract of each function is a law; it calls those that the proof stands on.
 
 ghost use Rattle.pb_elim.specs.Laws.{ShownLaw, OneStageLaw, CertifiedLaw, SolutionLaw, SomeStudyLaw, OneStudyLaw};
 

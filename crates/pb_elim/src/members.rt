@@ -75,16 +75,22 @@ fn itself(alloc: Global, stream: u32) -> Result<List<Member>, AllocError>
 /// The other members of the cut of a stream, whose signed sum is its flow.
 fn others(alloc: Global, stream: u32, members: &[Member]) -> Result<List<Member>, AllocError>
     requires { All HasSign members.now }
-    ensures { IfOk result (λ others. others ≡ others_times stream (neg_ℤ (sign_in stream members.now)) members.now) }
+    ensures { IfOk result (λ others. others
+        ≡ others_times stream (neg_ℤ (sign_in stream members.now)) members.now) }
 {
     others_times(alloc, stream, turned(sign_in(stream, members)), members)
 }
 
 /// The measured streams whose signed sum is the flow of a stream: a measured stream itself, and for an observable one the other
 /// members of its cut, each with its sign times -1 times that of the stream. An unobservable stream has none.
-pub fn sum_for(alloc: Global, stream: u32, classified: &Classified) -> Result<Option<List<Member>>, AllocError>
+pub fn sum_for(
+    alloc: Global,
+    stream: u32,
+    classified: &Classified,
+) -> Result<Option<List<Member>>, AllocError>
     requires { AreWitnessSigns classified.now.witness }
-    ensures { IfOk result (λ sum. sum ≡ sum_for stream classified.now.class classified.now.witness) }
+    ensures { IfOk result (λ sum. sum
+        ≡ sum_for stream classified.now.class classified.now.witness) }
 {
     match classified.class {
         Class::Redundant | Class::Nonredundant => Ok(Some(itself(alloc, stream)?)),

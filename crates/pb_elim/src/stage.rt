@@ -14,7 +14,7 @@ ghost use Rattle.pb_elim.specs.Stage.{IsStageOf};
 
 use crate::members::sum_for;
 use pb_classify::classify;
-use pb_gap::{stream_law, Solver};
+use pb_gap::{Solver, stream_law};
 use pb_graph::{Bounds, Classified, Graph, List, Options, Solved, Stage, StreamResult};
 use std::alloc::{AllocError, Global};
 
@@ -29,7 +29,7 @@ fn stream_bounds(
     requires classified { IsClassified solver.now.graph stream classified.now }
     ensures value { IfOk result (λ bounds. bounds
         ≡ stream_bounds (price_in solver.now) solver.now.graph.streams (gap_in solver.now)
-            stream classified.now) }
+        stream classified.now) }
     ensures within { IfOk result (λ bounds. IfSome bounds AreBoundsWithin) }
 {
     stream_law();
