@@ -27,7 +27,8 @@ pub record HasOneStage (graph : ProcessGraph) (options : Options) (study : Study
 -- where neither tests nor elimination are asked, a study is one stage
 abbrev pub OneStageLaw : Type 0
 OneStageLaw = (graph : ProcessGraph) (options : Options) (critical : Critical) (study : Study)
-    → AsksOneStage options → (IsStudyOf graph options critical study ↔ HasOneStage graph options study)
+    → AsksOneStage options
+    → (IsStudyOf graph options critical study ↔ HasOneStage graph options study)
 
 -- each stage of a study is certified
 abbrev pub CertifiedLaw : Type 0
@@ -48,7 +49,8 @@ SolutionLaw = (graph : ProcessGraph) (options : Options) (critical : Critical) (
 -- a process graph has a study, at all options that ask for one stage
 abbrev pub SomeStudyLaw : Type 0
 SomeStudyLaw = (graph : ProcessGraph) (options : Options) (critical : Critical)
-    → IsProcessGraph graph → AsksOneStage options → (study : Study) × IsStudyOf graph options critical study
+    → IsProcessGraph graph → AsksOneStage options
+    → (study : Study) × IsStudyOf graph options critical study
 
 -- a graph has at most one study, so a text made of it is determined by the graph, the options and the critical values
 abbrev pub OneStudyLaw : Type 0

@@ -51,12 +51,13 @@ abbrev pub EachStage : Study → (ℕ → Stage → Type 0) → Type 0
 EachStage study P = (i : ℕ) (stage : Stage) → slice_get study.stages i ≡ Some stage → P i stage
 
 -- The study of a graph where neither tests nor elimination are asked.
-pub record IsStudyOf (graph : ProcessGraph) (options : Options) (critical : Critical) (study : Study)
-    : Type 0 where
+pub record IsStudyOf (graph : ProcessGraph) (options : Options) (critical : Critical)
+    (study : Study) : Type 0 where
   pub asked : AsksOneStage options
   -- each stage is that of the graph without the measurements that were taken before it
   pub stages :
-      EachStage study (λ i stage. IsStageOf (without_taken graph (take i study.taken)) options stage)
+      EachStage study (λ i stage.
+      IsStageOf (without_taken graph (take i study.taken)) options stage)
   -- one stream is taken between each stage and the next, in at most as many rounds as are asked
   pub between : length study.stages ≡ length study.taken + 1
   pub rounds : length study.taken ≤ options.eliminate

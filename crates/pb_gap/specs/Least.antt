@@ -22,18 +22,22 @@ difference_of p x = record {
 -- of the difference
 abbrev pub squared_distance : ProcessGraph → Fractional → Fractional → ℤ
 squared_distance graph p x =
-    weighted_sum_of_squares (variance_product graph.streams) graph.streams (difference_of p x).numerators
+    weighted_sum_of_squares (variance_product graph.streams) graph.streams
+    (difference_of p x).numerators
 
 -- Orthogonality: at a least vector the errors have inner product 0 with each balanced vector (the normal equations of least squares
 -- under the balances).
 abbrev pub OrthogonalityLaw : Type 0
-OrthogonalityLaw = (graph : ProcessGraph) (x y : Fractional) → IsProcessGraph graph → IsLeast graph x → IsBalancedFractional graph y
-    → inner_product (variance_product graph.streams) graph.streams (errors_of graph.streams x) y.numerators ≡ pos 0
+OrthogonalityLaw = (graph : ProcessGraph) (x y : Fractional)
+    → IsProcessGraph graph → IsLeast graph x → IsBalancedFractional graph y
+    → inner_product (variance_product graph.streams) graph.streams (errors_of graph.streams x)
+    y.numerators ≡ pos 0
 
 -- The weighted squares of a balanced vector p less those of a least vector x are those of their difference (Pythagoras), by cross
 -- products.
 abbrev pub ExcessLaw : Type 0
-ExcessLaw = (graph : ProcessGraph) (p x : Fractional) → IsProcessGraph graph → IsBalancedFractional graph p → IsLeast graph x
+ExcessLaw = (graph : ProcessGraph) (p x : Fractional)
+    → IsProcessGraph graph → IsBalancedFractional graph p → IsLeast graph x
     → (x.denominator *ℤ x.denominator) *ℤ weighted_squares graph p
     ≡ ((p.denominator *ℤ p.denominator) *ℤ weighted_squares graph x) +ℤ squared_distance graph p x
 
