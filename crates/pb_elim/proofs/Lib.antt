@@ -1,7 +1,7 @@
-pub mod Lists
-pub mod Solutions
-pub mod Certifies
-pub mod Forms
-pub mod Unique
-pub mod Sums
-pub mod Parts
+mod ListLemmas
+mod OneStageLemmas
+mod ShownLemmas
+mod SolutionLemmas
+mod UniqueLemmas
+mod StageLemmas
+mod SomeStudyLemmas

@@ -1,29 +1,59 @@
--- What is proved of stages and studies.
-use Rattle.std.specs.Prelude.{◌≡◌, All}
+-- Statement. What is proved of stages and studies.
+use Rattle.std.specs.Prelude.{◌≡◌, ◌↔◌, List, [], ◌∷◌, None, All}
 use Rattle.pb_graph.specs.declared.results.Stage.{Stage}
 use Rattle.pb_graph.specs.declared.results.Study.{Study}
 use Rattle.pb_graph.specs.declared.results.Options.{Options}
 use Rattle.pb_graph.specs.declared.results.Critical.{Critical}
 use Rattle.pb_graph.specs.ProcessGraph.{ProcessGraph, IsProcessGraph}
 use Rattle.pb_gap.specs.Solution.{IsSolution}
+use Rattle.pb_elim.specs.Options.{AsksOneStage}
 use Rattle.pb_elim.specs.Printed.{printed_price, printed_flows}
-use Rattle.pb_elim.specs.Stage.{IsStudyOf}
-use Rattle.pb_elim.specs.Certified.{IsCertifiedStage}
+use Rattle.pb_elim.specs.Stage.{IsStageOf, IsStudyOf}
+use Rattle.pb_elim.specs.Certified.{IsShownStage, IsCertifiedStage}
+
+-- a stage that is shown is certified, whatever made it
+abbrev pub ShownLaw : Type 0
+ShownLaw = (stage : Stage) → IsShownStage stage → IsCertifiedStage stage
+
+-- one stage of the graph, without tests; nothing is taken, and there is no stop
+pub record HasOneStage (graph : ProcessGraph) (options : Options) (study : Study) : Type 0 where
+  pub stage : Stage
+  pub one : study.stages ≡ stage ∷ []
+  pub is : IsStageOf graph options stage
+  pub untested : stage.tests ≡ None
+  pub taken : study.taken ≡ []
+  pub stop : study.stop ≡ None
+
+-- where neither tests nor elimination are asked, a study is one stage
+abbrev pub OneStageLaw : Type 0
+OneStageLaw = (graph : ProcessGraph) (options : Options) (critical : Critical) (study : Study)
+    → AsksOneStage options
+    → (IsStudyOf graph options critical study ↔ HasOneStage graph options study)
 
 -- each stage of a study is certified
 abbrev pub CertifiedLaw : Type 0
-CertifiedLaw = (g : ProcessGraph) (options : Options) (critical : Critical) (study : Study) → IsProcessGraph g → IsStudyOf g options critical study
+CertifiedLaw = (graph : ProcessGraph) (options : Options) (critical : Critical) (study : Study)
+    → IsProcessGraph graph → IsStudyOf graph options critical study
     → All IsCertifiedStage study.stages
 
 -- prices, flows and sweeps of a stage are the solution of its graph
 abbrev pub IsSolved : Options → Stage → Type 0
-IsSolved options stage = IsSolution stage.graph options.gap options.sweeps stage.solved (printed_price stage) (printed_flows stage)
+IsSolved options stage =
+    IsSolution stage.graph options.gap options.sweeps stage.solved
+    (printed_price stage) (printed_flows stage)
 
 abbrev pub SolutionLaw : Type 0
-SolutionLaw = (g : ProcessGraph) (options : Options) (critical : Critical) (study : Study) → IsStudyOf g options critical study
-    → All (IsSolved options) study.stages
+SolutionLaw = (graph : ProcessGraph) (options : Options) (critical : Critical) (study : Study)
+    → IsStudyOf graph options critical study → All (IsSolved options) study.stages
 
--- a graph has one study, so a text made of it is determined by the graph, the options and the critical values
+-- a process graph has a study, at all options that ask for one stage
+abbrev pub SomeStudyLaw : Type 0
+SomeStudyLaw = (graph : ProcessGraph) (options : Options) (critical : Critical)
+    → IsProcessGraph graph → AsksOneStage options
+    → (study : Study) × IsStudyOf graph options critical study
+
+-- a graph has at most one study, so a text made of it is determined by the graph, the options and the critical values
 abbrev pub OneStudyLaw : Type 0
-OneStudyLaw = (g : ProcessGraph) (options : Options) (critical : Critical) (one other : Study) → IsProcessGraph g → IsStudyOf g options critical one
-    → IsStudyOf g options critical other → one ≡ other
+OneStudyLaw = (graph : ProcessGraph) (options : Options) (critical : Critical) (one other : Study)
+    → IsProcessGraph graph → IsStudyOf graph options critical one
+    → IsStudyOf graph options critical other → one ≡ other

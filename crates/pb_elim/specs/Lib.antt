@@ -1,7 +1,9 @@
+-- Statement
 pub mod Options
 pub mod Printed
 pub mod Stage
 pub mod Certified
-pub mod WellFormed
-pub mod Results
 pub mod Laws
+-- Inside
+pub mod Signs
+pub mod Results

@@ -1,14 +1,19 @@
--- What is asked of a study.
-use Rattle.std.specs.Prelude.{◌≡◌, ◌≢◌, ◌≤◌, true, false}
+-- Statement. What is asked of a study.
+use Rattle.std.specs.Prelude.{◌≡◌, ◌≢◌, ◌≤◌, ℕ, true, false}
+use Rattle.pb_limits.specs.Limits.{most_gap, most_sweeps}
 use Rattle.pb_graph.specs.declared.results.Options.{Options}
 
--- options within their limits: a gap of 1 to 1,000,000 thousandths, at most 100,000 sweeps, and at most 20 rounds of elimination,
--- for which tests are made
+-- how many rounds of elimination may be asked at the most
+abbrev pub most_rounds : ℕ
+most_rounds = 20
+
+-- options within their limits: a gap in thousandths of a standard deviation, so many sweeps, and so many rounds of elimination, for
+-- which tests are made
 pub record AreOptions (options : Options) : Type 0 where
   pub some_gap : 1 ≤ options.gap
-  pub most_gap : options.gap ≤ 1000000
-  pub most_sweeps : options.sweeps ≤ 100000
-  pub most_rounds : options.eliminate ≤ 20
+  pub greatest_gap : options.gap ≤ most_gap
+  pub greatest_sweeps : options.sweeps ≤ most_sweeps
+  pub greatest_rounds : options.eliminate ≤ most_rounds
   pub rounds_by_tests : options.eliminate ≢ 0 → options.tests ≡ true
 
 -- neither tests nor elimination are asked: the study is that of the graph as it stands

@@ -1,4 +1,4 @@
--- What stands in a stage, as it is printed.
+-- Statement. What stands in a stage, as it is printed.
 use Rattle.std.specs.Prelude.{◌≡◌, ℕ, ℤ, List, map, Some, slice_get}
 use Rattle.pb_integers.specs.Sums.{item}
 use Rattle.pb_graph.specs.declared.records.Classified.{Classified}

@@ -1,20 +1,23 @@
--- What is printed of the streams of a graph that is solved.
-use Rattle.std.specs.Prelude.{◌≡◌, ℕ, ◌^◌, ◌<◌, List, length, Some, slice_get, unsigned_abs, IfSome}
+-- Inside. What is printed of the streams of a graph that is solved.
+use Rattle.std.specs.Prelude.{◌≡◌, ℕ, List, length, Some, slice_get, IfSome}
 use Rattle.pb_graph.specs.declared.records.Classified.{Classified}
 use Rattle.pb_graph.specs.declared.results.StreamResult.{StreamResult}
 use Rattle.pb_gap.specs.State.{State, price_in, gap_in}
 use Rattle.pb_gap.specs.StreamBounds.{stream_bounds}
-use Rattle.pb_elim.specs.WellFormed.{AreBoundsWithin}
+use Rattle.pb_graph.specs.WellFormed.{AreBoundsWithin, IsFlow}
 
 -- the result of stream j, which has a class with its certificate: that, its flow, and its bounds by the certificate
-pub record IsResultOf (s : State) (j : ℕ) (c : Classified) (r : StreamResult) : Type 0 where
+pub record IsResultOf (state : State) (j : ℕ) (c : Classified) (r : StreamResult) : Type 0 where
   pub classified : r.classified ≡ c
-  pub flow : slice_get s.flows j ≡ Some r.flow
-  pub bounds : r.bounds ≡ stream_bounds (price_in s) s.graph.streams (gap_in s) j c
-  pub narrow : unsigned_abs r.flow < 2 ^ 68
+  pub flow : slice_get state.flows j ≡ Some r.flow
+  pub bounds : r.bounds ≡ stream_bounds (price_in state) state.graph.streams (gap_in state) j c
+  pub narrow : IsFlow r.flow
   pub within : IfSome r.bounds AreBoundsWithin
 
 -- one result for each stream, in order
-pub record AreResultsOf (s : State) (classes : List Classified) (results : List StreamResult) : Type 0 where
+pub record AreResultsOf (state : State) (classes : List Classified) (results : List StreamResult)
+    : Type 0 where
   pub each : length results ≡ length classes
-  pub right : (j : ℕ) (c : Classified) (r : StreamResult) → slice_get classes j ≡ Some c → slice_get results j ≡ Some r → IsResultOf s j c r
+  pub right :
+      (j : ℕ) (c : Classified) (r : StreamResult) → slice_get classes j ≡ Some c
+      → slice_get results j ≡ Some r → IsResultOf state j c r

@@ -1,18 +1,59 @@
-// What is proved of the definitions alone. The functions are empty: the contract of each is a law.
+// What is proved of the definitions alone. The contract of each function is a law; it calls those that the proof stands on.
 
-ghost use Rattle.pb_elim.specs.Laws.{CertifiedLaw, SolutionLaw, OneStudyLaw};
+ghost use Rattle.pb_elim.specs.Laws.{ShownLaw, OneStageLaw, CertifiedLaw, SolutionLaw, SomeStudyLaw, OneStudyLaw};
+
+use pb_balance::certificate_law;
+use pb_classify::{one_classification_law, some_classification_law};
+use pb_dual::laws::ascent_law;
+use pb_forest::one_forest_law;
+use pb_gap::{
+    gap_law, least_law, one_solution_law, outside_law, some_solution_law, statistic_law, stream_law,
+};
+
+/// A stage that is shown is certified, whatever made it.
+pub fn shown_law()
+    ensures { ShownLaw }
+{
+    certificate_law();
+    gap_law();
+    stream_law();
+    least_law();
+    statistic_law();
+}
+
+/// Where neither tests nor elimination are asked, a study is one stage of its graph.
+pub fn one_stage_law()
+    ensures { OneStageLaw }
+{}
 
 /// Each stage of a study is certified, for every graph, options and critical values.
 pub fn certified_law()
     ensures { CertifiedLaw }
-{}
+{
+    ascent_law();
+    gap_law();
+    shown_law();
+}
 
 /// The prices, flows and sweeps of each stage are the solution of its graph.
 pub fn solution_law()
     ensures { SolutionLaw }
 {}
 
-/// A graph has one study with the same options and critical values, so a text made of it is one text.
+/// A process graph has a study, at all options that ask for one stage.
+pub fn some_study_law()
+    ensures { SomeStudyLaw }
+{
+    some_classification_law();
+    some_solution_law();
+    outside_law();
+}
+
+/// A graph has at most one study with the same options and critical values, so a text made of it is one text.
 pub fn one_study_law()
     ensures { OneStudyLaw }
-{}
+{
+    one_forest_law();
+    one_classification_law();
+    one_solution_law();
+}

@@ -2,6 +2,8 @@
 
 ghost use Rattle.std.specs.Prelude.{◌≡◌, ℕ, ◌<◌, ◌≤◌, ◌^◌, None, All, length, unsigned_abs, IfOk, IfSome};
 ghost use Rattle.pb_integers.specs.Sums.{item};
+ghost use Rattle.pb_graph.specs.ProcessGraph.{IsProcessGraph};
+ghost use Rattle.pb_graph.specs.WellFormed.{AreBoundsWithin, IsPrice, IsWellFormed};
 ghost use Rattle.pb_classify.specs.Classification.{IsClassified, IsClassification};
 ghost use Rattle.pb_gap.specs.State.{IsState, price_in, gap_in};
 ghost use Rattle.pb_gap.specs.StreamBounds.{stream_bounds};
@@ -9,50 +11,51 @@ ghost use Rattle.pb_gap.specs.Solution.{IsSolution};
 ghost use Rattle.pb_elim.specs.Options.{AreOptions};
 ghost use Rattle.pb_elim.specs.Results.{IsResultOf, AreResultsOf};
 ghost use Rattle.pb_elim.specs.Stage.{IsStageOf};
-ghost use Rattle.pb_elim.specs.Certified.{IsCertifiedStage};
-ghost use Rattle.pb_elim.specs.WellFormed.{AreBoundsWithin, IsWellFormed};
 
-use crate::copies::copy_classified;
 use crate::members::sum_for;
 use pb_classify::classify;
-use pb_gap::Solver;
+use pb_gap::{Solver, stream_law};
 use pb_graph::{Bounds, Classified, Graph, List, Options, Solved, Stage, StreamResult};
 use std::alloc::{AllocError, Global};
 
-/// The bounds of the flow of stream j by its class and its certificate, none where it is unobservable.
+/// The bounds of the flow of a stream by its class and its certificate, none where it is unobservable.
 fn stream_bounds(
     alloc: Global,
     solver: &Solver,
-    j: u32,
-    c: &Classified,
+    stream: u32,
+    classified: &Classified,
 ) -> Result<Option<Bounds>, AllocError>
     requires state { IsState solver.now }
-    requires classified { IsClassified solver.now.graph j c.now }
-    ensures value { IfOk result (λ bounds. bounds ≡ stream_bounds (price_in solver.now) solver.now.graph.streams (gap_in solver.now) j c.now) }
+    requires classified { IsClassified solver.now.graph stream classified.now }
+    ensures value { IfOk result (λ bounds. bounds
+        ≡ stream_bounds (price_in solver.now) solver.now.graph.streams (gap_in solver.now)
+        stream classified.now) }
     ensures within { IfOk result (λ bounds. IfSome bounds AreBoundsWithin) }
 {
-    match sum_for(alloc, j, c)? {
+    stream_law();
+    match sum_for(alloc, stream, classified)? {
         None => Ok(None),
         Some(members) => Ok(Some(solver.bounds(members.as_slice()))),
     }
 }
 
-/// What is printed of stream j.
+/// What is printed of a stream.
 fn stream_result(
     alloc: Global,
     solver: &Solver,
-    j: u32,
-    c: &Classified,
+    stream: u32,
+    classified: Classified,
 ) -> Result<StreamResult, AllocError>
     requires state { IsState solver.now }
-    requires stream { j < length solver.now.graph.streams }
-    requires classified { IsClassified solver.now.graph j c.now }
-    ensures { IfOk result (IsResultOf solver.now j c.now) }
+    requires stream { stream < length solver.now.graph.streams }
+    requires classified { IsClassified solver.now.graph stream classified }
+    ensures { IfOk result (IsResultOf solver.now stream classified) }
 {
+    let bounds = stream_bounds(alloc, solver, stream, &classified)?;
     Ok(StreamResult {
-        classified: copy_classified(alloc, c)?,
-        flow: solver.flow(j),
-        bounds: stream_bounds(alloc, solver, j, c)?,
+        classified,
+        flow: solver.flow(stream),
+        bounds,
     })
 }
 
@@ -60,15 +63,16 @@ fn stream_result(
 fn stream_results(
     alloc: Global,
     solver: &Solver,
-    classes: &[Classified],
+    classes: List<Classified>,
 ) -> Result<List<StreamResult>, AllocError>
     requires state { IsState solver.now }
-    requires classes { IsClassification solver.now.graph classes.now }
-    ensures { IfOk result (AreResultsOf solver.now classes.now) }
+    requires classes { IsClassification solver.now.graph classes }
+    ensures { IfOk result (AreResultsOf solver.now classes) }
 {
     let mut results = List::new(alloc);
-    for (j, c) in classes.iter().enumerate() {
-        results.push(stream_result(alloc, solver, j as u32, c)?)?;
+    for classified in classes.into_vec() {
+        let stream = results.len() as u32;
+        results.push(stream_result(alloc, solver, stream, classified)?)?;
     }
     Ok(results)
 }
@@ -79,7 +83,7 @@ fn node_prices(alloc: Global, solver: &Solver, nodes: u32) -> Result<List<i128>,
     requires nodes { nodes ≡ solver.now.graph.nodes }
     ensures each { IfOk result (λ prices. length prices ≡ nodes) }
     ensures value { IfOk result (λ prices. (n : ℕ) → item prices n ≡ price_in solver.now n) }
-    ensures within { IfOk result (All (λ price. unsigned_abs price ≤ 2 ^ 120)) }
+    ensures within { IfOk result (All IsPrice) }
 {
     let mut prices = List::new(alloc);
     for node in 0..nodes {
@@ -91,27 +95,28 @@ fn node_prices(alloc: Global, solver: &Solver, nodes: u32) -> Result<List<i128>,
 /// The stage of a graph that is classified and solved, without tests.
 fn collected(
     alloc: Global,
-    g: &Graph,
+    graph: &Graph,
     options: &Options,
-    classes: &[Classified],
+    classes: List<Classified>,
     solver: &Solver,
     solved: Solved,
 ) -> Result<Stage, AllocError>
     requires limits { AreOptions options.now }
-    requires classes { IsClassification g.now classes.now }
-    requires graph { solver.now.graph ≡ g.now }
+    requires classes { IsClassification graph.now classes }
+    requires graph { solver.now.graph ≡ graph.now }
     requires state { IsState solver.now }
-    requires solution { IsSolution g.now options.now.gap options.now.sweeps solved (price_in solver.now) solver.now.flows }
-    ensures stage { IfOk result (IsStageOf g.now options.now) }
-    ensures certified { IfOk result IsCertifiedStage }
+    requires solution { IsSolution graph.now options.now.gap options.now.sweeps solved
+        (price_in solver.now) solver.now.flows }
+    ensures stage { IfOk result (IsStageOf graph.now options.now) }
+    ensures graph { IfOk result (λ stage. IsProcessGraph stage.graph) }
     ensures untested { IfOk result (λ stage. stage.tests ≡ None) }
     ensures formed { IfOk result IsWellFormed }
 {
     let (low, high) = solver.statistic();
     Ok(Stage {
-        graph: g.copy(alloc)?,
+        graph: graph.copy(alloc)?,
         streams: stream_results(alloc, solver, classes)?,
-        prices: node_prices(alloc, solver, g.nodes())?,
+        prices: node_prices(alloc, solver, graph.nodes())?,
         solved,
         g: solver.g(),
         h: solver.h(),
@@ -123,15 +128,15 @@ fn collected(
 }
 
 /// The stage of a graph, without tests.
-pub fn stage(alloc: Global, g: &Graph, options: &Options) -> Result<Stage, AllocError>
+pub fn stage(alloc: Global, graph: &Graph, options: &Options) -> Result<Stage, AllocError>
     requires { AreOptions options.now }
-    ensures stage { IfOk result (IsStageOf g.now options.now) }
-    ensures certified { IfOk result IsCertifiedStage }
+    ensures stage { IfOk result (IsStageOf graph.now options.now) }
+    ensures graph { IfOk result (λ stage. IsProcessGraph stage.graph) }
     ensures untested { IfOk result (λ stage. stage.tests ≡ None) }
     ensures formed { IfOk result IsWellFormed }
 {
-    let classes = classify(alloc, g)?;
-    let mut solver = Solver::new(alloc, g)?;
+    let classes = classify(alloc, graph)?;
+    let mut solver = Solver::new(alloc, graph)?;
     let solved = solver.solve(options.gap, options.sweeps);
-    collected(alloc, g, options, classes.as_slice(), &solver, solved)
+    collected(alloc, graph, options, classes, &solver, solved)
 }

@@ -1,18 +1,18 @@
-pub mod Weights
-pub mod InnerProductLemmas
-pub mod Identity
-pub mod SchwarzLemmas
-pub mod Rounding
-pub mod Enclosure
-pub mod Statistic
-pub mod StreamSums
-pub mod Gaps
-pub mod States
-pub mod Widths
-pub mod Columns
-pub mod MemberLists
-pub mod Iterates
-pub mod Deviants
-pub mod StateLaws
-pub mod LeastLemmas
-pub mod OutsideLemmas
+mod Weights
+mod InnerProductLemmas
+mod Identity
+mod SchwarzLemmas
+mod Rounding
+mod Enclosure
+mod Statistic
+mod StreamSums
+mod Gaps
+mod States
+mod Widths
+mod Columns
+mod MemberLists
+mod Iterates
+mod Deviants
+mod StateLaws
+mod LeastLemmas
+mod OutsideLemmas

@@ -20,7 +20,10 @@ use Rattle.pb_gap.specs.Statistic.{low_of, high_of}
 -- the product of the variances over each of them is a whole number: the weight of a measurement
 pub record HasWeights (graph : ProcessGraph) : Type 0 where
   pub positive : pos 1 ≤ℤ variance_product graph.streams
-  pub each : All (λ s. IfSome s.meas (λ m. int_div_euclid (variance_product graph.streams) m.variance *ℤ m.variance ≡ variance_product graph.streams)) graph.streams
+  pub each :
+      All (λ s. IfSome s.meas (λ m.
+      int_div_euclid (variance_product graph.streams) m.variance *ℤ m.variance ≡ variance_product graph.streams))
+      graph.streams
 
 abbrev pub WeightLaw : Type 0
 WeightLaw = (graph : ProcessGraph) → IsProcessGraph graph → HasWeights graph
@@ -31,7 +34,8 @@ abbrev pub SchwarzLaw : Type 0
 SchwarzLaw = (graph : ProcessGraph) (errors : List ℤ) (members : List Member)
     → IsProcessGraph graph → length errors ≡ length graph.streams → AreSigned graph members
     → (variance_product graph.streams *ℤ (signed_sum members errors *ℤ signed_sum members errors))
-    ≤ℤ (variance_sum graph.streams members *ℤ weighted_sum_of_squares (variance_product graph.streams) graph.streams errors)
+    ≤ℤ (variance_sum graph.streams members
+    *ℤ weighted_sum_of_squares (variance_product graph.streams) graph.streams errors)
 
 -- prices of a graph that fit, and balanced fractional flows
 pub record IsDualPair (graph : ProcessGraph) (price : ℕ → ℤ) (x : Fractional) : Type 0 where
@@ -49,7 +53,8 @@ IdentityLaw = (graph : ProcessGraph) (price : ℕ → ℤ) (x : Fractional) → 
 -- Weak duality: the dual value of prices that fit is at most the weighted squares of any balanced flows.
 abbrev pub DualityLaw : Type 0
 DualityLaw = (graph : ProcessGraph) (price : ℕ → ℤ) (x : Fractional) → IsDualPair graph price x
-    → (squares_unit graph x *ℤ dual_value price graph.streams) ≤ℤ ((scale *ℤ scale) *ℤ weighted_squares graph x)
+    → (squares_unit graph x *ℤ dual_value price graph.streams)
+    ≤ℤ ((scale *ℤ scale) *ℤ weighted_squares graph x)
 
 -- each list of deviations has a gap, and only one
 pub record AreGaps : Type 0 where
@@ -62,15 +67,19 @@ gap_square gap = pos (2 ^ 72) *ℤ (pos (gap_size gap) *ℤ pos (gap_size gap))
 
 -- The gap of balanced whole flows bounds by how much their weighted squares exceed the dual value of any prices that fit.
 abbrev pub GapLaw : Type 0
-GapLaw = (graph : ProcessGraph) (price : ℕ → ℤ) (flows : List ℤ) → IsDualPair graph price (whole_flows flows)
+GapLaw = (graph : ProcessGraph) (price : ℕ → ℤ) (flows : List ℤ)
+    → IsDualPair graph price (whole_flows flows)
     → ((scale *ℤ scale) *ℤ weighted_squares graph (whole_flows flows))
-    ≤ℤ (squares_unit graph (whole_flows flows) *ℤ (dual_value price graph.streams +ℤ gap_square (gap_of price graph.streams flows)))
+    ≤ℤ (squares_unit graph (whole_flows flows)
+    *ℤ (dual_value price graph.streams +ℤ gap_square (gap_of price graph.streams flows)))
 
 -- The enclosure: for any prices that fit and any balanced whole flows, each balanced fractional vector no worse than the flows has
 -- the signed sum of any list of measured streams, none twice, within its bounds.
 abbrev pub EnclosureLaw : Type 0
-EnclosureLaw = (graph : ProcessGraph) (price : ℕ → ℤ) (flows : List ℤ) (x : Fractional) (members : List Member)
-    → IsDualPair graph price x → IsBalanced graph flows → IsNoWorse graph x (whole_flows flows) → AreSigned graph members
+EnclosureLaw = (graph : ProcessGraph) (price : ℕ → ℤ) (flows : List ℤ) (x : Fractional)
+    (members : List Member)
+    → IsDualPair graph price x → IsBalanced graph flows → IsNoWorse graph x (whole_flows flows)
+    → AreSigned graph members
     → IsWithin x members (bounds_of price graph.streams (gap_of price graph.streams flows) members)
 
 -- a signed list of measured streams, none twice, whose signed sum is the flow of stream j in all balanced flows
@@ -79,14 +88,18 @@ pub record SumsTo (graph : ProcessGraph) (j : ℕ) (members : List Member) : Typ
   pub sum : (flows : List ℤ) → IsBalanced graph flows → signed_sum members flows ≡ item flows j
 
 abbrev pub StreamSumLaw : Type 0
-StreamSumLaw = (graph : ProcessGraph) (j : ℕ) (c : Classified) → IsProcessGraph graph → IsCertified graph j c
+StreamSumLaw = (graph : ProcessGraph) (j : ℕ) (c : Classified)
+    → IsProcessGraph graph → IsCertified graph j c
     → IfSome (sum_for j c.class c.witness) (SumsTo graph j)
 
 -- The enclosure of each stream that has bounds: for any prices that fit, any balanced whole flows and any class with its certificate.
 abbrev pub StreamLaw : Type 0
-StreamLaw = (graph : ProcessGraph) (price : ℕ → ℤ) (flows : List ℤ) (x : Fractional) (j : ℕ) (c : Classified)
-    → IsDualPair graph price x → IsBalanced graph flows → IsNoWorse graph x (whole_flows flows) → IsCertified graph j c
-    → IfSome (stream_bounds price graph.streams (gap_of price graph.streams flows) j c) (IsStreamWithin x j)
+StreamLaw = (graph : ProcessGraph) (price : ℕ → ℤ) (flows : List ℤ) (x : Fractional) (j : ℕ)
+    (c : Classified)
+    → IsDualPair graph price x → IsBalanced graph flows → IsNoWorse graph x (whole_flows flows)
+    → IsCertified graph j c
+    → IfSome (stream_bounds price graph.streams (gap_of price graph.streams flows) j c)
+    (IsStreamWithin x j)
 
 -- the weighted squares of each balanced vector are at least the low end of the statistic of any balanced whole flows
 abbrev pub LowLaw : Type 0

@@ -17,4 +17,5 @@ residuals_of price streams x = by_stream (residual_of x.denominator price) strea
 -- 2^-112 over the unit of the weighted squares.
 abbrev pub residual_squares : (ℕ → ℤ) → ProcessGraph → Fractional → ℤ
 residual_squares price graph x =
-    weighted_sum_of_squares (variance_product graph.streams) graph.streams (residuals_of price graph.streams x)
+    weighted_sum_of_squares (variance_product graph.streams) graph.streams
+    (residuals_of price graph.streams x)

@@ -3,4 +3,4 @@ use Rattle.pb_gap.specs.StreamBounds.{others_times}
 use Rattle.pb_elim.proofs.members.others_times.Given as goal
 
 abbrev pub invariant-loop-m : goal.invariant-loop-m
-invariant-loop-m l = l.others ++ others_times l.j l.z (drop l.m-index l.members) ≡ others_times l.j l.z l.members
+invariant-loop-m l = l.others ++ others_times l.stream l.z (drop l.m-index l.members) ≡ others_times l.stream l.z l.members

@@ -3,4 +3,4 @@ use Rattle.pb_gap.specs.StreamBounds.{sign_in}
 use Rattle.pb_elim.proofs.members.sign_in.Given as goal
 
 abbrev pub invariant-loop-m : goal.invariant-loop-m
-invariant-loop-m l = sign_in l.j (drop l.m-index l.members) ≡ sign_in l.j l.members
+invariant-loop-m l = sign_in l.stream (drop l.m-index l.members) ≡ sign_in l.stream l.members

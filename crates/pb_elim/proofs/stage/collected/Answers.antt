@@ -2,13 +2,12 @@ use Rattle.std.proofs.Common.{◌∙◌, ℤ, length, Option, None, to_z, of_z, 
 use Rattle.std.specs.Int.{w128}
 use Rattle.std.proofs.lemmas.Int.{to_z-of_z}
 use Rattle.pb_graph.specs.declared.results.Stage.{Stage}
-use Rattle.pb_graph.specs.ProcessGraph.{ProcessGraph}
+use Rattle.pb_graph.specs.ProcessGraph.{ProcessGraph, IsProcessGraph}
 use Rattle.pb_classify.specs.Classification.{IsClassification}
 use Rattle.pb_gap.specs.State.{price_in}
 use Rattle.pb_gap.specs.Solution.{IsSolution}
 use Rattle.pb_elim.specs.Stage.{IsStageOf}
-use Rattle.pb_elim.proofs.Certifies.{certified}
-use Rattle.pb_elim.proofs.Parts.{AreParts, stage_is, stage_formed}
+use Rattle.pb_elim.proofs.StageLemmas.{AreParts, stage_is, stage_formed}
 use Rattle.pb_elim.proofs.stage.collected.Goals as goal
 
 abbrev made : goal.After-dof → Stage
@@ -25,7 +24,7 @@ made c = record {
   tests = None;
 }
 
-parts : (c : goal.After-dof) → AreParts c.args.options.now c.args.solver.now c.args.classes.now (made c)
+parts : (c : goal.After-dof) → AreParts c.args.options.now c.args.solver.now c.args.classes (made c)
 parts c =
     let s = c.args.solver.now in
     let options = c.args.options.now in
@@ -34,7 +33,7 @@ parts c =
     record {
       state = c.requires.state;
       graph = c.in_ok-copy.ensures ∙ sym same;
-      classified = subst (λ (g : ProcessGraph). IsClassification g c.args.classes.now) (sym same) c.requires.classes;
+      classified = subst (λ (g : ProcessGraph). IsClassification g c.args.classes) (sym same) c.requires.classes;
       results = c.in_ok-stream_results.ensures;
       each = c.in_ok-node_prices.ensures.each ∙ c.nodes.ensures.value ∙ ap (λ (g : ProcessGraph). g.nodes) (sym same);
       price = c.in_ok-node_prices.ensures.value;
@@ -48,17 +47,16 @@ parts c =
 
 pub returns-clause-stage : goal.returns-clause-stage
 returns-clause-stage c =
-    subst (λ (g : ProcessGraph). IsStageOf g c.args.options.now (made c)) c.requires.graph (stage_is c.args.options.now c.args.solver.now c.args.classes.now (made c) (parts c))
+    subst (λ (g : ProcessGraph). IsStageOf g c.args.options.now (made c)) c.requires.graph (stage_is c.args.options.now c.args.solver.now c.args.classes (made c) (parts c))
 
-pub returns-clause-certified : goal.returns-clause-certified
-returns-clause-certified c =
-    certified c.args.solver.now.graph c.args.options.now (made c) c.requires.state.limits (stage_is c.args.options.now c.args.solver.now c.args.classes.now (made c) (parts c))
+pub returns-clause-graph : goal.returns-clause-graph
+returns-clause-graph c = subst IsProcessGraph (c.requires.graph ∙ sym c.in_ok-copy.ensures) c.requires.state.limits
 
 pub returns-clause-formed : goal.returns-clause-formed
 returns-clause-formed c =
     let fits : FitsSigned w128 c.statistic-low.result.0 = search rules in
     let streams = ap (λ (g : ProcessGraph). length g.streams) (c.in_ok-copy.ensures ∙ sym c.requires.graph) in
-    stage_formed c.args.options.now c.args.solver.now c.args.classes.now (made c) c.requires.limits (parts c) (record {
+    stage_formed c.args.options.now c.args.solver.now c.args.classes (made c) c.requires.limits (parts c) (record {
       prices = c.in_ok-node_prices.ensures.within;
       g = c.g.ensures.most;
       h = c.h.ensures.most;

@@ -6,8 +6,9 @@ use Rattle.std.proofs.lemmas.List.{length_push}
 use Rattle.std.proofs.lemmas.List.Elements.{All-push}
 use Rattle.std.proofs.Math.ListN.{get_or-eq_default}
 use Rattle.pb_integers.specs.Sums.{item}
+use Rattle.pb_graph.specs.WellFormed.{IsPrice}
 use Rattle.pb_gap.specs.State.{price_in}
-use Rattle.pb_elim.proofs.Parts.{price_more}
+use Rattle.pb_elim.proofs.StageLemmas.{price_more}
 use Rattle.pb_elim.proofs.stage.node_prices.Goals as goal
 
 -- one node more has its price
@@ -19,11 +20,11 @@ loop-node-preserved c =
     let before = c.loop-node.prices in
     let put : c.push.new.self ≡ before ++ c.price.result ∷ [] = simp to_z-of_z at c.in_ok-push.ensures.ok in
     let more = price_more price before c.price.result c.loop-node.node so_far.each so_far.value c.price.ensures.value in
-    let each = All-push (λ (p : ℤ). unsigned_abs p ≤ 2 ^ 120) before c.price.result so_far.within c.price.ensures.within in
+    let each = All-push IsPrice before c.price.result so_far.within c.price.ensures.within in
     record {
       each = omega (arith, ap length put, length_push before c.price.result, so_far.each);
       value = λ n lt. ap (λ (xs : List ℤ). item xs n) put ∙ more n lt;
-      within = subst (λ (xs : List ℤ). All (λ (p : ℤ). unsigned_abs p ≤ 2 ^ 120) xs) (sym put) each;
+      within = subst (λ (xs : List ℤ). All IsPrice xs) (sym put) each;
       outside = λ some n past. c.price.ensures.outside n (omega (arith, past, c.requires.nodes));
     }
 

@@ -1,5 +1,6 @@
 use Rattle.std.proofs.Common.{◌≡◌, ℕ, ◌<◌, ◌≤◌, ◌^◌, pos, All, length, unsigned_abs}
 use Rattle.pb_integers.specs.Sums.{item}
+use Rattle.pb_graph.specs.WellFormed.{IsPrice}
 use Rattle.pb_gap.specs.State.{price_in}
 use Rattle.pb_elim.proofs.stage.node_prices.Given as goal
 
@@ -8,6 +9,6 @@ abbrev pub invariant-loop-node : goal.invariant-loop-node
 invariant-loop-node l = record {
   each : length l.prices ≡ l.node;
   value : (n : ℕ) → n < l.node → item l.prices n ≡ price_in l.solver n;
-  within : All (λ price. unsigned_abs price ≤ 2 ^ 120) l.prices;
+  within : All IsPrice l.prices;
   outside : 0 < l.node → (n : ℕ) → l.nodes ≤ n → price_in l.solver n ≡ pos 0;
 }

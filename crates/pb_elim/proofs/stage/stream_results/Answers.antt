@@ -1,37 +1,43 @@
-use Rattle.std.proofs.Common.{◌≡◌, ◌∙◌, ℕ, List, [], ◌∷◌, ◌++◌, length, Some, slice_get, sym, ap, subst, arith}
-use Rattle.std.proofs.lemmas.List.{length_push}
-use Rattle.std.proofs.lemmas.Option.{slice_get-get_or}
+use Rattle.std.proofs.Common.{◌≡◌, ◌∙◌, ℕ, List, [], ◌∷◌, ◌++◌, length, Some, slice_get, append_assoc, sym, ap, subst, arith}
+use Rattle.std.specs.Vec.Iter.{into_iter_items}
 use Rattle.pb_graph.specs.declared.records.Classified.{Classified}
 use Rattle.pb_graph.specs.declared.results.StreamResult.{StreamResult}
-use Rattle.pb_graph.proofs.WalkLemmas.{some_same}
-use Rattle.pb_elim.specs.Results.{IsResultOf}
-use Rattle.pb_elim.proofs.Lists.{each_push}
+use Rattle.pb_graph.specs.ProcessGraph.{ProcessGraph}
+use Rattle.pb_classify.specs.Classification.{IsClassified, IsClassification}
+use Rattle.pb_elim.specs.Results.{IsResultOf, AreResultsOf}
+use Rattle.pb_elim.proofs.StageLemmas.{at_end, results_more}
 use Rattle.pb_elim.proofs.stage.stream_results.Goals as goal
 
+class_at : (g : ProcessGraph) (classes before rest : List Classified) (x : Classified) (k : ℕ) → IsClassification g classes → before ++ x ∷ rest ≡ classes → length before ≡ k → IsClassified g k x
+class_at g classes before rest x k is whole end =
+    is.right k x (ap (λ (xs : List Classified). slice_get xs k) (sym whole) ∙ subst (λ (i : ℕ). slice_get (before ++ x ∷ rest) i ≡ Some x) end (at_end before x rest))
+
+-- the stream at hand has the class at hand
 pub stream_result-requires-clause-classified : goal.stream_result-requires-clause-classified
 stream_result-requires-clause-classified c =
-    let at = slice_get-get_or c.args.classes.now c.loop-j.j c.index-classes-j.result c.loop-j-test.true ∙ ap Some (sym c.index-classes-j.is) in
-    c.requires.classes.right c.loop-j.j c.index-classes-j.result at
+    let at = c.loop-classified in
+    let x = c.in-Some.classified in
+    let steps : into_iter_items at.classified-iterator ≡ x ∷ into_iter_items c.next.new.self = c.in-Some.ensures.steps.0 in
+    let all = rw steps at at.invariant.whole in
+    let whole : at.yielded ++ x ∷ into_iter_items c.next.new.self ≡ c.args.classes = all ∙ c.into_iter-classified-iterator.ensures.into_iter_gives.0 ∙ c.into_vec-classified-items.ensures in
+    class_at c.args.solver.now.graph c.args.classes at.yielded (into_iter_items c.next.new.self) x c.len-stream.result c.requires.classes whole
+    (sym at.invariant.so_far.each ∙ sym c.len-stream.ensures)
 
 -- one stream more has its result
-pub loop-j-preserved : goal.loop-j-preserved
-loop-j-preserved c =
+pub loop-classified-preserved : goal.loop-classified-preserved
+loop-classified-preserved c =
+    let at = c.loop-classified in
     let s = c.args.solver.now in
-    let classes = c.args.classes.now in
-    let before = c.loop-j.results in
+    let x = c.in-Some.classified in
     let r = c.in_ok-stream_result.field-0 in
-    let so_far = c.loop-j.invariant in
-    let put : c.push.new.self ≡ before ++ r ∷ [] = c.in_ok-push.ensures.ok in
-    let HasResult : ℕ → StreamResult → Type 0 = λ k q. (d : Classified) → slice_get classes k ≡ Some d → IsResultOf s k d q in
-    let at : slice_get classes c.loop-j.j ≡ Some c.index-classes-j.result =
-    slice_get-get_or classes c.loop-j.j c.index-classes-j.result c.loop-j-test.true ∙ ap Some (sym c.index-classes-j.is) in
-    let now : HasResult c.loop-j.j r = λ d there. subst (λ (d : Classified). IsResultOf s c.loop-j.j d r) (some_same (sym at ∙ there)) c.in_ok-stream_result.ensures in
+    let steps : into_iter_items at.classified-iterator ≡ x ∷ into_iter_items c.next.new.self = c.in-Some.ensures.steps.0 in
+    let here : IsResultOf s (length at.results) x r = subst (λ (k : ℕ). IsResultOf s k x r) c.len-stream.ensures c.in_ok-stream_result.ensures in
     record {
-      each = omega (arith, ap length put, length_push before r, so_far.each);
-      right = λ k q is. each_push HasResult before r so_far.right (subst (λ (k : ℕ). HasResult k r) (sym so_far.each) now) k q (ap (λ (xs : List StreamResult). slice_get xs k) (sym put) ∙ is);
+      whole = append_assoc at.yielded (x ∷ []) _ ∙ rw (← steps) at.invariant.whole;
+      remaining =
+          let was = at.invariant.remaining in
+          let gone = c.in-Some.ensures.steps.1 in
+          let short = ap length steps in
+          omega arith;
+      so_far = subst (AreResultsOf s (at.yielded ++ x ∷ [])) (sym c.in_ok-push.ensures.ok) (results_more s at.yielded at.results x r at.invariant.so_far here);
     }
-
-pub returns : goal.returns
-returns c =
-    let so_far = c.loop-j.invariant in
-    record { each = omega (arith, so_far.each, c.loop-j-test.false, c.loop-j.auto.j-end); right = λ k d r there at. so_far.right k r at d there }

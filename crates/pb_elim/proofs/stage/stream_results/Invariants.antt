@@ -1,12 +1,12 @@
-use Rattle.std.proofs.Common.{◌≡◌, ℕ, Some, length, slice_get}
-use Rattle.pb_graph.specs.declared.records.Classified.{Classified}
-use Rattle.pb_graph.specs.declared.results.StreamResult.{StreamResult}
-use Rattle.pb_elim.specs.Results.{IsResultOf}
+use Rattle.std.proofs.Common.{◌≡◌, ◌++◌, length}
+use Rattle.std.specs.Vec.Iter.{into_iter_items, into_iter_len}
+use Rattle.pb_elim.specs.Results.{AreResultsOf}
 use Rattle.pb_elim.proofs.stage.stream_results.Given as goal
 
 -- the streams so far have their results
-abbrev pub invariant-loop-j : goal.invariant-loop-j
-invariant-loop-j l = record {
-  each : length l.results ≡ l.j;
-  right : (k : ℕ) (r : StreamResult) → slice_get l.results k ≡ Some r → (c : Classified) → slice_get l.classes k ≡ Some c → IsResultOf l.solver k c r;
+abbrev pub invariant-loop-classified : goal.invariant-loop-classified
+invariant-loop-classified l = record {
+  whole : l.yielded ++ into_iter_items l.classified-iterator ≡ into_iter_items l.initial.classified-iterator;
+  remaining : into_iter_len l.classified-iterator ≡ length (into_iter_items l.classified-iterator);
+  so_far : AreResultsOf l.solver l.yielded l.results;
 }

@@ -1,11 +1,14 @@
 -- What a stage is collected from.
-use Rattle.std.proofs.Common.{◌≡◌, ◌∙◌, ℕ, ◌+◌, ◌<◌, ◌≤◌, ◌^◌, ℤ, pos, Bool, List, [], ◌∷◌, ◌++◌, length, All, Option, None, get_or, map, sym, ap, subst, inl, inr, arith, unsigned_abs}
+use Rattle.std.proofs.Common.{◌≡◌, ◌∙◌, ℕ, ◌+◌, ◌<◌, ◌≤◌, ◌^◌, ℤ, pos, Bool, List, [], ◌∷◌, ◌++◌, length, All, Option, Some, None, slice_get, get_or, map, refl, sym, ap, subst, inl, inr, arith, unsigned_abs}
 use Rattle.std.specs.Prelude.{IfSome}
-use Rattle.std.proofs.lemmas.Bool.{cases_eq}
-use Rattle.std.proofs.lemmas.List.{get_or_append_left, get_or_push, length-map}
-use Rattle.std.proofs.lemmas.Option.{slice_get_within, slice_get-get_or}
+use Rattle.std.proofs.lemmas.Bool.{cases_eq, cases_lt}
+use Rattle.std.proofs.lemmas.List.{get_or_append_left, get_or_push, length-map, length_push}
+use Rattle.std.proofs.lemmas.Option.{get_or_from_slice_get, slice_get_within, slice_get-get_or}
 use Rattle.pb_integers.specs.Sums.{item}
+use Rattle.pb_limits.specs.Limits.{most_sweeps}
 use Rattle.pb_graph.specs.declared.records.Classified.{Classified}
+use Rattle.pb_graph.specs.declared.records.Witness.{Witness}
+use Rattle.pb_graph.specs.declared.records.Witness.TheVariants.{Cut, Cycle}
 use Rattle.pb_graph.specs.declared.results.Solved.{Solved}
 use Rattle.pb_graph.specs.declared.results.Solved.TheVariants.{Converged, Unconverged}
 use Rattle.pb_graph.specs.declared.results.StreamResult.{StreamResult}
@@ -25,10 +28,41 @@ use Rattle.pb_gap.specs.Solution.{IsSolution}
 use Rattle.pb_elim.specs.Options.{AreOptions}
 use Rattle.pb_elim.specs.Printed.{printed_price, printed_flows, printed_classes, printed_gap}
 use Rattle.pb_elim.specs.Stage.{IsStageOf}
-use Rattle.pb_elim.specs.WellFormed.{sweeps_of, IsWide, IsResultWithin, AreTestsWithin, IsWellFormed}
-use Rattle.pb_elim.specs.Results.{AreResultsOf}
-use Rattle.pb_elim.proofs.Lists.{from_map, same_items, some_at}
-use Rattle.pb_elim.proofs.Forms.{witness_within}
+use Rattle.pb_graph.specs.WellFormed.{sweeps_of, IsPrice, IsWide, IsResultWithin, IsWitnessWithin, AreTestsWithin, IsWellFormed}
+use Rattle.pb_elim.specs.Signs.{AreWitnessSigns}
+use Rattle.pb_elim.specs.Results.{IsResultOf, AreResultsOf}
+use Rattle.pb_elim.proofs.ListLemmas.{from_map, same_items, some_at}
+use Rattle.pb_graph.proofs.CertificateLemmas.{witness_within}
+
+-- members within the graph have signs
+signs_of : (g : ProcessGraph) (w : Witness) → IsWitnessWithin g w → AreWitnessSigns w
+signs_of g (Cut side members) (each, within) = λ k d lt. (within k d lt).sign
+signs_of g (Cycle steps) within = tt
+
+pub witness_signs : (g : ProcessGraph) (j : ℕ) (c : Classified) → IsCertified g j c → AreWitnessSigns c.witness
+witness_signs g j c shown = signs_of g c.witness (witness_within g j c shown)
+
+-- one result more
+pub results_more : (s : State) (classes : List Classified) (results : List StreamResult) (c : Classified) (r : StreamResult) → AreResultsOf s classes results → IsResultOf s (length results) c r
+    → AreResultsOf s (classes ++ c ∷ []) (results ++ r ∷ [])
+results_more s classes results c r are is = record {
+  each = omega (arith, are.each, length_push classes c, length_push results r);
+  right = λ k d q there at. elim (cases_lt k (length results)) [
+    | inl less ↦ are.right k d q
+        (slice_get-get_or classes k d (omega (arith, less, are.each)) ∙ ap Some (sym (get_or_append_left classes (c ∷ []) d k (omega (arith, less, are.each))) ∙ get_or_from_slice_get (classes ++ c ∷ []) k d d there))
+        (slice_get-get_or results k q less ∙ ap Some (sym (get_or_append_left results (r ∷ []) q k less) ∙ get_or_from_slice_get (results ++ r ∷ []) k q q at))
+    | inr more ↦
+        let end : length results ≡ k = omega (arith, more, slice_get_within (results ++ r ∷ []) k q at, length_push results r) in
+        let d_is : c ≡ d = sym (get_or_push classes c d k (omega (arith, end, are.each))) ∙ get_or_from_slice_get (classes ++ c ∷ []) k d d there in
+        let q_is : r ≡ q = sym (get_or_push results r q k end) ∙ get_or_from_slice_get (results ++ r ∷ []) k q q at in
+        subst (λ (i : ℕ). IsResultOf s i d q) end (subst (λ (d : Classified). IsResultOf s (length results) d q) d_is (subst (IsResultOf s (length results) c) q_is is))
+  ];
+}
+
+-- the item behind a list
+pub at_end : (xs : List Classified) (c : Classified) (rest : List Classified) → slice_get (xs ++ c ∷ rest) (length xs) ≡ Some c
+at_end [] c rest = refl
+at_end (x ∷ xs) c rest = at_end xs c rest
 
 -- one node more has its price
 pub price_more : (price : ℕ → ℤ) (before : List ℤ) (p : ℤ) (n : ℕ) → length before ≡ n → ((k : ℕ) → k < n → item before k ≡ price k) → p ≡ price n
@@ -81,7 +115,7 @@ stage_is options s classes stage parts =
     let same_classes : printed_classes stage ≡ classes = classes_same s classes stage.streams parts.results in
     let gap : printed_gap stage ≡ gap_in s = λ i. record { g = parts.g i; h = parts.h i } in
     record {
-      graph = parts.graph;
+      graph_is = parts.graph;
       classes = subst (IsClassification s.graph) (sym same_classes) parts.classified;
       priced = parts.each;
       solution =
@@ -100,7 +134,7 @@ stage_is options s classes stage parts =
 
 -- the ranges of the numbers
 pub record AreNarrow (stage : Stage) : Type 0 where
-  pub prices : All (λ p. unsigned_abs p ≤ 2 ^ 120) stage.prices
+  pub prices : All IsPrice stage.prices
   pub g : stage.g ≤ 2 ^ 63
   pub h : stage.h ≤ 32
   pub dof : stage.dof ≤ length stage.graph.streams
@@ -108,7 +142,7 @@ pub record AreNarrow (stage : Stage) : Type 0 where
   pub high : IfSome stage.high IsWide
   pub untested : stage.tests ≡ None
 
-sweeps_within : (g : ProcessGraph) (gap sweeps : ℕ) (solved : Solved) (price : ℕ → ℤ) (flows : List ℤ) → IsSolution g gap sweeps solved price flows → sweeps ≤ 100000 → sweeps_of solved ≤ 100000
+sweeps_within : (g : ProcessGraph) (gap sweeps : ℕ) (solved : Solved) (price : ℕ → ℤ) (flows : List ℤ) → IsSolution g gap sweeps solved price flows → sweeps ≤ most_sweeps → sweeps_of solved ≤ most_sweeps
 sweeps_within g gap sweeps (Converged k) price flows is most = omega (arith, is.within, most)
 sweeps_within g gap sweeps (Unconverged k) price flows is most = omega (arith, is.done, most)
 
@@ -130,7 +164,7 @@ stage_formed options s classes stage limits parts narrow = record {
   each_stream = parts.results.each ∙ parts.classified.each ∙ ap (λ (g : ProcessGraph). length g.streams) (sym parts.graph);
   results = subst (λ (g : ProcessGraph). All (IsResultWithin g) stage.streams) (sym parts.graph) (results_within s classes stage.streams parts.classified parts.results);
   prices = narrow.prices;
-  sweeps = sweeps_within s.graph options.gap options.sweeps stage.solved (price_in s) s.flows parts.solution limits.most_sweeps;
+  sweeps = sweeps_within s.graph options.gap options.sweeps stage.solved (price_in s) s.flows parts.solution limits.greatest_sweeps;
   g = narrow.g;
   h = narrow.h;
   dof = omega (arith, narrow.dof, ap (λ (g : ProcessGraph). length g.streams) parts.graph, parts.state.limits.few_streams);

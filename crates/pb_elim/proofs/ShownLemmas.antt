@@ -1,0 +1,76 @@
+-- A shown stage is certified.
+use Rattle.std.proofs.Common.{◌≡◌, ◌∙◌, ℕ, ℤ, List, Option, Some, None, refl, sym, ap, subst, arith}
+use Rattle.std.specs.Prelude.{IfSome, MatchOption}
+use Rattle.std.proofs.lemmas.Int.{ints}
+use Rattle.pb_graph.specs.declared.records.Stream.{Stream}
+use Rattle.pb_graph.specs.declared.records.Class.{Class}
+use Rattle.pb_graph.specs.declared.records.Class.TheVariants.{Observable, Unobservable, Redundant, Nonredundant}
+use Rattle.pb_graph.specs.declared.records.Witness.{Witness}
+use Rattle.pb_graph.specs.declared.records.Witness.TheVariants.{Cut, Cycle}
+use Rattle.pb_graph.specs.declared.results.Bounds.{Bounds}
+use Rattle.pb_graph.specs.declared.results.Stage.{Stage}
+use Rattle.pb_graph.specs.ProcessGraph.{ProcessGraph}
+use Rattle.pb_graph.specs.Certificates.{Shows}
+use Rattle.pb_graph.specs.Squares.{Fractional, IsBalancedFractional, AreSquaresAtLeast, AreSquaresAtMost, whole_flows}
+use Rattle.pb_balance.specs.Laws.{CertificateLaw}
+use Rattle.pb_gap.specs.declared.gap.Gap.{Gap}
+use Rattle.pb_gap.specs.Gap.{deviations_of, gap_of}
+use Rattle.pb_gap.specs.StreamBounds.{IsStreamWithin, stream_bounds}
+use Rattle.pb_gap.specs.Statistic.{low_of}
+use Rattle.pb_gap.specs.Laws.{IsDualPair, AreGaps, StreamLaw, LowLaw, HighLaw}
+use Rattle.pb_gap.specs.Least.{AreWithinGap, DistanceLaw}
+use Rattle.pb_elim.specs.Printed.{printed_price, printed_flows, printed_gap}
+use Rattle.pb_elim.specs.Certified.{IsShownStage, IsCertifiedStage}
+use Rattle.pb_elim.specs.Laws.{ShownLaw}
+
+-- only an unobservable stream has no bounds
+unbounded : (price : ℕ → ℤ) (ss : List Stream) (gap : Gap) (g : ProcessGraph) (j : ℕ) (s : Stream) (class : Class) (w : Witness) → Shows g j s class w
+    → stream_bounds price ss gap j (record { class = class; witness = w }) ≡ None → class ≡ Unobservable
+unbounded price ss gap g j s Unobservable w shows none = refl
+unbounded price ss gap g j s Redundant w shows none = cc none
+unbounded price ss gap g j s Nonredundant w shows none = cc none
+unbounded price ss gap g j s Observable (Cut side members) shows none = cc none
+unbounded price ss gap g j s Observable (Cycle steps) shows none = absurd shows
+
+enclosed_by : (x : Fractional) (j : ℕ) (class : Class) (bounds : Option Bounds) → IfSome bounds (IsStreamWithin x j) → (bounds ≡ None → class ≡ Unobservable)
+    → MatchOption bounds (class ≡ Unobservable) (IsStreamWithin x j)
+enclosed_by x j class None within unobservable = unobservable refl
+enclosed_by x j class (Some b) within unobservable = within
+
+high_by : (g : ProcessGraph) (x : Fractional) (one other : Option ℤ) → one ≡ other → IfSome other (AreSquaresAtMost g x) → IfSome one (AreSquaresAtMost g x)
+high_by g x one other same most = subst (λ (o : Option ℤ). IfSome o (AreSquaresAtMost g x)) (sym same) most
+
+-- what the laws below give
+pub record Laws : Type 0 where
+  pub certificate : CertificateLaw
+  pub gaps : AreGaps
+  pub stream : StreamLaw
+  pub distance : DistanceLaw
+  pub low : LowLaw
+  pub high : HighLaw
+
+pub shown_by : Laws → ShownLaw
+shown_by laws stage is =
+    let g = stage.graph in
+    let price = printed_price stage in
+    let flows = printed_flows stage in
+    let numbers = is.numbers in
+    let gap : printed_gap stage ≡ gap_of price g.streams flows = laws.gaps.only (deviations_of price g.streams flows) (printed_gap stage) numbers.deviation in
+    let pair : (x : Fractional) → IsBalancedFractional g x → IsDualPair g price x = λ x even. record { limits = is.limits; fit = is.fit; balanced = even } in
+    record {
+      shown = is;
+      classes = λ j r at. laws.certificate g j r.classified is.limits (is.shown j r at);
+      enclosed = λ x good j r at.
+          let (s, here, shows) = is.shown j r at in
+          let within = laws.stream g price flows x j r.classified (pair x good.balanced) is.balanced good.no_worse (is.shown j r at) in
+          let same : r.bounds ≡ stream_bounds price g.streams (gap_of price g.streams flows) j r.classified =
+          numbers.bounded j r at ∙ ap (λ (gap : Gap). stream_bounds price g.streams gap j r.classified) gap in
+          enclosed_by x j r.classified.class r.bounds (subst (λ (o : Option Bounds). IfSome o (IsStreamWithin x j)) (sym same) within)
+          (λ none. unbounded price g.streams (gap_of price g.streams flows) g j s r.classified.class r.classified.witness shows (sym same ∙ none));
+      near = λ x least.
+          let whole : IsBalancedFractional g (whole_flows flows) = record { positive = omega (arith, ints); balanced = is.balanced } in
+          subst (λ (gap : Gap). AreWithinGap g gap (whole_flows flows) x) (sym gap) (laws.distance g price flows x (pair (whole_flows flows) whole) least);
+      least = λ x even.
+          subst (AreSquaresAtLeast g x) (sym (numbers.from_below ∙ ap (low_of g.streams flows) gap)) (laws.low g price flows x (pair x even) is.balanced);
+      most = high_by g (whole_flows flows) stage.high _ numbers.from_above (laws.high g flows is.limits);
+    }

@@ -1,0 +1,12 @@
+use Rattle.pb_elim.proofs.ShownLemmas.{shown_by}
+use Rattle.pb_elim.proofs.laws.shown_law.Goals as goal
+
+pub returns : goal.returns
+returns c = shown_by (record {
+  certificate = c.certificate_law.ensures;
+  gaps = c.gap_law.ensures.numbers;
+  stream = c.stream_law.ensures.within;
+  distance = c.least_law.ensures.distance;
+  low = c.statistic_law.ensures.low;
+  high = c.statistic_law.ensures.high;
+})
