@@ -10,12 +10,14 @@ use Rattle.pb_book.specs.declared.answer.Accepted.TheVariants.{Blank, Stored as 
 use Rattle.pb_book.specs.declared.rows.Period.{Period}
 use Rattle.pb_book.specs.Rows.{periods_of}
 use Rattle.pb_book.specs.Answer.{Answer, Refused, Says, Stored, answer_of}
+use Rattle.pb_book.specs.Laws.{AcceptedLaw}
+use Rattle.pb_period.specs.Laws.{GraphsLaw, HaveGraphs}
 use Rattle.pb_period.specs.Days.{days_of}
 use Rattle.pb_period.specs.declared.graph.Assembly.{Assembly}
 use Rattle.pb_period.specs.declared.graph.Assembly.TheVariants.{Over, NoMemory}
 use Rattle.pb_period.specs.PeriodGraph.{assembly_of, base_of, design_graph, period_graph, period_names, unless_over}
 use Rattle.pb_session.specs.Session.{AddsAccepted, AddsBy, AreNamesOf, SessionState, no_critical, Reports, ReportsBy, state_after}
-use Rattle.pb_session.specs.Laws.{EachHasGraphs, HaveGraphs, SomeTextLaw, SomeSessionTextLaw}
+use Rattle.pb_session.specs.Laws.{SomeTextLaw, SomeSessionTextLaw}
 use Rattle.pb_session.proofs.NamedLemmas.{names_are, period_names_are}
 use Rattle.pb_session.proofs.RowLemmas.{AnswersOf, answers, some_period}
 
@@ -54,13 +56,13 @@ some_answer classifications studies certified state at (Says Design) asked graph
     (_, record { limits = graphs.design; named = names_are base_of state.rows graphs.names; classes = classes; are = are; rows = refl })
 some_answer classifications studies certified state at (Says (Report i)) asked graphs of = some_reports studies certified state i asked graphs of
 
-pub some_text : SomeClassificationLaw → SomeStudyLaw → CertifiedLaw → SomeTextLaw
-some_text classifications studies certified state at fields asked graphs =
-    some_answer classifications studies certified state at (answer_of state.rows fields) asked graphs (answers state.rows fields)
+pub some_text : SomeClassificationLaw → SomeStudyLaw → CertifiedLaw → GraphsLaw → SomeTextLaw
+some_text classifications studies certified graphs state at fields asked accepted =
+    some_answer classifications studies certified state at (answer_of state.rows fields) asked (graphs state.rows accepted) (answers state.rows fields)
 
-pub some_session_text : SomeClassificationLaw → SomeStudyLaw → CertifiedLaw → SomeSessionTextLaw
-some_session_text classifications studies certified state at [] asked graphs = ([], refl)
-some_session_text classifications studies certified state at (fields ∷ records) asked (graphs, more) =
-    let (first, adds) = some_text classifications studies certified state at fields asked graphs in
-    let (rest, texts) = some_session_text classifications studies certified (state_after state at fields) (at + 1) records asked more in
+pub some_session_text : SomeClassificationLaw → SomeStudyLaw → CertifiedLaw → GraphsLaw → AcceptedLaw → SomeSessionTextLaw
+some_session_text classifications studies certified graphs law state at [] asked accepted = ([], refl)
+some_session_text classifications studies certified graphs law state at (fields ∷ records) asked accepted =
+    let (first, adds) = some_text classifications studies certified graphs state at fields asked accepted in
+    let (rest, texts) = some_session_text classifications studies certified graphs law (state_after state at fields) (at + 1) records asked (law.go_on state.rows at fields accepted) in
     (first ++ rest, (first, rest, adds, texts, refl))

@@ -16,6 +16,9 @@ accepted_sure accepted result is = λ other. cc (is, other)
 refused_sure : (cause : Refusal) (result : Result Accepted NotAccepted) → result ≡ Err (NotAcceptedFor cause) → result ≢ Err NoMemory
 refused_sure cause result is = λ other. cc (is, other)
 
+refused_for : (cause : Refusal) (other : NotAccepted) (result : Result Accepted NotAccepted) → result ≡ Err other → other ≡ NotAcceptedFor cause → result ≡ Err (NotAcceptedFor cause)
+refused_for cause other result is other_is = cc (is, other_is)
+
 on_err : {T E : Type 0} (r : Result T E) (P : Type 0) → P → OnErr r P
 on_err (Ok x) P holds = tt
 on_err (Err e) P holds = holds
@@ -43,9 +46,10 @@ pub returns-in_ok-refuse-in-Err-Refused : goal.returns-in_ok-refuse-in-Err-Refus
 returns-in_ok-refuse-in-Err-Refused c =
     let state : SessionState = record { options = c.self.inside.options; form = c.self.inside.form; rows = c.self.inside.book } in
     let cause = c.in-Err-Refused.cause in
-    let sure = refused_sure cause c.accept.result c.in-Err-Refused.is in
+    let is_for = refused_for cause c.in-Err-Refused.field-0 c.accept.result c.in-Err-Refused.is c.in-Err-Refused.field-0-is in
+    let sure = refused_sure cause c.accept.result is_for in
     let answer = answer_of c.self.inside.book c.args.row.now in
-    let answer_is : answer ≡ Refused cause = refused_is answer cause (sym c.in-Err-Refused.is ∙ c.accept.ensures.answer sure) in
+    let answer_is : answer ≡ Refused cause = refused_is answer cause (sym is_for ∙ c.accept.ensures.answer sure) in
     let (text, written, is) = c.in_ok-refuse-in-Err-Refused.ensures.ok in
     let here : Adds state c.args.at c.args.row.now text = subst (λ (a : Answer). AddsBy state c.args.at a text) (sym answer_is) is in
     let refused_now : true ≡ is_refused answer = sym (ap is_refused answer_is) in
@@ -64,9 +68,10 @@ returns-in_ok-refuse-in-Err-Refused c =
 pub returns-in_err-refuse-in-Err-Refused-clause-err : goal.returns-in_err-refuse-in-Err-Refused-clause-err
 returns-in_err-refuse-in-Err-Refused-clause-err c =
     let cause = c.in-Err-Refused.cause in
-    let sure = refused_sure cause c.accept.result c.in-Err-Refused.is in
+    let is_for = refused_for cause c.in-Err-Refused.field-0 c.accept.result c.in-Err-Refused.is c.in-Err-Refused.field-0-is in
+    let sure = refused_sure cause c.accept.result is_for in
     let answer = answer_of c.self.inside.book c.args.row.now in
-    let answer_is : answer ≡ Refused cause = refused_is answer cause (sym c.in-Err-Refused.is ∙ c.accept.ensures.answer sure) in
+    let answer_is : answer ≡ Refused cause = refused_is answer cause (sym is_for ∙ c.accept.ensures.answer sure) in
     let rows_stay : c.accept.new.self ≡ c.self.inside.book = c.accept.ensures.stored sure ∙ ap (after_answer c.self.inside.book c.args.at) answer_is in
     let state : SessionState = record { options = c.self.inside.options; form = c.self.inside.form; rows = c.self.inside.book } in
     let new : SessionState = record { options = c.self.inside.options; form = c.self.inside.form; rows = c.accept.new.self } in

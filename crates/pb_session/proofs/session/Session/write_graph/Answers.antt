@@ -9,7 +9,9 @@ use Rattle.pb_session.proofs.AppendingLemmas.{appends_such}
 use Rattle.pb_session.proofs.session.Session.write_graph.Goals as goal
 
 pub write_study-requires : goal.write_study-requires
-write_study-requires c = record { graph = c.args.graph.now; named = c.requires.names.each; formed = c.in_ok-study.ensures.formed }
+write_study-requires c = record {
+  named = record { graph = c.args.graph.now; named = c.requires.names.each; formed = c.in_ok-study.ensures.formed };
+}
 
 pub returns-clause-ok : goal.returns-clause-ok
 returns-clause-ok c =
