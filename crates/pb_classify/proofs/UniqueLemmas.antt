@@ -1,6 +1,6 @@
 -- A graph has one classification: each part of a canonical certificate is determined.
-use Rattle.std.proofs.Common.{◌≡◌, ◌∙◌, ℕ, zero, suc, Bool, true, false, List, [], ◌∷◌, length, Option, Some, slice_get, get_or, refl, sym, ap, ap₂, subst, inl, inr, arith}
-use Rattle.std.proofs.lemmas.Bool.{cases_Bool, cases_order}
+use Rattle.std.proofs.Common.{◌≡◌, ◌∙◌, ℕ, zero, suc, Bool, true, List, [], ◌∷◌, length, Some, slice_get, refl, sym, ap, ap₂, subst, inl, inr, arith}
+use Rattle.std.proofs.lemmas.Bool.{cases_order}
 use Rattle.pb_graph.specs.declared.records.Stream.{Stream}
 use Rattle.pb_graph.specs.declared.records.Member.{Member}
 use Rattle.pb_graph.specs.declared.records.Step.{Step}

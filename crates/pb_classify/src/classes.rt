@@ -26,7 +26,8 @@ fn free_stream(
     requires limits { IsProcessGraph graph.now }
     requires forest { IsForestOf graph.now forest.now }
     requires stream { slice_get graph.now.streams j ≡ Some stream.now }
-    requires joined { Reaches (ends_of (unmeasured_but j) graph.now.streams) stream.now.from stream.now.to }
+    requires joined { Reaches (ends_of (unmeasured_but j) graph.now.streams)
+        stream.now.from stream.now.to }
     requires first { IsFirstBefore graph.now forest.now.held (length graph.now.streams) j first }
     ensures { IfOk result (λ c. IsClassified graph.now j c) }
 {
@@ -105,7 +106,8 @@ fn classify_each(
 ) -> Result<List<Classified>, AllocError>
     requires near { IsNeighbours graph.now near.now }
     requires forest { IsForestOf graph.now forest.now }
-    requires cycles { AreFirstBefore graph.now forest.now.held (length graph.now.streams) cycles.old }
+    requires cycles { AreFirstBefore graph.now forest.now.held
+        (length graph.now.streams) cycles.old }
     ensures { IfOk result (λ classes. IsClassification graph.now classes) }
 {
     let mut classes = List::new(alloc);

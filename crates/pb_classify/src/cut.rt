@@ -31,7 +31,8 @@ pub fn side_of(
 ) -> Result<List<bool>, AllocError>
     requires near { IsNeighbours graph.now near.now }
     requires stream { slice_get graph.now.streams j ≡ Some stream.now }
-    ensures { IfOk result (λ side. IsReach (ends_of (unmeasured_but j) graph.now.streams) graph.now.nodes stream.now.from side) }
+    ensures { IfOk result (IsReach (ends_of (unmeasured_but j) graph.now.streams)
+        graph.now.nodes stream.now.from) }
 {
     let marks = others_unmeasured(alloc, graph.streams(), j)?;
     reach(alloc, graph, near, &marks, stream.from)

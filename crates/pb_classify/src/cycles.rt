@@ -47,7 +47,8 @@ pub fn cycle_of(
 // Gives a cycle to each stream on it that has none yet.
 fn give(alloc: Global, steps: &[Step], cycles: &mut [Option<List<Step>>]) -> Result<(), AllocError>
     requires { All (λ t. t.stream < length cycles.old) steps.now }
-    ensures { OnOk result ((j : ℕ) → j < length cycles.old → get_or cycles.new j None ≡ after_cycle steps.now j (get_or cycles.old j None)) }
+    ensures { OnOk result ((j : ℕ) → j < length cycles.old
+        → get_or cycles.new j None ≡ after_cycle steps.now j (get_or cycles.old j None)) }
 {
     for step in steps {
         if cycles[step.stream as usize].is_none() {
@@ -99,7 +100,8 @@ fn give_all(
 ) -> Result<(), AllocError>
     requires forest { IsForestOf graph.now forest.now }
     requires begins { AreFirstBefore graph.now forest.now.held 0 cycles.old }
-    ensures { OnOk result (AreFirstBefore graph.now forest.now.held (length graph.now.streams) cycles.new) }
+    ensures { OnOk result
+        (AreFirstBefore graph.now forest.now.held (length graph.now.streams) cycles.new) }
 {
     for e in 0..graph.len() {
         give_next(alloc, graph, forest, e, cycles)?;
@@ -114,7 +116,8 @@ pub fn first_cycles(
     forest: &Forest,
 ) -> Result<Vec<Option<List<Step>>>, AllocError>
     requires { IsForestOf graph.now forest.now }
-    ensures { IfOk result (λ cycles. AreFirstBefore graph.now forest.now.held (length graph.now.streams) cycles.items) }
+    ensures { IfOk result (λ cycles.
+        AreFirstBefore graph.now forest.now.held (length graph.now.streams) cycles.items) }
 {
     let mut cycles = no_cycles(alloc, graph.len())?;
     give_all(alloc, graph, forest, &mut cycles)?;

@@ -1,5 +1,5 @@
 -- Labels of nodes, as streams in order join more of them, and the marks that they decide.
-use Rattle.std.proofs.Common.{◌≡◌, ◌≢◌, ◌∙◌, ℕ, ◌+◌, ◌<◌, Bool, true, false, not, ◌==◌, nat_lt, List, length, Some, slice_get, get_or, set, get_or-set_same, get_or-set_other, ap, sym, refl, subst, inl, inr, arith}
+use Rattle.std.proofs.Common.{◌≡◌, ◌∙◌, ℕ, ◌+◌, ◌<◌, Bool, true, false, not, ◌==◌, nat_lt, List, length, Some, slice_get, get_or, set, get_or-set_same, get_or-set_other, ap, sym, refl, subst, inl, inr, arith}
 use Rattle.std.proofs.lemmas.Bool.{cases_Bool, cases_eq, and_parts, and_from, or_left, not-true, not-false, eq-eqb, eqb-true, ltb-true, lt-ltb}
 use Rattle.std.proofs.Math.Bool.{beq}
 use Rattle.std.proofs.lemmas.Option.{slice_get_within}

@@ -4,12 +4,13 @@ ghost use Rattle.std.specs.Prelude.{◌≡◌, ℕ, ◌<◌, ◌≤◌, ◌^◌,
 ghost use Rattle.pb_integers.specs.Sums.{item};
 ghost use Rattle.pb_graph.specs.ProcessGraph.{IsStream, IsProcessGraph};
 ghost use Rattle.pb_graph.specs.Balance.{IsBalanced};
+ghost use Rattle.pb_graph.specs.WellFormed.{IsFlow};
 ghost use Rattle.pb_forest.specs.Forest.{IsForest};
 ghost use Rattle.pb_forest.specs.Flows.{AgreeOffForest, IsGivenFlow};
 ghost use Rattle.pb_forest.specs.Trees.{AreWhole, node_at, up_of};
 ghost use Rattle.pb_forest.specs.Balancing.{AreNets, AreBalancedFrom, chord_flow, added_at, settled};
 
-use crate::trees::{Trees, other_end};
+use crate::trees::Trees;
 use pb_graph::{Graph, Stream};
 
 // The flow at a place where the stream isn't held, and 0 where it is.
@@ -68,7 +69,8 @@ fn gather(graph: &Graph, held: &[bool], trees: &Trees, off: &[i128], out: &mut [
     requires each { length off.now ≡ length graph.now.streams }
     requires given { All IsGivenFlow off.now }
     requires start { AreNets graph.now.streams held.now off.now trees.now 0 out.old }
-    ensures { AreNets graph.now.streams held.now off.now trees.now (length graph.now.streams) out.new }
+    ensures { AreNets graph.now.streams held.now off.now trees.now
+        (length graph.now.streams) out.new }
 {
     for (k, stream) in graph.streams().iter().enumerate() {
         bring(trees, stream, chord_flow(held, off, k), out);
@@ -91,7 +93,7 @@ fn settle(streams: &[Stream], trees: &Trees, i: usize, out: &mut [i128])
         let stream = &streams[k as usize];
         let net = out[k as usize];
         out[k as usize] = if stream.to == node { -net } else { net };
-        add(trees, other_end(node, stream), net, out);
+        add(trees, stream.end_from(node), net, out);
     }
 }
 
@@ -100,7 +102,8 @@ fn settle_all(graph: &Graph, held: &[bool], trees: &Trees, off: &[i128], out: &m
     requires marks { length held.now ≡ length graph.now.streams }
     requires trees { AreWhole graph.now.nodes graph.now.streams held.now trees.now }
     requires given { All IsGivenFlow off.now }
-    requires nets { AreNets graph.now.streams held.now off.now trees.now (length graph.now.streams) out.old }
+    requires nets { AreNets graph.now.streams held.now off.now trees.now
+        (length graph.now.streams) out.old }
     ensures balanced { AreBalancedFrom graph.now.streams held.now off.now trees.now 0 out.new }
     ensures limits { IsProcessGraph graph.now }
 {
@@ -119,8 +122,9 @@ pub fn write_flows(graph: &Graph, held: &[bool], trees: &Trees, off: &[i128], ou
     requires within { All IsGivenFlow off.now }
     ensures balanced { IsBalanced graph.now out.new }
     ensures agrees { AgreeOffForest held.now out.new off.now }
-    ensures only { (ys : Seq ℤ) → IsBalanced graph.now ys → AgreeOffForest held.now ys off.now → ys ≡ out.new }
-    ensures within { All (λ v. unsigned_abs v < 2 ^ 68) out.new }
+    ensures only { (others : Seq ℤ) → IsBalanced graph.now others
+        → AgreeOffForest held.now others off.now → others ≡ out.new }
+    ensures within { All IsFlow out.new }
 {
     write_chords(held, off, out);
     gather(graph, held, trees, off, out);

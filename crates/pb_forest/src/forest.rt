@@ -1,9 +1,10 @@
 // The spanning forest of a graph.
 
-ghost use Rattle.std.specs.Prelude.{◌≡◌, ◌<◌, ◌≤◌, ◌^◌, ◌↔◌, ℤ, false, List as Seq, All, Some, length, slice_get, unsigned_abs, IsTrue, IfOk, MatchOption};
+ghost use Rattle.std.specs.Prelude.{◌≡◌, ◌<◌, ◌≤◌, ◌↔◌, ℤ, false, List as Seq, All, Some, length, slice_get, IsTrue, IfOk, MatchOption};
 ghost use Rattle.pb_graph.specs.Walk.{Reaches};
 ghost use Rattle.pb_graph.specs.Path.{IsPath};
 ghost use Rattle.pb_graph.specs.Balance.{IsBalanced};
+ghost use Rattle.pb_graph.specs.WellFormed.{IsFlow};
 ghost use Rattle.pb_forest.specs.Forest.{SpanningForest, IsHeld, IsTied, IsForest, degrees_of_freedom, held_ends};
 ghost use Rattle.pb_forest.specs.Flows.{AgreeOffForest, IsGivenFlow};
 
@@ -24,7 +25,7 @@ pub struct Forest {
     graph: Graph,
     near: Neighbours,
     held: Vec<bool>,
-    /// The trees of the held streams, each from a root.
+    // The trees of the held streams, each from a root.
     trees: Trees,
 }
 
@@ -100,8 +101,9 @@ impl Forest {
         requires within { All IsGivenFlow off.now }
         ensures balanced { IsBalanced graph.now out.new }
         ensures agrees { AgreeOffForest self.now.held out.new off.now }
-        ensures only { (ys : Seq ℤ) → IsBalanced graph.now ys → AgreeOffForest self.now.held ys off.now → ys ≡ out.new }
-        ensures within { All (λ v. unsigned_abs v < 2 ^ 68) out.new }
+        ensures only { (others : Seq ℤ) → IsBalanced graph.now others
+            → AgreeOffForest self.now.held others off.now → others ≡ out.new }
+        ensures within { All IsFlow out.new }
         ensures forest { IsForest self.now.graph.streams self.now.held }
     {
         write_flows(graph, &self.held, &self.trees, off, out);

@@ -14,11 +14,12 @@ fn pass(streams: &[Stream], measured: bool, parts: &mut Parts, held: &mut [bool]
     requires each { length held.old ≡ length streams.now }
     requires ends { All (IsStream (length parts.old)) streams.now }
     requires begins { IsLabelling streams.now (length parts.old) (is_before measured 0) parts.old }
-    ensures parts { IsLabelling streams.now (length parts.old) (is_before measured (length streams.now)) parts.new }
-    ensures marks { (j : ℕ) (s : Stream) → slice_get streams.now j ≡ Some s → is_measured s ≡ measured
-        → IsDecided streams.now j (get_or held.new j false) }
-    ensures others { (j : ℕ) (s : Stream) → slice_get streams.now j ≡ Some s → is_measured s ≡ not measured
-        → get_or held.new j false ≡ get_or held.old j false }
+    ensures parts { IsLabelling streams.now (length parts.old)
+        (is_before measured (length streams.now)) parts.new }
+    ensures marks { (j : ℕ) (s : Stream) → slice_get streams.now j ≡ Some s
+        → is_measured s ≡ measured → IsDecided streams.now j (get_or held.new j false) }
+    ensures others { (j : ℕ) (s : Stream) → slice_get streams.now j ≡ Some s
+        → is_measured s ≡ not measured → get_or held.new j false ≡ get_or held.old j false }
 {
     for (j, stream) in streams.iter().enumerate() {
         if stream.meas.is_some() == measured {

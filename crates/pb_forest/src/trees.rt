@@ -2,21 +2,21 @@
 
 ghost use Rattle.std.specs.Prelude.{◌≡◌, ℕ, ◌+◌, ◌<◌, true, Some, length, get_or, IfOk, OnOk};
 ghost use Rattle.pb_graph.specs.Neighbours.{touches, touching, IsNeighbours};
-ghost use Rattle.pb_graph.specs.ProcessGraph.{other_end, some_stream};
+ghost use Rattle.pb_graph.specs.ProcessGraph.{some_stream};
 ghost use Rattle.pb_forest.specs.Trees.{RootedTrees, AreWhole, AreGrowing, AreFollowed, AreSearched, hung, node_at, root_of, up_of};
 
-use pb_graph::{Graph, Neighbours, Stream};
+use pb_graph::{Graph, Neighbours};
 use std::alloc::{AllocError, Global};
 use std::marker::Model;
 
 /// The trees of a forest, each found by a search from its root.
 #[derive(Debug, Drop)]
 pub struct Trees {
-    /// The nodes in the order found: a node comes behind its parent.
+    // The nodes in the order found: a node comes behind its parent.
     order: Vec<u32>,
-    /// For each node the root of its tree; None while it isn't found.
+    // For each node the root of its tree; None while it isn't found.
     root: Vec<Option<u32>>,
-    /// For each node the held stream to its parent; None at a root.
+    // For each node the held stream to its parent; None at a root.
     up: Vec<Option<u32>>,
 }
 
@@ -26,13 +26,6 @@ impl Model for Trees {
     ghost Value = { RootedTrees };
 
     ghost view = { λ a. record { order = a.order.items; root = a.root.items; up = a.up.items } };
-}
-
-/// The end of a stream that isn't this node.
-pub fn other_end(node: u32, s: &Stream) -> u32
-    ensures { result ≡ other_end node s.now }
-{
-    if s.to == node { s.from } else { s.to }
 }
 
 impl Trees {
@@ -59,7 +52,7 @@ impl Trees {
         self.up[node as usize]
     }
 
-    /// The root of a node's tree; None while the node isn't found.
+    // The root of a node's tree; None while the node isn't found.
     fn root(&self, node: u32) -> Option<u32>
         requires { node < length self.now.root }
         ensures { result ≡ root_of self.now node }
@@ -67,7 +60,7 @@ impl Trees {
         self.root[node as usize]
     }
 
-    /// Hangs a node into the tree of a root: by a held stream to its parent, or by none where it is the root.
+    // Hangs a node into the tree of a root: by a held stream to its parent, or by none where it is the root.
     fn hang(&mut self, node: u32, root: Option<u32>, up: Option<u32>) -> Result<(), AllocError>
         requires root { node < length self.old.root }
         requires up { node < length self.old.up }
@@ -79,84 +72,96 @@ impl Trees {
         Ok(())
     }
 
-    /// Follows a stream from the node at a place.
-    fn follow(&mut self, g: &Graph, held: &[bool], place: usize, j: u32) -> Result<(), AllocError>
-        requires marks { length held.now ≡ length g.now.streams }
-        requires trees { AreGrowing g.now.nodes g.now.streams held.now place self.old }
+    // Follows a stream from the node at a place.
+    fn follow(
+        &mut self,
+        graph: &Graph,
+        held: &[bool],
+        place: usize,
+        j: u32,
+    ) -> Result<(), AllocError>
+        requires marks { length held.now ≡ length graph.now.streams }
+        requires trees { AreGrowing graph.now.nodes graph.now.streams held.now place self.old }
         requires place { place < length self.old.order }
-        requires stream { j < length g.now.streams }
-        requires touch { touches (node_at self.old place) (get_or g.now.streams j some_stream) ≡ true }
-        ensures { OnOk result (AreFollowed g.now.nodes g.now.streams held.now place j self.old self.new) }
+        requires stream { j < length graph.now.streams }
+        requires touch { touches (node_at self.old place)
+            (get_or graph.now.streams j some_stream) ≡ true }
+        ensures { OnOk result
+            (AreFollowed graph.now.nodes graph.now.streams held.now place j self.old self.new) }
     {
         let node = self.node_at(place);
-        let other = other_end(node, &g.streams()[j as usize]);
+        let other = graph.streams()[j as usize].end_from(node);
         if held[j as usize] && self.root(other).is_none() {
             self.hang(other, self.root(node), Some(j))?;
         }
         Ok(())
     }
 
-    /// Follows each of these streams from the node at a place.
+    // Follows each of these streams from the node at a place.
     fn visit(
         &mut self,
-        g: &Graph,
+        graph: &Graph,
         held: &[bool],
         place: usize,
         list: &[u32],
     ) -> Result<(), AllocError>
-        requires marks { length held.now ≡ length g.now.streams }
-        requires trees { AreGrowing g.now.nodes g.now.streams held.now place self.old }
+        requires marks { length held.now ≡ length graph.now.streams }
+        requires trees { AreGrowing graph.now.nodes graph.now.streams held.now place self.old }
         requires place { place < length self.old.order }
-        requires list { list.now ≡ touching (node_at self.old place) g.now.streams }
-        ensures { OnOk result (AreSearched g.now.nodes g.now.streams held.now (place + 1) self.old self.new) }
+        requires list { list.now ≡ touching (node_at self.old place) graph.now.streams }
+        ensures { OnOk result
+            (AreSearched graph.now.nodes graph.now.streams held.now (place + 1) self.old self.new) }
     {
         for &j in list {
-            self.follow(g, held, place, j)?;
+            self.follow(graph, held, place, j)?;
         }
         Ok(())
     }
 
-    /// Follows the streams of each node from a place on, in order, until no node is left.
+    // Follows the streams of each node from a place on, in order, until no node is left.
     fn search(
         &mut self,
-        g: &Graph,
+        graph: &Graph,
         near: &Neighbours,
         held: &[bool],
         first: usize,
     ) -> Result<(), AllocError>
-        requires near { IsNeighbours g.now near.now }
-        requires marks { length held.now ≡ length g.now.streams }
-        requires trees { AreGrowing g.now.nodes g.now.streams held.now first self.old }
-        ensures { OnOk result (AreSearched g.now.nodes g.now.streams held.now (length self.new.order) self.old self.new) }
+        requires near { IsNeighbours graph.now near.now }
+        requires marks { length held.now ≡ length graph.now.streams }
+        requires trees { AreGrowing graph.now.nodes graph.now.streams held.now first self.old }
+        ensures { OnOk result (AreSearched graph.now.nodes graph.now.streams held.now
+            (length self.new.order) self.old self.new) }
     {
         let mut done = first;
         while done < self.len() {
             let node = self.node_at(done);
-            self.visit(g, held, done, near.at(node).as_slice())?;
+            self.visit(graph, held, done, near.at(node).as_slice())?;
             done += 1;
         }
         Ok(())
     }
 
-    /// Finds the tree of a node, unless it is found.
+    // Finds the tree of a node, unless it is found.
     fn grow(
         &mut self,
-        g: &Graph,
+        graph: &Graph,
         near: &Neighbours,
         held: &[bool],
         node: u32,
     ) -> Result<(), AllocError>
-        requires near { IsNeighbours g.now near.now }
-        requires marks { length held.now ≡ length g.now.streams }
-        requires trees { AreGrowing g.now.nodes g.now.streams held.now (length self.old.order) self.old }
-        requires node { node < g.now.nodes }
-        ensures trees { OnOk result (AreSearched g.now.nodes g.now.streams held.now (length self.new.order) self.old self.new) }
+        requires near { IsNeighbours graph.now near.now }
+        requires marks { length held.now ≡ length graph.now.streams }
+        requires trees { AreGrowing graph.now.nodes graph.now.streams held.now
+            (length self.old.order) self.old }
+        requires node { node < graph.now.nodes }
+        ensures trees { OnOk result (AreSearched graph.now.nodes graph.now.streams held.now
+            (length self.new.order) self.old self.new) }
         ensures found { OnOk result ((r : ℕ) × (root_of self.new node ≡ Some r)) }
     {
         let first = self.len();
         if self.root(node).is_none() {
             self.hang(node, Some(node), None)?;
-            self.search(g, near, held, first)?;
+            self.search(graph, near, held, first)?;
         }
         Ok(())
     }
@@ -164,22 +169,22 @@ impl Trees {
     /// The trees of the held streams.
     pub fn of(
         alloc: Global,
-        g: &Graph,
+        graph: &Graph,
         near: &Neighbours,
         held: &[bool],
     ) -> Result<Trees, AllocError>
-        requires near { IsNeighbours g.now near.now }
-        requires marks { length held.now ≡ length g.now.streams }
-        ensures { IfOk result (λ t. AreWhole g.now.nodes g.now.streams held.now t) }
+        requires near { IsNeighbours graph.now near.now }
+        requires marks { length held.now ≡ length graph.now.streams }
+        ensures { IfOk result (λ t. AreWhole graph.now.nodes graph.now.streams held.now t) }
     {
-        let nodes = g.nodes() as usize;
+        let nodes = graph.nodes() as usize;
         let mut trees = Trees {
             order: Vec::new(alloc),
             root: vec![in alloc; None; nodes]?,
             up: vec![in alloc; None; nodes]?,
         };
-        for node in 0..g.nodes() {
-            trees.grow(g, near, held, node)?;
+        for node in 0..graph.nodes() {
+            trees.grow(graph, near, held, node)?;
         }
         Ok(trees)
     }

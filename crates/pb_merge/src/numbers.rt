@@ -29,8 +29,10 @@ fn number(group: &[u32], groups: u32, node: u32, label: u32) -> u32
 pub fn number_all(alloc: Global, labels: &[u32]) -> Result<Numbers, AllocError>
     requires few { length labels.now < 2 ^ 32 }
     requires low { (n : ℕ) → n < length labels.now → label_at labels.now n ≤ n }
-    requires own { (n : ℕ) → n < length labels.now → label_at labels.now (label_at labels.now n) ≡ label_at labels.now n }
-    ensures { IfOk result (λ numbers. AreNumbered labels.now (length labels.now) numbers.group.items numbers.least.items) }
+    requires own { (n : ℕ) → n < length labels.now
+        → label_at labels.now (label_at labels.now n) ≡ label_at labels.now n }
+    ensures { IfOk result (λ numbers.
+        AreNumbered labels.now (length labels.now) numbers.group.items numbers.least.items) }
 {
     let mut group = Vec::new(alloc);
     let mut least = Vec::new(alloc);

@@ -50,7 +50,8 @@ fn add_all(totals: &mut [i128], group: &[u32], streams: &[Stream])
     requires limits { All IsWithinLimits streams.now }
     requires groups { All (λ k. k < length totals.old) group.now }
     requires zero { All (λ v. v ≡ pos 0) totals.old }
-    ensures { (k : ℕ) → k < length totals.old → get_or totals.new k (pos 0) ≡ group_variance group.now k streams.now }
+    ensures { (k : ℕ) → k < length totals.old
+        → get_or totals.new k (pos 0) ≡ group_variance group.now k streams.now }
 {
     for stream in streams {
         add_stream(totals, group, stream);
@@ -69,7 +70,8 @@ pub fn variances(
     requires limits { All IsWithinLimits streams.now }
     requires groups { All (λ k. k < groups) group.now }
     ensures each { IfOk result (λ v. vec_len v ≡ groups) }
-    ensures value { IfOk result (λ v. (k : ℕ) → k < groups → get_or v.items k (pos 0) ≡ group_variance group.now k streams.now) }
+    ensures value { IfOk result (λ v. (k : ℕ) → k < groups
+        → get_or v.items k (pos 0) ≡ group_variance group.now k streams.now) }
 {
     let mut totals = vec![in alloc; 0i128; groups]?;
     add_all(&mut totals, group, streams);

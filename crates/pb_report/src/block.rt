@@ -29,7 +29,8 @@ pub fn write_block(
 ) -> Result<(), AllocError>
     requires named { IsNamed names.now stage.now.graph }
     requires formed { IsWellFormed stage.now }
-    ensures { OnOk result (AddsRows output.old output.new (block_rows names.now period.now options.now round stage.now)) }
+    ensures { OnOk result (AddsRows output.old output.new
+        (block_rows names.now period.now options.now round stage.now)) }
 {
     let alloc = output.allocator();
     output.push(&report_row(alloc, period, round, &stage.graph, options)?)?;
@@ -98,7 +99,8 @@ fn write_results(
     requires named { IsNamed names.now graph.now }
     requires each { length results.now ≡ length graph.now.streams }
     requires within { All (IsResultWithin graph.now) results.now }
-    ensures { OnOk result (AddsRows output.old output.new (result_rows names.now graph.now.streams results.now)) }
+    ensures { OnOk result (AddsRows output.old output.new
+        (result_rows names.now graph.now.streams results.now)) }
 {
     for (id, stream) in graph.streams().iter().enumerate() {
         let row = result_row(output.allocator(), names, graph, id, stream, results.at(id))?;

@@ -30,8 +30,10 @@ pub fn write_design(
 ) -> Result<(), AllocError>
     requires named { IsNamed names.now graph.now }
     requires each { length classes.now ≡ length graph.now.streams }
-    requires within { All (λ (classified : Classified). IsWitnessWithin graph.now classified.witness) classes.now }
-    ensures ok { OnOk result (AppendsRows form out.old.items out.new.items (design_rows names.now graph.now classes.now)) }
+    requires within { All
+        (λ (classified : Classified). IsWitnessWithin graph.now classified.witness) classes.now }
+    ensures ok { OnOk result (AppendsRows form out.old.items out.new.items
+        (design_rows names.now graph.now classes.now)) }
     ensures err { OnErr result (out.new.items ≡ out.old.items) }
 {
     let mut output = Output::new(alloc, form);
@@ -57,8 +59,10 @@ fn write_classes(
 ) -> Result<(), AllocError>
     requires named { IsNamed names.now graph.now }
     requires each { length classes.now ≡ length graph.now.streams }
-    requires within { All (λ (classified : Classified). IsWitnessWithin graph.now classified.witness) classes.now }
-    ensures { OnOk result (AddsRows output.old output.new (class_rows names.now graph.now.streams classes.now)) }
+    requires within { All
+        (λ (classified : Classified). IsWitnessWithin graph.now classified.witness) classes.now }
+    ensures { OnOk result (AddsRows output.old output.new
+        (class_rows names.now graph.now.streams classes.now)) }
 {
     for (id, stream) in graph.streams().iter().enumerate() {
         let row = class_row(output.allocator(), names, graph, id, stream, classes.at(id))?;
@@ -100,7 +104,8 @@ pub fn stream_row(
     requires named { IsNamed names.now graph.now }
     requires place { id < length graph.now.streams }
     requires ends { IsStream graph.now.nodes stream.now }
-    ensures { IfOk result (λ row. row ≡ row_of kind.now (stream_columns names.now id stream.now)) }
+    ensures { IfOk result
+        (λ row. row ≡ row_of kind.now (stream_columns names.now id stream.now)) }
 {
     OutputRow::of(alloc, kind)?
         .text("name", names.streams.at(id).bytes())?

@@ -18,7 +18,8 @@ pub fn write_over(
     form: Form,
     out: &mut Vec<u8>,
 ) -> Result<(), AllocError>
-    ensures ok { OnOk result (AppendsRows form out.old.items out.new.items (over_row period.now stream.now ∷ [])) }
+    ensures ok { OnOk result (AppendsRows form out.old.items out.new.items
+        (over_row period.now stream.now ∷ [])) }
     ensures err { OnErr result (out.new.items ≡ out.old.items) }
 {
     write_row(&over_row(alloc, period, stream)?, form, out)

@@ -13,7 +13,8 @@ use std::alloc::{AllocError, Global};
 /// The names of the nodes in a side, in order, with one space between.
 pub fn side_text(alloc: Global, nodes: &NameList, side: &[bool]) -> Result<Vec<u8>, AllocError>
     requires { length side.now ≡ length nodes.now }
-    ensures { IfOk result (λ text. text.items ≡ spaced (λ name. name) (names_in side.now nodes.now)) }
+    ensures { IfOk result
+        (λ text. text.items ≡ spaced (λ name. name) (names_in side.now nodes.now)) }
 {
     let mut text = Vec::new(alloc);
     let mut first = true;
@@ -63,7 +64,8 @@ pub fn steps_text(alloc: Global, streams: &NameList, steps: &[Step]) -> Result<V
 
 // Appends a piece of a list: a mark and a name, behind a space unless it is the first.
 fn add_piece(text: &mut Vec<u8>, first: bool, mark: &[u8], name: &Name) -> Result<(), AllocError>
-    ensures { OnOk result (text.new.items ≡ text.old.items ++ (gap_before first ++ (mark.now ++ name.now))) }
+    ensures { OnOk result
+        (text.new.items ≡ text.old.items ++ (gap_before first ++ (mark.now ++ name.now))) }
 {
     if !first {
         text.push(b' ')?;

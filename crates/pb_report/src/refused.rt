@@ -18,7 +18,8 @@ pub fn write_refused(
 ) -> Result<(), AllocError>
     requires least { 1 ≤ code }
     requires most { code ≤ 13 }
-    ensures ok { OnOk result (AppendsRows form out.old.items out.new.items (refused_row at code ∷ [])) }
+    ensures ok { OnOk result (AppendsRows form out.old.items out.new.items
+        (refused_row at code ∷ [])) }
     ensures err { OnErr result (out.new.items ≡ out.old.items) }
 {
     write_row(&refused_row(alloc, at, code)?, form, out)

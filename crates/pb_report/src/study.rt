@@ -27,7 +27,8 @@ pub fn write_study(
     out: &mut Vec<u8>,
 ) -> Result<(), AllocError>
     requires named { IsNamedStudy names.now study.now }
-    ensures ok { OnOk result (AppendsRows form out.old.items out.new.items (study_rows names.now period.now options.now study.now)) }
+    ensures ok { OnOk result (AppendsRows form out.old.items out.new.items
+        (study_rows names.now period.now options.now study.now)) }
     ensures err { OnErr result (out.new.items ≡ out.old.items) }
 {
     let mut output = Output::new(alloc, form);
@@ -45,7 +46,8 @@ fn write_stages(
     output: &mut Output,
 ) -> Result<(), AllocError>
     requires { IsNamedStudy names.now study.now }
-    ensures { OnOk result (AddsRows output.old output.new (stage_rows names.now period.now options.now study.now.taken study.now.stages)) }
+    ensures { OnOk result (AddsRows output.old output.new
+        (stage_rows names.now period.now options.now study.now.taken study.now.stages)) }
 {
     write_block(names, period, options, 0, study.stages.at(0), output)?;
     for (i, suspect) in study.taken.as_slice().iter().enumerate() {

@@ -157,7 +157,8 @@ fn is_named(names: &Names, graph: &Graph) -> bool
 
 // Whether each certificate speaks of the graph alone.
 fn are_within(graph: &Graph, classes: &[Classified]) -> bool
-    ensures { IsTrue result → All (λ (classified : Classified). IsWitnessWithin graph.now classified.witness) classes.now }
+    ensures { IsTrue result → All
+        (λ (classified : Classified). IsWitnessWithin graph.now classified.witness) classes.now }
 {
     classes
         .iter()

@@ -1,4 +1,4 @@
-use Rattle.std.proofs.Common.{ℕ, false, length, get_or, subst, sym}
+use Rattle.std.proofs.Common.{ℕ, false, get_or, subst, sym}
 use Rattle.pb_graph.specs.ProcessGraph.{IsStream}
 use Rattle.pb_graph.specs.Parts.{IsLabelling}
 use Rattle.pb_forest.specs.Forest.{is_before}

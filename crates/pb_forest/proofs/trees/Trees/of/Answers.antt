@@ -19,8 +19,8 @@ loop-node-preserved c =
 
 pub returns : goal.returns
 returns c =
-    let nodes = c.args.g.now.nodes in
-    let ss = c.args.g.now.streams in
+    let nodes = c.args.graph.now.nodes in
+    let ss = c.args.graph.now.streams in
     let at_end : c.loop-node.node ≡ nodes = search rules in
     whole_trees nodes ss c.args.held.now c.loop-node.trees c.loop-node.invariant.growing (all_each (IsStream nodes) ss c.nodes-nodes.ensures.limits.joins)
     (λ n lt. c.loop-node.invariant.so_far n (omega (arith, lt, at_end)))

@@ -10,14 +10,14 @@ pub at-requires : goal.at-requires
 at-requires c =
     let t = c.loop-done.self in
     let lt : c.loop-done.done < length t.order = search rules in
-    let within = node_within c.args.g.now.nodes c.args.g.now.streams c.args.held.now t c.loop-done.done c.loop-done.invariant.growing.trees lt in
+    let within = node_within c.args.graph.now.nodes c.args.graph.now.streams c.args.held.now t c.loop-done.done c.loop-done.invariant.growing.trees lt in
     omega (arith, within, c.node_at-node.ensures, c.requires.near.each)
 
 pub visit-requires-clause-list : goal.visit-requires-clause-list
 visit-requires-clause-list c =
     let t = c.loop-done.self in
-    let ss = c.args.g.now.streams in
+    let ss = c.args.graph.now.streams in
     let lt : c.loop-done.done < length t.order = search rules in
-    let within = node_within c.args.g.now.nodes ss c.args.held.now t c.loop-done.done c.loop-done.invariant.growing.trees lt in
+    let within = node_within c.args.graph.now.nodes ss c.args.held.now t c.loop-done.done c.loop-done.invariant.growing.trees lt in
     let is : c.node_at-node.result ≡ node_at t c.loop-done.done = c.node_at-node.ensures in
     c.as_slice.ensures ∙ some_same (sym c.at.ensures ∙ c.requires.near.lists c.node_at-node.result (omega (arith, within, is))) ∙ ap (λ (n : ℕ). touching n ss) is
