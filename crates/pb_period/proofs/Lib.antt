@@ -1,4 +1,6 @@
 mod AmountLemmas
 mod DayLemmas
 mod GraphLemmas
+mod PlantLemmas
 mod TransferLemmas
+mod VarianceLemmas

@@ -3,5 +3,6 @@ pub mod Days
 pub mod Facts
 pub mod Measurement
 pub mod PeriodGraph
+pub mod Laws
 -- Inside
 pub mod Amounts

@@ -55,15 +55,11 @@ pub fn design(alloc: Global, book: &Book) -> Result<Graph, AllocError>
 /// The graph of a period, from the facts that are live; or the first stream whose value or variance is above the limits.
 pub fn assemble(alloc: Global, book: &Book, period: u32) -> Result<Graph, Assembly>
     requires { period < length (periods_of book.now) }
-    ensures answer {
-        result ≢ Err Assembly.NoMemory
+    ensures answer { result ≢ Err Assembly.NoMemory
         → IfSome (slice_get (periods_of book.now) period)
-            (λ period. result ≡ assembly_of book.now (days_of period))
-    }
-    ensures over {
-        IfSome (slice_get (periods_of book.now) period)
-            (λ period. IfErr result (NamesAStream book.now (days_of period)))
-    }
+        (λ period. result ≡ assembly_of book.now (days_of period)) }
+    ensures over { IfSome (slice_get (periods_of book.now) period)
+        (λ period. IfErr result (NamesAStream book.now (days_of period))) }
 {
     measured_graph(alloc, book, Days::of(&book.period(period)))
 }
@@ -71,10 +67,8 @@ pub fn assemble(alloc: Global, book: &Book, period: u32) -> Result<Graph, Assemb
 /// The names of the nodes and streams of the graph of a period. No two nodes have one name, and no two streams.
 pub fn period_names(book: &Book, _period: u32) -> Result<Names, AllocError>
     requires { _period < length (periods_of book.now) }
-    ensures ok {
-        IfOk result (λ names. IfSome (slice_get (periods_of book.now) _period)
-            (λ period. names ≡ period_names book.now (days_of period)))
-    }
+    ensures ok { IfOk result (λ names. IfSome (slice_get (periods_of book.now) _period)
+        (λ period. names ≡ period_names book.now (days_of period))) }
     ensures distinct { HasDistinctNames (declared_of book.now) }
 {
     book.site().names()
@@ -148,11 +142,9 @@ fn is_over(graph: &Graph, stream: &Stream) -> bool
 fn measured_stream(book: &Book, days: Days, j: u32) -> Stream
     requires days { AreDays days }
     requires place { j < length (arcs_of (declared_of book.now)) }
-    ensures value {
-        Some result ≡ option_map
-            (stream_with (measured (declared_of book.now) (live_facts (facts_of book.now)) days))
-            (slice_get (arcs_of (declared_of book.now)) j)
-    }
+    ensures value { Some result ≡ option_map
+        (stream_with (measured (declared_of book.now) (live_facts (facts_of book.now)) days))
+        (slice_get (arcs_of (declared_of book.now)) j) }
     ensures joins { IsStream (length (node_names (declared_of book.now))) result }
     ensures least { IfSome result.meas (λ meas. pos 1 ≤ℤ meas.variance) }
 {
@@ -168,10 +160,8 @@ fn measured_stream(book: &Book, days: Days, j: u32) -> Stream
 fn amount_of(book: &Book, days: Days, j: u32, arc: &Arc) -> Option<Amount>
     requires days { AreDays days }
     requires place { slice_get (arcs_of (declared_of book.now)) j ≡ Some arc.now }
-    ensures value {
-        result ≡ amount_of (declared_of book.now) (live_facts (facts_of book.now)) days
-            arc.now.kind arc.now.name
-    }
+    ensures value { result ≡ amount_of (declared_of book.now) (live_facts (facts_of book.now)) days
+        arc.now.kind arc.now.name }
     ensures within { IfSome result (IsAmount most_facts) }
 {
     match arc.kind {

@@ -6,6 +6,7 @@
 mod amount;
 mod days;
 mod graph;
+mod laws;
 mod measured;
 #[cfg(test)]
 mod tests;
@@ -13,3 +14,4 @@ mod transfers;
 
 pub use days::Days;
 pub use graph::{Assembly, assemble, design, period_names};
+pub use laws::graphs_law;

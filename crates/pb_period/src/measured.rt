@@ -61,9 +61,7 @@ fn read_on(facts: &Facts, stream: &Name, day: i32) -> Option<Amount>
 /// The total of what a stream's meter read on some days; `None` exactly where some day has no reading.
 pub fn read_total(facts: &Facts, stream: &Name, days: Days) -> Option<Amount>
     requires { AreDays days }
-    ensures value {
-        result ≡ read_total (read_on (live_facts facts.now) stream.now) (each_of days)
-    }
+    ensures value { result ≡ read_total (read_on (live_facts facts.now) stream.now) (each_of days) }
     ensures within { IfSome result (IsAmount most_days_of_period) }
 {
     let mut total = Amount::zero();
@@ -97,19 +95,14 @@ fn content_of(strap: &Strap, dip: &Fact) -> Amount
 /// first.
 pub fn change(facts: &Facts, strap: &Strap, tank: &Name, days: Days) -> Option<Amount>
     requires { AreDays days }
-    ensures value {
-        result ≡ change_of (content_of strap.now)
-            (find (is_dip_on tank.now (days.first -ℤ pos 1)) (live_facts facts.now))
-            (find (is_dip_on tank.now days.last) (live_facts facts.now))
-    }
+    ensures value { result ≡ change_of (content_of strap.now)
+        (find (is_dip_on tank.now (days.first -ℤ pos 1)) (live_facts facts.now))
+        (find (is_dip_on tank.now days.last) (live_facts facts.now)) }
     ensures within { IfSome result (IsAmount 2) }
 {
     let opening = dip_on(facts, tank, days.first - 1)?;
     let closing = dip_on(facts, tank, days.last)?;
-    Some(difference(
-        content_of(strap, &opening),
-        content_of(strap, &closing),
-    ))
+    Some(difference(content_of(strap, &opening), content_of(strap, &closing)))
 }
 
 // A closing content less an opening one.

@@ -16,9 +16,7 @@ use pb_rows::Name;
 /// What the live transfers of a stream moved on some days.
 pub fn transferred(facts: &Facts, stream: &Name, days: Days) -> Amount
     requires { AreDays days }
-    ensures value {
-        result ≡ total_of (filter_map (transferred days stream.now) (live_facts facts.now))
-    }
+    ensures value { result ≡ total_of (filter_map (transferred days stream.now) (live_facts facts.now)) }
     ensures within { IsAmount most_facts result }
 {
     let places = facts.transfers_within(stream, days.first, days.last);
@@ -34,10 +32,8 @@ fn with_live(total: Amount, facts: &Facts, place: u32, stream: &Name, days: Days
     requires days { AreDays days }
     requires small { IsSmall total }
     requires place { place < length facts.now }
-    ensures value {
-        result ≡ with_more total
-            (option_and_then (transferred days stream.now) (live_at facts.now place))
-    }
+    ensures value { result ≡ with_more total
+        (option_and_then (transferred days stream.now) (live_at facts.now place)) }
     ensures within { (n : ℕ) → IsAmount n total → IsAmount (n + 1) result }
 {
     match facts.live(place) {
