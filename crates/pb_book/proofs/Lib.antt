@@ -1,5 +1,7 @@
-pub mod ArcLemmas
-pub mod KeptLemmas
-pub mod NameLemmas
-pub mod FieldLemmas
-pub mod RowLemmas
+mod AcceptedLemmas
+mod ConsistentLemmas
+mod FieldLemmas
+mod KeptLemmas
+mod NameLemmas
+mod PeriodLemmas
+mod RequestLemmas

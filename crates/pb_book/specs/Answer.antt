@@ -1,21 +1,18 @@
--- The answer to a record, behind the rows stored before it, and the rows stored after it.
+-- Statement. The answer to a record, behind the rows stored before it, and the rows stored after it.
 use Rattle.std.specs.Prelude.{ℕ, Bool, true, false, List, [], ◌∷◌, ◌++◌, Option, Some, None, Result, Ok, Err}
 use Rattle.pb_rows.specs.Records.{without_trailing_empty}
+use Rattle.pb_book.specs.declared.answer.Accepted.{Accepted}
+use Rattle.pb_book.specs.declared.answer.Accepted.TheVariants.{Blank, Stored as StoredAccepted, Design, Report}
+use Rattle.pb_book.specs.declared.answer.NotAccepted.{NotAccepted}
+use Rattle.pb_book.specs.declared.answer.NotAccepted.TheVariants.{Refused as NotAcceptedFor}
+use Rattle.pb_book.specs.declared.answer.Refused.{Refused as Refusal}
+use Rattle.pb_book.specs.declared.answer.Refused.TheVariants.{Kind, Fields, BadName, Number, Date, Unknown, Duplicate, Order, Mismatch, Range, Full}
+use Rattle.pb_book.specs.declared.requests.Request.{Request}
+use Rattle.pb_book.specs.declared.requests.Request.TheVariants.{Blank as BlankAsked, Store, Design as DesignAsked, Report as ReportAsked}
 use Rattle.pb_book.specs.declared.rows.BookRow.{BookRow}
-use Rattle.pb_book.specs.declared.rows.StoredRow.{StoredRow}
-use Rattle.pb_book.specs.declared.rows.Request.{Request}
-use Rattle.pb_book.specs.declared.rows.Request.TheVariants.{Blank as BlankAsked, Store, Design as DesignAsked, Report as ReportAsked}
-use Rattle.pb_book.specs.declared.rows.Reading.{Reading}
-use Rattle.pb_book.specs.declared.rows.Reading.TheVariants.{Faulty, Asks}
-use Rattle.pb_book.specs.declared.rows.Refused.{Refused as Refusal}
-use Rattle.pb_book.specs.declared.rows.Refused.TheVariants.{Kind, Fields, BadName, Number, Date, Unknown, Duplicate, Order, Mismatch, Range, Full, NoMemory}
-use Rattle.pb_book.specs.declared.rows.Answer.{Answer}
-use Rattle.pb_book.specs.declared.rows.Answer.TheVariants.{Blank, Refused, Stored, Design, Report}
-use Rattle.pb_book.specs.declared.rows.Accepted.{Accepted}
-use Rattle.pb_book.specs.declared.rows.Accepted.TheVariants.{Blank as BlankAccepted, Stored as StoredAccepted, Design as DesignAccepted, Report as ReportAccepted}
-use Rattle.pb_book.specs.Rows.{period_place}
-use Rattle.pb_book.specs.Reading.{reading_of}
+use Rattle.pb_book.specs.Requests.{request_in}
 use Rattle.pb_book.specs.Refusals.{refusal_of}
+use Rattle.pb_book.specs.Rows.{StoredRow, period_place, version_of}
 
 -- the numbers of the causes in the output
 abbrev pub code_of : Refusal → ℕ
@@ -30,7 +27,12 @@ code_of Order = 8
 code_of Mismatch = 9
 code_of Range = 12
 code_of Full = 13
-code_of NoMemory = 0
+
+-- what a record gets for an answer: it is refused, its row joins the stored ones, or the book says what it asks
+pub data Answer : Type 0 where
+  Refused : Refusal → Answer
+  Stored : BookRow → Answer
+  Says : Accepted → Answer
 
 -- a row that has a cause is refused, and another one joins the stored rows
 abbrev pub stored_or_refused : BookRow → Option Refusal → Answer
@@ -39,45 +41,40 @@ stored_or_refused row None = Stored row
 
 -- a report is of a period that there is
 abbrev pub report_or_refused : Option ℕ → Answer
-report_or_refused (Some period) = Report period
+report_or_refused (Some period) = Says (Report period)
 report_or_refused None = Refused Unknown
 
+-- the answer to a request
 abbrev pub answer_to : List StoredRow → Request → Answer
-answer_to rows BlankAsked = Blank
+answer_to rows BlankAsked = Says Blank
 answer_to rows (Store row) = stored_or_refused row (refusal_of rows row)
-answer_to rows DesignAsked = Design
+answer_to rows DesignAsked = Says Design
 answer_to rows (ReportAsked period) = report_or_refused (period_place rows period)
 
-abbrev pub answer_to_reading : List StoredRow → Reading → Answer
-answer_to_reading rows (Faulty cause) = Refused cause
-answer_to_reading rows (Asks request) = answer_to rows request
+-- the answer to a request, or to a record that has a fault
+abbrev pub answer_if : List StoredRow → Result Request Refusal → Answer
+answer_if rows (Ok request) = answer_to rows request
+answer_if rows (Err cause) = Refused cause
 
 -- The answer to a record, behind these stored rows. Empty fields at its end are dropped first.
 abbrev pub answer_of : List StoredRow → List (List ℕ) → Answer
-answer_of rows fields = answer_to_reading rows (reading_of (without_trailing_empty fields))
+answer_of rows fields = answer_if rows (request_in (version_of rows) (without_trailing_empty fields))
 
 -- what the book says of an answer
-abbrev pub said_of : Answer → Result Accepted Refusal
-said_of Blank = Ok BlankAccepted
-said_of (Refused cause) = Err cause
+abbrev pub said_of : Answer → Result Accepted NotAccepted
+said_of (Refused cause) = Err (NotAcceptedFor cause)
 said_of (Stored row) = Ok StoredAccepted
-said_of Design = Ok DesignAccepted
-said_of (Report period) = Ok (ReportAccepted period)
+said_of (Says accepted) = Ok accepted
 
+-- a record is refused
 abbrev pub is_refused : Answer → Bool
-is_refused Blank = false
 is_refused (Refused cause) = true
-is_refused (Stored row) = false
-is_refused Design = false
-is_refused (Report period) = false
+is_refused answer = false
 
 -- the stored rows after an answer to the record with this number: an accepted row joins them
 abbrev pub after_answer : List StoredRow → ℕ → Answer → List StoredRow
-after_answer rows at Blank = rows
-after_answer rows at (Refused cause) = rows
 after_answer rows at (Stored row) = rows ++ record { at = at; row = row } ∷ []
-after_answer rows at Design = rows
-after_answer rows at (Report period) = rows
+after_answer rows at answer = rows
 
 -- the stored rows after the record with this number
 abbrev pub after : List StoredRow → ℕ → List (List ℕ) → List StoredRow

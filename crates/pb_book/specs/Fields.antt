@@ -1,16 +1,11 @@
--- What it means that a field, or the fields of a row, are read: the value, or the fault.
-use Rattle.std.specs.Prelude.{◌≡◌, ℕ, ◌≤◌, ℤ, ◌≤ℤ◌, true, false, List, Some, None, Result, Ok, Err, unsigned_abs, map, slice_index_or, []}
-use Rattle.std.specs.List.{range_with_len}
-use Rattle.pb_book.specs.declared.rows.RowKind.{RowKind}
-use Rattle.pb_book.specs.declared.rows.Request.{Request}
-use Rattle.pb_book.specs.declared.rows.Refused.{Refused}
-use Rattle.pb_book.specs.declared.rows.Refused.TheVariants.{BadName, Number as NumberFault, Date as DateFault}
-use Rattle.pb_book.specs.RowKind.{Column, Name, Date, columns_of, dof_column}
-use Rattle.pb_book.specs.Reading.{day_in, fields_fault, is_bad_date, is_bad_name, is_bad_number, request_of, value_in}
-
--- z lies from lo to hi, both included
-abbrev pub IsBetween : ℤ → ℤ → ℤ → Type 0
-IsBetween lo hi z = (lo ≤ℤ z) × (z ≤ℤ hi)
+-- Inside. What it means that a field, or the fields of a row, are read: the value, or the fault.
+use Rattle.std.specs.Prelude.{◌≡◌, ℕ, ℤ, true, false, List, Some, None, Result, Ok, Err, unsigned_abs}
+use Rattle.pb_book.specs.declared.answer.Refused.{Refused}
+use Rattle.pb_book.specs.declared.answer.Refused.TheVariants.{BadName, Number as NumberFault, Date as DateFault}
+use Rattle.pb_book.specs.declared.requests.RowKind.{RowKind}
+use Rattle.pb_book.specs.declared.requests.Request.{Request}
+use Rattle.pb_book.specs.Columns.{Column, Name, Date, columns_of, dof_column, fields_fault, is_bad_date, is_bad_name, is_bad_number}
+use Rattle.pb_book.specs.Requests.{day_in, request_of, value_in}
 
 -- a field read as a name
 abbrev pub ReadsName : List ℕ → Result (List ℕ) Refused → Type 0
@@ -24,7 +19,7 @@ ReadsNumber column field (Err fault) = (is_bad_number column field ≡ true) × 
 
 -- a field read as degrees of freedom
 abbrev pub ReadsDof : List ℕ → Result ℕ Refused → Type 0
-ReadsDof field (Ok n) = (is_bad_number dof_column field ≡ false) × (n ≡ unsigned_abs (value_in field)) × (1 ≤ n) × (n ≤ 2000)
+ReadsDof field (Ok n) = (is_bad_number dof_column field ≡ false) × (n ≡ unsigned_abs (value_in field))
 ReadsDof field (Err fault) = (is_bad_number dof_column field ≡ true) × (fault ≡ NumberFault)
 
 -- a field read as a date
@@ -34,9 +29,6 @@ ReadsDate field (Err fault) = (is_bad_date Date field ≡ true) × (fault ≡ Da
 
 -- the fields of a row of a kind, behind its first one, read
 abbrev pub ReadsRow : RowKind → List (List ℕ) → Result Request Refused → Type 0
-ReadsRow kind fields (Ok request) = (fields_fault (columns_of kind) fields ≡ None) × (request ≡ request_of kind fields)
+ReadsRow kind fields (Ok request) =
+    (fields_fault (columns_of kind) fields ≡ None) × (request ≡ request_of kind fields)
 ReadsRow kind fields (Err fault) = fields_fault (columns_of kind) fields ≡ Some fault
-
--- the first n fields of a record behind its first one
-abbrev pub behind : ℕ → List (List ℕ) → List (List ℕ)
-behind n row = map (λ i. slice_index_or row i []) (range_with_len 1 n)

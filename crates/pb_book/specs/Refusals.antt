@@ -1,117 +1,114 @@
--- When a row is refused, behind the rows stored before it: one condition for each cause, in the order in which they are asked.
-use Rattle.std.specs.Prelude.{ℕ, ℤ, pos, ◌-ℤ◌, Bool, true, false, ◌&&◌, ◌||◌, not, nat_le, int_le, int_lt, List, length, Option, Some, None, if◌then◌else◌, is_some}
+-- Statement. When a row is refused, behind the rows stored before it: one condition for each cause, in the order in
+-- which they are asked. A condition takes what is declared, the facts and the periods, where it asks for them.
+use Rattle.std.specs.Prelude.{ℕ, ℤ, pos, ◌-ℤ◌, Bool, true, false, ◌||◌, nat_le, int_le, int_lt, List, length, Option, Some, None, if◌then◌else◌, is_none, option_and_then}
 use Rattle.std.specs.List.{list_any}
-use Rattle.pb_rows.specs.Name.{same_name}
+use Rattle.pb_limits.specs.Limits.{most_days_of_period, most_periods}
+use Rattle.pb_strap.specs.declared.strap.Point.{Point}
 use Rattle.pb_strap.specs.Table.{volume_of}
 use Rattle.pb_site.specs.declared.declared.ArcKind.{ArcKind}
-use Rattle.pb_site.specs.declared.declared.ArcKind.TheVariants.{Metered, Batch, Plain, Tank}
+use Rattle.pb_site.specs.declared.declared.ArcKind.TheVariants.{Metered, Batch, Tank}
 use Rattle.pb_site.specs.declared.declared.Declared.{Declared}
-use Rattle.pb_site.specs.declared.declared.Link.{Link}
-use Rattle.pb_site.specs.Site.{is_tank, links_of, points_of}
+use Rattle.pb_site.specs.declared.declared.SiteFault.{SiteFault}
+use Rattle.pb_site.specs.declared.declared.SiteFault.TheVariants.{Unknown as UnknownDeclared, Duplicate as DuplicateDeclared, Order as OrderDeclared, Mismatch as MismatchDeclared, Full as FullDeclared}
+use Rattle.pb_site.specs.Site.{kind_of, table_of}
 use Rattle.pb_site.specs.Faults.{is_unknown as is_unknown_declared, is_duplicate as is_duplicate_declared, is_out_of_order as is_out_of_order_declared, is_mismatch as is_mismatch_declared, is_full as is_full_declared}
 use Rattle.pb_facts.specs.declared.fact.Fact.{Fact}
 use Rattle.pb_facts.specs.declared.fact.Fact.TheVariants.{Reading, Transfer, Dip}
+use Rattle.pb_facts.specs.declared.facts.KeptFact.{KeptFact}
 use Rattle.pb_facts.specs.Fact.{is_out_of_order as is_out_of_order_fact, is_too_long}
 use Rattle.pb_facts.specs.Facts.{is_duplicate as is_duplicate_fact, is_full as is_full_fact}
-use Rattle.pb_book.specs.declared.periods.TheConstants.{MOST_PERIODS}
+use Rattle.pb_book.specs.declared.answer.Refused.{Refused}
+use Rattle.pb_book.specs.declared.answer.Refused.TheVariants.{Unknown, Duplicate, Order, Mismatch, Range, Full}
 use Rattle.pb_book.specs.declared.rows.BookRow.{BookRow}
 use Rattle.pb_book.specs.declared.rows.BookRow.TheVariants.{Declaration, Period as PeriodRow, Fact as FactRow}
-use Rattle.pb_book.specs.declared.rows.StoredRow.{StoredRow}
 use Rattle.pb_book.specs.declared.rows.Period.{Period}
-use Rattle.pb_book.specs.declared.rows.Refused.{Refused}
-use Rattle.pb_book.specs.declared.rows.Refused.TheVariants.{Unknown, Duplicate, Order, Mismatch, Range, Full}
-use Rattle.pb_book.specs.Rows.{declared_of, facts_of, is_named, periods_of}
+use Rattle.pb_book.specs.Apart.{is_named, shares_a_day}
+use Rattle.pb_book.specs.Rows.{StoredRow, declared_of, facts_of, periods_of}
 
--- the kinds of arc that are streams, and those of them that are metered, and moved in batches
-abbrev pub is_stream_kind : ArcKind → Bool
-is_stream_kind Metered = true
-is_stream_kind Batch = true
-is_stream_kind Plain = true
-is_stream_kind Tank = false
+-- the kind of the stream, or of the tank, that a fact names, if one is declared
+abbrev pub kind_of_fact : List Declared → Fact → Option ArcKind
+kind_of_fact declared (Reading id stream day grams variance) = kind_of declared stream
+kind_of_fact declared (Transfer id stream first last grams variance) = kind_of declared stream
+kind_of_fact declared (Dip id tank day mm density variance) = kind_of declared tank
 
-abbrev pub is_metered_kind : ArcKind → Bool
-is_metered_kind Metered = true
-is_metered_kind Batch = false
-is_metered_kind Plain = false
-is_metered_kind Tank = false
-
-abbrev pub is_batch_kind : ArcKind → Bool
-is_batch_kind Metered = false
-is_batch_kind Batch = true
-is_batch_kind Plain = false
-is_batch_kind Tank = false
-
--- an arc has this name and is of such a kind
-abbrev pub is_arc_of : List ℕ → (ArcKind → Bool) → Link → Bool
-is_arc_of name of_kind link = same_name name link.name && of_kind link.kind
-
--- an arc of this name is declared that is of such a kind
-abbrev pub has_arc : (ArcKind → Bool) → List Declared → List ℕ → Bool
-has_arc of_kind declared name = list_any (is_arc_of name of_kind) (links_of declared)
+-- readings and transfers are of streams, dips of tanks
+abbrev pub names_other : Fact → Option ArcKind → Bool
+names_other fact None = true
+names_other (Dip id tank day mm density variance) (Some Tank) = false
+names_other (Dip id tank day mm density variance) (Some kind) = true
+names_other fact (Some Tank) = true
+names_other fact (Some kind) = false
 
 -- Unknown: a fact of a stream, or of a tank, that isn't declared; and what a declaration doesn't find
-abbrev pub is_unknown_fact : List StoredRow → Fact → Bool
-is_unknown_fact rows (Reading id stream day grams variance) = not (has_arc is_stream_kind (declared_of rows) stream)
-is_unknown_fact rows (Transfer id stream first last grams variance) = not (has_arc is_stream_kind (declared_of rows) stream)
-is_unknown_fact rows (Dip id tank day mm density variance) = not (is_tank (declared_of rows) tank)
+abbrev pub is_unknown : List Declared → BookRow → Bool
+is_unknown declared (Declaration row) = is_unknown_declared declared row
+is_unknown declared (FactRow fact) = names_other fact (kind_of_fact declared fact)
+is_unknown declared row = false
 
-abbrev pub is_unknown : List StoredRow → BookRow → Bool
-is_unknown rows (Declaration declared) = is_unknown_declared (declared_of rows) declared
-is_unknown rows (PeriodRow name first last) = false
-is_unknown rows (FactRow fact) = is_unknown_fact rows fact
-
--- Duplicate: a name that is taken, such a critical value, the id of an accepted fact, or a day that has its reading or dip
-abbrev pub is_duplicate : List StoredRow → BookRow → Bool
-is_duplicate rows (Declaration declared) = is_duplicate_declared (declared_of rows) declared
-is_duplicate rows (PeriodRow name first last) = list_any (is_named name) (periods_of rows)
-is_duplicate rows (FactRow fact) = is_duplicate_fact (facts_of rows) fact
+-- Duplicate: a name that is taken, such a critical value, the id of an accepted fact, or a day that has its
+-- reading or dip
+abbrev pub is_duplicate : List Declared → List KeptFact → List Period → BookRow → Bool
+is_duplicate declared kept periods (Declaration row) = is_duplicate_declared declared row
+is_duplicate declared kept periods (PeriodRow name first last) = list_any (is_named name) periods
+is_duplicate declared kept periods (FactRow fact) = is_duplicate_fact kept fact
 
 -- Order: a table that doesn't rise, or a first day after the last one
-abbrev pub is_out_of_order : List StoredRow → BookRow → Bool
-is_out_of_order rows (Declaration declared) = is_out_of_order_declared (declared_of rows) declared
-is_out_of_order rows (PeriodRow name first last) = int_lt last first
-is_out_of_order rows (FactRow fact) = is_out_of_order_fact fact
+abbrev pub is_out_of_order : List Declared → BookRow → Bool
+is_out_of_order declared (Declaration row) = is_out_of_order_declared declared row
+is_out_of_order declared (PeriodRow name first last) = int_lt last first
+is_out_of_order declared (FactRow fact) = is_out_of_order_fact fact
 
--- two periods share a day
-abbrev pub shares_a_day : ℤ → ℤ → Period → Bool
-shares_a_day first last period = int_le first period.last && int_le period.first last
+-- a reading is of a metered stream, a transfer of a batch stream
+abbrev pub is_of_other_kind : Fact → Option ArcKind → Bool
+is_of_other_kind (Reading id stream day grams variance) (Some Metered) = false
+is_of_other_kind (Transfer id stream first last grams variance) (Some Batch) = false
+is_of_other_kind (Dip id tank day mm density variance) kind = false
+is_of_other_kind fact kind = true
 
--- Mismatch: a stream from a node to itself, a period that shares a day with another one, a reading of a stream that isn't metered,
--- a transfer of one that isn't moved in batches
-abbrev pub is_mismatch_fact : List StoredRow → Fact → Bool
-is_mismatch_fact rows (Reading id stream day grams variance) = not (has_arc is_metered_kind (declared_of rows) stream)
-is_mismatch_fact rows (Transfer id stream first last grams variance) = not (has_arc is_batch_kind (declared_of rows) stream)
-is_mismatch_fact rows (Dip id tank day mm density variance) = false
+-- Mismatch: a stream from a node to itself, a period that shares a day with another one, a reading of a stream
+-- that isn't metered, a transfer of one that isn't moved in batches
+abbrev pub is_mismatch : List Declared → List Period → BookRow → Bool
+is_mismatch declared periods (Declaration row) = is_mismatch_declared declared row
+is_mismatch declared periods (PeriodRow name first last) = list_any (shares_a_day first last) periods
+is_mismatch declared periods (FactRow fact) = is_of_other_kind fact (kind_of_fact declared fact)
 
-abbrev pub is_mismatch : List StoredRow → BookRow → Bool
-is_mismatch rows (Declaration declared) = is_mismatch_declared declared
-is_mismatch rows (PeriodRow name first last) = list_any (shares_a_day first last) (periods_of rows)
-is_mismatch rows (FactRow fact) = is_mismatch_fact rows fact
+-- a dip whose level is outside the table of its tank
+abbrev pub is_outside_table : List Declared → Fact → Bool
+is_outside_table declared (Dip id tank day mm density variance) =
+    is_none (option_and_then (λ (points : List Point). volume_of points mm) (table_of declared tank))
+is_outside_table declared fact = false
 
 -- Range: a period of more than 100 days, a transfer of more than 366, a level outside the tank's table
-abbrev pub is_outside_table : List StoredRow → Fact → Bool
-is_outside_table rows (Reading id stream day grams variance) = false
-is_outside_table rows (Transfer id stream first last grams variance) = false
-is_outside_table rows (Dip id tank day mm density variance) = not (is_some (volume_of (points_of (declared_of rows) tank) mm))
-
-abbrev pub is_out_of_range : List StoredRow → BookRow → Bool
-is_out_of_range rows (Declaration declared) = false
-is_out_of_range rows (PeriodRow name first last) = int_le (pos 100) (last -ℤ first)
-is_out_of_range rows (FactRow fact) = is_too_long fact || is_outside_table rows fact
+abbrev pub is_out_of_range : List Declared → BookRow → Bool
+is_out_of_range declared (PeriodRow name first last) = int_le (pos most_days_of_period) (last -ℤ first)
+is_out_of_range declared (FactRow fact) = is_too_long fact || is_outside_table declared fact
+is_out_of_range declared row = false
 
 -- Full: as many as there may be
-abbrev pub is_full : List StoredRow → BookRow → Bool
-is_full rows (Declaration declared) = is_full_declared (declared_of rows) declared
-is_full rows (PeriodRow name first last) = nat_le MOST_PERIODS (length (periods_of rows))
-is_full rows (FactRow fact) = is_full_fact (facts_of rows)
+abbrev pub is_full : List Declared → List KeptFact → List Period → BookRow → Bool
+is_full declared kept periods (Declaration row) = is_full_declared declared row
+is_full declared kept periods (PeriodRow name first last) = nat_le most_periods (length periods)
+is_full declared kept periods (FactRow fact) = is_full_fact kept
 
--- The first of these causes that holds of a row, behind the stored ones.
-abbrev pub refusal_of : List StoredRow → BookRow → Option Refused
-refusal_of rows row =
-    if is_unknown rows row then Some Unknown
-    else if is_duplicate rows row then Some Duplicate
-    else if is_out_of_order rows row then Some Order
-    else if is_mismatch rows row then Some Mismatch
-    else if is_out_of_range rows row then Some Range
-    else if is_full rows row then Some Full
+-- what a fault of a declaration is as a cause
+abbrev pub cause_of_declaration : SiteFault → Refused
+cause_of_declaration UnknownDeclared = Unknown
+cause_of_declaration DuplicateDeclared = Duplicate
+cause_of_declaration OrderDeclared = Order
+cause_of_declaration MismatchDeclared = Mismatch
+cause_of_declaration FullDeclared = Full
+
+-- The first of these causes that holds of a row, behind what is declared, the facts and the periods.
+abbrev pub refusal_behind : List Declared → List KeptFact → List Period → BookRow → Option Refused
+refusal_behind declared kept periods row =
+    if is_unknown declared row then Some Unknown
+    else if is_duplicate declared kept periods row then Some Duplicate
+    else if is_out_of_order declared row then Some Order
+    else if is_mismatch declared periods row then Some Mismatch
+    else if is_out_of_range declared row then Some Range
+    else if is_full declared kept periods row then Some Full
     else None
+
+-- The first cause to refuse a row behind the stored ones.
+abbrev pub refusal_of : List StoredRow → BookRow → Option Refused
+refusal_of rows row = refusal_behind (declared_of rows) (facts_of rows) (periods_of rows) row

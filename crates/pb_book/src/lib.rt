@@ -3,21 +3,17 @@
 //! A record is read once, by the columns of its kind, and then judged against the rows stored before it.
 #![tactic(auto)]
 
+mod answer;
 mod book;
-#[cfg(test)]
-mod book_tests;
 mod fields;
-mod form;
-#[cfg(test)]
-mod form_tests;
 mod judge;
+mod laws;
 mod periods;
 mod requests;
 mod rows;
 
 pub use book::Book;
-pub use form::read_request;
-pub use periods::MOST_PERIODS;
-pub use rows::{
-    Accepted, Answer, BookRow, KindRead, Period, Reading, Refused, Request, RowKind, StoredRow,
-};
+pub use answer::{Accepted, NotAccepted, Refused};
+pub use laws::{accepted_law, requests_law};
+pub use requests::{Request, RowKind, Version, read_request};
+pub use rows::{BookRow, Part, Period, Place};

@@ -1,59 +1,229 @@
-// What a row of each kind asks, which has the fields of its kind: names are read first, then numbers, then dates.
+// What a record asks: its kind by its words, and then by its fields. Names are read first, then numbers, then dates.
 
-ghost use Rattle.std.specs.Prelude.{◌≤◌, IfOk, length};
-ghost use Rattle.pb_book.specs.declared.rows.RowKind.TheVariants.{CriticalGlobal, CriticalMeasure, CriticalNodal, Dip, Period, Reading, Report, Strap, Stream, Tank, Transfer, Unit as UnitRow};
-ghost use Rattle.pb_book.specs.Fields.{ReadsRow, behind};
-ghost use Rattle.pb_book.specs.Ranges.{IsRequestInRange};
+ghost use Rattle.std.specs.Prelude.{◌≡◌, ◌∷◌, [], map, bytes_eq};
+ghost use Rattle.pb_rows.specs.Records.{without_trailing_empty};
+ghost use Rattle.pb_book.specs.declared.requests.RowKind.TheVariants.{CriticalGlobal, CriticalMeasure, CriticalNodal, Dip, Period, Reading, Report, Strap, Stream, Tank, Transfer, Unit as UnitRow};
+ghost use Rattle.pb_book.specs.Kinds.{critical_kind, critical_kind_of, kind_of, stream_kind, stream_kind_of};
+ghost use Rattle.pb_book.specs.Requests.{request_in};
+ghost use Rattle.pb_book.specs.Fields.{ReadsRow};
 
+use crate::answer::Refused;
 use crate::fields;
-use crate::rows::{BookRow, Refused, Request};
+use crate::rows::BookRow;
 use pb_facts::Fact;
-use pb_rows::Row;
+use pb_rows::{Name, Row};
 use pb_site::{Declared, Kind};
 
-// `unit,NAME`
-pub(crate) fn unit(row: &Row) -> Result<Request, Refused>
-    requires { 2 ≤ length row.now }
-    ensures value { ReadsRow UnitRow (behind 1 row.now) result }
-    ensures in_range { IfOk result IsRequestInRange }
+#[cfg(test)]
+mod tests;
+
+/// The version of a session, which decides what kinds of rows it has.
+#[derive(Clone, Copy, PartialEq, Eq, Debug)]
+pub enum Version {
+    One,
+}
+
+/// The kind of a record: what its first field says, and where that isn't enough the word that tells more.
+#[derive(Clone, Copy, PartialEq, Eq, Debug)]
+pub enum RowKind {
+    Unit,
+    Tank,
+    Strap,
+    Stream(Kind),
+    Period,
+    CriticalGlobal,
+    CriticalNodal,
+    CriticalMeasure,
+    Reading,
+    Transfer,
+    Dip,
+    Design,
+    Report,
+}
+
+/// What a record asks of the book.
+#[derive(Clone, Copy)]
+pub enum Request {
+    /// Nothing: it has no field that isn't empty.
+    Blank,
+    Store(BookRow),
+    /// The classes of the declared plant.
+    Design,
+    /// The report of the period of this name.
+    Report(Name),
+}
+
+/// Reads a record of a session of a version: what it asks, or the first fault of its fields. The empty
+/// fields at its end don't count.
+pub fn read_request(version: Version, row: &Row) -> Result<Request, Refused>
+    ensures { result ≡ request_in version (without_trailing_empty row.now) }
 {
-    let name = fields::name(row.field(1))?;
+    match row.filled_fields() {
+        [] => Ok(Request::Blank),
+        [word, fields @ ..] => request_of(kind_of(version, word, fields)?, fields),
+    }
+}
+
+// The kind of a record that begins with a word, by the fields behind it.
+fn kind_of(version: Version, word: &[u8], fields: &[Vec<u8>]) -> Result<RowKind, Refused>
+    ensures { result ≡ kind_of version word.now (map (λ field. field.items) fields.now) }
+{
+    let Version::One = version;
+    if is_word(word, b"unit") {
+        Ok(RowKind::Unit)
+    } else if is_word(word, b"tank") {
+        Ok(RowKind::Tank)
+    } else if is_word(word, b"strap") {
+        Ok(RowKind::Strap)
+    } else if is_word(word, b"stream") {
+        stream_kind(fields)
+    } else if is_word(word, b"period") {
+        Ok(RowKind::Period)
+    } else if is_word(word, b"critical") {
+        critical_kind(fields)
+    } else if is_word(word, b"reading") {
+        Ok(RowKind::Reading)
+    } else if is_word(word, b"transfer") {
+        Ok(RowKind::Transfer)
+    } else if is_word(word, b"dip") {
+        Ok(RowKind::Dip)
+    } else if is_word(word, b"design") {
+        Ok(RowKind::Design)
+    } else if is_word(word, b"report") {
+        Ok(RowKind::Report)
+    } else {
+        Err(Refused::Kind)
+    }
+}
+
+// The kind of a `stream` row, by its fifth field.
+fn stream_kind(fields: &[Vec<u8>]) -> Result<RowKind, Refused>
+    ensures { result ≡ stream_kind (map (λ field. field.items) fields.now) }
+{
+    match fields {
+        [_, _, _, word, ..] => stream_kind_of(word),
+        _ => Err(Refused::Fields),
+    }
+}
+
+// The kind of a stream, by its word.
+fn stream_kind_of(word: &[u8]) -> Result<RowKind, Refused>
+    ensures { result ≡ stream_kind_of word.now }
+{
+    if is_word(word, b"metered") {
+        Ok(RowKind::Stream(Kind::Metered))
+    } else if is_word(word, b"batch") {
+        Ok(RowKind::Stream(Kind::Batch))
+    } else if is_word(word, b"plain") {
+        Ok(RowKind::Stream(Kind::Plain))
+    } else {
+        Err(Refused::Kind)
+    }
+}
+
+// The kind of a `critical` row, by its second field.
+fn critical_kind(fields: &[Vec<u8>]) -> Result<RowKind, Refused>
+    ensures { result ≡ critical_kind (map (λ field. field.items) fields.now) }
+{
+    match fields {
+        [word, ..] => critical_kind_of(word),
+        _ => Err(Refused::Fields),
+    }
+}
+
+// The kind of a critical value, by its word.
+fn critical_kind_of(word: &[u8]) -> Result<RowKind, Refused>
+    ensures { result ≡ critical_kind_of word.now }
+{
+    if is_word(word, b"global") {
+        Ok(RowKind::CriticalGlobal)
+    } else if is_word(word, b"nodal") {
+        Ok(RowKind::CriticalNodal)
+    } else if is_word(word, b"measure") {
+        Ok(RowKind::CriticalMeasure)
+    } else {
+        Err(Refused::Kind)
+    }
+}
+
+fn is_word(field: &[u8], word: &[u8]) -> bool
+    ensures { result ≡ bytes_eq field.now word.now }
+{
+    field == word
+}
+
+// What a record of a kind asks, by the fields behind its first one, or their first fault.
+fn request_of(kind: RowKind, fields: &[Vec<u8>]) -> Result<Request, Refused>
+    ensures { ReadsRow kind (map (λ field. field.items) fields.now) result }
+{
+    match (kind, fields) {
+        (RowKind::Unit, [name]) => unit(name),
+        (RowKind::Tank, [name, base]) => tank(name, base),
+        (RowKind::Strap, [tank, mm, ml]) => strap(tank, mm, ml),
+        (RowKind::Stream(kind), [name, from, to, word, base]) => {
+            stream(kind, name, from, to, word, base)
+        }
+        (RowKind::Period, [name, first, last]) => period(name, first, last),
+        (RowKind::CriticalGlobal, [word, dof, value]) => critical_global(word, dof, value),
+        (RowKind::CriticalNodal, [word, value]) => critical_nodal(word, value),
+        (RowKind::CriticalMeasure, [word, value]) => critical_measure(word, value),
+        (RowKind::Reading, [id, stream, day, grams, variance]) => {
+            reading(id, stream, day, grams, variance)
+        }
+        (RowKind::Transfer, [id, stream, first, last, grams, variance]) => {
+            transfer(id, stream, first, last, grams, variance)
+        }
+        (RowKind::Dip, [id, tank, day, mm, density, variance]) => {
+            dip(id, tank, day, mm, density, variance)
+        }
+        (RowKind::Design, []) => Ok(Request::Design),
+        (RowKind::Report, [period]) => report(period),
+        _ => Err(Refused::Fields),
+    }
+}
+
+// `unit,NAME`
+fn unit(name: &[u8]) -> Result<Request, Refused>
+    ensures { ReadsRow UnitRow (name.now ∷ []) result }
+{
+    let name = fields::name(name)?;
     Ok(Request::Store(BookRow::Declaration(Declared::Unit { name })))
 }
 
 // `tank,NAME,BASEVAR`
-pub(crate) fn tank(row: &Row) -> Result<Request, Refused>
-    requires { 3 ≤ length row.now }
-    ensures value { ReadsRow Tank (behind 2 row.now) result }
-    ensures in_range { IfOk result IsRequestInRange }
+fn tank(name: &[u8], base: &[u8]) -> Result<Request, Refused>
+    ensures { ReadsRow Tank (name.now ∷ base.now ∷ []) result }
 {
-    let name = fields::name(row.field(1))?;
-    let base = fields::base(Kind::Metered, row.field(2))?;
+    let name = fields::name(name)?;
+    let base = fields::base(Kind::Metered, base)?;
     Ok(Request::Store(BookRow::Declaration(Declared::Tank { name, base })))
 }
 
 // `strap,TANK,MM,ML`
-pub(crate) fn strap(row: &Row) -> Result<Request, Refused>
-    requires { 4 ≤ length row.now }
-    ensures value { ReadsRow Strap (behind 3 row.now) result }
-    ensures in_range { IfOk result IsRequestInRange }
+fn strap(tank: &[u8], mm: &[u8], ml: &[u8]) -> Result<Request, Refused>
+    ensures { ReadsRow Strap (tank.now ∷ mm.now ∷ ml.now ∷ []) result }
 {
-    let tank = fields::name(row.field(1))?;
-    let mm = fields::level(row.field(2))?;
-    let ml = fields::volume(row.field(3))?;
+    let tank = fields::name(tank)?;
+    let mm = fields::level(mm)?;
+    let ml = fields::volume(ml)?;
     Ok(Request::Store(BookRow::Declaration(Declared::Strap { tank, mm, ml })))
 }
 
 // `stream,NAME,FROM,TO,KIND,BASEVAR`, of a kind that its word has told
-pub(crate) fn stream(kind: Kind, row: &Row) -> Result<Request, Refused>
-    requires { 6 ≤ length row.now }
-    ensures value { ReadsRow (Stream kind) (behind 5 row.now) result }
-    ensures in_range { IfOk result IsRequestInRange }
+fn stream(
+    kind: Kind,
+    name: &[u8],
+    from: &[u8],
+    to: &[u8],
+    _word: &[u8],
+    base: &[u8],
+) -> Result<Request, Refused>
+    ensures { ReadsRow (Stream kind) (name.now ∷ from.now ∷ to.now ∷ _word.now ∷ base.now ∷ []) result }
 {
-    let name = fields::name(row.field(1))?;
-    let from = fields::name(row.field(2))?;
-    let to = fields::name(row.field(3))?;
-    let base = fields::base(kind, row.field(5))?;
+    let name = fields::name(name)?;
+    let from = fields::name(from)?;
+    let to = fields::name(to)?;
+    let base = fields::base(kind, base)?;
     Ok(Request::Store(BookRow::Declaration(Declared::Stream {
         name,
         from,
@@ -64,59 +234,55 @@ pub(crate) fn stream(kind: Kind, row: &Row) -> Result<Request, Refused>
 }
 
 // `period,NAME,FIRST,LAST`
-pub(crate) fn period(row: &Row) -> Result<Request, Refused>
-    requires { 4 ≤ length row.now }
-    ensures value { ReadsRow Period (behind 3 row.now) result }
-    ensures in_range { IfOk result IsRequestInRange }
+fn period(name: &[u8], first: &[u8], last: &[u8]) -> Result<Request, Refused>
+    ensures { ReadsRow Period (name.now ∷ first.now ∷ last.now ∷ []) result }
 {
-    let name = fields::name(row.field(1))?;
-    let first = fields::day(row.field(2))?;
-    let last = fields::day(row.field(3))?;
+    let name = fields::name(name)?;
+    let first = fields::day(first)?;
+    let last = fields::day(last)?;
     Ok(Request::Store(BookRow::Period { name, first, last }))
 }
 
 // `critical,global,DOF,VALUE`
-pub(crate) fn critical_global(row: &Row) -> Result<Request, Refused>
-    requires { 4 ≤ length row.now }
-    ensures value { ReadsRow CriticalGlobal (behind 3 row.now) result }
-    ensures in_range { IfOk result IsRequestInRange }
+fn critical_global(_word: &[u8], dof: &[u8], value: &[u8]) -> Result<Request, Refused>
+    ensures { ReadsRow CriticalGlobal (_word.now ∷ dof.now ∷ value.now ∷ []) result }
 {
-    let dof = fields::dof(row.field(2))?;
-    let value = fields::critical(row.field(3))?;
+    let dof = fields::dof(dof)?;
+    let value = fields::critical(value)?;
     Ok(Request::Store(BookRow::Declaration(Declared::CritGlobal { dof, value })))
 }
 
 // `critical,nodal,VALUE`
-pub(crate) fn critical_nodal(row: &Row) -> Result<Request, Refused>
-    requires { 3 ≤ length row.now }
-    ensures value { ReadsRow CriticalNodal (behind 2 row.now) result }
-    ensures in_range { IfOk result IsRequestInRange }
+fn critical_nodal(_word: &[u8], value: &[u8]) -> Result<Request, Refused>
+    ensures { ReadsRow CriticalNodal (_word.now ∷ value.now ∷ []) result }
 {
-    let value = fields::critical(row.field(2))?;
+    let value = fields::critical(value)?;
     Ok(Request::Store(BookRow::Declaration(Declared::CritNodal { value })))
 }
 
 // `critical,measure,VALUE`
-pub(crate) fn critical_measure(row: &Row) -> Result<Request, Refused>
-    requires { 3 ≤ length row.now }
-    ensures value { ReadsRow CriticalMeasure (behind 2 row.now) result }
-    ensures in_range { IfOk result IsRequestInRange }
+fn critical_measure(_word: &[u8], value: &[u8]) -> Result<Request, Refused>
+    ensures { ReadsRow CriticalMeasure (_word.now ∷ value.now ∷ []) result }
 {
-    let value = fields::critical(row.field(2))?;
+    let value = fields::critical(value)?;
     Ok(Request::Store(BookRow::Declaration(Declared::CritMeasure { value })))
 }
 
 // `reading,ID,STREAM,DATE,GRAMS,VARIANCE`
-pub(crate) fn reading(row: &Row) -> Result<Request, Refused>
-    requires { 6 ≤ length row.now }
-    ensures value { ReadsRow Reading (behind 5 row.now) result }
-    ensures in_range { IfOk result IsRequestInRange }
+fn reading(
+    id: &[u8],
+    stream: &[u8],
+    day: &[u8],
+    grams: &[u8],
+    variance: &[u8],
+) -> Result<Request, Refused>
+    ensures { ReadsRow Reading (id.now ∷ stream.now ∷ day.now ∷ grams.now ∷ variance.now ∷ []) result }
 {
-    let id = fields::name(row.field(1))?;
-    let stream = fields::name(row.field(2))?;
-    let grams = fields::grams(row.field(4))?;
-    let variance = fields::variance(row.field(5))?;
-    let day = fields::day(row.field(3))?;
+    let id = fields::name(id)?;
+    let stream = fields::name(stream)?;
+    let grams = fields::grams(grams)?;
+    let variance = fields::variance(variance)?;
+    let day = fields::day(day)?;
     Ok(Request::Store(BookRow::Fact(Fact::Reading {
         id,
         stream,
@@ -127,17 +293,25 @@ pub(crate) fn reading(row: &Row) -> Result<Request, Refused>
 }
 
 // `transfer,ID,STREAM,FIRST,LAST,GRAMS,VARIANCE`
-pub(crate) fn transfer(row: &Row) -> Result<Request, Refused>
-    requires { 7 ≤ length row.now }
-    ensures value { ReadsRow Transfer (behind 6 row.now) result }
-    ensures in_range { IfOk result IsRequestInRange }
+fn transfer(
+    id: &[u8],
+    stream: &[u8],
+    first: &[u8],
+    last: &[u8],
+    grams: &[u8],
+    variance: &[u8],
+) -> Result<Request, Refused>
+    ensures {
+        ReadsRow Transfer
+            (id.now ∷ stream.now ∷ first.now ∷ last.now ∷ grams.now ∷ variance.now ∷ []) result
+    }
 {
-    let id = fields::name(row.field(1))?;
-    let stream = fields::name(row.field(2))?;
-    let grams = fields::grams(row.field(5))?;
-    let variance = fields::variance(row.field(6))?;
-    let first = fields::day(row.field(3))?;
-    let last = fields::day(row.field(4))?;
+    let id = fields::name(id)?;
+    let stream = fields::name(stream)?;
+    let grams = fields::grams(grams)?;
+    let variance = fields::variance(variance)?;
+    let first = fields::day(first)?;
+    let last = fields::day(last)?;
     Ok(Request::Store(BookRow::Fact(Fact::Transfer {
         id,
         stream,
@@ -149,17 +323,25 @@ pub(crate) fn transfer(row: &Row) -> Result<Request, Refused>
 }
 
 // `dip,ID,TANK,DATE,MM,DENSITY,VARIANCE`
-pub(crate) fn dip(row: &Row) -> Result<Request, Refused>
-    requires { 7 ≤ length row.now }
-    ensures value { ReadsRow Dip (behind 6 row.now) result }
-    ensures in_range { IfOk result IsRequestInRange }
+fn dip(
+    id: &[u8],
+    tank: &[u8],
+    day: &[u8],
+    mm: &[u8],
+    density: &[u8],
+    variance: &[u8],
+) -> Result<Request, Refused>
+    ensures {
+        ReadsRow Dip
+            (id.now ∷ tank.now ∷ day.now ∷ mm.now ∷ density.now ∷ variance.now ∷ []) result
+    }
 {
-    let id = fields::name(row.field(1))?;
-    let tank = fields::name(row.field(2))?;
-    let mm = fields::level(row.field(4))?;
-    let density = fields::density(row.field(5))?;
-    let variance = fields::variance(row.field(6))?;
-    let day = fields::day(row.field(3))?;
+    let id = fields::name(id)?;
+    let tank = fields::name(tank)?;
+    let mm = fields::level(mm)?;
+    let density = fields::density(density)?;
+    let variance = fields::variance(variance)?;
+    let day = fields::day(day)?;
     Ok(Request::Store(BookRow::Fact(Fact::Dip {
         id,
         tank,
@@ -171,11 +353,9 @@ pub(crate) fn dip(row: &Row) -> Result<Request, Refused>
 }
 
 // `report,PERIOD`
-pub(crate) fn report(row: &Row) -> Result<Request, Refused>
-    requires { 2 ≤ length row.now }
-    ensures value { ReadsRow Report (behind 1 row.now) result }
-    ensures in_range { IfOk result IsRequestInRange }
+fn report(period: &[u8]) -> Result<Request, Refused>
+    ensures { ReadsRow Report (period.now ∷ []) result }
 {
-    let period = fields::name(row.field(1))?;
+    let period = fields::name(period)?;
     Ok(Request::Report(period))
 }

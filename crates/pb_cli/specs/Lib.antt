@@ -2,3 +2,4 @@
 pub mod Status
 pub mod Prefix
 pub mod Run
+pub mod Laws

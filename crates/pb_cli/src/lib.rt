@@ -5,6 +5,7 @@
 #![tactic(auto)]
 
 mod answers;
+mod laws;
 mod runs;
 mod status;
 #[cfg(test)]
@@ -12,6 +13,7 @@ mod tests;
 mod words;
 
 pub use answers::answer;
+pub use laws::run_text_law;
 pub use runs::run;
 pub use status::Status;
 pub use words::Words;

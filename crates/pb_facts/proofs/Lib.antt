@@ -1,5 +1,5 @@
 mod LiveLemmas
 mod PlaceLemmas
-pub mod PositionLemmas
+mod PositionLemmas
 mod ShareLemmas
 mod TransferLemmas

@@ -39,6 +39,16 @@ places_from-push passes from (y ∷ xs) x =
       | inr failing ↦ rw (failing) rest
     ]
 
+-- there are no more of them than items
+pub places_from-few : {X : Type 0} (passes : X → Bool) (from : ℕ) (xs : List X) → length (places_from passes from xs) ≤ length xs
+places_from-few passes from [] = omega arith
+places_from-few passes from (x ∷ xs) =
+    let rest = places_from-few passes (from + 1) xs in
+    elim (cases_Bool (passes x)) [
+      | inl passing ↦ rw passing (omega (arith, rest))
+      | inr failing ↦ rw failing (omega (arith, rest))
+    ]
+
 -- each is the place of an item
 pub places_from-below : {X : Type 0} (passes : X → Bool) (from : ℕ) (xs : List X) (k d : ℕ) → k < length (places_from passes from xs)
     → get_or (places_from passes from xs) k d < from + length xs

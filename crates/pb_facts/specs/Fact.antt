@@ -15,7 +15,8 @@ id_of (Dip id tank day mm density variance) = id
 
 -- a reading of this stream on this day
 abbrev pub is_reading_on : List ℕ → ℤ → Fact → Bool
-is_reading_on wanted on (Reading id stream day grams variance) = same_name stream wanted && int_eq day on
+is_reading_on wanted on (Reading id stream day grams variance) =
+    same_name stream wanted && int_eq day on
 is_reading_on wanted on _ = false
 
 -- a dip of this tank at the end of this day
@@ -42,7 +43,8 @@ is_out_of_order _ = false
 
 -- a transfer of too many days, its first and its last among them
 abbrev pub is_too_long : Fact → Bool
-is_too_long (Transfer id stream first last grams variance) = int_le (pos most_days_of_transfer) (last -ℤ first)
+is_too_long (Transfer id stream first last grams variance) =
+    int_le (pos most_days_of_transfer) (last -ℤ first)
 is_too_long _ = false
 
 -- a day from 1900-01-01 to 2199-12-31, counted from 1970-01-01
@@ -52,5 +54,7 @@ IsDay day = (neg_ℤ (pos 25567) ≤ℤ day) × (day ≤ℤ pos 84005)
 -- the numbers of a fact lie in their ranges
 abbrev pub IsInRange : Fact → Type 0
 IsInRange (Reading id stream day grams variance) = IsDay day × IsGrams grams × IsVariance variance
-IsInRange (Transfer id stream first last grams variance) = IsDay first × IsDay last × IsGrams grams × IsVariance variance
-IsInRange (Dip id tank day mm density variance) = IsDay day × IsLevel mm × IsDensity density × IsVariance variance
+IsInRange (Transfer id stream first last grams variance) =
+    IsDay first × IsDay last × IsGrams grams × IsVariance variance
+IsInRange (Dip id tank day mm density variance) =
+    IsDay day × IsLevel mm × IsDensity density × IsVariance variance

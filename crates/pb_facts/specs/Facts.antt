@@ -48,7 +48,8 @@ first_fault duplicate order range full =
 
 -- the first fault of a new fact
 abbrev pub fault_of : List KeptFact → Fact → Option FactFault
-fault_of kept fact = first_fault (is_duplicate kept fact) (is_out_of_order fact) (is_too_long fact) (is_full kept)
+fault_of kept fact =
+    first_fault (is_duplicate kept fact) (is_out_of_order fact) (is_too_long fact) (is_full kept)
 
 -- no fact repeats an earlier one: so no id comes twice, and no two live readings or dips share a stream or tank and day
 abbrev pub NoRepeats : List KeptFact → Type 0

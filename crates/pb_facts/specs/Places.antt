@@ -36,18 +36,23 @@ places_from passes from (x ∷ xs) =
 
 -- the places at a key; none where the map has no entry
 abbrev pub places_at : {S : Type 0} → HashMap (List ℕ × ℤ) (Vec ℕ) S → List ℕ × ℤ → List ℕ
-places_at transfers key = option_map_or (λ (places : Vec ℕ). places.items) (get same_key transfers key) []
+places_at transfers key =
+    option_map_or (λ (places : Vec ℕ). places.items) (get same_key transfers key) []
 
 -- there is an entry at a key, with room for one more place
 abbrev pub HasRoomAt : {S : Type 0} → HashMap (List ℕ × ℤ) (Vec ℕ) S → List ℕ × ℤ → Type 0
-HasRoomAt transfers key = IsSomeAnd (get same_key transfers key) (λ places. vec_len places < vec_capacity places)
+HasRoomAt transfers key =
+    IsSomeAnd (get same_key transfers key) (λ places. vec_len places < vec_capacity places)
 
 -- the maps give the places of the kept facts, no fact repeats an earlier one, each lies in its ranges, and no transfer is too long
 pub record IsKept (kept : List KeptFact) (places : Places) : Type 0 where
   pub ids : (id : List ℕ) → get same_name places.ids id ≡ position (has_id id) kept
-  pub readings : (key : List ℕ × ℤ) → get same_key places.readings key ≡ position (is_live_reading_on key.0 key.1) kept
-  pub dips : (key : List ℕ × ℤ) → get same_key places.dips key ≡ position (is_live_dip_on key.0 key.1) kept
-  pub transfers : (key : List ℕ × ℤ) → places_at places.transfers key ≡ places_from (λ (k : KeptFact). is_about key k.fact) 0 kept
+  pub readings : (key : List ℕ × ℤ)
+      → get same_key places.readings key ≡ position (is_live_reading_on key.0 key.1) kept
+  pub dips : (key : List ℕ × ℤ)
+      → get same_key places.dips key ≡ position (is_live_dip_on key.0 key.1) kept
+  pub transfers : (key : List ℕ × ℤ)
+      → places_at places.transfers key ≡ places_from (λ (k : KeptFact). is_about key k.fact) 0 kept
   pub no_repeats : NoRepeats kept
   pub in_range : All (λ k. IsInRange k.fact) kept
   pub short : All (λ k. is_too_long k.fact ≡ false) kept
@@ -75,10 +80,14 @@ pub record HasRoom (places : Places) (fact : Fact) : Type 0 where
 
 -- the maps give the place of a new fact by its id, by its stream or tank and day or days, and else what they gave
 pub record Notes (old new : Places) (fact : Fact) (place : ℕ) : Type 0 where
-  pub ids : (id : List ℕ) → get same_name new.ids id ≡ (if same_name (id_of fact) id then Some place else get same_name old.ids id)
+  pub ids : (id : List ℕ)
+      → get same_name new.ids id ≡ (if same_name (id_of fact) id then Some place else get same_name old.ids id)
   pub readings : (key : List ℕ × ℤ)
-      → get same_key new.readings key ≡ (if is_reading_on key.0 key.1 fact then Some place else get same_key old.readings key)
+      → get same_key new.readings key
+      ≡ (if is_reading_on key.0 key.1 fact then Some place else get same_key old.readings key)
   pub dips : (key : List ℕ × ℤ)
-      → get same_key new.dips key ≡ (if is_dip_on key.0 key.1 fact then Some place else get same_key old.dips key)
+      → get same_key new.dips key
+      ≡ (if is_dip_on key.0 key.1 fact then Some place else get same_key old.dips key)
   pub transfers : (key : List ℕ × ℤ)
-      → places_at new.transfers key ≡ places_at old.transfers key ++ (if is_about key fact then place ∷ [] else [])
+      → places_at new.transfers key
+      ≡ places_at old.transfers key ++ (if is_about key fact then place ∷ [] else [])

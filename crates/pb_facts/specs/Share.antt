@@ -12,5 +12,6 @@ share_of total days before until = up_to total days until -ℤ up_to total days 
 
 -- shares of neighbouring days add up, and all days have the whole total
 pub record SharesLaw : Type 0 where
-  pub neighbours : (total : ℤ) (days a b c : ℕ) → share_of total days a b +ℤ share_of total days b c ≡ share_of total days a c
+  pub neighbours : (total : ℤ) (days a b c : ℕ)
+      → share_of total days a b +ℤ share_of total days b c ≡ share_of total days a c
   pub whole : (total : ℤ) (days : ℕ) → 0 < days → share_of total days 0 days ≡ total

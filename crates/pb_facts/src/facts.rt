@@ -81,7 +81,8 @@ impl Facts {
     pub fn add(&mut self, fact: Fact) -> Result<(), AllocError>
         requires in_range { IsInRange fact }
         requires no_fault { fault_of self.old fact ≡ None }
-        ensures added { OnOk result (self.new ≡ self.old ++ record { fact = fact; struck = false } ∷ []) }
+        ensures added { OnOk result (self.new
+            ≡ self.old ++ record { fact = fact; struck = false } ∷ []) }
         ensures unchanged { OnErr result (self.new ≡ self.old) }
     {
         self.kept.reserve(1)?;
@@ -146,7 +147,8 @@ impl Facts {
     /// The place of the live reading of a stream on a day; `None` exactly where there is none.
     pub fn reading_on(&self, stream: &Name, day: i32) -> Option<u32>
         ensures value { result ≡ position (is_live_reading_on stream.now day) self.now }
-        ensures found { option_and_then (live_at self.now) result ≡ find (is_reading_on stream.now day) (live_facts self.now) }
+        ensures found { option_and_then (live_at self.now) result
+            ≡ find (is_reading_on stream.now day) (live_facts self.now) }
     {
         self.places.readings.get(&(*stream, day)).copied()
     }
@@ -154,7 +156,8 @@ impl Facts {
     /// The place of the live dip of a tank at the end of a day; `None` exactly where there is none.
     pub fn dip_on(&self, tank: &Name, day: i32) -> Option<u32>
         ensures value { result ≡ position (is_live_dip_on tank.now day) self.now }
-        ensures found { option_and_then (live_at self.now) result ≡ find (is_dip_on tank.now day) (live_facts self.now) }
+        ensures found { option_and_then (live_at self.now) result
+            ≡ find (is_dip_on tank.now day) (live_facts self.now) }
     {
         self.places.dips.get(&(*tank, day)).copied()
     }
@@ -165,6 +168,7 @@ impl Facts {
         requires { (last -ℤ first) <ℤ pos most_days_of_period }
         ensures transfers { HoldsTransfers self.now stream.now first last result.now }
         ensures places { All (λ place. place < length self.now) result.now }
+        ensures within { length result.now ≤ most_facts }
     {
         match self.places.transfers.get(&(*stream, block_of(last))) {
             Some(places) => places,

@@ -152,7 +152,8 @@ fn put_transfer(
     requires behind { HasRoomAt transfers.old (stream, block +ℤ pos 1) }
     ensures { (key : List ℕ × ℤ) → places_at transfers.new key
         ≡ places_at transfers.old key
-        ++ (if same_name stream key.0 && (int_eq block key.1 || int_eq (block +ℤ pos 1) key.1) then place ∷ [] else []) }
+        ++ (if same_name stream key.0 && (int_eq block key.1 || int_eq (block +ℤ pos 1) key.1)
+        then place ∷ [] else []) }
 {
     put_at(transfers, (stream, block), place);
     put_at(transfers, (stream, block + 1), place);
@@ -163,7 +164,8 @@ fn put_at(transfers: &mut HashMap<(Name, i32), Vec<u32>>, key: (Name, i32), plac
     requires { HasRoomAt transfers.old key }
     ensures put { (q : List ℕ × ℤ) → places_at transfers.new q
         ≡ places_at transfers.old q ++ (if same_key key q then place ∷ [] else []) }
-    ensures others { (q : List ℕ × ℤ) → same_key key q ≡ false → HasRoomAt transfers.old q → HasRoomAt transfers.new q }
+    ensures others { (q : List ℕ × ℤ) → same_key key q ≡ false
+        → HasRoomAt transfers.old q → HasRoomAt transfers.new q }
 {
     match transfers.get_mut(&key) {
         Some(places) => places.push_reserved(place),

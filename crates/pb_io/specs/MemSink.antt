@@ -17,13 +17,8 @@ pub record SinkInMemory : Type 0 where
 
 -- what the sink has been seen to do: it tells its bytes
 abbrev pub seen_in_memory : SinkInMemory → SinkSeen
-seen_in_memory sink = record {
-  contents = Some sink.contents;
-  written = sink.written;
-  calls = sink.calls;
-  idle = sink.idle;
-  faults = sink.faults;
-}
+seen_in_memory sink =
+    record { contents = Some sink.contents; written = sink.written; calls = sink.calls; idle = sink.idle; faults = sink.faults }
 
 -- the list names the next call, or no room is left
 abbrev pub RefusesNext : SinkInMemory → Type 0
@@ -31,12 +26,9 @@ RefusesNext sink = Contains sink.fails (counted sink.calls 1) ⊎ (sink.room ≤
 
 -- the sink after a call that appended these bytes
 abbrev pub after_appending : SinkInMemory → List ℕ → SinkInMemory
-after_appending sink bytes = record sink {
-  contents = sink.contents ++ bytes;
-  written = counted sink.written (length bytes);
-  calls = counted sink.calls 1;
-  idle = counted sink.idle (1 - length bytes);
-}
+after_appending sink bytes =
+    let n = length bytes in
+    record sink { contents = sink.contents ++ bytes; written = counted sink.written n; calls = counted sink.calls 1; idle = counted sink.idle (1 - n) }
 
 -- the sink after a call that failed
 abbrev pub after_fault : SinkInMemory → SinkInMemory

@@ -16,13 +16,8 @@ pub record SourceInMemory : Type 0 where
 
 -- what the source has been seen to do: it tells its bytes
 abbrev pub seen_in_memory : SourceInMemory → SourceSeen
-seen_in_memory source = record {
-  remaining = Some source.remaining;
-  taken = source.taken;
-  calls = source.calls;
-  idle = source.idle;
-  faults = source.faults;
-}
+seen_in_memory source =
+    record { remaining = Some source.remaining; taken = source.taken; calls = source.calls; idle = source.idle; faults = source.faults }
 
 -- the list names the next call
 abbrev pub FailsNext : SourceInMemory → Type 0
@@ -30,12 +25,8 @@ FailsNext source = Contains source.fails (counted source.calls 1)
 
 -- the source after a call that gave the next n bytes
 abbrev pub after_giving : SourceInMemory → ℕ → SourceInMemory
-after_giving source n = record source {
-  remaining = drop n source.remaining;
-  taken = counted source.taken n;
-  calls = counted source.calls 1;
-  idle = counted source.idle (1 - n);
-}
+after_giving source n =
+    record source { remaining = drop n source.remaining; taken = counted source.taken n; calls = counted source.calls 1; idle = counted source.idle (1 - n) }
 
 -- the source after a call that failed
 abbrev pub after_fault : SourceInMemory → SourceInMemory

@@ -2,8 +2,8 @@
 use Rattle.std.proofs.Common.{◌≡◌, ◌+◌, ◌≤◌, ℕ, ℤ, pos, ◌+ℤ◌, arith, ap₂}
 use Rattle.std.proofs.lemmas.Int.{ints}
 use Rattle.pb_period.specs.declared.amount.Amount.{Amount}
-use Rattle.pb_period.specs.Bounds.{IsAmount, IsSmall}
-use Rattle.pb_period.specs.Totals.{no_amount, sum_of_two}
+use Rattle.pb_period.specs.Amounts.{IsAmount, IsSmall, sum_of_two}
+use Rattle.pb_period.specs.Facts.{no_amount}
 
 add_none : (a : ℤ) → pos 0 +ℤ a ≡ a
 add_none a = omega (arith, ints)

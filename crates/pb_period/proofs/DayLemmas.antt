@@ -5,11 +5,10 @@ use Rattle.std.specs.List.{list_all}
 use Rattle.std.proofs.Common.{◌≡◌, ◌∙◌, ◌+◌, ◌≤◌, ◌≤ℤ◌, ◌<ℤ◌, ◌+ℤ◌, ◌-ℤ◌, suc, ℤ, pos, negsuc, List, [], ◌∷◌, Bool, Option, Some, None, refl, sym, ap, arith}
 use Rattle.std.proofs.lemmas.Int.{ints}
 use Rattle.pb_period.specs.declared.amount.Amount.{Amount}
-use Rattle.pb_period.specs.Amount.{total_of}
-use Rattle.pb_period.specs.Days.{IsSpan, day_count, days_from}
+use Rattle.pb_period.specs.Amounts.{IsAmount, IsSpan, sum_of_two}
+use Rattle.pb_period.specs.Days.{day_count, days_from}
+use Rattle.pb_period.specs.Facts.{no_amount, total_of}
 use Rattle.pb_period.specs.Measurement.{read_total}
-use Rattle.pb_period.specs.Totals.{no_amount, sum_of_two}
-use Rattle.pb_period.specs.Bounds.{IsAmount}
 use Rattle.pb_period.proofs.AmountLemmas.{more_none, none_more, of_more_facts, sum_assoc, sum_is_amount}
 
 -- how far a day is behind another one

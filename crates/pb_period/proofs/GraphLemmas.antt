@@ -1,22 +1,22 @@
 -- Streams of a graph, arc by arc, and the first of them that is over the limits.
 use Rattle.std.specs.Prelude.{◌^◌, nat_lt, int_lt, option_map, unwrap_or, map, position, IfSome, All}
-use Rattle.std.proofs.Common.{◌≡◌, ◌∙◌, ◌+◌, ◌≤◌, ◌≤ℤ◌, ℕ, zero, suc, pos, unsigned_abs, List, [], ◌∷◌, ◌++◌, length, drop, slice_get, true, false, Option, Some, None, Ok, Err, inl, inr, refl, sym, ap, ap₂, append_assoc, arith, length-append}
+use Rattle.std.proofs.Common.{◌≡◌, ◌∙◌, ◌+◌, ◌≤◌, ◌≤ℤ◌, ℕ, zero, suc, pos, unsigned_abs, List, [], ◌∷◌, ◌++◌, length, drop, slice_get, true, false, Option, Some, None, Ok, Err, inl, inr, refl, sym, ap, ap₂, append_assoc, arith, length-append, ◌<◌, Bool, get_or}
 use Rattle.std.proofs.lemmas.Bool.{cases_Bool, or_parts, ltb-false, ltb-true}
 use Rattle.std.proofs.lemmas.Int.{ints}
 use Rattle.std.proofs.lemmas.List.{append-nil}
+use Rattle.std.proofs.lemmas.List.Sums.{position_or_len_is}
 use Rattle.std.proofs.Math.ListN.{drop_of_length-le, get_or-append}
 use Rattle.std.proofs.Math.Seq.{get_or-append_seam}
+use Rattle.pb_limits.specs.Limits.{most_value, most_variance}
 use Rattle.pb_graph.specs.declared.records.Meas.{Meas}
 use Rattle.pb_graph.specs.declared.records.Stream.{Stream}
 use Rattle.pb_graph.specs.ProcessGraph.{IsMeasurement, IsWithinLimits, ProcessGraph}
 use Rattle.pb_site.specs.Site.{arcs_of, node_names}
-use Rattle.pb_book.specs.declared.rows.Period.{Period}
-use Rattle.pb_book.specs.declared.rows.StoredRow.{StoredRow}
-use Rattle.pb_book.specs.Rows.{declared_of, facts_of}
+use Rattle.pb_facts.specs.Facts.{live_facts}
+use Rattle.pb_book.specs.Rows.{StoredRow, declared_of, facts_of}
+use Rattle.pb_period.specs.declared.days.Days.{Days}
 use Rattle.pb_period.specs.declared.graph.Assembly.TheVariants.{Over}
-use Rattle.pb_period.specs.Amount.{live_facts}
 use Rattle.pb_period.specs.Measurement.{measured}
-use Rattle.pb_facts.proofs.PositionLemmas.{position_at, position_none}
 use Rattle.pb_period.specs.PeriodGraph.{assembly_of, is_over, is_over_limits, period_graph, stream_with, unless_over}
 
 some_is : {B : Type 0} (a b : B) → Some a ≡ Some b → a ≡ b
@@ -43,13 +43,13 @@ one_more f whole made xs j s is so_far = so_far ∙ ap (λ rest. made ++ rest) (
 
 within_limits : (meas : Meas) → is_over_limits meas ≡ false → pos 1 ≤ℤ meas.variance → IsMeasurement meas
 within_limits meas not_over least =
-    let parts = or_parts (nat_lt (10 ^ 15) (unsigned_abs meas.value)) (int_lt (pos (10 ^ 22)) meas.variance) not_over in
-    record { value = omega (arith, ltb-false (10 ^ 15) (unsigned_abs meas.value) parts.0); least = least; greatest = omega (arith, ints, parts.1) }
+    let parts = or_parts (nat_lt most_value (unsigned_abs meas.value)) (int_lt (pos most_variance) meas.variance) not_over in
+    record { value = omega (arith, ltb-false most_value (unsigned_abs meas.value) parts.0); least = least; greatest = omega (arith, ints, parts.1) }
 
 not_over_limits : (meas : Meas) → IsMeasurement meas → is_over_limits meas ≡ false
 not_over_limits meas fits = elim (cases_Bool (is_over_limits meas)) [
-  | inl over ↦ elim (cases_Bool (nat_lt (10 ^ 15) (unsigned_abs meas.value))) [
-    | inl above ↦ absurd (omega (arith, ltb-true (10 ^ 15) (unsigned_abs meas.value) above, fits.value))
+  | inl over ↦ elim (cases_Bool (nat_lt most_value (unsigned_abs meas.value))) [
+    | inl above ↦ absurd (omega (arith, ltb-true most_value (unsigned_abs meas.value) above, fits.value))
     | inr below ↦ absurd (omega (arith, ints, rw below at over, fits.greatest))
   ]
   | inr not_over ↦ not_over
@@ -71,6 +71,22 @@ not_over s = by s.meas
 
 -- ---- the first stream that is over the limits
 
+below : (a b : ℕ) → a < b → nat_lt a b ≡ true
+below a b lt = elim (cases_Bool (nat_lt a b)) [ inl passes ↦ passes | inr fails ↦ absurd (omega (arith, ltb-false a b fails, lt)) ]
+
+not_below : (a b : ℕ) → b ≤ a → nat_lt a b ≡ false
+not_below a b le = elim (cases_Bool (nat_lt a b)) [ inl passes ↦ absurd (omega (arith, ltb-true a b passes, le)) | inr fails ↦ fails ]
+
+position_at : {X : Type 0} (p : X → Bool) (xs : List X) (i : ℕ) (d : X) → i < length xs → ((k : ℕ) → k < i → p (get_or xs k d) ≡ false) → p (get_or xs i d) ≡ true
+    → position p xs ≡ Some i
+position_at p xs i d within before here = rw (position_or_len_is p xs i d (omega arith) before (λ _. here), below i (length xs) within) refl
+
+position_none : {X : Type 0} (p : X → Bool) (xs : List X) → ((k : ℕ) (d : X) → k < length xs → p (get_or xs k d) ≡ false) → position p xs ≡ None
+position_none p [] fails = refl
+position_none p (x ∷ xs) fails =
+    let end = position_or_len_is p (x ∷ xs) (length (x ∷ xs)) x (omega arith) (λ k lt. fails k x lt) (λ past. absurd (omega arith)) in
+    rw (end, not_below (length (x ∷ xs)) (length (x ∷ xs)) (omega arith)) refl
+
 abbrev pub AllWithin : List Stream → Type 0
 AllWithin streams = All (λ (s : Stream). is_over s ≡ false) streams
 
@@ -86,19 +102,19 @@ first_over made rest s fits over =
 
 -- ---- the graph of a period
 
-abbrev pub streams_of : List StoredRow → Period → List Stream
-streams_of rows period = map (stream_with (measured (declared_of rows) (live_facts (facts_of rows)) period)) (arcs_of (declared_of rows))
+abbrev pub streams_of : List StoredRow → Days → List Stream
+streams_of rows days = map (stream_with (measured (declared_of rows) (live_facts (facts_of rows)) days)) (arcs_of (declared_of rows))
 
 -- a stream that is over the limits, behind those that aren't
-pub over_at : (rows : List StoredRow) (period : Period) (made rest : List Stream) (s : Stream) (j : ℕ) → streams_of rows period ≡ made ++ s ∷ rest → AllWithin made → is_over s ≡ true
-    → length made ≡ j → Err (Over j) ≡ assembly_of rows period
-over_at rows period made rest s j split fits over is_j =
-    sym (ap (unless_over (period_graph rows period)) (ap (position is_over) split ∙ first_over made rest s fits over ∙ ap (λ (n : ℕ). Some n) is_j))
+pub over_at : (rows : List StoredRow) (days : Days) (made rest : List Stream) (s : Stream) (j : ℕ) → streams_of rows days ≡ made ++ s ∷ rest → AllWithin made → is_over s ≡ true
+    → length made ≡ j → Err (Over j) ≡ assembly_of rows days
+over_at rows days made rest s j split fits over is_j =
+    sym (ap (unless_over (period_graph rows days)) (ap (position is_over) split ∙ first_over made rest s fits over ∙ ap (λ (n : ℕ). Some n) is_j))
 
 -- no stream is over the limits
-pub finished : (rows : List StoredRow) (period : Period) (graph : ProcessGraph) → graph.nodes ≡ length (node_names (declared_of rows)) → streams_of rows period ≡ graph.streams
-    → AllWithin graph.streams → Ok graph ≡ assembly_of rows period
-finished rows period graph nodes all fits =
-    let none : position is_over (streams_of rows period) ≡ None = ap (position is_over) all ∙ none_over graph.streams fits in
-    let whole : graph ≡ period_graph rows period = ap₂ (λ (n : ℕ) (streams : List Stream). let g : ProcessGraph = record { nodes = n; streams = streams } in g) nodes (sym all) in
-    ap (λ (g : ProcessGraph). unless_over g None) whole ∙ sym (ap (unless_over (period_graph rows period)) none)
+pub finished : (rows : List StoredRow) (days : Days) (graph : ProcessGraph) → graph.nodes ≡ length (node_names (declared_of rows)) → streams_of rows days ≡ graph.streams
+    → AllWithin graph.streams → Ok graph ≡ assembly_of rows days
+finished rows days graph nodes all fits =
+    let none : position is_over (streams_of rows days) ≡ None = ap (position is_over) all ∙ none_over graph.streams fits in
+    let whole : graph ≡ period_graph rows days = ap₂ (λ (n : ℕ) (streams : List Stream). let g : ProcessGraph = record { nodes = n; streams = streams } in g) nodes (sym all) in
+    ap (λ (g : ProcessGraph). unless_over g None) whole ∙ sym (ap (unless_over (period_graph rows days)) none)

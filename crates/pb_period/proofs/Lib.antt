@@ -1,5 +1,6 @@
-pub mod LiveLemmas
-pub mod AmountLemmas
-pub mod DayLemmas
-pub mod TotalLemmas
-pub mod GraphLemmas
+mod AmountLemmas
+mod DayLemmas
+mod GraphLemmas
+mod PlantLemmas
+mod TransferLemmas
+mod VarianceLemmas

@@ -1,7 +1,14 @@
--- The days of a period.
-use Rattle.std.specs.Prelude.{ℕ, ◌≤◌, zero, suc, ℤ, pos, ◌+ℤ◌, List, [], ◌∷◌}
+-- Statement. The days of a period.
+use Rattle.std.specs.Prelude.{ℕ, zero, suc, ℤ, pos, ◌+ℤ◌, ◌-ℤ◌, ◌≤ℤ◌, ◌<ℤ◌, List, [], ◌∷◌}
 use Rattle.std.specs.Int.{int_gap}
+use Rattle.pb_limits.specs.Limits.{most_days_of_period}
+use Rattle.pb_facts.specs.Fact.{IsDay}
 use Rattle.pb_book.specs.declared.rows.Period.{Period}
+use Rattle.pb_period.specs.declared.days.Days.{Days}
+
+-- the days of a period: neither its name nor whether it is closed
+abbrev pub days_of : Period → Days
+days_of period = record { first = period.first; last = period.last }
 
 -- how many days there are from one day to another, both included; none where the second comes first
 abbrev pub day_count : ℤ → ℤ → ℕ
@@ -12,13 +19,13 @@ abbrev pub days_from : ℤ → ℕ → List ℤ
 days_from day zero = []
 days_from day (suc n) = day ∷ days_from (day +ℤ pos 1) n
 
--- the days of a period
-abbrev pub days_of : Period → List ℤ
-days_of period = days_from period.first (day_count period.first period.last)
+-- each of the days
+abbrev pub each_of : Days → List ℤ
+each_of days = days_from days.first (day_count days.first days.last)
 
--- from 1 to 366 days, of which some come before others
-pub record IsSpan (days before until : ℕ) : Type 0 where
-  pub some : 1 ≤ days
-  pub few : days ≤ 366
-  pub order : before ≤ until
-  pub within : until ≤ days
+-- days such as a period has
+pub record AreDays (days : Days) : Type 0 where
+  pub begins : IsDay days.first
+  pub ends : IsDay days.last
+  pub rises : days.first ≤ℤ days.last
+  pub few : (days.last -ℤ days.first) <ℤ pos most_days_of_period

@@ -1,6 +1,8 @@
+-- Statement
 pub mod Days
-pub mod Amount
-pub mod Bounds
-pub mod Totals
+pub mod Facts
 pub mod Measurement
 pub mod PeriodGraph
+pub mod Laws
+-- Inside
+pub mod Amounts

@@ -1,5 +1,5 @@
--- What a period measured of each arc of the plant.
-use Rattle.std.specs.Prelude.{ℕ, ℤ, pos, ◌+ℤ◌, ◌-ℤ◌, List, filter_map, is_some, option_map, Option, Some, None, if◌then◌else◌}
+-- Statement. What the facts say of each arc of the plant on some days.
+use Rattle.std.specs.Prelude.{ℕ, ℤ, pos, ◌+ℤ◌, ◌-ℤ◌, List, filter_map, find, is_some, option_map, Option, Some, None, if◌then◌else◌}
 use Rattle.std.specs.List.{list_all}
 use Rattle.pb_graph.specs.declared.records.Meas.{Meas}
 use Rattle.pb_site.specs.declared.declared.Declared.{Declared}
@@ -8,34 +8,43 @@ use Rattle.pb_site.specs.declared.declared.ArcKind.{ArcKind}
 use Rattle.pb_site.specs.declared.declared.ArcKind.TheVariants.{Metered, Batch, Plain, Tank}
 use Rattle.pb_site.specs.Site.{points_of}
 use Rattle.pb_facts.specs.declared.fact.Fact.{Fact}
-use Rattle.pb_book.specs.declared.rows.Period.{Period}
+use Rattle.pb_facts.specs.Fact.{is_dip_on}
 use Rattle.pb_period.specs.declared.amount.Amount.{Amount}
-use Rattle.pb_period.specs.Amount.{held_on, moved_in, read_on, total_of}
-use Rattle.pb_period.specs.Days.{days_of}
+use Rattle.pb_period.specs.declared.days.Days.{Days}
+use Rattle.pb_period.specs.Days.{each_of}
+use Rattle.pb_period.specs.Facts.{content_of, read_on, total_of, transferred}
 
 -- the total of what a meter read on some days, where it read each day
 abbrev pub read_total : (ℤ → Option Amount) → List ℤ → Option Amount
-read_total read days = if list_all (λ day. is_some (read day)) days then Some (total_of (filter_map read days)) else None
+read_total read days =
+    if list_all (λ day. is_some (read day)) days then Some (total_of (filter_map read days)) else None
 
--- the change of a tank's content, where there are both contents: the closing one less the opening one
-abbrev pub change_of : Option Amount → Option Amount → Option Amount
-change_of (Some opening) (Some closing) = Some (record { grams = closing.grams -ℤ opening.grams; variance = opening.variance +ℤ closing.variance })
-change_of (Some opening) None = None
-change_of None closing = None
+-- a closing content less an opening one
+abbrev pub difference_of : Amount → Amount → Amount
+difference_of opening closing =
+    record { grams = closing.grams -ℤ opening.grams; variance = opening.variance +ℤ closing.variance }
 
--- What the live facts say of an arc in a period: of a metered stream the total of its readings, of a batch stream what its transfers
--- moved, of a plain one nothing, of a tank its content at the end of the last day less that at the end of the day before the first.
-abbrev pub amount_of : List Declared → List Fact → Period → ArcKind → List ℕ → Option Amount
-amount_of declared facts period Metered stream = read_total (read_on facts stream) (days_of period)
-amount_of declared facts period Batch stream = Some (total_of (filter_map (moved_in period stream) facts))
-amount_of declared facts period Plain stream = None
-amount_of declared facts period Tank tank =
-    let points = points_of declared tank in change_of (held_on facts points tank (period.first -ℤ pos 1)) (held_on facts points tank period.last)
+-- the change of a tank's content, where there are both dips: the closing one less the opening one
+abbrev pub change_of : (Fact → Amount) → Option Fact → Option Fact → Option Amount
+change_of content (Some opening) (Some closing) = Some (difference_of (content opening) (content closing))
+change_of content opening closing = None
+
+-- What live facts say of an arc on some days: of a metered stream the total of its readings, where each day has one; of
+-- a batch stream what its transfers moved; of a plain one nothing; of a tank its content at the end of the last day
+-- less that at the end of the day before the first, where both days have a dip.
+abbrev pub amount_of : List Declared → List Fact → Days → ArcKind → List ℕ → Option Amount
+amount_of declared facts days Metered stream = read_total (read_on facts stream) (each_of days)
+amount_of declared facts days Batch stream = Some (total_of (filter_map (transferred days stream) facts))
+amount_of declared facts days Plain stream = None
+amount_of declared facts days Tank tank =
+    change_of (content_of (points_of declared tank))
+    (find (is_dip_on tank (days.first -ℤ pos 1)) facts) (find (is_dip_on tank days.last) facts)
 
 -- a measured amount: its grams, and the base variance with its own variance
 abbrev pub measurement : ℤ → Amount → Meas
 measurement base amount = record { value = amount.grams; variance = base +ℤ amount.variance }
 
--- what a period measured of an arc
-abbrev pub measured : List Declared → List Fact → Period → Arc → Option Meas
-measured declared facts period arc = option_map (measurement arc.base) (amount_of declared facts period arc.kind arc.name)
+-- what is measured of an arc on some days
+abbrev pub measured : List Declared → List Fact → Days → Arc → Option Meas
+measured declared facts days arc =
+    option_map (measurement arc.base) (amount_of declared facts days arc.kind arc.name)

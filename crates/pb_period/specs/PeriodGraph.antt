@@ -1,36 +1,38 @@
--- The graph of the declared plant, before a single reading and as a period measured it.
-use Rattle.std.specs.Prelude.{ℕ, ◌^◌, ◌<◌, ℤ, pos, Bool, false, ◌||◌, nat_lt, int_lt, unsigned_abs, List, length, map, position, Option, Some, None, Result, Ok, Err}
+-- Statement. The graph of the declared plant, before a single reading and as a period measured it.
+use Rattle.std.specs.Prelude.{ℕ, ◌<◌, ℤ, pos, Bool, false, ◌||◌, nat_lt, int_lt, unsigned_abs, List, length, map, position, Option, Some, None, Result, Ok, Err}
 use Rattle.std.specs.Option.{option_map_or}
+use Rattle.pb_limits.specs.Limits.{most_value, most_variance}
 use Rattle.pb_graph.specs.declared.records.Meas.{Meas}
 use Rattle.pb_graph.specs.declared.records.Stream.{Stream}
 use Rattle.pb_graph.specs.ProcessGraph.{ProcessGraph}
 use Rattle.pb_site.specs.declared.declared.Arc.{Arc}
 use Rattle.pb_site.specs.declared.declared.ArcKind.{ArcKind}
-use Rattle.pb_site.specs.declared.declared.ArcKind.TheVariants.{Metered, Batch, Plain, Tank}
-use Rattle.pb_site.specs.Site.{arcs_of, node_names}
-use Rattle.pb_book.specs.declared.rows.Period.{Period}
-use Rattle.pb_book.specs.declared.rows.StoredRow.{StoredRow}
-use Rattle.pb_book.specs.Rows.{declared_of, facts_of}
+use Rattle.pb_site.specs.declared.declared.ArcKind.TheVariants.{Plain}
+use Rattle.pb_rows.specs.declared.name.Names.{Names}
+use Rattle.pb_site.specs.Site.{arcs_of, names_of, node_names}
+use Rattle.pb_facts.specs.Facts.{live_facts}
+use Rattle.pb_book.specs.Rows.{StoredRow, declared_of, facts_of}
+use Rattle.pb_period.specs.declared.days.Days.{Days}
 use Rattle.pb_period.specs.declared.graph.Assembly.{Assembly}
 use Rattle.pb_period.specs.declared.graph.Assembly.TheVariants.{NoMemory, Over}
-use Rattle.pb_period.specs.Amount.{live_facts}
 use Rattle.pb_period.specs.Measurement.{measured}
 
 -- the stream of an arc, with what was measured of it
 abbrev pub stream_with : (Arc → Option Meas) → Arc → Stream
 stream_with measure arc = record { from = arc.from; to = arc.to; meas = measure arc }
 
--- the declared plant: its nodes are the environment, the units and the tanks, its streams the declared ones and the inventories of
--- the tanks, all in order of declaration
+-- the declared plant: its nodes are the environment, the units and the tanks, its streams the declared ones and the
+-- inventories of the tanks, all in order of declaration
 abbrev pub graph_with : (Arc → Option Meas) → List StoredRow → ProcessGraph
-graph_with measure rows = record { nodes = length (node_names (declared_of rows)); streams = map (stream_with measure) (arcs_of (declared_of rows)) }
+graph_with measure rows = record {
+  nodes = length (node_names (declared_of rows));
+  streams = map (stream_with measure) (arcs_of (declared_of rows));
+}
 
 -- before a reading: the value 0 with the base variance, of all but plain streams
 abbrev pub base_of_kind : ArcKind → ℤ → Option Meas
-base_of_kind Metered base = Some (record { value = pos 0; variance = base })
-base_of_kind Batch base = Some (record { value = pos 0; variance = base })
 base_of_kind Plain base = None
-base_of_kind Tank base = Some (record { value = pos 0; variance = base })
+base_of_kind kind base = Some (record { value = pos 0; variance = base })
 
 abbrev pub base_of : Arc → Option Meas
 base_of arc = base_of_kind arc.kind arc.base
@@ -39,13 +41,17 @@ base_of arc = base_of_kind arc.kind arc.base
 abbrev pub design_graph : List StoredRow → ProcessGraph
 design_graph rows = graph_with base_of rows
 
--- The graph of a period.
-abbrev pub period_graph : List StoredRow → Period → ProcessGraph
-period_graph rows period = graph_with (measured (declared_of rows) (live_facts (facts_of rows)) period) rows
+-- The graph of the days of a period.
+abbrev pub period_graph : List StoredRow → Days → ProcessGraph
+period_graph rows days = graph_with (measured (declared_of rows) (live_facts (facts_of rows)) days) rows
 
--- a value above 10^15 grams either way, or a variance above 10^22 squared grams
+-- the names of its nodes and streams
+abbrev pub period_names : List StoredRow → Days → Names
+period_names rows days = names_of (declared_of rows)
+
+-- a value above 10^15 grams either way, or a variance above 10^22 squared grams: above the limits of a graph
 abbrev pub is_over_limits : Meas → Bool
-is_over_limits meas = nat_lt (10 ^ 15) (unsigned_abs meas.value) || int_lt (pos (10 ^ 22)) meas.variance
+is_over_limits meas = nat_lt most_value (unsigned_abs meas.value) || int_lt (pos most_variance) meas.variance
 
 abbrev pub is_over : Stream → Bool
 is_over stream = option_map_or is_over_limits stream.meas false
@@ -54,11 +60,11 @@ abbrev pub unless_over : ProcessGraph → Option ℕ → Result ProcessGraph Ass
 unless_over graph (Some stream) = Err (Over stream)
 unless_over graph None = Ok graph
 
--- The graph of a period, or its first stream that is over the limits.
-abbrev pub assembly_of : List StoredRow → Period → Result ProcessGraph Assembly
-assembly_of rows period = let graph = period_graph rows period in unless_over graph (position is_over graph.streams)
+-- The graph of the days of a period, or its first stream that is over the limits.
+abbrev pub assembly_of : List StoredRow → Days → Result ProcessGraph Assembly
+assembly_of rows days = let graph = period_graph rows days in unless_over graph (position is_over graph.streams)
 
--- a stream that is over the limits is one of the plant's
-abbrev pub NamesAnArc : List StoredRow → Assembly → Type 0
-NamesAnArc rows (Over stream) = stream < length (arcs_of (declared_of rows))
-NamesAnArc rows NoMemory = Unit {0}
+-- a stream that is over the limits is one of the graph's
+abbrev pub NamesAStream : List StoredRow → Days → Assembly → Type 0
+NamesAStream rows days (Over stream) = stream < length (period_graph rows days).streams
+NamesAStream rows days NoMemory = Unit {0}

@@ -1,9 +1,10 @@
 // Amounts of mass, and the measurements that they make.
 
-ghost use Rattle.std.specs.Prelude.{◌≡◌, ◌≤ℤ◌, ◌+ℤ◌, pos, ◌^◌};
-ghost use Rattle.pb_period.specs.Bounds.{IsAmount, IsSmall};
+ghost use Rattle.std.specs.Prelude.{◌≡◌, ◌≤ℤ◌, pos};
+ghost use Rattle.pb_limits.specs.Ranges.{IsBaseVariance};
+ghost use Rattle.pb_period.specs.Amounts.{IsSmall, sum_of_two};
+ghost use Rattle.pb_period.specs.Facts.{no_amount};
 ghost use Rattle.pb_period.specs.Measurement.{measurement};
-ghost use Rattle.pb_period.specs.Totals.{no_amount, sum_of_two};
 
 use pb_graph::Meas;
 
@@ -40,8 +41,7 @@ impl Amount {
     /// The measurement of this amount: its grams, and the base variance with its own variance.
     pub fn measured(self, base: i128) -> Meas
         requires small { IsSmall self }
-        requires from { pos 1 ≤ℤ base }
-        requires to { base ≤ℤ pos (10 ^ 19) }
+        requires base { IsBaseVariance base }
         ensures value { result ≡ measurement base self }
         ensures least { pos 1 ≤ℤ result.variance }
     {

@@ -1,9 +1,30 @@
-// Days of a period and of a transfer.
+// The days of a period, and of a transfer.
 
-ghost use Rattle.std.specs.Prelude.{◌≡◌, ◌≤ℤ◌, ◌-ℤ◌, ◌+ℤ◌, pos};
+ghost use Rattle.std.specs.Prelude.{◌≡◌, ◌≤ℤ◌};
 ghost use Rattle.std.specs.Int.{int_gap};
 ghost use Rattle.pb_facts.specs.Fact.{IsDay};
-ghost use Rattle.pb_period.specs.Days.{day_count};
+ghost use Rattle.pb_period.specs.Days.{day_count, days_of};
+
+use pb_book::Period;
+
+/// The days from a first to a last one, both included, counted from 1970-01-01.
+#[derive(Clone, Copy, Debug, PartialEq, Eq)]
+pub struct Days {
+    pub first: i32,
+    pub last: i32,
+}
+
+impl Days {
+    /// The days of a period.
+    pub fn of(period: &Period) -> Days
+        ensures { result ≡ days_of period.now }
+    {
+        Days {
+            first: period.first,
+            last: period.last,
+        }
+    }
+}
 
 /// How many days there are from one day up to another, which isn't counted and doesn't come first.
 pub fn days_until(first: i32, end: i32) -> u32

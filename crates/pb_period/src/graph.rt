@@ -1,28 +1,27 @@
-// The graph of the plant: as it is declared, and as a period measured it.
+// The graph of the plant: as it is declared, and as the days of a period measured it.
 
-ghost use Rattle.std.specs.Prelude.{◌≡◌, ◌≢◌, ◌<◌, ◌≤ℤ◌, pos, ℕ, List, filter_map, length, slice_get, option_map, false, Err, IfErr, IfOk, IfSome, Some};
-ghost use Rattle.pb_limits.specs.Limits.{most_streams};
+ghost use Rattle.std.specs.Prelude.{◌≡◌, ◌≢◌, ◌<◌, ◌≤ℤ◌, pos, length, slice_get, option_map, false, Err, IfErr, IfOk, IfSome, Some};
+ghost use Rattle.pb_limits.specs.Limits.{most_facts, most_streams};
 ghost use Rattle.pb_graph.specs.ProcessGraph.{Fits, IsMeasurement, IsStream, IsWithinLimits};
 ghost use Rattle.pb_site.specs.Row.{IsArcBase};
-ghost use Rattle.pb_site.specs.Site.{arcs_of, node_names};
-ghost use Rattle.pb_book.specs.Ranges.{IsPeriod};
+ghost use Rattle.pb_site.specs.Site.{HasDistinctNames, arcs_of, node_names};
+ghost use Rattle.pb_facts.specs.Facts.{live_facts};
 ghost use Rattle.pb_book.specs.Rows.{declared_of, facts_of, periods_of};
 ghost use Rattle.pb_period.specs.declared.graph.Assembly.TheVariants.{NoMemory};
-ghost use Rattle.pb_period.specs.Amount.{live_facts, moved_in, total_of};
-ghost use Rattle.pb_period.specs.Bounds.{IsAmount, IsSmall};
+ghost use Rattle.pb_period.specs.Amounts.{IsAmount};
+ghost use Rattle.pb_period.specs.Days.{AreDays, days_of};
 ghost use Rattle.pb_period.specs.Measurement.{amount_of, measured};
-ghost use Rattle.pb_period.specs.PeriodGraph.{NamesAnArc, assembly_of, base_of, base_of_kind, design_graph, is_over, stream_with};
-ghost use Rattle.pb_period.specs.Totals.{AreTotals, total_at};
+ghost use Rattle.pb_period.specs.PeriodGraph.{NamesAStream, assembly_of, base_of, base_of_kind, design_graph, is_over, period_names, stream_with};
 
 use crate::amount::Amount;
-use crate::moved::{moved, total_at};
-use crate::readings::{change, read_total};
-use pb_book::{Book, Period};
+use crate::days::Days;
+use crate::measured::{change, read_total};
+use crate::transfers::transferred;
+use pb_book::Book;
 use pb_graph::{Graph, Meas, Stream};
-use pb_rows::Name;
+use pb_rows::Names;
 use pb_site::{Arc, ArcKind};
 use std::alloc::{AllocError, Global};
-use std::collections::HashMap;
 
 /// Why there is no graph of a period.
 #[derive(Clone, Copy, Debug, PartialEq, Eq)]
@@ -56,12 +55,23 @@ pub fn design(alloc: Global, book: &Book) -> Result<Graph, AllocError>
 /// The graph of a period, from the facts that are live; or the first stream whose value or variance is above the limits.
 pub fn assemble(alloc: Global, book: &Book, period: u32) -> Result<Graph, Assembly>
     requires { period < length (periods_of book.now) }
-    ensures answer { result ≢ Err Assembly.NoMemory → IfSome (slice_get (periods_of book.now) period) (λ p. result ≡ assembly_of book.now p) }
-    ensures over { IfErr result (NamesAnArc book.now) }
+    ensures answer { result ≢ Err Assembly.NoMemory
+        → IfSome (slice_get (periods_of book.now) period)
+        (λ period. result ≡ assembly_of book.now (days_of period)) }
+    ensures over { IfSome (slice_get (periods_of book.now) period)
+        (λ period. IfErr result (NamesAStream book.now (days_of period))) }
 {
-    let period = book.period(period);
-    let totals = moved(alloc, book.facts(), &period)?;
-    measured_graph(alloc, book, &period, &totals)
+    measured_graph(alloc, book, Days::of(&book.period(period)))
+}
+
+/// The names of the nodes and streams of the graph of a period. No two nodes have one name, and no two streams.
+pub fn period_names(book: &Book, _period: u32) -> Result<Names, AllocError>
+    requires { _period < length (periods_of book.now) }
+    ensures ok { IfOk result (λ names. IfSome (slice_get (periods_of book.now) _period)
+        (λ period. names ≡ period_names book.now (days_of period))) }
+    ensures distinct { HasDistinctNames (declared_of book.now) }
+{
+    book.site().names()
 }
 
 // The stream of an arc.
@@ -99,22 +109,16 @@ fn base_of(kind: ArcKind, base: i128) -> Option<Meas>
     }
 }
 
-// The graph of a period, given what transfers moved.
-fn measured_graph(
-    alloc: Global,
-    book: &Book,
-    period: &Period,
-    totals: &HashMap<Name, Amount>,
-) -> Result<Graph, Assembly>
-    requires period { IsPeriod period.now }
-    requires totals { AreTotals period.now (live_facts (facts_of book.now)) totals.now }
-    ensures answer { result ≢ Err Assembly.NoMemory → result ≡ assembly_of book.now period.now }
-    ensures over { IfErr result (NamesAnArc book.now) }
+// The graph of the plant with what some days measured.
+fn measured_graph(alloc: Global, book: &Book, days: Days) -> Result<Graph, Assembly>
+    requires { AreDays days }
+    ensures answer { result ≢ Err Assembly.NoMemory → result ≡ assembly_of book.now days }
+    ensures over { IfErr result (NamesAStream book.now days) }
 {
     let site = book.site();
     let mut graph = Graph::new(alloc, site.nodes());
     for j in 0..site.arcs() {
-        let stream = measured_stream(book, period, totals, j);
+        let stream = measured_stream(book, days, j);
         if is_over(&graph, &stream) {
             return Err(Assembly::Over(j));
         }
@@ -134,41 +138,36 @@ fn is_over(graph: &Graph, stream: &Stream) -> bool
     !graph.fits(stream)
 }
 
-// The stream of an arc, with what a period measured of it, given what transfers moved.
-fn measured_stream(book: &Book, period: &Period, totals: &HashMap<Name, Amount>, j: u32) -> Stream
-    requires period { IsPeriod period.now }
-    requires totals { AreTotals period.now (live_facts (facts_of book.now)) totals.now }
+// The stream of an arc, with what some days measured of it.
+fn measured_stream(book: &Book, days: Days, j: u32) -> Stream
+    requires days { AreDays days }
     requires place { j < length (arcs_of (declared_of book.now)) }
-    ensures value { Some result ≡ option_map (stream_with (measured (declared_of book.now) (live_facts (facts_of book.now)) period.now)) (slice_get (arcs_of (declared_of book.now)) j) }
+    ensures value { Some result ≡ option_map
+        (stream_with (measured (declared_of book.now) (live_facts (facts_of book.now)) days))
+        (slice_get (arcs_of (declared_of book.now)) j) }
     ensures joins { IsStream (length (node_names (declared_of book.now))) result }
     ensures least { IfSome result.meas (λ meas. pos 1 ≤ℤ meas.variance) }
 {
     let arc = book.site().arc(j);
-    let meas = match amount_of(book, period, totals, j, &arc) {
+    let meas = match amount_of(book, days, j, &arc) {
         Some(amount) => Some(amount.measured(arc.base)),
         None => None,
     };
     stream_of(&arc, meas)
 }
 
-// What the facts say of an arc in a period, given what transfers moved.
-fn amount_of(
-    book: &Book,
-    period: &Period,
-    totals: &HashMap<Name, Amount>,
-    j: u32,
-    arc: &Arc,
-) -> Option<Amount>
-    requires period { IsPeriod period.now }
-    requires totals { AreTotals period.now (live_facts (facts_of book.now)) totals.now }
+// What the facts say of an arc on some days.
+fn amount_of(book: &Book, days: Days, j: u32, arc: &Arc) -> Option<Amount>
+    requires days { AreDays days }
     requires place { slice_get (arcs_of (declared_of book.now)) j ≡ Some arc.now }
-    ensures value { result ≡ amount_of (declared_of book.now) (live_facts (facts_of book.now)) period.now arc.now.kind arc.now.name }
-    ensures small { IfSome result (IsAmount 200000) }
+    ensures value { result ≡ amount_of (declared_of book.now) (live_facts (facts_of book.now)) days
+        arc.now.kind arc.now.name }
+    ensures within { IfSome result (IsAmount most_facts) }
 {
     match arc.kind {
-        ArcKind::Metered => read_total(book.facts(), &arc.name, period),
-        ArcKind::Batch => Some(total_at(totals, &arc.name)),
+        ArcKind::Metered => read_total(book.facts(), &arc.name, days),
+        ArcKind::Batch => Some(transferred(book.facts(), &arc.name, days)),
         ArcKind::Plain => None,
-        ArcKind::Tank => change(book.facts(), book.site().strap(j)?, &arc.name, period),
+        ArcKind::Tank => change(book.facts(), book.site().strap(j)?, &arc.name, days),
     }
 }

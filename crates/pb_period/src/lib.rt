@@ -6,9 +6,12 @@
 mod amount;
 mod days;
 mod graph;
-mod moved;
-mod readings;
+mod laws;
+mod measured;
 #[cfg(test)]
 mod tests;
+mod transfers;
 
-pub use graph::{Assembly, assemble, design};
+pub use days::Days;
+pub use graph::{Assembly, assemble, design, period_names};
+pub use laws::graphs_law;

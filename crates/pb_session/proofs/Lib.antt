@@ -1,7 +1,6 @@
 mod AppendingLemmas
-mod CertificateLemmas
 mod NamedLemmas
-mod TextLemmas
-mod RowLemmas
 mod ReportLemmas
-mod StudyLemmas
+mod RowLemmas
+mod SomeTextLemmas
+mod TextLemmas

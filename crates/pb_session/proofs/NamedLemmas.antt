@@ -1,25 +1,40 @@
--- The names of the declared plant fit its graphs.
-use Rattle.std.proofs.Common.{◌≡◌, ◌∙◌, List, length, sym, refl, Option}
+-- The names of the declared plant are those of its graphs.
+use Rattle.std.proofs.Common.{◌≡◌, ◌∙◌, ◌<◌, ℕ, List, length, sym, refl, subst, Option, Some, None, Result, Ok, Err}
 use Rattle.std.proofs.lemmas.List.{length-map}
-use Rattle.pb_rows.specs.declared.name.Names.{Names}
 use Rattle.pb_graph.specs.ProcessGraph.{ProcessGraph}
 use Rattle.pb_graph.specs.declared.records.Meas.{Meas}
 use Rattle.pb_site.specs.declared.declared.Arc.{Arc}
-use Rattle.pb_site.specs.declared.declared.Link.{Link}
-use Rattle.pb_site.specs.declared.declared.Declared.{Declared}
-use Rattle.pb_site.specs.Site.{arc_between, arc_names, arcs_of, links_of, names_of, node_names}
-use Rattle.pb_book.specs.declared.rows.StoredRow.{StoredRow}
-use Rattle.pb_book.specs.Rows.{declared_of}
-use Rattle.pb_period.specs.PeriodGraph.{graph_with, stream_with}
-use Rattle.pb_report.specs.Names.{IsNamed}
-use Rattle.pb_session.specs.Accepted.{IsGraphOf}
+use Rattle.pb_site.specs.Site.{HasDistinctNames, arc_names, arcs_of, names_of}
+use Rattle.pb_book.specs.Rows.{StoredRow, declared_of}
+use Rattle.pb_period.specs.declared.days.Days.{Days}
+use Rattle.pb_period.specs.declared.graph.Assembly.{Assembly}
+use Rattle.pb_period.specs.PeriodGraph.{assembly_of, graph_with, is_over, period_graph, period_names, stream_with, unless_over}
+use Rattle.pb_session.specs.Session.{AreNamesOf}
 
-as_many_arcs : (declared : List Declared) → length (arc_names declared) ≡ length (arcs_of declared)
-as_many_arcs declared = length-map (links_of declared) (λ (link : Link). link.name) ∙ sym (length-map (links_of declared) (arc_between (node_names declared)))
+as_many : (measure : Arc → Option Meas) (rows : List StoredRow) → length (arc_names (declared_of rows)) ≡ length (graph_with measure rows).streams
+as_many measure rows =
+    length-map (arcs_of (declared_of rows)) (λ (arc : Arc). arc.name) ∙ sym (length-map (arcs_of (declared_of rows)) (stream_with measure))
 
--- a graph with whatever measurements
-pub is_graph_of : (measure : Arc → Option Meas) (rows : List StoredRow) (g : ProcessGraph) → g ≡ graph_with measure rows → IsGraphOf rows g
-is_graph_of measure rows g is = rw is (record { nodes = refl; streams = length-map (arcs_of (declared_of rows)) (stream_with measure) })
+-- of a graph with whatever measurements
+pub names_are : (measure : Arc → Option Meas) (rows : List StoredRow) → HasDistinctNames (declared_of rows)
+    → AreNamesOf (names_of (declared_of rows)) (graph_with measure rows)
+names_are measure rows distinct = record {
+  each = record { nodes = refl; streams = as_many measure rows };
+  environment = refl;
+  nodes = distinct.nodes;
+  streams = distinct.arcs;
+}
 
-pub is_named : (rows : List StoredRow) (names : Names) (g : ProcessGraph) → names ≡ names_of (declared_of rows) → IsGraphOf rows g → IsNamed names g
-is_named rows names g names_are of = rw names_are (record { nodes = sym of.nodes; streams = as_many_arcs (declared_of rows) ∙ sym of.streams })
+unless_is : (made graph : ProcessGraph) (found : Option ℕ) → Ok graph ≡ unless_over made found → made ≡ graph
+unless_is made graph (Some stream) is = cc is
+unless_is made graph None is = cc is
+
+-- of the graph of a period
+pub period_names_are : (rows : List StoredRow) (days : Days) (graph : ProcessGraph) → HasDistinctNames (declared_of rows) → Ok graph ≡ assembly_of rows days
+    → AreNamesOf (period_names rows days) graph
+period_names_are rows days graph distinct is =
+    subst (λ (g : ProcessGraph). AreNamesOf (period_names rows days) g) (unless_is (period_graph rows days) graph _ is) (names_are _ rows distinct)
+
+-- a stream of the graph of a period has a name
+pub stream_named : (rows : List StoredRow) (days : Days) (j : ℕ) → j < length (period_graph rows days).streams → j < length (period_names rows days).streams
+stream_named rows days j there = subst (λ (n : ℕ). j < n) (sym (as_many _ rows)) there

@@ -1,12 +1,29 @@
--- Statement. The output of a session is one text.
+-- Statement. Each record adds one text to the output, and each session has one.
 use Rattle.std.specs.Prelude.{◌≡◌, ℕ, List}
-use Rattle.pb_session.specs.Session.{Adds, SessionState, IsSessionText}
+use Rattle.pb_elim.specs.Options.{AsksOneStage}
+use Rattle.pb_book.specs.Accepted.{AreAccepted}
+use Rattle.pb_session.specs.Session.{Adds, IsSessionText, SessionState}
 
--- a record adds one text
+-- a record adds at most one text
 abbrev pub OneTextLaw : Type 0
-OneTextLaw = (state : SessionState) (at : ℕ) (fields : List (List ℕ)) (one other : List ℕ) → Adds state at fields one → Adds state at fields other → one ≡ other
+OneTextLaw =
+    (state : SessionState) (at : ℕ) (fields : List (List ℕ)) (one other : List ℕ)
+    → Adds state at fields one → Adds state at fields other → one ≡ other
 
--- a session has one text
+-- a session has at most one text
 abbrev pub OneSessionTextLaw : Type 0
 OneSessionTextLaw =
-    (state : SessionState) (at : ℕ) (records : List (List (List ℕ))) (one other : List ℕ) → IsSessionText state at records one → IsSessionText state at records other → one ≡ other
+    (state : SessionState) (at : ℕ) (records : List (List (List ℕ))) (one other : List ℕ)
+    → IsSessionText state at records one → IsSessionText state at records other → one ≡ other
+
+-- a record adds a text, whatever rows were accepted before it
+abbrev pub SomeTextLaw : Type 0
+SomeTextLaw =
+    (state : SessionState) (at : ℕ) (fields : List (List ℕ)) → AsksOneStage state.options → AreAccepted state.rows
+    → (text : List ℕ) × Adds state at fields text
+
+-- a session has a text
+abbrev pub SomeSessionTextLaw : Type 0
+SomeSessionTextLaw =
+    (state : SessionState) (at : ℕ) (records : List (List (List ℕ))) → AsksOneStage state.options → AreAccepted state.rows
+    → (text : List ℕ) × IsSessionText state at records text

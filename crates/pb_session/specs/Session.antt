@@ -1,5 +1,6 @@
 -- Statement. The output of a session.
-use Rattle.std.specs.Prelude.{◌≡◌, ℕ, ◌+◌, Bool, ◌||◌, false, List, [], ◌∷◌, ◌++◌, Option, Some, None, slice_get, All, Result, Ok, Err}
+use Rattle.std.specs.Prelude.{◌≡◌, ℕ, ◌+◌, Bool, ◌||◌, false, List, [], ◌∷◌, ◌++◌, Option, Some, None, slice_get, All, Result, Ok, Err, codes}
+use Rattle.pb_rows.specs.declared.name.Names.{Names}
 use Rattle.pb_graph.specs.declared.records.Classified.{Classified}
 use Rattle.pb_graph.specs.declared.results.Options.{Options}
 use Rattle.pb_graph.specs.declared.results.Critical.{Critical}
@@ -8,23 +9,22 @@ use Rattle.pb_graph.specs.ProcessGraph.{ProcessGraph, IsProcessGraph}
 use Rattle.pb_classify.specs.Classification.{IsClassification}
 use Rattle.pb_elim.specs.Stage.{IsStudyOf}
 use Rattle.pb_elim.specs.Certified.{IsCertifiedStage}
-use Rattle.pb_site.specs.Site.{names_of}
-use Rattle.pb_book.specs.declared.rows.Answer.{Answer}
-use Rattle.pb_book.specs.declared.rows.Answer.TheVariants.{Blank, Refused, Stored, Design, Report}
+use Rattle.pb_site.specs.Site.{AreDistinct, names_of}
+use Rattle.pb_book.specs.declared.answer.Accepted.{Accepted}
+use Rattle.pb_book.specs.declared.answer.Accepted.TheVariants.{Blank, Stored as StoredAccepted, Design, Report}
 use Rattle.pb_book.specs.declared.rows.Period.{Period}
-use Rattle.pb_book.specs.declared.rows.StoredRow.{StoredRow}
-use Rattle.pb_book.specs.Rows.{declared_of, periods_of}
-use Rattle.pb_book.specs.Answer.{after, answer_of, code_of, is_refused}
-use Rattle.pb_period.specs.PeriodGraph.{design_graph}
+use Rattle.pb_book.specs.Rows.{StoredRow, declared_of, periods_of}
+use Rattle.pb_book.specs.Answer.{Answer, Refused, Says, Stored, after, answer_of, code_of, is_refused}
+use Rattle.pb_period.specs.Days.{days_of}
 use Rattle.pb_period.specs.declared.graph.Assembly.{Assembly}
 use Rattle.pb_period.specs.declared.graph.Assembly.TheVariants.{Over, NoMemory}
-use Rattle.pb_period.specs.PeriodGraph.{assembly_of}
+use Rattle.pb_period.specs.PeriodGraph.{assembly_of, design_graph, period_names}
 use Rattle.pb_report.specs.declared.form.Form.{Form}
 use Rattle.pb_report.specs.Form.{text_in}
+use Rattle.pb_report.specs.Row.{Columns}
+use Rattle.pb_report.specs.Names.{IsNamed, name_at}
 use Rattle.pb_report.specs.Refusal.{refused_row}
 use Rattle.pb_report.specs.Design.{design_rows}
-use Rattle.pb_report.specs.Names.{name_at}
-use Rattle.pb_report.specs.Row.{Columns}
 use Rattle.pb_report.specs.Over.{over_row}
 use Rattle.pb_report.specs.Study.{study_rows}
 
@@ -38,42 +38,59 @@ pub record SessionState : Type 0 where
 abbrev pub IsTextOf : SessionState → List Columns → List ℕ → Type 0
 IsTextOf state rows text = text ≡ text_in state.form rows
 
--- a text is the rows of the design of what is stored: every stream of its graph with its class and certificate
-abbrev pub IsDesignText : SessionState → List ℕ → Type 0
-IsDesignText state text =
-    (classes : List Classified) × IsClassification (design_graph state.rows) classes
-    × IsTextOf state (design_rows (names_of (declared_of state.rows)) (design_graph state.rows) classes) text
+-- Names of a graph: one for each node, the environment's first, and one for each stream; no two nodes share one, and no two streams.
+pub record AreNamesOf (names : Names) (graph : ProcessGraph) : Type 0 where
+  pub each : IsNamed names graph
+  pub environment : slice_get names.nodes 0 ≡ Some (codes "env")
+  pub nodes : AreDistinct names.nodes
+  pub streams : AreDistinct names.streams
+
+-- A text is the design of a graph: the rows of its streams, each with its class and certificate, by their names.
+pub record IsDesign (state : SessionState) (names : Names) (graph : ProcessGraph) (text : List ℕ) : Type 0 where
+  pub limits : IsProcessGraph graph
+  pub named : AreNamesOf names graph
+  pub classes : List Classified
+  pub are : IsClassification graph classes
+  pub rows : IsTextOf state (design_rows names graph classes) text
 
 -- no critical values: without tests none is asked for
 abbrev pub no_critical : Critical
 no_critical = record { global = []; nodal = None; measure = None }
 
--- A text is the report of a period, of which this is the graph: the rows of the study of the graph, each stage of which is certified.
-pub record IsReport (state : SessionState) (period : List ℕ) (graph : ProcessGraph) (text : List ℕ) : Type 0 where
+-- A text is the report of a period of this name, of which this is the graph: the rows of the study of the graph, each stage of which
+-- is certified, by the names of its nodes and streams.
+pub record IsReport (state : SessionState) (names : Names) (period : List ℕ) (graph : ProcessGraph) (text : List ℕ) : Type 0 where
   pub limits : IsProcessGraph graph
+  pub named : AreNamesOf names graph
   pub study : Study
   pub is_study : IsStudyOf graph state.options no_critical study
   pub certified : All IsCertifiedStage study.stages
-  pub rows : IsTextOf state (study_rows (names_of (declared_of state.rows)) period state.options study) text
+  pub rows : IsTextOf state (study_rows names period state.options study) text
 
 -- the text of a report, or the row that names the first stream beyond the limits
 abbrev pub ReportsBy : SessionState → Period → Result ProcessGraph Assembly → List ℕ → Type 0
-ReportsBy state period (Ok graph) text = IsReport state period.name graph text
-ReportsBy state period (Err (Over j)) text = IsTextOf state (over_row period.name (name_at (names_of (declared_of state.rows)).streams j) ∷ []) text
+ReportsBy state period (Ok graph) text = IsReport state (period_names state.rows (days_of period)) period.name graph text
+ReportsBy state period (Err (Over j)) text =
+    IsTextOf state (over_row period.name (name_at (period_names state.rows (days_of period)).streams j) ∷ []) text
 ReportsBy state period (Err NoMemory) text = ⊥
 
 -- the text of the report of the period at a place
 abbrev pub Reports : SessionState → Option Period → List ℕ → Type 0
-Reports state (Some period) text = ReportsBy state period (assembly_of state.rows period) text
+Reports state (Some period) text = ReportsBy state period (assembly_of state.rows (days_of period)) text
 Reports state None text = ⊥
+
+-- the text that an accepted record adds
+abbrev pub AddsAccepted : SessionState → Accepted → List ℕ → Type 0
+AddsAccepted state Blank text = text ≡ []
+AddsAccepted state StoredAccepted text = text ≡ []
+AddsAccepted state Design text = IsDesign state (names_of (declared_of state.rows)) (design_graph state.rows) text
+AddsAccepted state (Report i) text = Reports state (slice_get (periods_of state.rows) i) text
 
 -- the text that an answer to the record with this number adds
 abbrev pub AddsBy : SessionState → ℕ → Answer → List ℕ → Type 0
-AddsBy state at Blank text = text ≡ []
 AddsBy state at (Refused cause) text = IsTextOf state (refused_row at (code_of cause) ∷ []) text
 AddsBy state at (Stored row) text = text ≡ []
-AddsBy state at Design text = IsDesignText state text
-AddsBy state at (Report i) text = Reports state (slice_get (periods_of state.rows) i) text
+AddsBy state at (Says accepted) text = AddsAccepted state accepted text
 
 -- The text that a record adds to the output: a refused one its row, `design` the rows of the design, `report` those of the report.
 abbrev pub Adds : SessionState → ℕ → List (List ℕ) → List ℕ → Type 0
@@ -93,9 +110,11 @@ state_after_all state at (fields ∷ records) = state_after_all (state_after sta
 abbrev pub IsSessionText : SessionState → ℕ → List (List (List ℕ)) → List ℕ → Type 0
 IsSessionText state at [] text = text ≡ []
 IsSessionText state at (fields ∷ records) text =
-    (first : List ℕ) × (rest : List ℕ) × Adds state at fields first × IsSessionText (state_after state at fields) (at + 1) records rest × (text ≡ first ++ rest)
+    (first : List ℕ) × (rest : List ℕ) × Adds state at fields first
+    × IsSessionText (state_after state at fields) (at + 1) records rest × (text ≡ first ++ rest)
 
 -- some record of a session is refused
 abbrev pub refuses_some : SessionState → ℕ → List (List (List ℕ)) → Bool
 refuses_some state at [] = false
-refuses_some state at (fields ∷ records) = is_refused (answer_of state.rows fields) || refuses_some (state_after state at fields) (at + 1) records
+refuses_some state at (fields ∷ records) =
+    is_refused (answer_of state.rows fields) || refuses_some (state_after state at fields) (at + 1) records

@@ -1,9 +1,11 @@
-// The output of a session is one text.
+// Each record adds one text to the output, and each session has one.
 
-ghost use Rattle.pb_session.specs.Laws.{OneTextLaw, OneSessionTextLaw};
+ghost use Rattle.pb_session.specs.Laws.{OneTextLaw, OneSessionTextLaw, SomeTextLaw, SomeSessionTextLaw};
 
-use pb_classify::one_classification_law;
-use pb_elim::one_study_law;
+use pb_book::accepted_law;
+use pb_classify::{one_classification_law, some_classification_law};
+use pb_elim::{certified_law, one_study_law, some_study_law};
+use pb_period::graphs_law;
 
 /// The law that what a record adds to the output is one text, and so is the output of a session: the classes of a design and
 /// their certificates leave no choice, and neither does the study of a graph.
@@ -13,4 +15,17 @@ pub fn one_text_law()
 {
     one_classification_law();
     one_study_law();
+}
+
+/// The law that each record adds some text to the output, and that each session has some text: accepted rows make process
+/// graphs, and each of them has classes with certificates, and a study.
+pub fn some_text_law()
+    ensures of_a_record { SomeTextLaw }
+    ensures of_a_session { SomeSessionTextLaw }
+{
+    some_classification_law();
+    some_study_law();
+    certified_law();
+    graphs_law();
+    accepted_law();
 }

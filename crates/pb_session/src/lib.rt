@@ -9,5 +9,5 @@ mod session;
 #[cfg(test)]
 mod tests;
 
-pub use laws::one_text_law;
+pub use laws::{one_text_law, some_text_law};
 pub use session::Session;

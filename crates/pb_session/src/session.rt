@@ -1,18 +1,16 @@
 // The state of a session.
 
 ghost use Rattle.std.specs.Prelude.{◌≡◌, ◌≢◌, ◌<◌, ◌∷◌, [], length, slice_get, OnOk, OnErr, IfOk};
-ghost use Rattle.pb_book.specs.declared.rows.Accepted.TheVariants.{Stored};
-ghost use Rattle.pb_book.specs.declared.rows.Refused.TheVariants.{NoMemory};
+ghost use Rattle.pb_book.specs.declared.answer.Accepted.TheVariants.{Design, Stored};
 ghost use Rattle.pb_book.specs.Answer.{code_of};
-ghost use Rattle.pb_report.specs.Form.{text_in};
 ghost use Rattle.pb_report.specs.Refusal.{refused_row};
-ghost use Rattle.pb_book.specs.Rows.{declared_of, periods_of};
+ghost use Rattle.pb_book.specs.Rows.{periods_of};
 
-use pb_book::{Accepted, Book, Refused};
+use pb_book::{Accepted, Book, NotAccepted, Refused};
 use pb_classify::classify;
 use pb_elim::study;
 use pb_graph::{Critical, Graph, List, Options};
-use pb_period::{Assembly, assemble, design};
+use pb_period::{Assembly, assemble, design, period_names};
 use pb_report::{Form, write_design, write_over, write_refused, write_study};
 use pb_rows::{Name, Names, Row};
 use std::alloc::{AllocError, Global};
@@ -43,11 +41,9 @@ impl Session {
     ghost use Rattle.pb_book.specs.Answer.{answer_of, is_refused};
     ghost use Rattle.pb_elim.specs.Options.{AreOptions, AsksOneStage};
     ghost use Rattle.pb_graph.specs.ProcessGraph.{IsProcessGraph};
-    ghost use Rattle.pb_site.specs.Site.{names_of};
-    ghost use Rattle.pb_period.specs.PeriodGraph.{assembly_of};
-    ghost use Rattle.pb_session.specs.Accepted.{AddsAccepted, IsGraphOf, IsOfPeriods};
+    ghost use Rattle.pb_session.specs.Accepted.{IsOfPeriods};
     ghost use Rattle.pb_session.specs.Appending.{AppendsText, KeepsText};
-    ghost use Rattle.pb_session.specs.Session.{Adds, IsDesignText, IsReport, IsTextOf, Reports, state_after};
+    ghost use Rattle.pb_session.specs.Session.{Adds, AddsAccepted, AreNamesOf, IsDesign, IsReport, IsTextOf, Reports, state_after};
 
     /// A session that has stored nothing. So far neither tests nor elimination may be asked of its studies.
     pub fn new(alloc: Global, options: Options, form: Form) -> Session
@@ -87,21 +83,19 @@ impl Session {
                 self.write(accepted, out)?;
                 Ok(false)
             }
-            Err(Refused::NoMemory) => Err(AllocError),
-            Err(cause) => {
+            Err(NotAccepted::Refused(cause)) => {
                 self.refuse(at, cause, out)?;
                 Ok(true)
             }
+            Err(NotAccepted::NoMemory) => Err(AllocError),
         }
     }
 
     // Appends the row of a refusal.
     fn refuse(&self, at: u32, cause: Refused, out: &mut Vec<u8>) -> Result<(), AllocError>
-        requires { cause ≢ NoMemory }
         ensures ok { OnOk result (AppendsText
             (IsTextOf self.now (refused_row at (code_of cause) ∷ [])) out.old out.new) }
         ensures err { OnErr result (KeepsText out.old out.new) }
-        ensures cause { cause ≢ NoMemory }
     {
         write_refused(self.alloc, at, cause.code(), self.form, out)
     }
@@ -123,13 +117,29 @@ impl Session {
 
     // Appends the rows of the design of what is stored.
     fn write_design(&self, out: &mut Vec<u8>) -> Result<(), AllocError>
-        ensures ok { OnOk result (AppendsText (IsDesignText self.now) out.old out.new) }
+        ensures ok { OnOk result (AppendsText (AddsAccepted self.now Design) out.old out.new) }
         ensures err { OnErr result (KeepsText out.old out.new) }
     {
         let names = self.book.site().names()?;
         let graph = design(self.alloc, &self.book)?;
-        let classes = classify(self.alloc, &graph)?;
-        write_design(self.alloc, &names, &graph, &classes, self.form, out)
+        self.write_classes(&names, &graph, out)
+    }
+
+    // Appends the rows of the design of a graph whose nodes and streams have these names.
+    fn write_classes(
+        &self,
+        names: &Names,
+        graph: &Graph,
+        out: &mut Vec<u8>,
+    ) -> Result<(), AllocError>
+        requires names { AreNamesOf names.now graph.now }
+        requires limits { IsProcessGraph graph.now }
+        ensures ok { OnOk result (AppendsText
+            (IsDesign self.now names.now graph.now) out.old out.new) }
+        ensures err { OnErr result (KeepsText out.old out.new) }
+    {
+        let classes = classify(self.alloc, graph)?;
+        write_design(self.alloc, names, graph, &classes, self.form, out)
     }
 
     // Appends the report of a period, or the row that names the first stream beyond the limits.
@@ -139,7 +149,7 @@ impl Session {
             (Reports self.now (slice_get (periods_of self.now.rows) i)) out.old out.new) }
         ensures err { OnErr result (KeepsText out.old out.new) }
     {
-        let names = self.book.site().names()?;
+        let names = period_names(&self.book, i)?;
         let period = self.book.period(i).name;
         match assemble(self.alloc, &self.book, i) {
             Ok(graph) => self.write_graph(&names, &period, &graph, out),
@@ -154,7 +164,7 @@ impl Session {
         }
     }
 
-    // Appends the report of a period of this name, whose graph this is.
+    // Appends the report of a period of this name, whose graph this is, with the names of its nodes and streams.
     fn write_graph(
         &self,
         names: &Names,
@@ -162,11 +172,10 @@ impl Session {
         graph: &Graph,
         out: &mut Vec<u8>,
     ) -> Result<(), AllocError>
-        requires names { names.now ≡ names_of (declared_of self.now.rows) }
-        requires graph { IsGraphOf self.now.rows graph.now }
+        requires names { AreNamesOf names.now graph.now }
         requires limits { IsProcessGraph graph.now }
         ensures ok { OnOk result (AppendsText
-            (IsReport self.now period.now graph.now) out.old out.new) }
+            (IsReport self.now names.now period.now graph.now) out.old out.new) }
         ensures err { OnErr result (KeepsText out.old out.new) }
     {
         let critical = Critical {

@@ -1,47 +1,43 @@
 -- What a site keeps stays right where a declaration joins the others.
-use Rattle.std.specs.Prelude.{◌||◌, ◌&&◌, ◌==◌, not, is_some, if◌then◌else◌, filter_map, map}
+use Rattle.std.specs.Prelude.{◌||◌, ◌==◌, is_some, if◌then◌else◌, filter_map, map}
 use Rattle.std.specs.Option.{option_map}
-use Rattle.pb_site.specs.declared.declared.ArcKind.TheVariants.{Tank as TankArc}
-use Rattle.pb_site.specs.Row.{arc_kind}
 use Rattle.std.specs.Cmp.Lexicographic.{bytes_decides}
 use Rattle.std.specs.List.{cons_option}
-use Rattle.std.proofs.Common.{◌≡◌, ◌∙◌, ◌<◌, ℕ, ℤ, List, [], ◌∷◌, ◌++◌, length, get_or, All, Bool, true, false, Option, Some, None, slice_get, codes, refl, sym, ap, subst, inl, inr, length-append}
-use Rattle.std.proofs.lemmas.Bool.{cases_Bool, eqb-true, or_parts}
-use Rattle.std.proofs.lemmas.List.{append-nil, map-append}
+use Rattle.std.proofs.Common.{◌≡◌, ◌≢◌, ◌∙◌, ◌+◌, ◌<◌, ◌≤◌, ℕ, suc, ℤ, List, [], ◌∷◌, ◌++◌, length, get_or, All, Bool, true, false, Option, Some, None, slice_get, codes, refl, sym, ap, ap₂, subst, arith, inl, inr, length-append}
+use Rattle.std.proofs.lemmas.Bool.{cases_Bool, eqb-false, eqb-true, or_parts}
+use Rattle.std.proofs.lemmas.List.{append-nil}
 use Rattle.std.proofs.lemmas.List.Elements.{All-append, All-cons, All-nil, All-weaker, filter_map-append}
 use Rattle.std.proofs.lemmas.List.Folds.{list_any-append, list_any_at}
 use Rattle.std.proofs.lemmas.List.Quantifiers.{all_pairs_push}
+use Rattle.pb_limits.specs.Limits.{most_nodes, most_streams}
 use Rattle.pb_rows.specs.Name.{same_name}
 use Rattle.pb_strap.specs.declared.strap.Point.{Point}
-use Rattle.pb_site.specs.declared.declared.Link.{Link}
+use Rattle.pb_site.specs.declared.declared.Arc.{Arc}
+use Rattle.pb_site.specs.declared.declared.ArcKind.TheVariants.{Tank as TankArc}
 use Rattle.pb_site.specs.declared.declared.Declared.{Declared}
 use Rattle.pb_site.specs.declared.declared.Declared.TheVariants.{Unit as UnitRow, Tank, Strap, Stream, CritGlobal, CritNodal, CritMeasure}
 use Rattle.pb_site.specs.declared.index.Index.{Index}
-use Rattle.pb_site.specs.Row.{IsInRange, declares_tank, global_value, link_of, measure_value, nodal_value, place_name, point_of}
-use Rattle.pb_site.specs.Site.{AreDistinct, arc_names, global_of, is_tank, links_of, measure_of, nodal_of, node_names, points_of, table_of}
+use Rattle.pb_site.specs.Row.{IsArcBase, IsInRange, arc_in, arc_kind, declared_name, declares_tank, global_value, measure_value, nodal_value, node_at, node_name, point_of}
+use Rattle.pb_site.specs.Site.{AreDistinct, HasDistinctNames, IsArc, arc_names, arcs_of, global_of, is_tank, measure_of, nodal_of, node_names, points_of, table_of}
 use Rattle.pb_site.specs.Faults.{is_among, is_node}
-use Rattle.pb_site.specs.Kept.{IsKept, IsLink, Notes, SameIndex, table_with, value_with}
-use Rattle.pb_site.proofs.FaultLemmas.{IsFine, free, no_tank, not_false, room_arcs, room_places, same_self, same_sym}
+use Rattle.pb_site.specs.Laws.{IsPlant, PlantLaw}
+use Rattle.pb_site.specs.Kept.{IsKept, Notes, SameIndex, arc_name, nodes_in, table_with, value_with}
+use Rattle.pb_site.proofs.FaultLemmas.{IsFine, arc_names-are, both, fine, free, no_name, no_tank, not_false, room_arcs, room_nodes, same_self, same_sym}
+use Rattle.pb_site.proofs.LookUpLemmas.{any_place, place_is, place_last, place_more}
 
 -- an index that gives the same is kept
 pub kept_same : (declared : List Declared) (old new : Index) → IsKept declared old → SameIndex old new → IsKept declared new
 kept_same declared old new kept same = record {
-  places = same.places ∙ kept.places;
+  nodes = same.nodes ∙ kept.nodes;
+  arc_names = same.arc_names ∙ kept.arc_names;
   arcs = same.arcs ∙ kept.arcs;
-  links = same.links ∙ kept.links;
-  tables = λ name. same.tables name ∙ kept.tables name;
+  straps = λ name. same.straps name ∙ kept.straps name;
   global = λ dof. same.global dof ∙ kept.global dof;
   nodal = same.nodal ∙ kept.nodal;
   measure = same.measure ∙ kept.measure;
-  distinct = kept.distinct;
-  joined = kept.joined;
+  plant = kept.plant;
   no_points = kept.no_points;
-  few_places = kept.few_places;
-  few_arcs = kept.few_arcs;
 }
-
-pub arc_names-append : (xs ys : List Declared) → arc_names (xs ++ ys) ≡ arc_names xs ++ arc_names ys
-arc_names-append xs ys = ap (map (λ (link : Link). link.name)) (filter_map-append link_of xs ys) ∙ map-append (λ (link : Link). link.name) (links_of xs) (links_of ys)
 
 -- ---- critical values
 
@@ -60,34 +56,19 @@ none_of None none = refl
 none_of (Some v) none = cc none
 
 fresh_global : (declared : List Declared) (row : Declared) (dof : ℕ) → IsFine declared row → is_some (global_value dof row) ≡ true → global_of declared dof ≡ None
-fresh_global declared (UnitRow name) dof good some = cc some
-fresh_global declared (Tank name base) dof good some = cc some
-fresh_global declared (Strap tank mm ml) dof good some = cc some
-fresh_global declared (Stream name from to kind base) dof good some = cc some
 fresh_global declared (CritGlobal d value) dof good some = elim (cases_Bool (d == dof)) [
   | inl same ↦ subst (λ (k : ℕ). global_of declared k ≡ None) (eqb-true d dof same) (none_of (global_of declared d) good.new)
   | inr apart ↦ cc (rw apart at some)
 ]
-fresh_global declared (CritNodal value) dof good some = cc some
-fresh_global declared (CritMeasure value) dof good some = cc some
+fresh_global declared row dof good some = cc some
 
 fresh_nodal : (declared : List Declared) (row : Declared) → IsFine declared row → is_some (nodal_value row) ≡ true → nodal_of declared ≡ None
-fresh_nodal declared (UnitRow name) good some = cc some
-fresh_nodal declared (Tank name base) good some = cc some
-fresh_nodal declared (Strap tank mm ml) good some = cc some
-fresh_nodal declared (Stream name from to kind base) good some = cc some
-fresh_nodal declared (CritGlobal d value) good some = cc some
 fresh_nodal declared (CritNodal value) good some = none_of (nodal_of declared) good.new
-fresh_nodal declared (CritMeasure value) good some = cc some
+fresh_nodal declared row good some = cc some
 
 fresh_measure : (declared : List Declared) (row : Declared) → IsFine declared row → is_some (measure_value row) ≡ true → measure_of declared ≡ None
-fresh_measure declared (UnitRow name) good some = cc some
-fresh_measure declared (Tank name base) good some = cc some
-fresh_measure declared (Strap tank mm ml) good some = cc some
-fresh_measure declared (Stream name from to kind base) good some = cc some
-fresh_measure declared (CritGlobal d value) good some = cc some
-fresh_measure declared (CritNodal value) good some = cc some
 fresh_measure declared (CritMeasure value) good some = none_of (measure_of declared) good.new
+fresh_measure declared row good some = cc some
 
 -- ---- tables
 
@@ -103,7 +84,6 @@ table_more declared row name good nothing =
   where
     by : (row : Declared) → IsFine declared row
         → (if is_tank declared name || is_tank (row ∷ []) name then Some (points_of declared name ++ points_of (row ∷ []) name) else None) ≡ table_with row name (table_of declared name)
-    by (UnitRow n) good = same_table (is_tank declared name) (points_of declared name)
     by (Tank n base) good = elim (cases_Bool (same_name n name)) [
       | inl same ↦
           let here = (bytes_decides n name).0 same in
@@ -121,10 +101,7 @@ table_more declared row name good nothing =
             → (if b || false then Some (points ++ p ∷ []) else None) ≡ option_map (λ ps. ps ++ p ∷ []) (if b then Some points else None)
         push true points p = refl
         push false points p = refl
-    by (Stream n from to kind base) good = same_table (is_tank declared name) (points_of declared name)
-    by (CritGlobal dof value) good = same_table (is_tank declared name) (points_of declared name)
-    by (CritNodal value) good = same_table (is_tank declared name) (points_of declared name)
-    by (CritMeasure value) good = same_table (is_tank declared name) (points_of declared name)
+    by row good = same_table (is_tank declared name) (points_of declared name)
 
 -- no table is of a tank that isn't declared
 none_more : (declared : List Declared) (row : Declared) (name : List ℕ) → IsFine declared row → ((n : List ℕ) → is_tank declared n ≡ false → points_of declared n ≡ [])
@@ -134,8 +111,6 @@ none_more declared row name good nothing undeclared =
     rw (filter_map-append (point_of name) declared (row ∷ []), nothing name parts.0) (by row good parts.0)
   where
     by : (row : Declared) → IsFine declared row → is_tank declared name ≡ false → points_of (row ∷ []) name ≡ []
-    by (UnitRow n) good none = refl
-    by (Tank n base) good none = refl
     by (Strap n mm ml) good none = elim (cases_Bool (same_name n name)) [
       | inl same ↦
           let here = (bytes_decides n name).0 same in
@@ -143,10 +118,7 @@ none_more declared row name good nothing undeclared =
           cc (sym none ∙ subst (λ (q : List ℕ). is_tank declared q ≡ true) here known)
       | inr apart ↦ rw apart refl
     ]
-    by (Stream n from to kind base) good none = refl
-    by (CritGlobal dof value) good none = refl
-    by (CritNodal value) good none = refl
-    by (CritMeasure value) good none = refl
+    by row good none = refl
 
 -- ---- arcs
 
@@ -160,60 +132,87 @@ among_last names name = rw (list_any-append (same_name name) names (name ∷ [])
     or_true true = refl
     or_true false = refl
 
+-- the nodes of an arc stay where more nodes come behind
+same_arcs : (nodes more : List (List ℕ)) (declared : List Declared) → All (IsArc (length nodes)) (filter_map (arc_in nodes) declared)
+    → filter_map (arc_in (nodes ++ more)) declared ≡ filter_map (arc_in nodes) declared
+same_arcs nodes more [] joined = refl
+same_arcs nodes more (Tank name base ∷ declared) joined =
+    let arc : ℕ → Arc = λ from. record { name = name; from = from; to = 0; kind = TankArc; base = base } in
+    let right = joined 0 (arc 0) (omega arith) in
+    let rest = same_arcs nodes more declared (λ k d lt. joined (suc k) d (omega (arith, lt))) in
+    ap₂ (λ (from : ℕ) (arcs : List Arc). arc from ∷ arcs) (place_more (same_name name) nodes more right.begins) rest
+same_arcs nodes more (Stream name from to kind base ∷ declared) joined =
+    let arc : ℕ → ℕ → Arc = λ from to. record { name = name; from = from; to = to; kind = arc_kind kind; base = base } in
+    let right = joined 0 (arc 0 0) (omega arith) in
+    let rest = same_arcs nodes more declared (λ k d lt. joined (suc k) d (omega (arith, lt))) in
+    let begins = place_more (same_name from) nodes more right.begins in
+    let ends = place_more (same_name to) nodes more right.ends in
+    ap (λ (n : ℕ). arc n (node_at (nodes ++ more) to) ∷ filter_map (arc_in (nodes ++ more)) declared) begins
+    ∙ ap₂ (λ (n : ℕ) (arcs : List Arc). arc (node_at nodes from) n ∷ arcs) ends rest
+same_arcs nodes more (row ∷ declared) joined = same_arcs nodes more declared joined
+
+nodes_more : (declared : List Declared) (row : Declared) → node_names (declared ++ row ∷ []) ≡ node_names declared ++ filter_map node_name (row ∷ [])
+nodes_more declared row = ap (λ (names : List (List ℕ)). codes "env" ∷ names) (filter_map-append node_name declared (row ∷ []))
+
+arcs_more : (declared : List Declared) (row : Declared) → All (IsArc (length (node_names declared))) (arcs_of declared)
+    → arcs_of (declared ++ row ∷ []) ≡ arcs_of declared ++ filter_map (arc_in (node_names declared ++ filter_map node_name (row ∷ []))) (row ∷ [])
+arcs_more declared row joined =
+    let more = filter_map node_name (row ∷ []) in
+    ap (λ (nodes : List (List ℕ)). filter_map (arc_in nodes) (declared ++ row ∷ [])) (nodes_more declared row)
+    ∙ filter_map-append (arc_in (node_names declared ++ more)) declared (row ∷ [])
+    ∙ ap (λ (arcs : List Arc). arcs ++ filter_map (arc_in (node_names declared ++ more)) (row ∷ [])) (same_arcs (node_names declared) more declared joined)
+
 -- an arc stays right where there are more nodes
-link_more : (names more : List (List ℕ)) (link : Link) → IsLink names link → IsLink (names ++ more) link
-link_more names more link right = record {
-  begins = among_more names more link.from right.begins;
-  ends = among_more names more link.to right.ends;
+arc_more : (nodes more : ℕ) (arc : Arc) → IsArc nodes arc → IsArc (nodes + more) arc
+arc_more nodes more arc right = record {
+  begins = omega (arith, right.begins);
+  ends = omega (arith, right.ends);
   apart = right.apart;
   limits = right.limits;
 }
 
-both : (a b : Bool) → not (a && b) ≡ false → (a ≡ true) × (b ≡ true)
-both true true h = (refl, refl)
-both true false h = cc h
-both false b h = cc h
-
 -- the arc of a new declaration leads from a node to another one
-new_link : (declared : List Declared) (row : Declared) → IsFine declared row → IsInRange row
-    → All (IsLink (node_names declared ++ filter_map place_name (row ∷ []))) (links_of (row ∷ []))
-new_link declared (UnitRow name) good ranges = All-nil (IsLink _)
-new_link declared (Tank name base) good ranges =
+new_arc : (declared : List Declared) (row : Declared) → IsFine declared row → IsInRange row
+    → All (IsArc (length (node_names declared ++ filter_map node_name (row ∷ [])))) (filter_map (arc_in (node_names declared ++ filter_map node_name (row ∷ []))) (row ∷ []))
+new_arc declared (Tank name base) good ranges =
     let nodes = node_names declared ++ name ∷ [] in
-    let link : Link = record { name = name; from = name; to = codes "env"; kind = TankArc; base = base } in
-    let right : IsLink nodes link = record {
-      begins = among_last (node_names declared) name;
-      ends = refl;
-      apart = (free declared name good.new).env;
+    let from : node_at nodes name ≡ length (node_names declared) = place_last (node_names declared) name (free declared name good.new).node in
+    let long = length-append (node_names declared) (name ∷ []) in
+    let arc : Arc = record { name = name; from = node_at nodes name; to = 0; kind = TankArc; base = base } in
+    let right : IsArc (length nodes) arc = record {
+      begins = omega (arith, from, long);
+      ends = omega (arith, long);
+      apart = λ same. absurd (omega (arith, from, same));
       limits = ranges;
     } in
-    All-cons (IsLink nodes) link [] right (All-nil (IsLink nodes))
-new_link declared (Strap tank mm ml) good ranges = All-nil (IsLink _)
-new_link declared (Stream name from to kind base) good ranges =
-    let nodes = node_names declared ++ [] in
-    let link : Link = record { name = name; from = from; to = to; kind = arc_kind kind; base = base } in
+    All-cons (IsArc (length nodes)) arc [] right (All-nil (IsArc (length nodes)))
+new_arc declared (Stream name from to kind base) good ranges =
+    let nodes = node_names declared in
     let known = both (is_node declared from) (is_node declared to) good.known in
-    let right : IsLink nodes link = record {
-      begins = among_more (node_names declared) [] from known.0;
-      ends = among_more (node_names declared) [] to known.1;
-      apart = good.matching;
+    let arc : Arc = record { name = name; from = node_at nodes from; to = node_at nodes to; kind = arc_kind kind; base = base } in
+    let apart : (node_at nodes from == node_at nodes to) ≡ false = rw (place_is nodes from known.0, place_is nodes to known.1) at good.matching in
+    let right : IsArc (length nodes) arc = record {
+      begins = any_place (same_name from) nodes known.0;
+      ends = any_place (same_name to) nodes known.1;
+      apart = eqb-false (node_at nodes from) (node_at nodes to) apart;
       limits = ranges;
     } in
-    All-cons (IsLink nodes) link [] right (All-nil (IsLink nodes))
-new_link declared (CritGlobal dof value) good ranges = All-nil (IsLink _)
-new_link declared (CritNodal value) good ranges = All-nil (IsLink _)
-new_link declared (CritMeasure value) good ranges = All-nil (IsLink _)
+    subst (λ (names : List (List ℕ)). All (IsArc (length names)) (filter_map (arc_in names) (Stream name from to kind base ∷ []))) (sym (append-nil nodes))
+    (All-cons (IsArc (length nodes)) arc [] right (All-nil (IsArc (length nodes))))
+new_arc declared row good ranges = All-nil (IsArc _)
 
-joined_more : (declared : List Declared) (row : Declared) → IsFine declared row → IsInRange row → All (IsLink (node_names declared)) (links_of declared)
-    → All (IsLink (node_names (declared ++ row ∷ []))) (links_of (declared ++ row ∷ []))
+joined_more : (declared : List Declared) (row : Declared) → IsFine declared row → IsInRange row → All (IsArc (length (node_names declared))) (arcs_of declared)
+    → All (IsArc (length (node_names (declared ++ row ∷ [])))) (arcs_of (declared ++ row ∷ []))
 joined_more declared row good ranges joined =
-    let more = filter_map place_name (row ∷ []) in
+    let more = filter_map node_name (row ∷ []) in
     let nodes = node_names declared ++ more in
-    let before = All-weaker (IsLink (node_names declared)) (IsLink nodes) (link_more (node_names declared) more) (links_of declared) joined in
-    rw (filter_map-append place_name declared (row ∷ []), filter_map-append link_of declared (row ∷ []))
-    (All-append (IsLink nodes) (links_of declared) (links_of (row ∷ [])) before (new_link declared row good ranges))
+    let long = length-append (node_names declared) more in
+    let before = All-weaker (IsArc (length (node_names declared))) (IsArc (length (node_names declared) + length more)) (arc_more (length (node_names declared)) (length more)) (arcs_of declared) joined in
+    let whole = All-append (IsArc (length nodes)) (arcs_of declared) (filter_map (arc_in nodes) (row ∷ [])) (subst (λ (n : ℕ). All (IsArc n) (arcs_of declared)) (sym long) before) (new_arc declared row good ranges) in
+    subst (λ (names : List (List ℕ)). All (IsArc (length names)) (arcs_of (declared ++ row ∷ []))) (sym (nodes_more declared row))
+    (subst (λ (arcs : List Arc). All (IsArc (length nodes)) arcs) (sym (arcs_more declared row joined)) whole)
 
--- ---- names of arcs
+-- ---- names
 
 -- where no item passes, the item at each place fails
 absent : (names : List (List ℕ)) (name : List ℕ) → is_among names name ≡ false → (k : ℕ) (d : List ℕ) → k < length names → same_name (get_or names k d) name ≡ false
@@ -229,34 +228,82 @@ distinct_push names name apart new = all_pairs_push (λ (a b : List ℕ). same_n
 distinct_same : (names : List (List ℕ)) → AreDistinct names → AreDistinct (names ++ [])
 distinct_same names apart = subst AreDistinct (sym (append-nil names)) apart
 
-distinct_more : (declared : List Declared) (row : Declared) → IsFine declared row → AreDistinct (arc_names declared) → AreDistinct (arc_names (declared ++ row ∷ []))
-distinct_more declared row good apart = subst AreDistinct (sym (arc_names-append declared (row ∷ []))) (by row good)
-  where
-    by : (row : Declared) → IsFine declared row → AreDistinct (arc_names declared ++ arc_names (row ∷ []))
-    by (UnitRow name) good = distinct_same (arc_names declared) apart
-    by (Tank name base) good = distinct_push (arc_names declared) name apart (free declared name good.new).arcs
-    by (Strap tank mm ml) good = distinct_same (arc_names declared) apart
-    by (Stream name from to kind base) good = distinct_push (arc_names declared) name apart (free declared name good.new).arcs
-    by (CritGlobal dof value) good = distinct_same (arc_names declared) apart
-    by (CritNodal value) good = distinct_same (arc_names declared) apart
-    by (CritMeasure value) good = distinct_same (arc_names declared) apart
+nodes_distinct : (declared : List Declared) (row : Declared) → IsFine declared row → AreDistinct (node_names declared) → AreDistinct (node_names declared ++ filter_map node_name (row ∷ []))
+nodes_distinct declared (UnitRow name) good apart = distinct_push (node_names declared) name apart (free declared name good.new).node
+nodes_distinct declared (Tank name base) good apart = distinct_push (node_names declared) name apart (free declared name good.new).node
+nodes_distinct declared row good apart = distinct_same (node_names declared) apart
+
+arcs_distinct : (declared : List Declared) (row : Declared) → IsFine declared row → AreDistinct (filter_map arc_name declared)
+    → AreDistinct (filter_map arc_name declared ++ filter_map arc_name (row ∷ []))
+arcs_distinct declared (Tank name base) good apart = distinct_push (filter_map arc_name declared) name apart (free declared name good.new).arcs
+arcs_distinct declared (Stream name from to kind base) good apart = distinct_push (filter_map arc_name declared) name apart (free declared name good.new).arcs
+arcs_distinct declared row good apart = distinct_same (filter_map arc_name declared) apart
+
+-- a name that isn't taken is new among all
+new_name : (declared : List Declared) (name : List ℕ) → is_among (filter_map node_name declared) name ≡ false → is_among (filter_map arc_name declared) name ≡ false → same_name name (codes "env") ≡ false
+    → is_among (codes "env" ∷ filter_map declared_name declared) name ≡ false
+new_name declared name nodes arcs env = rw (env) (no_name declared name nodes arcs)
+
+all_distinct : (declared : List Declared) (row : Declared) → IsFine declared row → AreDistinct (codes "env" ∷ filter_map declared_name declared)
+    → AreDistinct ((codes "env" ∷ filter_map declared_name declared) ++ filter_map declared_name (row ∷ []))
+all_distinct declared (UnitRow name) good apart = let new = free declared name good.new in distinct_push (codes "env" ∷ filter_map declared_name declared) name apart (new_name declared name new.nodes new.arcs new.env)
+all_distinct declared (Tank name base) good apart = let new = free declared name good.new in distinct_push (codes "env" ∷ filter_map declared_name declared) name apart (new_name declared name new.nodes new.arcs new.env)
+all_distinct declared (Stream name from to kind base) good apart = let new = free declared name good.new in distinct_push (codes "env" ∷ filter_map declared_name declared) name apart (new_name declared name new.nodes new.arcs new.env)
+all_distinct declared row good apart = distinct_same (codes "env" ∷ filter_map declared_name declared) apart
+
+distinct_more : (declared : List Declared) (row : Declared) → IsFine declared row → HasDistinctNames declared → HasDistinctNames (declared ++ row ∷ [])
+distinct_more declared row good apart =
+    let last = row ∷ [] in
+    let arcs = subst AreDistinct (arc_names-are (node_names declared) declared) apart.arcs in
+    record {
+      nodes = subst AreDistinct (sym (nodes_more declared row)) (nodes_distinct declared row good apart.nodes);
+      arcs = subst AreDistinct (sym (arc_names-are (node_names (declared ++ last)) (declared ++ last) ∙ filter_map-append arc_name declared last)) (arcs_distinct declared row good arcs);
+      all = subst AreDistinct (sym (ap (λ (names : List (List ℕ)). codes "env" ∷ names) (filter_map-append declared_name declared last))) (all_distinct declared row good apart.all);
+    }
 
 -- ---- one more declaration
+
+plant_more : (declared : List Declared) (row : Declared) → IsPlant declared → IsFine declared row → IsInRange row → IsPlant (declared ++ row ∷ [])
+plant_more declared row plant good ranges =
+    let more = filter_map node_name (row ∷ []) in
+    let arcs = filter_map (arc_in (node_names declared ++ more)) (row ∷ []) in
+    record {
+      distinct = distinct_more declared row good plant.distinct;
+      joined = joined_more declared row good ranges plant.joined;
+      few_nodes = subst (λ (names : List (List ℕ)). length names ≤ most_nodes) (sym (nodes_more declared row))
+          (subst (λ (n : ℕ). n ≤ most_nodes) (sym (length-append (node_names declared) more)) (room_nodes declared row good plant.few_nodes));
+      few_arcs = subst (λ (all : List Arc). length all ≤ most_streams) (sym (arcs_more declared row plant.joined))
+          (subst (λ (n : ℕ). n ≤ most_streams) (sym (length-append (arcs_of declared) arcs)) (room_arcs declared row (node_names declared ++ more) good plant.few_arcs));
+    }
 
 pub kept_more : (declared : List Declared) (old new : Index) (row : Declared) → IsKept declared old → Notes old new row → IsFine declared row → IsInRange row → IsKept (declared ++ row ∷ []) new
 kept_more declared old new row kept notes good ranges =
     let last = row ∷ [] in
+    let nodes : new.nodes.keys ≡ filter_map node_name (declared ++ last) = notes.nodes ∙ ap (λ (names : List (List ℕ)). names ++ filter_map node_name last) kept.nodes ∙ sym (filter_map-append node_name declared last) in
+    let in_new : nodes_in new ≡ node_names declared ++ filter_map node_name last = ap (λ (names : List (List ℕ)). codes "env" ∷ names) nodes ∙ nodes_more declared row in
     record {
-      places = notes.places ∙ ap (λ (names : List (List ℕ)). names ++ filter_map place_name last) kept.places ∙ sym (filter_map-append place_name declared last);
-      arcs = notes.arcs ∙ ap (λ (names : List (List ℕ)). names ++ arc_names last) kept.arcs ∙ sym (arc_names-append declared last);
-      links = notes.links ∙ ap (λ (links : List Link). links ++ links_of last) kept.links ∙ sym (filter_map-append link_of declared last);
-      tables = λ name. notes.tables name ∙ ap (table_with row name) (kept.tables name) ∙ sym (table_more declared row name good kept.no_points);
+      nodes = nodes;
+      arc_names = notes.arc_names ∙ ap (λ (names : List (List ℕ)). names ++ filter_map arc_name last) (kept.arc_names ∙ arc_names-are (node_names declared) declared)
+          ∙ sym (filter_map-append arc_name declared last) ∙ sym (arc_names-are (node_names (declared ++ last)) (declared ++ last));
+      arcs = notes.arcs ∙ ap₂ (λ (arcs : List Arc) (names : List (List ℕ)). arcs ++ filter_map (arc_in names) last) kept.arcs in_new ∙ sym (arcs_more declared row kept.plant.joined);
+      straps = λ name. notes.straps name ∙ ap (table_with row name) (kept.straps name) ∙ sym (table_more declared row name good kept.no_points);
       global = λ dof. notes.global dof ∙ ap (value_with (global_value dof row)) (kept.global dof) ∙ sym (value_more (global_value dof) declared row (fresh_global declared row dof good));
       nodal = notes.nodal ∙ ap (value_with (nodal_value row)) kept.nodal ∙ sym (value_more nodal_value declared row (fresh_nodal declared row good));
       measure = notes.measure ∙ ap (value_with (measure_value row)) kept.measure ∙ sym (value_more measure_value declared row (fresh_measure declared row good));
-      distinct = distinct_more declared row good kept.distinct;
-      joined = joined_more declared row good ranges kept.joined;
+      plant = plant_more declared row kept.plant good ranges;
       no_points = λ name undeclared. none_more declared row name good kept.no_points undeclared;
-      few_places = rw (filter_map-append place_name declared last, length-append (filter_map place_name declared) (filter_map place_name last)) (room_places declared row good kept.few_places);
-      few_arcs = rw (filter_map-append link_of declared last, length-append (links_of declared) (links_of last)) (room_arcs declared row good kept.few_arcs);
     }
+
+-- ---- the law of the plant
+
+pub plant_law : PlantLaw
+plant_law = (
+  record { distinct = record { nodes = one (codes "env"); arcs = none; all = one (codes "env") }; joined = All-nil (IsArc 1); few_nodes = omega arith; few_arcs = omega arith },
+  λ declared row plant ranges no_fault. plant_more declared row plant (fine declared row no_fault) ranges,
+)
+  where
+    none : AreDistinct []
+    none = λ i j d before within. absurd (omega (arith, within))
+
+    one : (name : List ℕ) → AreDistinct (name ∷ [])
+    one name = λ i j d before within. absurd (omega (arith, before, within))

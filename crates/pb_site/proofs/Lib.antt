@@ -1,3 +1,3 @@
-pub mod FaultLemmas
-pub mod KeptLemmas
-pub mod LookUpLemmas
+mod FaultLemmas
+mod KeptLemmas
+mod LookUpLemmas

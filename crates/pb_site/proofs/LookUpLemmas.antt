@@ -1,11 +1,11 @@
 -- Nodes, arcs and tables, as they are looked up.
-use Rattle.std.specs.Prelude.{◌||◌, option_and_then, position}
+use Rattle.std.specs.Prelude.{◌||◌, find, filter_map, map, option_and_then, position}
 use Rattle.std.specs.Cmp.Lexicographic.{bytes_decides}
 use Rattle.std.specs.HashMap.{get}
 use Rattle.std.specs.List.{list_any, position_or_len}
-use Rattle.std.specs.Option.{IsSome}
-use Rattle.std.proofs.Common.{◌≡◌, ◌≢◌, ◌∙◌, ℕ, zero, suc, ◌<◌, List, [], ◌∷◌, length, get_or, slice_get, Bool, true, false, true≢false, Option, Some, None, refl, sym, ap, subst, arith, inl, inr}
-use Rattle.std.proofs.lemmas.Bool.{cases_Bool, lt-ltb}
+use Rattle.std.specs.Option.{IsSome, option_map}
+use Rattle.std.proofs.Common.{◌≡◌, ◌≢◌, ◌∙◌, ℕ, zero, suc, ◌+◌, ◌<◌, List, [], ◌∷◌, ◌++◌, length, get_or, slice_get, Bool, true, false, true≢false, Option, Some, None, codes, refl, sym, ap, subst, arith, inl, inr, length-append}
+use Rattle.std.proofs.lemmas.Bool.{cases_Bool, lt-ltb, or_parts}
 use Rattle.std.proofs.lemmas.List.{get_or-map, length-map}
 use Rattle.std.proofs.lemmas.List.Quantifiers.{position-Some}
 use Rattle.std.proofs.lemmas.Option.{slice_get-get_or}
@@ -13,92 +13,50 @@ use Rattle.pb_rows.specs.Name.{same_name}
 use Rattle.pb_strap.specs.declared.strap.Point.{Point}
 use Rattle.pb_site.specs.declared.declared.Kind.{Kind}
 use Rattle.pb_site.specs.declared.declared.Kind.TheVariants.{Metered, Batch, Plain}
+use Rattle.pb_site.specs.declared.declared.Arc.{Arc}
 use Rattle.pb_site.specs.declared.declared.ArcKind.{ArcKind}
 use Rattle.pb_site.specs.declared.declared.ArcKind.TheVariants.{Metered as MeteredArc, Batch as BatchArc, Plain as PlainArc, Tank as TankArc}
-use Rattle.pb_site.specs.declared.declared.Link.{Link}
 use Rattle.pb_site.specs.declared.declared.Declared.{Declared}
-use Rattle.pb_site.specs.declared.declared.Declared.TheVariants.{Unit as UnitRow, Tank, Strap, Stream, CritGlobal, CritNodal, CritMeasure}
+use Rattle.pb_site.specs.declared.declared.Declared.TheVariants.{Tank, Stream}
 use Rattle.pb_site.specs.declared.index.Index.{Index}
-use Rattle.pb_site.specs.Row.{arc_kind}
-use Rattle.pb_site.specs.Site.{arc_between, arcs_of, is_tank, links_of, node_at, node_names, points_of, table_of_arc, table_of_kind}
+use Rattle.pb_site.specs.Row.{arc_in, arc_kind, node_at}
+use Rattle.pb_site.specs.Site.{IsArc, arcs_of, is_tank, node_names, points_of, table_of, table_of_arc, table_of_kind}
 use Rattle.pb_site.specs.Faults.{is_among}
-use Rattle.pb_site.specs.Kept.{IsArc, IsKept, IsLink}
+use Rattle.pb_site.specs.Kept.{IsKept}
 use Rattle.pb_site.proofs.FaultLemmas.{same_self}
 
--- ---- tables
-
-abbrev pub points_in : Option (List Point) → List Point
-points_in None = []
-points_in (Some points) = points
-
--- the index has the points of each name
-pub table_points : (declared : List Declared) (index : Index) (name : List ℕ) (table : Option (List Point)) → IsKept declared index → table ≡ get same_name index.tables name
-    → points_in table ≡ points_of declared name
-table_points declared index name table kept at = ap points_in (at ∙ kept.tables name) ∙ elim (cases_Bool (is_tank declared name)) [
-  | inl tank ↦ rw tank refl
-  | inr other ↦ rw other (sym (kept.no_points name other))
-]
-
-or_true : (b : Bool) → (b || true) ≡ true
-or_true true = refl
-or_true false = refl
-
-abbrev name_in : Option Link → List ℕ
-name_in None = []
-name_in (Some link) = link.name
-
-abbrev kind_in : Option Link → ArcKind
-kind_in None = TankArc
-kind_in (Some link) = link.kind
-
-not_tank : (kind : Kind) → arc_kind kind ≢ TankArc
-not_tank Metered = λ e. cc e
-not_tank Batch = λ e. cc e
-not_tank Plain = λ e. cc e
-
--- an arc of the kind of a tank is a declared tank's
-pub tank_link : (declared : List Declared) (j : ℕ) (link : Link) → slice_get (links_of declared) j ≡ Some link → link.kind ≡ TankArc → is_tank declared link.name ≡ true
-tank_link [] j link at is = cc at
-tank_link (UnitRow name ∷ declared) j link at is = tank_link declared j link at is
-tank_link (Tank name base ∷ declared) zero link at is = let e : name ≡ link.name = ap name_in at in rw (e, same_self link.name) refl
-tank_link (Tank name base ∷ declared) (suc j) link at is = rw (tank_link declared j link at is) (or_true (same_name name link.name))
-tank_link (Strap tank mm ml ∷ declared) j link at is = tank_link declared j link at is
-tank_link (Stream name from to kind base ∷ declared) zero link at is = absurd (not_tank kind (ap kind_in at ∙ is))
-tank_link (Stream name from to kind base ∷ declared) (suc j) link at is = tank_link declared j link at is
-tank_link (CritGlobal dof value ∷ declared) j link at is = tank_link declared j link at is
-tank_link (CritNodal value ∷ declared) j link at is = tank_link declared j link at is
-tank_link (CritMeasure value ∷ declared) j link at is = tank_link declared j link at is
-
--- ---- arcs
-
--- the arc at a place that the index has
-pub record IsAt (declared : List Declared) (j : ℕ) (arc : Link) : Type 0 where
-  pub place : j < length (links_of declared)
-  pub link : slice_get (links_of declared) j ≡ Some arc
-  pub between : slice_get (arcs_of declared) j ≡ Some (arc_between (node_names declared) arc)
-  pub right : IsLink (node_names declared) arc
-
-pub is_at : (declared : List Declared) (index : Index) (j : ℕ) (link : Link) → IsKept declared index → link ≡ get_or index.links.items j link → j < length (arcs_of declared)
-    → IsAt declared j link
-is_at declared index j link kept found within =
-    let joining = arc_between (node_names declared) in
-    let links = links_of declared in
-    let lt : j < length links = rw (length-map links joining) at within in
-    let here : link ≡ get_or links j link = rw kept.links at found in
-    record {
-      place = lt;
-      link = slice_get-get_or links j link lt ∙ ap Some (sym here);
-      between = slice_get-get_or (arcs_of declared) j (joining link) within ∙ ap Some (get_or-map joining links j link (joining link) lt ∙ ap joining (sym here));
-      right = subst (IsLink (node_names declared)) (sym here) (kept.joined j link lt);
-    }
+-- ---- places of names
 
 -- a name that is among the names has a place there
-any_place : {A : Type 0} (test : A → Bool) (xs : List A) → list_any test xs ≡ true → position_or_len test xs < length xs
+pub any_place : {A : Type 0} (test : A → Bool) (xs : List A) → list_any test xs ≡ true → position_or_len test xs < length xs
 any_place test [] some = absurd (true≢false (sym some))
 any_place test (x ∷ xs) some = elim (cases_Bool (test x)) [
   | inl here ↦ rw here (omega arith)
   | inr later ↦ let rest = any_place test xs (rw later at some) in rw later (omega (arith, rest))
 ]
+
+-- which it keeps where more names come behind
+pub place_more : {A : Type 0} (test : A → Bool) (xs more : List A) → position_or_len test xs < length xs → position_or_len test (xs ++ more) ≡ position_or_len test xs
+place_more test [] more within = absurd (omega (arith, within))
+place_more test (x ∷ xs) more within = elim (cases_Bool (test x)) [
+  | inl here ↦ rw here refl
+  | inr later ↦ let rest = place_more test xs more (omega (arith, rw later at within)) in rw (later, rest) refl
+]
+
+-- the place of a new name behind the others
+pub place_last : (names : List (List ℕ)) (name : List ℕ) → is_among names name ≡ false → node_at (names ++ name ∷ []) name ≡ length names
+place_last [] name absent = rw (same_self name) refl
+place_last (n ∷ names) name absent =
+    let parts = or_parts (same_name name n) (is_among names name) absent in
+    let rest = place_last names name parts.1 in
+    rw (parts.0, rest) (omega arith)
+
+-- the node of a tank that is declared last
+pub last_node : (keys names : List (List ℕ)) (name : List ℕ) → names ≡ keys ++ name ∷ [] → is_among (codes "env" ∷ keys) name ≡ false → length names ≡ node_at (codes "env" ∷ names) name
+last_node keys names name grown absent =
+    let at = place_last (codes "env" ∷ keys) name absent in
+    let long = length-append keys (name ∷ []) in
+    rw grown (omega (arith, at, long))
 
 pub place_is : (names : List (List ℕ)) (name : List ℕ) → is_among names name ≡ true → position (same_name name) names ≡ Some (node_at names name)
 place_is names name there =
@@ -114,37 +72,122 @@ number_in (Some n) = n
 
 -- what `unwrap` gives of a place is the place
 pub the_place : (names : List (List ℕ)) (name : List ℕ) (place : Option ℕ) (node : ℕ) → place ≡ position (same_name name) names → is_among names name ≡ true → place ≡ Some node
-    → node_at names name ≡ node
-the_place names name place node is there found = ap number_in (sym (place_is names name there) ∙ sym is ∙ found)
+    → node ≡ node_at names name
+the_place names name place node is there found = ap number_in (sym found ∙ is ∙ place_is names name there)
 
--- an arc between the nodes of two names that differ
-pub arc_right : (names : List (List ℕ)) (link : Link) → IsLink names link → IsArc (length names) (arc_between names link)
-arc_right names link right =
-    let f = position-Some (same_name link.from) names (node_at names link.from) [] (place_is names link.from right.begins) in
-    let t = position-Some (same_name link.to) names (node_at names link.to) [] (place_is names link.to right.ends) in
-    let is_f : link.from ≡ get_or names (node_at names link.from) [] = (bytes_decides link.from _).0 f.1 in
-    let is_t : link.to ≡ get_or names (node_at names link.to) [] = (bytes_decides link.to _).0 t.1 in
+-- ---- tables
+
+abbrev pub points_in : Option (List Point) → List Point
+points_in None = []
+points_in (Some points) = points
+
+-- the index has the points of each name
+pub table_points : (declared : List Declared) (index : Index) (name : List ℕ) (table : Option (List Point)) → IsKept declared index → table ≡ table_of declared name
+    → points_in table ≡ points_of declared name
+table_points declared index name table kept at = ap points_in at ∙ elim (cases_Bool (is_tank declared name)) [
+  | inl tank ↦ rw tank refl
+  | inr other ↦ rw other (sym (kept.no_points name other))
+]
+
+or_true : (b : Bool) → (b || true) ≡ true
+or_true true = refl
+or_true false = refl
+
+abbrev name_in : Option Arc → List ℕ
+name_in None = []
+name_in (Some arc) = arc.name
+
+abbrev kind_in : Option Arc → ArcKind
+kind_in None = TankArc
+kind_in (Some arc) = arc.kind
+
+not_tank : (kind : Kind) → arc_kind kind ≢ TankArc
+not_tank Metered = λ e. cc e
+not_tank Batch = λ e. cc e
+not_tank Plain = λ e. cc e
+
+-- an arc of the kind of a tank is a declared tank's
+pub tank_arc : (nodes : List (List ℕ)) (declared : List Declared) (j : ℕ) (arc : Arc) → slice_get (filter_map (arc_in nodes) declared) j ≡ Some arc → arc.kind ≡ TankArc
+    → is_tank declared arc.name ≡ true
+tank_arc nodes [] j arc at is = cc at
+tank_arc nodes (Tank name base ∷ declared) zero arc at is = let e : name ≡ arc.name = ap name_in at in rw (e, same_self arc.name) refl
+tank_arc nodes (Tank name base ∷ declared) (suc j) arc at is = rw (tank_arc nodes declared j arc at is) (or_true (same_name name arc.name))
+tank_arc nodes (Stream name from to kind base ∷ declared) zero arc at is = absurd (not_tank kind (ap kind_in at ∙ is))
+tank_arc nodes (Stream name from to kind base ∷ declared) (suc j) arc at is = tank_arc nodes declared j arc at is
+tank_arc nodes (row ∷ declared) j arc at is = tank_arc nodes declared j arc at is
+
+-- ---- arcs
+
+-- the arc at a place that the index has
+pub record IsAt (declared : List Declared) (j : ℕ) (arc : Arc) : Type 0 where
+  pub here : slice_get (arcs_of declared) j ≡ Some arc
+  pub right : IsArc (length (node_names declared)) arc
+
+pub is_at : (declared : List Declared) (index : Index) (j : ℕ) (arc : Arc) → IsKept declared index → arc ≡ get_or index.arcs.items j arc → j < length (arcs_of declared)
+    → IsAt declared j arc
+is_at declared index j arc kept found within =
+    let at : arc ≡ get_or (arcs_of declared) j arc = rw kept.arcs at found in
     record {
-      begins = f.0;
-      ends = t.0;
-      apart = λ same. true≢false (sym ((bytes_decides link.from link.to).1 (is_f ∙ ap (λ n. get_or names n []) same ∙ sym is_t)) ∙ right.apart);
-      limits = right.limits;
+      here = slice_get-get_or (arcs_of declared) j arc within ∙ ap Some (sym at);
+      right = subst (IsArc (length (node_names declared))) (sym at) (kept.plant.joined j arc within);
     }
 
 -- ---- the table of an arc
 
-pub no_table : (declared : List Declared) (j : ℕ) (link : Link) → IsAt declared j link → link.kind ≢ TankArc
+pub no_table : (declared : List Declared) (j : ℕ) (arc : Arc) → IsAt declared j arc → arc.kind ≢ TankArc
     → None ≡ option_and_then (table_of_arc declared) (slice_get (arcs_of declared) j)
-no_table declared j link here other = rw here.between (by link.kind other)
+no_table declared j arc at other = rw (at.here) (by arc.kind other)
   where
-    by : (kind : ArcKind) → kind ≢ TankArc → None ≡ table_of_kind declared link.name kind
-    by MeteredArc other = refl
-    by BatchArc other = refl
-    by PlainArc other = refl
+    by : (kind : ArcKind) → kind ≢ TankArc → None ≡ table_of_kind declared arc.name kind
     by TankArc other = absurd (other refl)
+    by kind other = refl
 
-pub arc_table : (declared : List Declared) (index : Index) (j : ℕ) (link : Link) (table : Option (List Point)) → IsKept declared index → IsAt declared j link → link.kind ≡ TankArc
-    → table ≡ get same_name index.tables link.name → table ≡ option_and_then (table_of_arc declared) (slice_get (arcs_of declared) j)
-arc_table declared index j link table kept here tank at =
-    let known = tank_link declared j link here.link tank in
-    rw (here.between, tank) (at ∙ kept.tables link.name ∙ (rw known refl))
+pub arc_table : (declared : List Declared) (j : ℕ) (arc : Arc) (table : Option (List Point)) → IsAt declared j arc → arc.kind ≡ TankArc
+    → table ≡ table_of declared arc.name → table ≡ option_and_then (table_of_arc declared) (slice_get (arcs_of declared) j)
+arc_table declared j arc table at tank is =
+    let known = tank_arc (node_names declared) declared j arc at.here tank in
+    rw (at.here, tank) (is ∙ (rw known refl))
+
+-- ---- the kind of the arc of a name
+
+find_at : {A : Type 0} (test : A → Bool) (xs : List A) (i : ℕ) (d : A) → i < length xs → ((k : ℕ) → k < i → test (get_or xs k d) ≡ false) → test (get_or xs i d) ≡ true
+    → find test xs ≡ Some (get_or xs i d)
+find_at test [] i d within before here = absurd (omega (arith, within))
+find_at test (x ∷ xs) zero d within before here = rw here refl
+find_at test (x ∷ xs) (suc i) d within before here =
+    let not_first : test x ≡ false = before 0 (omega arith) in
+    let rest = find_at test xs i d (omega (arith, within)) (λ k lt. before (suc k) (omega (arith, lt))) here in
+    rw not_first rest
+
+-- the kind of the arc at the place of its name
+pub kind_at : (arcs : List Arc) (name : List ℕ) (i : ℕ) (d : Arc) → position (same_name name) (map (λ (arc : Arc). arc.name) arcs) ≡ Some i
+    → Some (get_or arcs i d).kind ≡ option_map (λ (arc : Arc). arc.kind) (find (λ (arc : Arc). same_name name arc.name) arcs)
+kind_at arcs name i d at =
+    let named = λ (arc : Arc). arc.name in
+    let place = position-Some (same_name name) (map named arcs) i d.name at in
+    let within : i < length arcs = rw (length-map arcs named) at place.0 in
+    let found = find_at (λ (arc : Arc). same_name name arc.name) arcs i d within
+    (λ k lt. ap (same_name name) (sym (get_or-map named arcs k d d.name (omega (arith, lt, within)))) ∙ place.2 k lt)
+    (ap (same_name name) (sym (get_or-map named arcs i d d.name within)) ∙ place.1) in
+    sym (ap (λ (o : Option Arc). option_map (λ (arc : Arc). arc.kind) o) found)
+
+-- and its place is one of the arcs'
+pub kind_within : (arcs : List Arc) (name : List ℕ) (i : ℕ) → position (same_name name) (map (λ (arc : Arc). arc.name) arcs) ≡ Some i → i < length arcs
+kind_within arcs name i at = let place = position-Some (same_name name) (map (λ (arc : Arc). arc.name) arcs) i [] at in rw (length-map arcs (λ (arc : Arc). arc.name)) at place.0
+
+-- no arc has the name where it has no place
+pub no_kind : (arcs : List Arc) (name : List ℕ) → None ≡ position (same_name name) (map (λ (arc : Arc). arc.name) arcs)
+    → None ≡ option_map (λ (arc : Arc). arc.kind) (find (λ (arc : Arc). same_name name arc.name) arcs)
+no_kind arcs name none = sym (ap (λ (o : Option Arc). option_map (λ (arc : Arc). arc.kind) o) (by arcs (absent (map (λ (arc : Arc). arc.name) arcs) none)))
+  where
+    absent : (names : List (List ℕ)) → None ≡ position (same_name name) names → is_among names name ≡ false
+    absent names none = elim (cases_Bool (is_among names name)) [
+      | inl there ↦ cc (none ∙ place_is names name there)
+      | inr not_there ↦ not_there
+    ]
+
+    by : (arcs : List Arc) → is_among (map (λ (arc : Arc). arc.name) arcs) name ≡ false → find (λ (arc : Arc). same_name name arc.name) arcs ≡ None
+    by [] none = refl
+    by (arc ∷ arcs) none =
+        let parts = or_parts (same_name name arc.name) (is_among (map (λ (a : Arc). a.name) arcs) name) none in
+        rw (parts.0) (by arcs parts.1)

@@ -1,16 +1,15 @@
--- The first fault of a new declaration, behind the declarations before it.
-use Rattle.std.specs.Prelude.{ℕ, Bool, false, ◌&&◌, ◌||◌, not, nat_le, List, length, filter_map, Option, Some, None, if◌then◌else◌, is_some}
+-- Statement. The first fault of a new declaration, behind the declarations before it.
+use Rattle.std.specs.Prelude.{ℕ, ◌==◌, Bool, false, ◌&&◌, ◌||◌, not, nat_le, List, length, filter_map, Option, Some, None, if◌then◌else◌, is_some}
 use Rattle.std.specs.List.{list_any}
+use Rattle.pb_limits.specs.Limits.{most_streams, most_units_and_tanks}
 use Rattle.pb_rows.specs.Name.{same_name}
-use Rattle.pb_strap.specs.Table.{rises}
-use Rattle.pb_limits.specs.declared.TheConstants.{MOST_POINTS}
-use Rattle.pb_site.specs.declared.site.TheConstants.{MOST_ARCS, MOST_PLACES}
+use Rattle.pb_strap.specs.Table.{is_full as is_full_table, rises}
 use Rattle.pb_site.specs.declared.declared.Declared.{Declared}
 use Rattle.pb_site.specs.declared.declared.Declared.TheVariants.{Unit as UnitRow, Tank, Strap, Stream, CritGlobal, CritNodal, CritMeasure}
 use Rattle.pb_site.specs.declared.declared.SiteFault.{SiteFault}
 use Rattle.pb_site.specs.declared.declared.SiteFault.TheVariants.{Unknown, Duplicate, Order, Mismatch, Full}
-use Rattle.pb_site.specs.Row.{place_name}
-use Rattle.pb_site.specs.Site.{arc_names, global_of, is_tank, links_of, measure_of, nodal_of, node_names, points_of}
+use Rattle.pb_site.specs.Row.{node_name}
+use Rattle.pb_site.specs.Site.{arc_names, arcs_of, global_of, is_tank, measure_of, nodal_of, node_names, node_of, points_of}
 
 -- a name is one of these
 abbrev pub is_among : List (List ℕ) → List ℕ → Bool
@@ -26,13 +25,10 @@ is_taken declared name = is_node declared name || is_among (arc_names declared) 
 
 -- a point of a table names no declared tank, or an end of a stream no node
 abbrev pub is_unknown : List Declared → Declared → Bool
-is_unknown declared (UnitRow name) = false
-is_unknown declared (Tank name base) = false
 is_unknown declared (Strap tank mm ml) = not (is_tank declared tank)
-is_unknown declared (Stream name from to kind base) = not (is_node declared from && is_node declared to)
-is_unknown declared (CritGlobal dof value) = false
-is_unknown declared (CritNodal value) = false
-is_unknown declared (CritMeasure value) = false
+is_unknown declared (Stream name from to kind base) =
+    not (is_node declared from && is_node declared to)
+is_unknown declared row = false
 
 -- the name is taken, or such a critical value is declared
 abbrev pub is_duplicate : List Declared → Declared → Bool
@@ -46,48 +42,48 @@ is_duplicate declared (CritMeasure value) = is_some (measure_of declared)
 
 -- a level that isn't above the table's last one, or a volume below its last one
 abbrev pub is_out_of_order : List Declared → Declared → Bool
-is_out_of_order declared (UnitRow name) = false
-is_out_of_order declared (Tank name base) = false
 is_out_of_order declared (Strap tank mm ml) = not (rises (points_of declared tank) mm ml)
-is_out_of_order declared (Stream name from to kind base) = false
-is_out_of_order declared (CritGlobal dof value) = false
-is_out_of_order declared (CritNodal value) = false
-is_out_of_order declared (CritMeasure value) = false
+is_out_of_order declared row = false
+
+-- two ends are there, and they are one node
+abbrev pub is_one_node : Option ℕ → Option ℕ → Bool
+is_one_node (Some from) (Some to) = from == to
+is_one_node from to = false
 
 -- a stream from a node to itself
-abbrev pub is_mismatch : Declared → Bool
-is_mismatch (UnitRow name) = false
-is_mismatch (Tank name base) = false
-is_mismatch (Strap tank mm ml) = false
-is_mismatch (Stream name from to kind base) = same_name from to
-is_mismatch (CritGlobal dof value) = false
-is_mismatch (CritNodal value) = false
-is_mismatch (CritMeasure value) = false
+abbrev pub is_mismatch : List Declared → Declared → Bool
+is_mismatch declared (Stream name from to kind base) =
+    is_one_node (node_of declared from) (node_of declared to)
+is_mismatch declared row = false
 
--- 1,000 units and tanks are declared
-abbrev pub has_most_places : List Declared → Bool
-has_most_places declared = nat_le MOST_PLACES (length (filter_map place_name declared))
+-- as many units and tanks are declared as there may be
+abbrev pub has_most_nodes : List Declared → Bool
+has_most_nodes declared = nat_le most_units_and_tanks (length (filter_map node_name declared))
 
--- 2,000 streams and tanks are declared
+-- as many streams and tanks are declared as there may be
 abbrev pub has_most_arcs : List Declared → Bool
-has_most_arcs declared = nat_le MOST_ARCS (length (links_of declared))
+has_most_arcs declared = nat_le most_streams (length (arcs_of declared))
 
 -- as many units and tanks, streams and tanks, or points of the table are declared as there may be
 abbrev pub is_full : List Declared → Declared → Bool
-is_full declared (UnitRow name) = has_most_places declared
-is_full declared (Tank name base) = has_most_places declared || has_most_arcs declared
-is_full declared (Strap tank mm ml) = nat_le MOST_POINTS (length (points_of declared tank))
+is_full declared (UnitRow name) = has_most_nodes declared
+is_full declared (Tank name base) = has_most_nodes declared || has_most_arcs declared
+is_full declared (Strap tank mm ml) = is_full_table (points_of declared tank)
 is_full declared (Stream name from to kind base) = has_most_arcs declared
-is_full declared (CritGlobal dof value) = false
-is_full declared (CritNodal value) = false
-is_full declared (CritMeasure value) = false
+is_full declared row = false
 
 -- the first of these faults that holds
 abbrev pub first_fault : Bool → Bool → Bool → Bool → Bool → Option SiteFault
 first_fault unknown duplicate order mismatch full =
-    if unknown then Some Unknown else if duplicate then Some Duplicate else if order then Some Order else if mismatch then Some Mismatch else if full then Some Full else None
+    if unknown then Some Unknown
+    else if duplicate then Some Duplicate
+    else if order then Some Order
+    else if mismatch then Some Mismatch
+    else if full then Some Full
+    else None
 
 -- the first fault of a new declaration
 abbrev pub fault_of : List Declared → Declared → Option SiteFault
 fault_of declared row =
-    first_fault (is_unknown declared row) (is_duplicate declared row) (is_out_of_order declared row) (is_mismatch row) (is_full declared row)
+    first_fault (is_unknown declared row) (is_duplicate declared row) (is_out_of_order declared row)
+    (is_mismatch declared row) (is_full declared row)

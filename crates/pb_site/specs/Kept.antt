@@ -1,55 +1,50 @@
--- What a site keeps beside the declarations, so that no look-up walks them.
-use Rattle.std.specs.Prelude.{◌≡◌, ◌≢◌, ℕ, ◌≤◌, ◌<◌, ◌^◌, nat_eq, ℤ, pos, ◌≤ℤ◌, true, false, List, [], ◌∷◌, ◌++◌, length, filter_map, All, Option, Some, None, IsSomeAnd, if◌then◌else◌, vec_len, vec_capacity}
+-- Inside. What a site keeps beside the declarations, so that no look-up walks them.
+use Rattle.std.specs.Prelude.{◌≡◌, ℕ, ◌<◌, nat_eq, ℤ, true, false, List, [], ◌∷◌, ◌++◌, length, filter_map, Option, Some, None, IsSomeAnd, if◌then◌else◌, codes, vec_len, vec_capacity}
 use Rattle.std.specs.Option.{option_map}
 use Rattle.std.specs.HashMap.{get, spare}
 use Rattle.indexmap.specs.IndexSet as set
+use Rattle.pb_limits.specs.Limits.{most_points}
+use Rattle.pb_limits.specs.Ranges.{IsLevel, IsVolume}
 use Rattle.pb_rows.specs.Name.{same_name}
 use Rattle.pb_strap.specs.declared.strap.Point.{Point}
-use Rattle.pb_limits.specs.declared.TheConstants.{MOST_POINTS}
 use Rattle.pb_strap.specs.Table.{rises}
-use Rattle.pb_site.specs.declared.declared.Arc.{Arc}
 use Rattle.pb_site.specs.declared.index.Index.{Index}
-use Rattle.pb_site.specs.declared.site.TheConstants.{MOST_ARCS, MOST_PLACES}
-use Rattle.pb_site.specs.declared.declared.Link.{Link}
 use Rattle.pb_site.specs.declared.declared.Declared.{Declared}
-use Rattle.pb_site.specs.declared.declared.Declared.TheVariants.{Unit as UnitRow, Tank, Strap, Stream, CritGlobal, CritNodal, CritMeasure}
-use Rattle.pb_site.specs.Row.{IsArcBase, global_value, place_name, nodal_value, measure_value}
-use Rattle.pb_site.specs.Site.{AreDistinct, arc_names, global_of, is_tank, links_of, measure_of, nodal_of, node_names, points_of, table_of}
+use Rattle.pb_site.specs.declared.declared.Declared.TheVariants.{Unit as UnitRow, Tank, Strap, Stream}
+use Rattle.pb_site.specs.Row.{arc_in, global_value, measure_value, nodal_value, node_name}
+use Rattle.pb_site.specs.Site.{arc_names, arcs_of, global_of, is_tank, measure_of, nodal_of, points_of, table_of}
 use Rattle.pb_site.specs.Faults.{is_among}
+use Rattle.pb_site.specs.Laws.{IsPlant}
 
--- an arc leads from a node to another one, and its base variance is within the limits
-pub record IsLink (nodes : List (List ℕ)) (link : Link) : Type 0 where
-  pub begins : is_among nodes link.from ≡ true
-  pub ends : is_among nodes link.to ≡ true
-  pub apart : same_name link.from link.to ≡ false
-  pub limits : IsArcBase link.kind link.base
+-- the name of the stream or tank that a declaration declares
+abbrev pub arc_name : Declared → Option (List ℕ)
+arc_name (Tank name base) = Some name
+arc_name (Stream name from to kind base) = Some name
+arc_name row = None
 
--- The index gives the names, arcs, tables and critical values of the declarations; no two arcs have one name, each leads from a
--- node to another one, no table is of a tank that isn't declared, and there are at most 1,000 units and tanks, and at most 2,000
--- streams and tanks.
+-- the names of the nodes by the index
+abbrev pub nodes_in : Index → List (List ℕ)
+nodes_in index = codes "env" ∷ index.nodes.keys
+
+-- the index gives the names, arcs, tables and critical values of a plant, and no table is of a tank that isn't declared
 pub record IsKept (declared : List Declared) (index : Index) : Type 0 where
-  pub places : index.places.keys ≡ filter_map place_name declared
-  pub arcs : index.arcs.keys ≡ arc_names declared
-  pub links : index.links.items ≡ links_of declared
-  pub tables : (name : List ℕ) → get same_name index.tables name ≡ table_of declared name
+  pub nodes : index.nodes.keys ≡ filter_map node_name declared
+  pub arc_names : index.arc_names.keys ≡ arc_names declared
+  pub arcs : index.arcs.items ≡ arcs_of declared
+  pub straps : (name : List ℕ) → get same_name index.straps name ≡ table_of declared name
   pub global : (dof : ℕ) → get nat_eq index.global dof ≡ global_of declared dof
   pub nodal : index.nodal ≡ nodal_of declared
   pub measure : index.measure ≡ measure_of declared
-  pub distinct : AreDistinct (arc_names declared)
-  pub joined : All (IsLink (node_names declared)) (links_of declared)
+  pub plant : IsPlant declared
   pub no_points : (name : List ℕ) → is_tank declared name ≡ false → points_of declared name ≡ []
-  pub few_places : length (filter_map place_name declared) ≤ MOST_PLACES
-  pub few_arcs : length (links_of declared) ≤ MOST_ARCS
 
 -- the table at a name behind one more declaration
 abbrev pub table_with : Declared → List ℕ → Option (List Point) → Option (List Point)
-table_with (UnitRow name) wanted table = table
 table_with (Tank name base) wanted table = if same_name name wanted then Some [] else table
-table_with (Strap name mm ml) wanted table = if same_name name wanted then option_map (λ points. points ++ record { mm = mm; ml = ml } ∷ []) table else table
-table_with (Stream name from to kind base) wanted table = table
-table_with (CritGlobal dof value) wanted table = table
-table_with (CritNodal value) wanted table = table
-table_with (CritMeasure value) wanted table = table
+table_with (Strap name mm ml) wanted table =
+    if same_name name wanted then option_map (λ points. points ++ record { mm = mm; ml = ml } ∷ []) table
+    else table
+table_with row wanted table = table
 
 -- a critical value behind one more declaration, which may declare one
 abbrev pub value_with : Option ℤ → Option ℤ → Option ℤ
@@ -58,52 +53,48 @@ value_with (Some value) old = Some value
 
 -- there is room for one more name, arc, table and critical value
 pub record HasRoom (index : Index) : Type 0 where
-  pub places : 0 < set.spare index.places
-  pub arcs : 0 < set.spare index.arcs
-  pub links : vec_len index.links < vec_capacity index.links
-  pub tables : 0 < spare index.tables
+  pub nodes : 0 < set.spare index.nodes
+  pub arc_names : 0 < set.spare index.arc_names
+  pub arcs : vec_len index.arcs < vec_capacity index.arcs
+  pub straps : 0 < spare index.straps
   pub global : 0 < spare index.global
 
 -- an index that gives the same
 pub record SameIndex (old new : Index) : Type 0 where
-  pub places : new.places.keys ≡ old.places.keys
-  pub arcs : new.arcs.keys ≡ old.arcs.keys
-  pub links : new.links.items ≡ old.links.items
-  pub tables : (name : List ℕ) → get same_name new.tables name ≡ get same_name old.tables name
+  pub nodes : new.nodes.keys ≡ old.nodes.keys
+  pub arc_names : new.arc_names.keys ≡ old.arc_names.keys
+  pub arcs : new.arcs.items ≡ old.arcs.items
+  pub straps : (name : List ℕ) → get same_name new.straps name ≡ get same_name old.straps name
   pub global : (dof : ℕ) → get nat_eq new.global dof ≡ get nat_eq old.global dof
   pub nodal : new.nodal ≡ old.nodal
   pub measure : new.measure ≡ old.measure
 
 -- the index after one more declaration
 pub record Notes (old new : Index) (row : Declared) : Type 0 where
-  pub places : new.places.keys ≡ old.places.keys ++ filter_map place_name (row ∷ [])
-  pub arcs : new.arcs.keys ≡ old.arcs.keys ++ arc_names (row ∷ [])
-  pub links : new.links.items ≡ old.links.items ++ links_of (row ∷ [])
-  pub tables : (name : List ℕ) → get same_name new.tables name ≡ table_with row name (get same_name old.tables name)
-  pub global : (dof : ℕ) → get nat_eq new.global dof ≡ value_with (global_value dof row) (get nat_eq old.global dof)
+  pub nodes : new.nodes.keys ≡ old.nodes.keys ++ filter_map node_name (row ∷ [])
+  pub arc_names : new.arc_names.keys ≡ old.arc_names.keys ++ filter_map arc_name (row ∷ [])
+  pub arcs : new.arcs.items ≡ old.arcs.items ++ filter_map (arc_in (nodes_in new)) (row ∷ [])
+  pub straps : (name : List ℕ)
+      → get same_name new.straps name ≡ table_with row name (get same_name old.straps name)
+  pub global : (dof : ℕ)
+      → get nat_eq new.global dof ≡ value_with (global_value dof row) (get nat_eq old.global dof)
   pub nodal : new.nodal ≡ value_with (nodal_value row) old.nodal
   pub measure : new.measure ≡ value_with (measure_value row) old.measure
 
 -- a point can stand behind the last one of a table
-pub record CanPush (mm ml : ℤ) (points : List Point) : Type 0 where
-  pub level : (pos 0 ≤ℤ mm) × (mm ≤ℤ pos (10 ^ 5))
-  pub volume : (pos 0 ≤ℤ ml) × (ml ≤ℤ pos (10 ^ 12))
+pub record CanAdd (mm ml : ℤ) (points : List Point) : Type 0 where
+  pub level : IsLevel mm
+  pub volume : IsVolume ml
   pub rising : rises points mm ml ≡ true
-  pub room : length points < MOST_POINTS
+  pub room : length points < most_points
 
--- the names of a declaration are new, and the table of its point is there and takes it
+-- the names of a declaration are new, its ends are nodes, and the table of its point is there and takes it
 abbrev pub IsNew : Index → Declared → Type 0
-IsNew index (UnitRow name) = is_among index.places.keys name ≡ false
-IsNew index (Tank name base) = (is_among index.places.keys name ≡ false) × (is_among index.arcs.keys name ≡ false)
-IsNew index (Strap tank mm ml) = IsSomeAnd (get same_name index.tables tank) (CanPush mm ml)
-IsNew index (Stream name from to kind base) = is_among index.arcs.keys name ≡ false
-IsNew index (CritGlobal dof value) = Unit {0}
-IsNew index (CritNodal value) = Unit {0}
-IsNew index (CritMeasure value) = Unit {0}
-
--- an arc leads from a node to another one, and its base variance is within the limits
-pub record IsArc (nodes : ℕ) (arc : Arc) : Type 0 where
-  pub begins : arc.from < nodes
-  pub ends : arc.to < nodes
-  pub apart : arc.from ≢ arc.to
-  pub limits : IsArcBase arc.kind arc.base
+IsNew index (UnitRow name) = is_among index.nodes.keys name ≡ false
+IsNew index (Tank name base) =
+    (is_among (nodes_in index) name ≡ false) × (is_among index.arc_names.keys name ≡ false)
+IsNew index (Strap tank mm ml) = IsSomeAnd (get same_name index.straps tank) (CanAdd mm ml)
+IsNew index (Stream name from to kind base) =
+    (is_among index.arc_names.keys name ≡ false)
+    × (is_among (nodes_in index) from ≡ true) × (is_among (nodes_in index) to ≡ true)
+IsNew index row = Unit {0}

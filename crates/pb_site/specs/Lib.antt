@@ -1,5 +1,7 @@
+-- Statement
 pub mod Row
 pub mod Site
 pub mod Faults
-pub mod AtHand
+pub mod Laws
+-- Inside
 pub mod Kept

@@ -1,47 +1,58 @@
--- The declared plant: its nodes, its arcs, the tables of its tanks and its critical values, all in order of declaration.
-use Rattle.std.specs.Prelude.{◌≡◌, ℕ, ℤ, Bool, false, List, ◌∷◌, map, filter_map, AllPairs, Option, Some, None, if◌then◌else◌, slice_get, codes}
-use Rattle.std.specs.List.{list_any, position_or_len}
+-- Statement. The declared plant: its nodes, its arcs, the tables of its tanks and its critical values, in order of declaration.
+use Rattle.std.specs.Prelude.{◌≡◌, ◌≢◌, ◌<◌, ℕ, ℤ, Bool, false, List, ◌∷◌, map, filter_map, find, position, AllPairs, Option, Some, None, if◌then◌else◌, slice_get, codes}
+use Rattle.std.specs.List.{list_any}
+use Rattle.std.specs.Option.{option_map}
 use Rattle.pb_rows.specs.Name.{same_name}
 use Rattle.pb_rows.specs.declared.name.Names.{Names}
 use Rattle.pb_strap.specs.declared.strap.Point.{Point}
 use Rattle.pb_site.specs.declared.declared.Arc.{Arc}
 use Rattle.pb_site.specs.declared.declared.ArcKind.{ArcKind}
-use Rattle.pb_site.specs.declared.declared.ArcKind.TheVariants.{Metered, Batch, Plain, Tank}
-use Rattle.pb_site.specs.declared.declared.Link.{Link}
+use Rattle.pb_site.specs.declared.declared.ArcKind.TheVariants.{Tank}
 use Rattle.pb_site.specs.declared.declared.Declared.{Declared}
-use Rattle.pb_site.specs.Row.{declares_tank, global_value, link_of, measure_value, nodal_value, place_name, point_of}
+use Rattle.pb_site.specs.Row.{IsArcBase, arc_in, declared_name, declares_tank, global_value, measure_value, nodal_value, node_name, point_of}
 
 -- the names of the nodes: the environment's, and then those of the units and tanks
 abbrev pub node_names : List Declared → List (List ℕ)
-node_names declared = codes "env" ∷ filter_map place_name declared
+node_names declared = codes "env" ∷ filter_map node_name declared
 
--- the declared streams and the inventory streams of the tanks, their ends told by name
-abbrev pub links_of : List Declared → List Link
-links_of declared = filter_map link_of declared
+-- the node of this name
+abbrev pub node_of : List Declared → List ℕ → Option ℕ
+node_of declared name = position (same_name name) (node_names declared)
+
+-- the arcs of the plant: the declared streams and the inventory streams of the tanks
+abbrev pub arcs_of : List Declared → List Arc
+arcs_of declared = filter_map (arc_in (node_names declared)) declared
+
+-- an arc leads from a node to another one, and its base variance is within the limits
+pub record IsArc (nodes : ℕ) (arc : Arc) : Type 0 where
+  pub begins : arc.from < nodes
+  pub ends : arc.to < nodes
+  pub apart : arc.from ≢ arc.to
+  pub limits : IsArcBase arc.kind arc.base
 
 -- the names of the arcs: those of the streams and tanks
 abbrev pub arc_names : List Declared → List (List ℕ)
-arc_names declared = map (λ link. link.name) (links_of declared)
+arc_names declared = map (λ (arc : Arc). arc.name) (arcs_of declared)
+
+-- the kind of the arc of this name
+abbrev pub kind_of : List Declared → List ℕ → Option ArcKind
+kind_of declared name =
+    option_map (λ (arc : Arc). arc.kind)
+    (find (λ (arc : Arc). same_name name arc.name) (arcs_of declared))
+
+-- the names of the nodes and arcs
+abbrev pub names_of : List Declared → Names
+names_of declared = record { nodes = node_names declared; streams = arc_names declared }
 
 -- no two of these names are the same
 abbrev pub AreDistinct : List (List ℕ) → Type 0
 AreDistinct names = AllPairs (λ a b. same_name a b ≡ false) names
 
--- the node of a name: its place among the names of the nodes
-abbrev pub node_at : List (List ℕ) → List ℕ → ℕ
-node_at nodes name = position_or_len (same_name name) nodes
-
--- an arc between the nodes of its ends
-abbrev pub arc_between : List (List ℕ) → Link → Arc
-arc_between nodes link = record { name = link.name; from = node_at nodes link.from; to = node_at nodes link.to; kind = link.kind; base = link.base }
-
--- the arcs of the plant
-abbrev pub arcs_of : List Declared → List Arc
-arcs_of declared = map (arc_between (node_names declared)) (links_of declared)
-
--- the names of the nodes and arcs
-abbrev pub names_of : List Declared → Names
-names_of declared = record { nodes = node_names declared; streams = arc_names declared }
+-- no two nodes have one name, the environment among them, and no two arcs; nor have any two units, tanks and streams
+pub record HasDistinctNames (declared : List Declared) : Type 0 where
+  pub nodes : AreDistinct (node_names declared)
+  pub arcs : AreDistinct (arc_names declared)
+  pub all : AreDistinct (codes "env" ∷ filter_map declared_name declared)
 
 -- a tank of this name is declared
 abbrev pub is_tank : List Declared → List ℕ → Bool
@@ -55,12 +66,10 @@ points_of declared tank = filter_map (point_of tank) declared
 abbrev pub table_of : List Declared → List ℕ → Option (List Point)
 table_of declared tank = if is_tank declared tank then Some (points_of declared tank) else None
 
--- the table of an arc: that of the tank whose inventory it is, and none of a stream
+-- the table of an arc of a name: that of the tank whose inventory it is, and none of a stream
 abbrev pub table_of_kind : List Declared → List ℕ → ArcKind → Option (List Point)
-table_of_kind declared name Metered = None
-table_of_kind declared name Batch = None
-table_of_kind declared name Plain = None
 table_of_kind declared name Tank = Some (points_of declared name)
+table_of_kind declared name kind = None
 
 abbrev pub table_of_arc : List Declared → Arc → Option (List Point)
 table_of_arc declared arc = table_of_kind declared arc.name arc.kind

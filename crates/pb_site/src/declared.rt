@@ -1,5 +1,8 @@
 // What a declaration says.
 
+ghost use Rattle.std.specs.Prelude.{◌≡◌};
+ghost use Rattle.pb_site.specs.Row.{arc_kind};
+
 use pb_rows::Name;
 
 /// The kind of a stream: with a meter that is read each day, moved in batches, or plain, without a measurement.
@@ -19,6 +22,18 @@ pub enum ArcKind {
     Tank,
 }
 
+impl From<Kind> for ArcKind {
+    ghost from_gives = { λ kind arc. arc ≡ arc_kind kind };
+
+    fn from(kind: Kind) -> ArcKind {
+        match kind {
+            Kind::Metered => ArcKind::Metered,
+            Kind::Batch => ArcKind::Batch,
+            Kind::Plain => ArcKind::Plain,
+        }
+    }
+}
+
 /// An arc of the plant: a declared stream, or the inventory stream of a tank, which leads from the tank to the environment and
 /// bears the tank's name. `from` and `to` are nodes, and `base` is its base variance in squared grams.
 #[derive(Clone, Copy)]
@@ -26,16 +41,6 @@ pub struct Arc {
     pub name: Name,
     pub from: u32,
     pub to: u32,
-    pub kind: ArcKind,
-    pub base: i128,
-}
-
-/// An arc whose ends are told by their names.
-#[derive(Clone, Copy)]
-pub struct Link {
-    pub name: Name,
-    pub from: Name,
-    pub to: Name,
     pub kind: ArcKind,
     pub base: i128,
 }

@@ -1,20 +1,20 @@
 // What is looked up, so that no look-up walks the declarations.
 
-ghost use Rattle.std.specs.Prelude.{◌≡◌, ℕ, ◌<◌, ◌∷◌, ◌++◌, [], List, Option, Some, IsSomeAnd, if◌then◌else◌, vec_len, vec_capacity, false, OnOk, OnErr};
+ghost use Rattle.std.specs.Prelude.{◌≡◌, ℕ, ◌<◌, ◌≤◌, ◌∷◌, ◌++◌, [], List, Option, Some, IsSomeAnd, if◌then◌else◌, true, false, length, position, OnOk, OnErr};
 ghost use Rattle.std.specs.HashMap.{get, spare};
 ghost use Rattle.indexmap.specs.IndexSet as set;
+ghost use Rattle.pb_limits.specs.Limits.{most_nodes, most_units_and_tanks};
 ghost use Rattle.pb_rows.specs.Name.{same_name};
 ghost use Rattle.pb_site.specs.declared.declared.Declared.TheVariants.{Strap as StrapRow};
 ghost use Rattle.pb_site.specs.Faults.{is_among};
-ghost use Rattle.pb_site.specs.Kept.{CanPush, HasRoom, IsNew, Notes, SameIndex, table_with};
-ghost use Rattle.pb_site.specs.Row.{arc_kind};
-ghost use Rattle.pb_site.specs.declared.declared.Link.{Link};
+ghost use Rattle.pb_site.specs.Row.{node_at};
+ghost use Rattle.pb_site.specs.Kept.{CanAdd, HasRoom, IsNew, Notes, SameIndex, nodes_in, table_with};
 ghost use Rattle.std.specs.Prelude.{codes};
 
-use crate::declared::{ArcKind, Declared, Kind, Link};
-use crate::table::Table;
+use crate::declared::{Arc, ArcKind, Declared};
 use indexmap::IndexSet;
 use pb_rows::Name;
+use pb_strap::Strap;
 use std::alloc::{AllocError, Global};
 use std::collections::HashMap;
 use std::hash::Hash;
@@ -22,13 +22,92 @@ use std::hash::Hash;
 /// The names of units and tanks, the arcs and their names, the tables of the tanks and the critical values.
 #[derive(Drop)]
 pub struct Index {
-    pub places: IndexSet<Name>,
-    pub arcs: IndexSet<Name>,
-    pub links: Vec<Link>,
-    pub tables: HashMap<Name, Table>,
+    pub nodes: IndexSet<Name>,
+    pub arc_names: IndexSet<Name>,
+    pub arcs: Vec<Arc>,
+    pub straps: HashMap<Name, Strap>,
     pub global: HashMap<u32, i64>,
     pub nodal: Option<i64>,
     pub measure: Option<i64>,
+}
+
+impl Index {
+    /// Makes room for one more declaration, and leaves all as it is.
+    pub fn reserve(&mut self) -> Result<(), AllocError>
+        ensures same { SameIndex self.old self.new }
+        ensures room { OnOk result (HasRoom self.new) }
+    {
+        self.nodes.reserve(1)?;
+        self.arc_names.reserve(1)?;
+        self.arcs.reserve(1)?;
+        self.straps.reserve(1)?;
+        self.global.reserve(1)
+    }
+
+    /// Notes a declaration whose names are new. After an `Err`, want of memory, all is as it was.
+    pub fn note(&mut self, alloc: Global, row: &Declared) -> Result<(), AllocError>
+        requires room { HasRoom self.old }
+        requires few { length self.old.nodes.keys ≤ most_units_and_tanks }
+        requires new { IsNew self.old row.now }
+        ensures ok { OnOk result (Notes self.old self.new row.now) }
+        ensures err { OnErr result (SameIndex self.old self.new) }
+    {
+        match row {
+            Declared::Unit { name } => put_name(&mut self.nodes, *name),
+            Declared::Tank { name, base } => {
+                put_name(&mut self.nodes, *name);
+                put_name(&mut self.arc_names, *name);
+                put(&mut self.straps, *name, Strap::new(alloc));
+                self.arcs
+                    .push_reserved(inventory(&self.nodes, *name, *base));
+            }
+            Declared::Strap { tank, mm, ml } => return add_point(&mut self.straps, tank, *mm, *ml),
+            Declared::Stream {
+                name,
+                from,
+                to,
+                kind,
+                base,
+            } => {
+                let arc = Arc {
+                    name: *name,
+                    from: self.end(from),
+                    to: self.end(to),
+                    kind: ArcKind::from(*kind),
+                    base: *base,
+                };
+                put_name(&mut self.arc_names, *name);
+                self.arcs.push_reserved(arc);
+            }
+            Declared::CritGlobal { dof, value } => put(&mut self.global, *dof, *value),
+            Declared::CritNodal { value } => self.nodal = Some(*value),
+            Declared::CritMeasure { value } => self.measure = Some(*value),
+        }
+        Ok(())
+    }
+
+    /// The node of a name; `None` exactly where no node has it.
+    pub fn node_of(&self, name: &Name) -> Option<u32>
+        requires { length self.now.nodes.keys ≤ most_units_and_tanks }
+        ensures { result ≡ position (same_name name.now) (nodes_in self.now) }
+    {
+        if is_env(name) {
+            return Some(0);
+        }
+        match self.nodes.get_index_of(name) {
+            Some(i) => Some(i as u32 + 1),
+            None => None,
+        }
+    }
+
+    // The node of a name that a node has.
+    fn end(&self, name: &Name) -> u32
+        requires few { length self.now.nodes.keys ≤ most_units_and_tanks }
+        requires known { is_among (nodes_in self.now) name.now ≡ true }
+        ensures { result ≡ node_at (nodes_in self.now) name.now }
+    {
+        self.node_of(name).unwrap()
+    }
 }
 
 /// The environment's name.
@@ -48,77 +127,21 @@ pub fn is_env(name: &Name) -> bool
     name.bytes() == b"env".as_slice()
 }
 
-/// The kind of a stream as an arc.
-fn arc_kind(kind: Kind) -> ArcKind
-    ensures { result ≡ arc_kind kind }
+// The inventory stream of the tank that is the last node.
+fn inventory(nodes: &IndexSet<Name>, name: Name, base: i128) -> Arc
+    requires { length nodes.now.keys ≤ most_nodes }
+    ensures { result ≡ record {
+      name = name;
+      from = length nodes.now.keys;
+      to = 0;
+      kind = ArcKind.Tank;
+      base = base;
+    } }
 {
-    match kind {
-        Kind::Metered => ArcKind::Metered,
-        Kind::Batch => ArcKind::Batch,
-        Kind::Plain => ArcKind::Plain,
-    }
-}
-
-/// Makes room for one more declaration, and leaves all as it is.
-pub fn reserve(index: &mut Index) -> Result<(), AllocError>
-    ensures same { SameIndex index.old index.new }
-    ensures room { OnOk result (HasRoom index.new) }
-{
-    index.places.reserve(1)?;
-    index.arcs.reserve(1)?;
-    index.links.reserve(1)?;
-    index.tables.reserve(1)?;
-    index.global.reserve(1)
-}
-
-/// Notes a declaration whose names are new. After an `Err`, want of memory, all is as it was.
-pub fn note(alloc: Global, index: &mut Index, row: &Declared) -> Result<(), AllocError>
-    requires room { HasRoom index.old }
-    requires new { IsNew index.old row.now }
-    ensures ok { OnOk result (Notes index.old index.new row.now) }
-    ensures err { OnErr result (SameIndex index.old index.new) }
-{
-    match row {
-        Declared::Unit { name } => put_name(&mut index.places, *name),
-        Declared::Tank { name, base } => {
-            put_name(&mut index.places, *name);
-            put(&mut index.tables, *name, Table::new(alloc));
-            put_name(&mut index.arcs, *name);
-            put_link(&mut index.links, inventory(*name, *base));
-        }
-        Declared::Strap { tank, mm, ml } => return put_point(&mut index.tables, tank, *mm, *ml),
-        Declared::Stream {
-            name,
-            from,
-            to,
-            kind,
-            base,
-        } => {
-            put_name(&mut index.arcs, *name);
-            let link = Link {
-                name: *name,
-                from: *from,
-                to: *to,
-                kind: arc_kind(*kind),
-                base: *base,
-            };
-            put_link(&mut index.links, link);
-        }
-        Declared::CritGlobal { dof, value } => put(&mut index.global, *dof, *value),
-        Declared::CritNodal { value } => index.nodal = Some(*value),
-        Declared::CritMeasure { value } => index.measure = Some(*value),
-    }
-    Ok(())
-}
-
-// The inventory stream of a tank.
-fn inventory(name: Name, base: i128) -> Link
-    ensures { result ≡ record { name = name; from = name; to = codes "env"; kind = ArcKind.Tank; base = base } }
-{
-    Link {
+    Arc {
         name,
-        from: name,
-        to: env(),
+        from: nodes.len() as u32,
+        to: 0,
         kind: ArcKind::Tank,
         base,
     }
@@ -135,16 +158,6 @@ fn put_name(names: &mut IndexSet<Name>, name: Name)
     }
 }
 
-// Puts an arc behind the others.
-fn put_link(links: &mut Vec<Link>, link: Link)
-    requires { vec_len links.old < vec_capacity links.old }
-    ensures { links.new.items ≡ links.old.items ++ link ∷ [] }
-{
-    if links.push(link).is_err() {
-        unreachable!()
-    }
-}
-
 // Puts an entry for which there is room.
 fn put<K: Eq + Hash + Drop, V: Drop>(map: &mut HashMap<K, V>, key: K, value: V)
     requires { 0 < spare map.old }
@@ -155,19 +168,21 @@ fn put<K: Eq + Hash + Drop, V: Drop>(map: &mut HashMap<K, V>, key: K, value: V)
     }
 }
 
-// Puts a point behind the others of a tank's table. After an `Err`, want of memory, the tables are as they were.
-fn put_point(
-    tables: &mut HashMap<Name, Table>,
+// Adds a point to a tank's table. After an `Err`, want of memory, the tables are as they were.
+fn add_point(
+    straps: &mut HashMap<Name, Strap>,
     tank: &Name,
     mm: i64,
     ml: i64,
 ) -> Result<(), AllocError>
-    requires { IsSomeAnd (get same_name tables.old tank.now) (CanPush mm ml) }
-    ensures ok { OnOk result ((name : List ℕ) → get same_name tables.new name ≡ table_with (StrapRow tank.now mm ml) name (get same_name tables.old name)) }
-    ensures err { OnErr result ((name : List ℕ) → get same_name tables.new name ≡ get same_name tables.old name) }
+    requires { IsSomeAnd (get same_name straps.old tank.now) (CanAdd mm ml) }
+    ensures ok { OnOk result ((name : List ℕ) → get same_name straps.new name
+        ≡ table_with (StrapRow tank.now mm ml) name (get same_name straps.old name)) }
+    ensures err { OnErr result ((name : List ℕ)
+        → get same_name straps.new name ≡ get same_name straps.old name) }
 {
-    match tables.get_mut(tank) {
-        Some(table) => table.push(mm, ml),
+    match straps.get_mut(tank) {
+        Some(strap) => strap.add(mm, ml),
         None => unreachable!(),
     }
 }

@@ -5,10 +5,11 @@
 
 mod declared;
 mod index;
+mod laws;
 mod site;
-mod table;
 #[cfg(test)]
 mod tests;
 
-pub use declared::{Arc, ArcKind, Declared, Kind, Link, SiteFault};
-pub use site::{MOST_ARCS, MOST_PLACES, Site};
+pub use declared::{Arc, ArcKind, Declared, Kind, SiteFault};
+pub use laws::plant_law;
+pub use site::Site;

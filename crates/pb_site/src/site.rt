@@ -1,26 +1,21 @@
 // The declared plant.
 
-ghost use Rattle.std.specs.Prelude.{◌≡◌, ℕ, ◌<◌, ◌≤◌, ◌∷◌, ◌++◌, [], length, Option, Some, None, IfOk, OnOk, OnErr, is_some, position, slice_get, option_and_then, option_copied, codes, vec_len, vec_capacity};
+ghost use Rattle.std.specs.Prelude.{◌≡◌, ℕ, ◌≤◌, ◌<◌, ◌∷◌, ◌++◌, [], length, Option, Some, None, IfOk, OnOk, OnErr, IsTrue, ◌↔◌, is_some, position, slice_get, option_and_then, option_copied, codes};
+ghost use Rattle.pb_limits.specs.Limits.{most_nodes, most_streams};
 ghost use Rattle.pb_rows.specs.Name.{same_name};
 ghost use Rattle.pb_site.specs.Row.{IsInRange};
-ghost use Rattle.pb_site.specs.Site.{AreDistinct, arc_names, arcs_of, global_of, is_tank, measure_of, names_of, nodal_of, node_names, table_of_arc};
-ghost use Rattle.pb_site.specs.Faults.{fault_of, has_most_arcs, has_most_places, is_duplicate, is_full, is_mismatch, is_node, is_out_of_order, is_taken, is_unknown};
-ghost use Rattle.pb_site.specs.Kept.{IsArc};
+ghost use Rattle.pb_site.specs.Site.{HasDistinctNames, IsArc, arc_names, arcs_of, global_of, is_tank, kind_of, measure_of, names_of, nodal_of, node_names, node_of, table_of, table_of_arc};
+ghost use Rattle.pb_site.specs.Faults.{fault_of, has_most_arcs, has_most_nodes, is_duplicate, is_full, is_mismatch, is_node, is_one_node, is_out_of_order, is_taken, is_unknown};
 
 use crate::declared::{Arc, ArcKind, Declared, SiteFault};
-use crate::index::{self, Index};
+use crate::index::{Index, env, is_env};
 use indexmap::IndexSet;
+use pb_limits::{MOST_STREAMS, MOST_UNITS_AND_TANKS};
 use pb_rows::{Name, NameList, Names};
 use pb_strap::Strap;
 use std::alloc::{AllocError, Global};
 use std::collections::HashMap;
 use std::marker::Model;
-
-/// The greatest number of units and tanks.
-pub const MOST_PLACES: usize = 1_000;
-
-/// The greatest number of streams and tanks.
-pub const MOST_ARCS: usize = 2_000;
 
 /// The declared plant: the declarations in order.
 #[derive(Drop)]
@@ -51,10 +46,10 @@ impl Site {
             alloc,
             declared: Vec::new(alloc),
             index: Index {
-                places: IndexSet::new(alloc),
-                arcs: IndexSet::new(alloc),
-                links: Vec::new(alloc),
-                tables: HashMap::new(alloc),
+                nodes: IndexSet::new(alloc),
+                arc_names: IndexSet::new(alloc),
+                arcs: Vec::new(alloc),
+                straps: HashMap::new(alloc),
                 global: HashMap::new(alloc),
                 nodal: None,
                 measure: None,
@@ -72,7 +67,7 @@ impl Site {
             Some(SiteFault::Duplicate)
         } else if self.is_out_of_order(row) {
             Some(SiteFault::Order)
-        } else if is_mismatch(row) {
+        } else if self.is_mismatch(row) {
             Some(SiteFault::Mismatch)
         } else if self.is_full(row) {
             Some(SiteFault::Full)
@@ -89,78 +84,103 @@ impl Site {
         ensures unchanged { OnErr result (self.new ≡ self.old) }
     {
         self.declared.reserve(1)?;
-        index::reserve(&mut self.index)?;
-        index::note(self.alloc, &mut self.index, &row)?;
-        keep(&mut self.declared, row);
+        self.index.reserve()?;
+        self.index.note(self.alloc, &row)?;
+        self.declared.push_reserved(row);
         Ok(())
+    }
+
+    /// The number of declarations.
+    pub fn len(&self) -> usize
+        ensures { result ≡ length self.now }
+    {
+        self.declared.len()
+    }
+
+    /// Whether nothing is declared yet.
+    pub fn is_empty(&self) -> bool
+        ensures { IsTrue result ↔ (self.now ≡ []) }
+    {
+        self.declared.is_empty()
     }
 
     /// The number of nodes: the environment, the units and the tanks.
     pub fn nodes(&self) -> u32
         ensures value { result ≡ length (node_names self.now) }
-        ensures few { result ≤ 1001 }
+        ensures within { result ≤ most_nodes }
     {
-        self.index.places.len() as u32 + 1
+        self.index.nodes.len() as u32 + 1
     }
 
     /// The number of arcs: the streams and the tanks.
     pub fn arcs(&self) -> u32
         ensures value { result ≡ length (arcs_of self.now) }
-        ensures few { result ≤ 2000 }
+        ensures within { result ≤ most_streams }
     {
-        self.index.links.len() as u32
+        self.index.arcs.len() as u32
     }
 
     /// The arc at a place, counted from 0 in the order of declaration.
-    pub fn arc(&self, j: u32) -> Arc
-        requires { j < length (arcs_of self.now) }
-        ensures value { slice_get (arcs_of self.now) j ≡ Some result }
+    pub fn arc(&self, place: u32) -> Arc
+        requires { place < length (arcs_of self.now) }
+        ensures value { slice_get (arcs_of self.now) place ≡ Some result }
         ensures joins { IsArc (length (node_names self.now)) result }
     {
-        let link = self.index.links[j as usize];
-        Arc {
-            name: link.name,
-            from: self.node_of(&link.from).unwrap(),
-            to: self.node_of(&link.to).unwrap(),
-            kind: link.kind,
-            base: link.base,
-        }
+        self.index.arcs[place as usize]
     }
 
     /// The strapping table of the arc at a place; `None` exactly where the arc isn't a tank's.
-    pub fn strap(&self, j: u32) -> Option<&Strap>
-        requires { j < length (arcs_of self.now) }
-        ensures { option_copied result ≡ option_and_then (table_of_arc self.now) (slice_get (arcs_of self.now) j) }
+    pub fn strap(&self, place: u32) -> Option<&Strap>
+        requires { place < length (arcs_of self.now) }
+        ensures { option_copied result
+            ≡ option_and_then (table_of_arc self.now) (slice_get (arcs_of self.now) place) }
     {
-        let link = self.index.links[j as usize];
-        match link.kind {
-            ArcKind::Tank => Some(self.index.tables.get(&link.name)?.strap()),
+        let arc = &self.index.arcs[place as usize];
+        match arc.kind {
+            ArcKind::Tank => self.strap_of(&arc.name),
             _ => None,
         }
     }
 
     /// The node of a name; `None` exactly where no node has it.
     pub fn node_of(&self, name: &Name) -> Option<u32>
-        ensures { result ≡ position (same_name name.now) (node_names self.now) }
+        ensures { result ≡ node_of self.now name.now }
     {
-        if index::is_env(name) {
-            return Some(0);
-        }
-        match self.index.places.get_index_of(name) {
-            Some(i) => Some(i as u32 + 1),
+        self.index.node_of(name)
+    }
+
+    /// The arc of a name; `None` exactly where no arc has it.
+    pub fn arc_of(&self, name: &Name) -> Option<u32>
+        ensures { result ≡ position (same_name name.now) (arc_names self.now) }
+    {
+        match self.index.arc_names.get_index_of(name) {
+            Some(i) => Some(i as u32),
             None => None,
         }
     }
 
-    /// The arc of a name; `None` exactly where no arc has it. No two arcs have one name.
-    pub fn arc_of(&self, name: &Name) -> Option<u32>
-        ensures value { result ≡ position (same_name name.now) (arc_names self.now) }
-        ensures distinct { AreDistinct (arc_names self.now) }
+    /// The kind of the arc of a name: that of a stream, or a tank's inventory; `None` exactly where no arc has the name.
+    pub fn kind_of(&self, name: &Name) -> Option<ArcKind>
+        ensures { result ≡ kind_of self.now name.now }
     {
-        match self.index.arcs.get_index_of(name) {
-            Some(i) => Some(i as u32),
+        match self.index.arc_names.get_index_of(name) {
+            Some(i) => Some(self.index.arcs[i].kind),
             None => None,
         }
+    }
+
+    /// Whether a tank of the name is declared.
+    pub fn is_tank(&self, name: &Name) -> bool
+        ensures { result ≡ is_tank self.now name.now }
+    {
+        self.index.straps.contains_key(name)
+    }
+
+    /// The strapping table of the tank of a name; `None` exactly where no tank has it.
+    pub fn strap_of(&self, name: &Name) -> Option<&Strap>
+        ensures { option_copied result ≡ table_of self.now name.now }
+    {
+        self.index.straps.get(name)
     }
 
     /// The critical value of the global test with these degrees of freedom; `None` exactly where none was declared.
@@ -184,17 +204,19 @@ impl Site {
         self.index.measure
     }
 
-    /// The names of the nodes and arcs.
+    /// The names of the nodes and arcs. No two nodes have one name, the environment's among them, and no two arcs; nor have any two
+    /// units, tanks and streams.
     pub fn names(&self) -> Result<Names, AllocError>
-        ensures { IfOk result (λ names. names ≡ names_of self.now) }
+        ensures ok { IfOk result (λ names. names ≡ names_of self.now) }
+        ensures distinct { HasDistinctNames self.now }
     {
         let mut names = Names {
             nodes: NameList::new(self.alloc),
             streams: NameList::new(self.alloc),
         };
-        names.nodes.push(index::env())?;
-        push_all(&mut names.nodes, self.index.places.as_slice())?;
-        push_all(&mut names.streams, self.index.arcs.as_slice())?;
+        names.nodes.push(env())?;
+        push_all(&mut names.nodes, self.index.nodes.as_slice())?;
+        push_all(&mut names.streams, self.index.arc_names.as_slice())?;
         Ok(names)
     }
 
@@ -229,8 +251,8 @@ impl Site {
         ensures { result ≡ is_out_of_order self.now row.now }
     {
         match row {
-            Declared::Strap { tank, mm, ml } => match self.index.tables.get(tank) {
-                Some(table) => !table.rises(*mm, *ml),
+            Declared::Strap { tank, mm, ml } => match self.index.straps.get(tank) {
+                Some(strap) => !strap.rises(*mm, *ml),
                 None => false,
             },
             _ => false,
@@ -242,57 +264,62 @@ impl Site {
         ensures { result ≡ is_full self.now row.now }
     {
         match row {
-            Declared::Unit { .. } => self.has_most_places(),
-            Declared::Tank { .. } => self.has_most_places() || self.has_most_arcs(),
+            Declared::Unit { .. } => self.has_most_nodes(),
+            Declared::Tank { .. } => self.has_most_nodes() || self.has_most_arcs(),
             Declared::Stream { .. } => self.has_most_arcs(),
-            Declared::Strap { tank, .. } => match self.index.tables.get(tank) {
-                Some(table) => table.is_full(),
+            Declared::Strap { tank, .. } => match self.index.straps.get(tank) {
+                Some(strap) => strap.is_full(),
                 None => false,
             },
             _ => false,
         }
     }
 
-    fn has_most_places(&self) -> bool
-        ensures { result ≡ has_most_places self.now }
+    // Whether a stream leads from a node to itself.
+    fn is_mismatch(&self, row: &Declared) -> bool
+        ensures { result ≡ is_mismatch self.now row.now }
     {
-        self.index.places.len() >= MOST_PLACES
+        match row {
+            Declared::Stream { from, to, .. } => is_one_node(self.node_of(from), self.node_of(to)),
+            _ => false,
+        }
     }
 
+    // Whether there are as many units and tanks as there may be.
+    fn has_most_nodes(&self) -> bool
+        ensures { result ≡ has_most_nodes self.now }
+    {
+        self.index.nodes.len() >= MOST_UNITS_AND_TANKS
+    }
+
+    // Whether there are as many streams and tanks as there may be.
     fn has_most_arcs(&self) -> bool
         ensures { result ≡ has_most_arcs self.now }
     {
-        self.index.links.len() >= MOST_ARCS
-    }
-
-    // Whether a tank of the name is declared.
-    fn is_tank(&self, name: &Name) -> bool
-        ensures { result ≡ is_tank self.now name.now }
-    {
-        self.index.tables.contains_key(name)
+        self.index.arcs.len() >= MOST_STREAMS
     }
 
     // Whether a name is the environment's, or that of a declared unit or tank.
     fn is_node(&self, name: &Name) -> bool
         ensures { result ≡ is_node self.now name.now }
     {
-        index::is_env(name) || self.index.places.contains(name)
+        is_env(name) || self.index.nodes.contains(name)
     }
 
     // Whether a name is the environment's, or that of a declared unit, tank or stream.
     fn is_taken(&self, name: &Name) -> bool
         ensures { result ≡ is_taken self.now name.now }
     {
-        self.is_node(name) || self.index.arcs.contains(name)
+        self.is_node(name) || self.index.arc_names.contains(name)
     }
 }
 
-// Whether a stream leads from a node to itself.
-fn is_mismatch(row: &Declared) -> bool
-    ensures { result ≡ is_mismatch row.now }
+// Whether two ends are there, and are one node.
+fn is_one_node(from: Option<u32>, to: Option<u32>) -> bool
+    ensures { result ≡ is_one_node from to }
 {
-    match row {
-        Declared::Stream { from, to, .. } => from == to,
+    match (from, to) {
+        (Some(from), Some(to)) => from == to,
         _ => false,
     }
 }
@@ -305,14 +332,4 @@ fn push_all(list: &mut NameList, names: &[Name]) -> Result<(), AllocError>
         list.push(*name)?;
     }
     Ok(())
-}
-
-// Appends a declaration for which there is room.
-fn keep(declared: &mut Vec<Declared>, row: Declared)
-    requires { vec_len declared.old < vec_capacity declared.old }
-    ensures { declared.new.items ≡ declared.old.items ++ row ∷ [] }
-{
-    if declared.push(row).is_err() {
-        unreachable!()
-    }
 }

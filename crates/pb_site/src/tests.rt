@@ -143,7 +143,14 @@ fn faults_of_points(rt: HostRuntime) -> Result<(), Fail> {
 fn looks_up_names(rt: HostRuntime) -> Result<(), Fail> {
     let site = small(rt.alloc())?;
     assert_eq!(rt; site.nodes(), 3);
+    assert_eq!(rt; site.len(), 5);
+    assert!(rt; !site.is_empty());
     assert_eq!(rt; site.arc_of(&name(b"S")?), Some(1));
+    assert_eq!(rt; site.kind_of(&name(b"S")?), Some(ArcKind::Metered));
+    assert_eq!(rt; site.kind_of(&name(b"T")?), Some(ArcKind::Tank));
+    assert_eq!(rt; site.kind_of(&name(b"U")?), None);
+    assert!(rt; site.is_tank(&name(b"T")?));
+    assert!(rt; !site.is_tank(&name(b"S")?));
     assert_eq!(rt; site.node_of(&name(b"T")?), Some(2));
     Ok(())
 }
@@ -169,6 +176,11 @@ fn volumes_of_a_tank(rt: HostRuntime) -> Result<(), Fail> {
         None => assert!(rt; false),
     }
     assert!(rt; site.strap(1).is_none());
+    match site.strap_of(&name(b"T")?) {
+        Some(table) => assert_eq!(rt; table.volume(10), Some(1_000)),
+        None => assert!(rt; false),
+    }
+    assert!(rt; site.strap_of(&name(b"S")?).is_none());
     Ok(())
 }
 

@@ -32,11 +32,14 @@ abbrev pub volume_of : List Point → ℤ → Option ℤ
 volume_of [] mm = None
 volume_of (p ∷ []) mm = if int_lt mm p.mm || int_lt p.mm mm then None else Some p.ml
 volume_of (p ∷ q ∷ rest) mm =
-    if int_lt mm p.mm then None else (if int_le mm q.mm then Some (volume_between p q mm) else volume_of (q ∷ rest) mm)
+    if int_lt mm p.mm then None
+    else if int_le mm q.mm then Some (volume_between p q mm)
+    else volume_of (q ∷ rest) mm
 
 -- the grams at a level, for a density in grams a cubic metre, which is 10^6 ml: volume times density, rounded down
 abbrev pub grams_of : List Point → ℤ → ℤ → Option ℤ
-grams_of points mm density = option_map (λ v. floor_div (v *ℤ density) (pos (10 ^ 6))) (volume_of points mm)
+grams_of points mm density =
+    option_map (λ volume. floor_div (volume *ℤ density) (pos (10 ^ 6))) (volume_of points mm)
 
 -- the most grams that a tank can hold by its table
 abbrev pub most_content : ℕ
@@ -46,11 +49,13 @@ most_content = most_volume * most_density / 10 ^ 6
 -- the table is empty, or the level is below its first point or above its last
 abbrev pub IsOutside : List Point → ℤ → Type 0
 IsOutside points mm =
-    MatchOption (slice_get points 0) ⊤ (λ p. mm <ℤ p.mm) ⊎ MatchOption (slice_get points (length points - 1)) ⊤ (λ q. q.mm <ℤ mm)
+    MatchOption (slice_get points 0) ⊤ (λ p. mm <ℤ p.mm)
+    ⊎ MatchOption (slice_get points (length points - 1)) ⊤ (λ q. q.mm <ℤ mm)
 
 -- q stands right behind p
 abbrev pub AreNeighbours : List Point → Point → Point → Type 0
-AreNeighbours points p q = (i : ℕ) × (slice_get points i ≡ Some p) × (slice_get points (i + 1) ≡ Some q)
+AreNeighbours points p q =
+    (i : ℕ) × (slice_get points i ≡ Some p) × (slice_get points (i + 1) ≡ Some q)
 
 -- v is the mean of two volumes, weighted by how near the level is to the other's level, rounded down
 abbrev pub IsOnLine : Point → Point → ℤ → ℤ → Type 0
@@ -59,7 +64,8 @@ IsOnLine p q mm v = IsFloor ((p.ml *ℤ (q.mm -ℤ mm)) +ℤ (q.ml *ℤ (mm -ℤ
 -- at a level between two neighbouring points the volume is on the line through them
 abbrev pub IsLinear : List Point → ℤ → Option ℤ → Type 0
 IsLinear points mm volume =
-    (p q : Point) → AreNeighbours points p q → p.mm ≤ℤ mm → mm ≤ℤ q.mm → IsSomeAnd volume (λ v. IsOnLine p q mm v)
+    (p q : Point) → AreNeighbours points p q → p.mm ≤ℤ mm → mm ≤ℤ q.mm
+    → IsSomeAnd volume (λ v. IsOnLine p q mm v)
 
 -- at a point's level the volume is the point's
 abbrev pub IsExactAtPoints : List Point → ℤ → Option ℤ → Type 0
@@ -69,13 +75,15 @@ IsExactAtPoints points mm volume = (p : Point) → Contains points p → p.mm �
 -- a table that grows by a point keeps its volumes
 abbrev pub TableGrowsLaw : Type 0
 TableGrowsLaw =
-    (points : List Point) (mm ml level volume : ℤ) → rises points mm ml ≡ true → volume_of points level ≡ Some volume
+    (points : List Point) (mm ml level volume : ℤ) → rises points mm ml ≡ true
+    → volume_of points level ≡ Some volume
     → volume_of (points ++ record { mm = mm; ml = ml } ∷ []) level ≡ Some volume
 
 -- what a rising table tells of a level, its first points tell alone, if they tell anything
 abbrev pub LongerTableLaw : Type 0
 LongerTableLaw =
-    (points more : List Point) (level : ℤ) → IsRising (points ++ more) → IsSome (volume_of points level)
+    (points more : List Point) (level : ℤ) → IsRising (points ++ more)
+    → IsSome (volume_of points level)
     → volume_of (points ++ more) level ≡ volume_of points level
 
 -- a higher level never holds less

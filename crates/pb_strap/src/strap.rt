@@ -113,7 +113,8 @@ impl Strap {
         requires volume { IsVolume ml }
         ensures ok { OnOk result (self.new ≡ self.old ++ (record { mm = mm; ml = ml }) ∷ []) }
         ensures err { OnErr result (self.new ≡ self.old) }
-        ensures not_rising { IsErrOf result StrapRefused.NotRising ↔ IsFalse (rises self.old mm ml) }
+        ensures not_rising { IsErrOf result StrapRefused.NotRising
+            ↔ IsFalse (rises self.old mm ml) }
         ensures full { IsErrOf result StrapRefused.Full
             ↔ (IsTrue (rises self.old mm ml) × (length self.old ≡ most_points)) }
         ensures within { length self.new ≤ most_points }
@@ -202,7 +203,8 @@ fn count_below(points: &[Point], mm: i64) -> usize
     requires { IsRising points.now }
     ensures bound { result ≤ length points.now }
     ensures below { (k : ℕ) (d : Point) → k < result → (slice_index_or points.now k d).mm <ℤ mm }
-    ensures rest { (k : ℕ) (d : Point) → result ≤ k → k < length points.now → mm ≤ℤ (slice_index_or points.now k d).mm }
+    ensures rest { (k : ℕ) (d : Point) → result ≤ k → k < length points.now
+        → mm ≤ℤ (slice_index_or points.now k d).mm }
 {
     points.partition_point(
         |point: &Point| -> bool

@@ -6,7 +6,7 @@ use Rattle.std.proofs.lemmas.Int.{to_z-of_z}
 use Rattle.pb_facts.specs.Facts.{HoldsTransfers}
 use Rattle.pb_facts.specs.Places.{block_of, is_about, places_from, same_key}
 use Rattle.pb_facts.specs.declared.facts.KeptFact.{KeptFact}
-use Rattle.pb_facts.proofs.TransferLemmas.{holds_transfers, places_from-below, places_in}
+use Rattle.pb_facts.proofs.TransferLemmas.{holds_transfers, places_from-below, places_from-few, places_in}
 use Rattle.pb_facts.proofs.facts.Facts.transfers_within.Goals as goal
 
 -- the places of the transfers about a block
@@ -39,6 +39,14 @@ returns-in-Some-clause-places c k d lt =
     let within = places_from-below (λ (kept : KeptFact). is_about (c.args.stream.now, c.block_of.result) kept.fact) 0 kept k d (rw places at lt) in
     let below : get_or c.deref.result.now k d < length kept = rw places (omega (arith, within)) in
     rw (← c.self.view_is) below
+
+pub returns-in-Some-clause-within : goal.returns-in-Some-clause-within
+returns-in-Some-clause-within c =
+    let fits_block : FitsSigned w32 c.block_of.result = search rules in
+    let found = simp to_z-of_z at c.in-Some.ensures.value in
+    let places = c.deref.ensures.value ∙ ap places_in found ∙ c.self.invariant.transfers (c.args.stream.now, c.block_of.result) in
+    let few = places_from-few (λ (kept : KeptFact). is_about (c.args.stream.now, c.block_of.result) kept.fact) 0 c.self.inside.kept.items in
+    rw places (omega (arith, few, c.self.invariant.few))
 
 pub returns-in-None-clause-transfers : goal.returns-in-None-clause-transfers
 returns-in-None-clause-transfers c =

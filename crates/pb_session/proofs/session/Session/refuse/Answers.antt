@@ -1,4 +1,4 @@
-use Rattle.std.proofs.Common.{◌∷◌, [], ap, ap₂, ℕ, List}
+use Rattle.std.proofs.Common.{◌≡◌, ◌∷◌, [], ap, ap₂, ℕ, List}
 use Rattle.pb_book.specs.Answer.{code_of}
 use Rattle.pb_report.specs.declared.form.Form.{Form}
 use Rattle.pb_report.specs.Form.{text_in}

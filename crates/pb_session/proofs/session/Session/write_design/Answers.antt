@@ -1,20 +1,29 @@
-use Rattle.std.proofs.Common.{◌∙◌, ap, subst}
-use Rattle.pb_site.specs.Site.{names_of}
-use Rattle.pb_report.specs.Form.{text_in}
-use Rattle.pb_report.specs.Design.{design_rows}
-use Rattle.pb_session.specs.Session.{SessionState, IsDesignText}
-use Rattle.pb_session.proofs.AppendingLemmas.{appends_such}
-use Rattle.pb_session.proofs.CertificateLemmas.{classes_within}
-use Rattle.pb_session.proofs.ReportLemmas.{design_text}
+use Rattle.std.proofs.Common.{◌≡◌, ◌∙◌, ap, subst, List, ℕ}
+use Rattle.pb_rows.specs.declared.name.Names.{Names}
+use Rattle.pb_graph.specs.ProcessGraph.{ProcessGraph}
+use Rattle.pb_site.specs.Site.{HasDistinctNames, names_of}
+use Rattle.pb_book.specs.Rows.{StoredRow, declared_of}
+use Rattle.pb_period.specs.PeriodGraph.{base_of, design_graph}
+use Rattle.pb_session.specs.Session.{AreNamesOf, IsDesign, SessionState}
+use Rattle.pb_session.proofs.AppendingLemmas.{appends_so}
+use Rattle.pb_session.proofs.NamedLemmas.{names_are}
 use Rattle.pb_session.proofs.session.Session.write_design.Goals as goal
 
-pub write_design-requires-clause-within : goal.write_design-requires-clause-within
-write_design-requires-clause-within c = classes_within c.in_ok-graph.graph c.in_ok-classes.classes c.in_ok-classes.ensures
+pub write_classes-requires-clause-names : goal.write_classes-requires-clause-names
+write_classes-requires-clause-names c =
+    let rows = c.self.inside.book in
+    let names_is : c.in_ok-names.names ≡ names_of (declared_of rows) = c.in_ok-names.ensures.ok ∙ ap names_of c.site.ensures in
+    let distinct : HasDistinctNames (declared_of rows) = subst HasDistinctNames c.site.ensures c.in_ok-names.ensures.distinct in
+    rw (names_is, c.in_ok-graph.ensures) (names_are base_of rows distinct)
 
 pub returns-clause-ok : goal.returns-clause-ok
 returns-clause-ok c =
-    let state : SessionState = record { options = c.self.inside.options; form = c.self.inside.form; rows = c.self.inside.book } in
-    let is_text = design_text state c.in_ok-names.names c.in_ok-graph.graph c.in_ok-classes.classes (c.in_ok-names.ensures ∙ ap names_of c.site.ensures) c.in_ok-graph.ensures c.in_ok-classes.ensures in
-    let text = text_in state.form (design_rows c.in_ok-names.names c.in_ok-graph.graph c.in_ok-classes.classes) in
-    let here : IsDesignText c.args.self.now text = subst (λ (s : SessionState). IsDesignText s text) c.self.view_is is_text in
-    appends_such _ (IsDesignText c.args.self.now) _ _ text here c.write_design.ensures.ok
+    let state = c.args.self.now in
+    let names = c.in_ok-names.names in
+    let rows_is : c.self.inside.book ≡ state.rows = ap (λ (s : SessionState). s.rows) c.self.view_is in
+    let names_is : names ≡ names_of (declared_of state.rows) =
+    c.in_ok-names.ensures.ok ∙ ap names_of c.site.ensures ∙ ap (λ (rows : List StoredRow). names_of (declared_of rows)) rows_is in
+    let graph_is : c.in_ok-graph.graph ≡ design_graph state.rows = c.in_ok-graph.ensures ∙ ap design_graph rows_is in
+    appends_so c.write_classes.result (IsDesign state names c.in_ok-graph.graph) (IsDesign state (names_of (declared_of state.rows)) (design_graph state.rows)) _ _
+    (λ t is. subst (λ (n : Names). IsDesign state n (design_graph state.rows) t) names_is (subst (λ (g : ProcessGraph). IsDesign state names g t) graph_is is))
+    c.write_classes.ensures.ok

@@ -1,5 +1,5 @@
 use Rattle.std.specs.Prelude.{not}
-use Rattle.std.proofs.Common.{List, ap}
+use Rattle.std.proofs.Common.{◌∙◌, List, ap}
 use Rattle.pb_strap.specs.Table.{rises}
 use Rattle.pb_strap.specs.declared.strap.Point.{Point}
 use Rattle.pb_site.proofs.LookUpLemmas.{table_points}
@@ -7,5 +7,6 @@ use Rattle.pb_site.proofs.site.Site.is_out_of_order.Goals as goal
 
 pub returns-in-None : goal.returns-in-None
 returns-in-None c =
-    let points = table_points c.self.inside.declared.items c.self.inside.index c.in-Strap.tank _ c.self.invariant c.in-None.ensures.value in
+    let at = c.in-None.ensures.value ∙ c.self.invariant.straps c.in-Strap.tank in
+    let points = table_points c.self.inside.declared.items c.self.inside.index c.in-Strap.tank _ c.self.invariant at in
     rw (c.in-Strap.is, ← c.self.view_is) (ap (λ (ps : List Point). not (rises ps c.in-Strap.mm c.in-Strap.ml)) points)

@@ -1,0 +1,64 @@
+-- Rows that were accepted, and one more.
+use Rattle.std.specs.Prelude.{filter_map, All, take, is_none, not, option_and_then, is_some}
+use Rattle.std.specs.List.{list_any}
+use Rattle.std.proofs.Common.{◌≡◌, ◌∙◌, ℕ, ◌+◌, ◌<◌, ◌≤◌, List, [], ◌∷◌, ◌++◌, length, slice_get, get_or, Bool, true, false, Option, Some, None, Result, Ok, Err, refl, sym, ap, subst, arith, inl, inr, length-append, append_assoc}
+use Rattle.std.proofs.lemmas.Bool.{cases_Bool, cases_lt}
+use Rattle.std.proofs.lemmas.List.{append-nil, take-append-le}
+use Rattle.std.proofs.lemmas.Option.{get_or_from_slice_get, slice_get-get_or, slice_get_within}
+use Rattle.std.proofs.Math.ListN.{get_or-append}
+use Rattle.std.proofs.Math.Seq.{get_or-append_seam, take-append_seam}
+use Rattle.pb_rows.specs.Records.{without_trailing_empty}
+use Rattle.pb_book.specs.declared.answer.Refused.{Refused as Refusal}
+use Rattle.pb_book.specs.declared.rows.BookRow.{BookRow}
+use Rattle.pb_book.specs.declared.requests.Request.{Request}
+use Rattle.pb_book.specs.declared.requests.Request.TheVariants.{Blank, Store, Design, Report}
+use Rattle.pb_book.specs.Accepted.{AreAccepted, IsAcceptable}
+use Rattle.pb_book.specs.Answer.{after, after_answer, answer_if, answer_to, report_or_refused, stored_or_refused}
+use Rattle.pb_book.specs.Laws.{RequestsLaw}
+use Rattle.pb_book.specs.Ranges.{IsRowInRange}
+use Rattle.pb_book.specs.Refusals.{refusal_of}
+use Rattle.pb_book.specs.Requests.{request_in}
+use Rattle.pb_book.specs.Rows.{StoredRow, period_place, version_of}
+
+the_same : {X : Type 0} (a b : X) → Some a ≡ Some b → a ≡ b
+the_same a b is = ap (λ o. Rattle.std.specs.Prelude.unwrap_or o a) is
+
+-- no row
+pub none_accepted : AreAccepted []
+none_accepted i stored is = cc is
+
+-- one more row
+pub accepted_more : (rows : List StoredRow) (stored : StoredRow) → AreAccepted rows → IsAcceptable rows stored.row → AreAccepted (rows ++ stored ∷ [])
+accepted_more rows stored right fine i row is = elim (cases_lt i (length rows)) [
+  | inl before ↦
+      let here : slice_get rows i ≡ Some row =
+      slice_get-get_or rows i row before ∙ sym (ap Some (get_or-append rows (stored ∷ []) row i before)) ∙ ap Some (get_or_from_slice_get (rows ++ stored ∷ []) i row row is) in
+      rw (take-append-le i rows (stored ∷ []) (omega (arith, before))) (right i row here)
+  | inr past ↦
+      let within : i < length (rows ++ stored ∷ []) = slice_get_within (rows ++ stored ∷ []) i row is in
+      let last : i ≡ length rows = omega (arith, within, past, length-append rows (stored ∷ [])) in
+      let last_is : slice_get (rows ++ stored ∷ []) (length rows) ≡ Some row = rw last at is in
+      let row_is : stored ≡ row = sym (get_or-append_seam rows stored [] row) ∙ get_or_from_slice_get (rows ++ stored ∷ []) (length rows) row row last_is in
+      rw (last, take-append_seam rows (stored ∷ []), ← row_is) fine
+]
+
+-- the rows after a record
+pub accepted_after : RequestsLaw → (rows : List StoredRow) (at : ℕ) (fields : List (List ℕ)) → AreAccepted rows → AreAccepted (after rows at fields)
+accepted_after law rows at fields right =
+    by (request_in (version_of rows) (without_trailing_empty fields)) (λ row is. law (version_of rows) (without_trailing_empty fields) row is)
+  where
+    stored_then : (row : BookRow) → IsRowInRange row → (cause : Option Refusal) → refusal_of rows row ≡ cause
+        → AreAccepted (after_answer rows at (stored_or_refused row cause))
+    stored_then row range (Some cause) is = right
+    stored_then row range None is = accepted_more rows (record { at = at; row = row }) right (record { no_cause = is; in_range = range })
+
+    reported : (place : Option ℕ) → AreAccepted (after_answer rows at (report_or_refused place))
+    reported (Some place) = right
+    reported None = right
+
+    by : (request : Result Request Refusal) → ((row : BookRow) → request ≡ Ok (Store row) → IsRowInRange row) → AreAccepted (after_answer rows at (answer_if rows request))
+    by (Err cause) range = right
+    by (Ok Blank) range = right
+    by (Ok (Store row)) range = stored_then row (range row refl) (refusal_of rows row) refl
+    by (Ok Design) range = right
+    by (Ok (Report name)) range = reported (period_place rows name)

@@ -1,0 +1,10 @@
+use Rattle.pb_book.specs.Accepted.{AreInTables}
+use Rattle.pb_book.specs.Rows.{declared_of, facts_of}
+use Rattle.std.proofs.Common.{subst, List}
+use Rattle.pb_book.specs.Rows.{StoredRow}
+use Rattle.pb_book.proofs.ConsistentLemmas.{consistent}
+use Rattle.pb_book.proofs.book.Book.facts.Goals as goal
+
+pub returns-clause-in_tables : goal.returns-clause-in_tables
+returns-clause-in_tables c =
+    subst (λ (rows : List StoredRow). AreInTables (declared_of rows) (facts_of rows)) c.self.view_is (consistent _ c.self.invariant.accepted).in_tables

@@ -1,0 +1,31 @@
+-- Statement. Rows that were accepted, one behind the other, and what follows of them.
+use Rattle.std.specs.Prelude.{◌≡◌, ℕ, false, List, [], take, All, None, Some, slice_get}
+use Rattle.pb_facts.specs.declared.facts.KeptFact.{KeptFact}
+use Rattle.pb_site.specs.declared.declared.Declared.{Declared}
+use Rattle.pb_book.specs.declared.rows.BookRow.{BookRow}
+use Rattle.pb_book.specs.declared.rows.Period.{Period}
+use Rattle.pb_book.specs.Apart.{AreApart}
+use Rattle.pb_book.specs.Ranges.{IsPeriod, IsRowInRange}
+use Rattle.pb_book.specs.Refusals.{is_outside_table, refusal_of}
+use Rattle.pb_book.specs.Rows.{StoredRow}
+
+-- a row may join the stored ones: there is no cause to refuse it, and its numbers and days lie in their ranges
+pub record IsAcceptable (rows : List StoredRow) (row : BookRow) : Type 0 where
+  pub no_cause : refusal_of rows row ≡ None
+  pub in_range : IsRowInRange row
+
+-- Each stored row was acceptable behind those before it.
+abbrev pub AreAccepted : List StoredRow → Type 0
+AreAccepted rows =
+    (i : ℕ) (stored : StoredRow) → slice_get rows i ≡ Some stored → IsAcceptable (take i rows) stored.row
+
+-- the level of each dip, struck or not, lies in the table of its tank
+abbrev pub AreInTables : List Declared → List KeptFact → Type 0
+AreInTables declared kept = All (λ (k : KeptFact). is_outside_table declared k.fact ≡ false) kept
+
+-- What follows of accepted rows: each period has as many days as it may have, no two share a name or a day, and
+-- each dip lies in its tank's table, which may have grown since.
+pub record AreConsistent (declared : List Declared) (kept : List KeptFact) (periods : List Period) : Type 0 where
+  pub days : All IsPeriod periods
+  pub apart : AreApart periods
+  pub in_tables : AreInTables declared kept

@@ -1,0 +1,116 @@
+// What the book answers to a record.
+
+ghost use Rattle.std.specs.Prelude.{◌≡◌, ◌≤◌};
+ghost use Rattle.pb_book.specs.Answer.{code_of};
+
+use pb_facts::FactFault;
+use pb_site::SiteFault;
+use std::alloc::AllocError;
+
+/// What the book did with a record that it accepted.
+#[derive(Clone, Copy, PartialEq, Eq, Debug)]
+pub enum Accepted {
+    /// Nothing: the record has no field that isn't empty.
+    Blank,
+    /// The row joined the stored ones.
+    Stored,
+    /// The classes of the declared plant are asked for.
+    Design,
+    /// A report of the period at this place is asked for.
+    Report(u32),
+}
+
+/// Why a record is refused, in the order in which the causes are asked for.
+#[derive(Clone, Copy, PartialEq, Eq, Debug)]
+pub enum Refused {
+    /// There is no such kind of row.
+    Kind,
+    /// The number of fields isn't that of the kind.
+    Fields,
+    /// A name isn't of the form.
+    BadName,
+    /// A number isn't of the form or outside its range.
+    Number,
+    /// A date isn't of the form or not in the calendar.
+    Date,
+    /// A name isn't declared.
+    Unknown,
+    /// A name, id, day or critical value is there already.
+    Duplicate,
+    /// A level or volume that falls, or a first day after the last.
+    Order,
+    /// A stream from a node to itself or of another kind, or a day in two periods.
+    Mismatch,
+    /// A period or transfer that is too long, or a level outside the tank's table.
+    Range,
+    /// As many as there may be.
+    Full,
+}
+
+/// Why a record isn't accepted.
+#[derive(Clone, Copy, PartialEq, Eq, Debug)]
+pub enum NotAccepted {
+    /// It is refused, with the first cause that holds.
+    Refused(Refused),
+    /// Want of memory, which may come in place of any answer.
+    NoMemory,
+}
+
+impl Refused {
+    /// The number of the cause in the output, from 1 to 13.
+    pub fn code(self) -> u32
+        ensures value { result ≡ code_of self }
+        ensures least { 1 ≤ result }
+        ensures most { result ≤ 13 }
+    {
+        match self {
+            Refused::Kind => 1,
+            Refused::Fields => 2,
+            Refused::BadName => 3,
+            Refused::Number => 4,
+            Refused::Date => 5,
+            Refused::Unknown => 6,
+            Refused::Duplicate => 7,
+            Refused::Order => 8,
+            Refused::Mismatch => 9,
+            Refused::Range => 12,
+            Refused::Full => 13,
+        }
+    }
+}
+
+impl From<Refused> for NotAccepted {
+    ghost use Rattle.pb_book.specs.declared.answer.NotAccepted.TheVariants.{Refused as RefusedFor};
+
+    ghost from_gives = { λ cause error. error ≡ RefusedFor cause };
+
+    fn from(cause: Refused) -> NotAccepted {
+        NotAccepted::Refused(cause)
+    }
+}
+
+impl From<AllocError> for NotAccepted {
+    ghost use Rattle.pb_book.specs.declared.answer.NotAccepted.TheVariants.{NoMemory};
+
+    ghost from_gives = { λ _ error. error ≡ NoMemory };
+
+    fn from(_: AllocError) -> NotAccepted {
+        NotAccepted::NoMemory
+    }
+}
+
+impl From<SiteFault> for Refused {
+    ghost use Rattle.pb_book.specs.Refusals.{cause_of_declaration};
+
+    ghost from_gives = { λ fault cause. cause ≡ cause_of_declaration fault };
+
+    fn from(fault: SiteFault) -> Refused {
+        match fault {
+            SiteFault::Unknown => Refused::Unknown,
+            SiteFault::Duplicate => Refused::Duplicate,
+            SiteFault::Order => Refused::Order,
+            SiteFault::Mismatch => Refused::Mismatch,
+            SiteFault::Full => Refused::Full,
+        }
+    }
+}

@@ -1,0 +1,33 @@
+use Rattle.std.specs.Prelude.{option_and_then, find, ◌-ℤ◌}
+use Rattle.std.proofs.Common.{◌≡◌, ◌∙◌, ℕ, pos, List, Option, Some, None, slice_get, unwrap_or, sym, ap}
+use Rattle.pb_strap.specs.declared.strap.Point.{Point}
+use Rattle.pb_site.specs.declared.declared.Arc.{Arc}
+use Rattle.pb_site.specs.declared.declared.ArcKind.TheVariants.{Tank}
+use Rattle.pb_site.specs.declared.declared.Declared.{Declared}
+use Rattle.pb_site.specs.Site.{arcs_of, points_of, table_of_arc, table_of_kind}
+use Rattle.pb_facts.specs.declared.fact.Fact.{Fact}
+use Rattle.pb_facts.specs.declared.facts.KeptFact.{KeptFact}
+use Rattle.pb_facts.specs.Fact.{is_dip_on}
+use Rattle.pb_facts.specs.Facts.{live_facts}
+use Rattle.pb_book.specs.Rows.{declared_of, facts_of}
+use Rattle.pb_period.specs.Facts.{content_of}
+use Rattle.pb_period.specs.Measurement.{amount_of, change_of}
+use Rattle.pb_period.proofs.graph.amount_of.Goals as goal
+
+-- the table of a tank's arc is that of the tank
+table_at : (declared : List Declared) (j : ℕ) (arc : Arc) → slice_get (arcs_of declared) j ≡ Some arc → arc.kind ≡ Tank
+    → option_and_then (table_of_arc declared) (slice_get (arcs_of declared) j) ≡ Some (points_of declared arc.name)
+table_at declared j arc at tank = ap (option_and_then (table_of_arc declared)) at ∙ ap (table_of_kind declared arc.name) tank
+
+pub returns-in_err-strap-in-Tank-clause-value : goal.returns-in_err-strap-in-Tank-clause-value
+returns-in_err-strap-in-Tank-clause-value c =
+    let table = table_at (declared_of c.args.book.now) c.args.j c.args.arc.now c.requires.place c.in-Tank.is in
+    let none = rw c.site.ensures at c.in_err-strap-in-Tank.ensures in
+    absurd (cc (none, table))
+
+pub returns-in_ok-strap-in-Tank-clause-value : goal.returns-in_ok-strap-in-Tank-clause-value
+returns-in_ok-strap-in-Tank-clause-value c =
+    let table = table_at (declared_of c.args.book.now) c.args.j c.args.arc.now c.requires.place c.in-Tank.is in
+    let some = rw c.site.ensures at c.in_ok-strap-in-Tank.ensures in
+    let points : c.in_ok-strap-in-Tank.field-0.now ≡ points_of (declared_of c.args.book.now) c.args.arc.now.name = ap (λ (o : Option (List Point)). unwrap_or o c.in_ok-strap-in-Tank.field-0.now) (some ∙ table) in
+    rw c.in-Tank.is (rw (c.facts-in-Tank.ensures.value, points) at c.change.ensures.value)

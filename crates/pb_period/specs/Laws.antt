@@ -1,0 +1,19 @@
+-- Statement. What holds of the graphs of accepted rows.
+use Rattle.std.specs.Prelude.{List, All, IfOk}
+use Rattle.pb_graph.specs.ProcessGraph.{IsProcessGraph}
+use Rattle.pb_site.specs.Site.{HasDistinctNames}
+use Rattle.pb_book.specs.declared.rows.Period.{Period}
+use Rattle.pb_book.specs.Accepted.{AreAccepted}
+use Rattle.pb_book.specs.Rows.{StoredRow, declared_of, periods_of}
+use Rattle.pb_period.specs.Days.{days_of}
+use Rattle.pb_period.specs.PeriodGraph.{assembly_of, design_graph}
+
+-- names are distinct, and the graphs of the design and of each period that has one are within the limits
+pub record HaveGraphs (rows : List StoredRow) : Type 0 where
+  pub names : HasDistinctNames (declared_of rows)
+  pub design : IsProcessGraph (design_graph rows)
+  pub periods : All (λ (period : Period). IfOk (assembly_of rows (days_of period)) IsProcessGraph) (periods_of rows)
+
+-- so it is of accepted rows
+abbrev pub GraphsLaw : Type 0
+GraphsLaw = (rows : List StoredRow) → AreAccepted rows → HaveGraphs rows

@@ -1,0 +1,119 @@
+// What meters read and what tanks held.
+
+ghost use Rattle.std.specs.Prelude.{◌≡◌, ◌-ℤ◌, pos, find, IfSome, Some};
+ghost use Rattle.pb_limits.specs.Limits.{most_days_of_period};
+ghost use Rattle.pb_facts.specs.Fact.{IsInRange, is_dip_on, is_reading_on};
+ghost use Rattle.pb_facts.specs.Facts.{live_facts};
+ghost use Rattle.pb_period.specs.Amounts.{IsAmount};
+ghost use Rattle.pb_period.specs.Days.{AreDays, each_of};
+ghost use Rattle.pb_period.specs.Facts.{content_of, read_amount, read_on};
+ghost use Rattle.pb_period.specs.Measurement.{change_of, difference_of, read_total};
+
+use crate::amount::Amount;
+use crate::days::Days;
+use pb_facts::{Fact, Facts};
+use pb_rows::Name;
+use pb_strap::Strap;
+
+// The live reading of a stream on a day.
+fn reading_on(facts: &Facts, stream: &Name, day: i32) -> Option<Fact>
+    ensures found { result ≡ find (is_reading_on stream.now day) (live_facts facts.now) }
+    ensures in_range { IfSome result IsInRange }
+{
+    facts.live(facts.reading_on(stream, day)?)
+}
+
+// The live dip of a tank at the end of a day.
+fn dip_on(facts: &Facts, tank: &Name, day: i32) -> Option<Fact>
+    ensures found { result ≡ find (is_dip_on tank.now day) (live_facts facts.now) }
+    ensures in_range { IfSome result IsInRange }
+{
+    facts.live(facts.dip_on(tank, day)?)
+}
+
+// What a reading read.
+fn read_amount(fact: &Fact) -> Option<Amount>
+    requires { IsInRange fact.now }
+    ensures value { result ≡ read_amount fact.now }
+    ensures within { IfSome result (IsAmount 1) }
+{
+    match fact {
+        Fact::Reading {
+            grams,
+            variance,
+            ..
+        } => Some(Amount {
+            grams: i128::from(*grams),
+            variance: *variance,
+        }),
+        _ => None,
+    }
+}
+
+// What a stream's meter read on a day.
+fn read_on(facts: &Facts, stream: &Name, day: i32) -> Option<Amount>
+    ensures value { result ≡ read_on (live_facts facts.now) stream.now day }
+    ensures within { IfSome result (IsAmount 1) }
+{
+    read_amount(&reading_on(facts, stream, day)?)
+}
+
+/// The total of what a stream's meter read on some days; `None` exactly where some day has no reading.
+pub fn read_total(facts: &Facts, stream: &Name, days: Days) -> Option<Amount>
+    requires { AreDays days }
+    ensures value { result ≡ read_total (read_on (live_facts facts.now) stream.now) (each_of days) }
+    ensures within { IfSome result (IsAmount most_days_of_period) }
+{
+    let mut total = Amount::zero();
+    for day in days.first..days.last + 1 {
+        total = total.plus(read_on(facts, stream, day)?);
+    }
+    Some(total)
+}
+
+// What a tank holds by a dip.
+fn content_of(strap: &Strap, dip: &Fact) -> Amount
+    requires { IsInRange dip.now }
+    ensures value { result ≡ content_of strap.now dip.now }
+    ensures within { IsAmount 1 result }
+{
+    match dip {
+        Fact::Dip {
+            mm,
+            density,
+            variance,
+            ..
+        } => Amount {
+            grams: i128::from(strap.grams(*mm, *density).unwrap_or(0)),
+            variance: *variance,
+        },
+        _ => Amount::zero(),
+    }
+}
+
+/// The change of a tank's content over some days; `None` exactly where it has no dip of the last day or of the day before the
+/// first.
+pub fn change(facts: &Facts, strap: &Strap, tank: &Name, days: Days) -> Option<Amount>
+    requires { AreDays days }
+    ensures value { result ≡ change_of (content_of strap.now)
+        (find (is_dip_on tank.now (days.first -ℤ pos 1)) (live_facts facts.now))
+        (find (is_dip_on tank.now days.last) (live_facts facts.now)) }
+    ensures within { IfSome result (IsAmount 2) }
+{
+    let opening = dip_on(facts, tank, days.first - 1)?;
+    let closing = dip_on(facts, tank, days.last)?;
+    Some(difference(content_of(strap, &opening), content_of(strap, &closing)))
+}
+
+// A closing content less an opening one.
+fn difference(opening: Amount, closing: Amount) -> Amount
+    requires opening { IsAmount 1 opening }
+    requires closing { IsAmount 1 closing }
+    ensures value { result ≡ difference_of opening closing }
+    ensures within { IsAmount 2 result }
+{
+    Amount {
+        grams: closing.grams - opening.grams,
+        variance: opening.variance + closing.variance,
+    }
+}
