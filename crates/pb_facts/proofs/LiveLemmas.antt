@@ -1,11 +1,11 @@
 -- Live facts found by a test.
 use Rattle.std.specs.Prelude.{not, ◌&&◌, nat_lt, find, option_and_then, position}
 use Rattle.std.specs.List.{position_or_len}
-use Rattle.std.proofs.Common.{◌≡◌, ◌∙◌, ◌+◌, ℕ, suc, List, [], ◌∷◌, length, Bool, true, false, Option, Some, None, cond, slice_get, refl, sym, ap, arith, inl, inr}
+use Rattle.std.proofs.Common.{◌≡◌, ◌∙◌, ◌+◌, ℕ, suc, List, [], ◌∷◌, length, Bool, true, false, Option, Some, None, cond, refl, sym, ap, arith, inl, inr}
 use Rattle.std.proofs.lemmas.Bool.{cases_Bool, lt-ltb, ltb-false, ltb-true}
 use Rattle.pb_facts.specs.declared.fact.Fact.{Fact}
 use Rattle.pb_facts.specs.declared.facts.KeptFact.{KeptFact}
-use Rattle.pb_facts.specs.Facts.{live_at, live_fact, live_facts}
+use Rattle.pb_facts.specs.Facts.{live_at, live_facts}
 
 below_next : (a n : ℕ) → nat_lt (1 + a) (suc n) ≡ nat_lt a n
 below_next a n = elim (cases_Bool (nat_lt a n)) [

@@ -1,21 +1,20 @@
 -- The transfers that are found by stream and block of days.
-use Rattle.std.specs.Prelude.{◌&&◌, ◌||◌, not, int_le, int_lt, filter, filter_map, option_and_then, is_some, IsSomeAnd, if◌then◌else◌, vec_len, vec_capacity}
+use Rattle.std.specs.Prelude.{◌&&◌, ◌||◌, int_le, filter, filter_map, option_and_then, is_some, IsSomeAnd, if◌then◌else◌, vec_len, vec_capacity}
 use Rattle.std.specs.Cmp.{signed_Decides}
 use Rattle.std.specs.Cmp.Lexicographic.{bytes_decides}
 use Rattle.std.specs.Ordering.{int_eq}
-use Rattle.std.specs.Int.{int_div_euclid}
 use Rattle.std.specs.HashMap.{HashMap, get}
 use Rattle.std.specs.Global.{Vec}
 use Rattle.std.specs.Option.{option_map_or}
 use Rattle.std.specs.List.{cons_option}
-use Rattle.std.proofs.Common.{◌≡◌, ◌∙◌, ◌+◌, ◌<◌, ◌≤◌, ◌++◌, ◌∷◌, [], ℕ, zero, suc, ℤ, pos, negsuc, ◌+ℤ◌, ◌-ℤ◌, ◌≤ℤ◌, ◌<ℤ◌, List, Bool, true, false, Option, Some, None, All, length, get_or, slice_get, cond, arith, ap, sym, refl, inl, inr, subst, add_assoc, zero-add}
+use Rattle.std.proofs.Common.{◌≡◌, ◌∙◌, ◌+◌, ◌<◌, ◌≤◌, ◌++◌, ◌∷◌, [], ℕ, zero, suc, ℤ, pos, negsuc, ◌+ℤ◌, ◌-ℤ◌, ◌≤ℤ◌, ◌<ℤ◌, List, Bool, true, false, Option, Some, None, All, length, get_or, arith, ap, sym, refl, inl, inr, subst, zero-add}
 use Rattle.std.proofs.lemmas.Bool.{and_parts, cases_Bool}
 use Rattle.std.proofs.lemmas.Int.{by_lt_z, ints}
 use Rattle.std.proofs.lemmas.Option.{slice_get-get_or}
 use Rattle.pb_limits.specs.Limits.{most_days_of_period, most_days_of_transfer}
 use Rattle.pb_rows.specs.Name.{same_name}
 use Rattle.pb_facts.specs.Fact.{is_too_long, is_transfer_within}
-use Rattle.pb_facts.specs.Facts.{HoldsTransfers, live_at, live_fact, live_facts}
+use Rattle.pb_facts.specs.Facts.{HoldsTransfers, live_at, live_fact}
 use Rattle.pb_facts.specs.Places.{HasRoomAt, block_of, is_about, places_at, places_from, same_key}
 use Rattle.pb_facts.specs.declared.fact.Fact.{Fact}
 use Rattle.pb_facts.specs.declared.fact.Fact.TheVariants.{Reading, Transfer, Dip}

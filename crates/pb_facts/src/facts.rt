@@ -4,7 +4,7 @@ ghost use Rattle.std.specs.Prelude.{◌≡◌, ◌<◌, ◌≤◌, ◌-ℤ◌, �
 ghost use Rattle.std.specs.List.{list_any};
 ghost use Rattle.pb_limits.specs.Limits.{most_days_of_period, most_facts};
 ghost use Rattle.pb_facts.specs.Fact.{IsInRange, is_dip_on, is_reading_on, is_too_long};
-ghost use Rattle.pb_facts.specs.Facts.{HoldsTransfers, NoRepeats, fault_of, has_id, is_duplicate, is_live_dip_on, is_live_reading_on, is_repeat_by_day, live_at, live_fact, live_facts, live_place_of};
+ghost use Rattle.pb_facts.specs.Facts.{HoldsTransfers, NoRepeats, fault_of, has_id, is_duplicate, is_live_dip_on, is_live_reading_on, is_repeat_by_day, live_at, live_facts, live_place_of};
 
 use crate::fact::{Fact, FactFault};
 use crate::places::{Places, block_of};

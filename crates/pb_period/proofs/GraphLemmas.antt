@@ -1,5 +1,5 @@
 -- Streams of a graph, arc by arc, and the first of them that is over the limits.
-use Rattle.std.specs.Prelude.{◌^◌, nat_lt, int_lt, option_map, unwrap_or, map, position, IfSome, All}
+use Rattle.std.specs.Prelude.{nat_lt, int_lt, option_map, unwrap_or, map, position, IfSome, All}
 use Rattle.std.proofs.Common.{◌≡◌, ◌∙◌, ◌+◌, ◌≤◌, ◌≤ℤ◌, ℕ, zero, suc, pos, unsigned_abs, List, [], ◌∷◌, ◌++◌, length, drop, slice_get, true, false, Option, Some, None, Ok, Err, inl, inr, refl, sym, ap, ap₂, append_assoc, arith, length-append, ◌<◌, Bool, get_or}
 use Rattle.std.proofs.lemmas.Bool.{cases_Bool, or_parts, ltb-false, ltb-true}
 use Rattle.std.proofs.lemmas.Int.{ints}

@@ -1,22 +1,20 @@
 -- Accepted rows declare a plant, and their facts lie in their ranges.
-use Rattle.std.specs.Prelude.{filter_map, if◌then◌else◌}
-use Rattle.std.proofs.Common.{◌≡◌, ◌∙◌, ◌≤◌, ◌<◌, ◌+◌, ℕ, zero, suc, ℤ, pos, List, [], ◌∷◌, ◌++◌, length, take, get_or, slice_get, All, Bool, true, false, Option, Some, None, refl, sym, ap, subst, arith}
+use Rattle.std.specs.Prelude.{if◌then◌else◌}
+use Rattle.std.proofs.Common.{◌≡◌, ◌∙◌, ◌≤◌, ◌<◌, ℕ, zero, suc, pos, List, [], ◌∷◌, ◌++◌, length, take, get_or, All, Bool, true, false, Some, None, refl, sym, subst, arith}
 use Rattle.std.proofs.lemmas.List.{append-nil}
 use Rattle.std.proofs.lemmas.List.Elements.{All-nil, All-push, filter_map-append}
 use Rattle.std.proofs.lemmas.Option.{slice_get-get_or}
 use Rattle.std.proofs.Math.Seq.{take-suc}
 use Rattle.std.proofs.lemmas.List.{take_all}
 use Rattle.pb_site.specs.declared.declared.Declared.{Declared}
-use Rattle.pb_site.specs.Faults.{fault_of, first_fault, is_duplicate as is_duplicate_declared, is_full as is_full_declared, is_mismatch as is_mismatch_declared, is_out_of_order as is_out_of_order_declared, is_unknown as is_unknown_declared}
+use Rattle.pb_site.specs.Faults.{first_fault, is_duplicate as is_duplicate_declared, is_full as is_full_declared, is_mismatch as is_mismatch_declared, is_out_of_order as is_out_of_order_declared, is_unknown as is_unknown_declared}
 use Rattle.pb_site.specs.Laws.{IsPlant, PlantLaw}
 use Rattle.pb_facts.specs.Fact.{IsInRange}
 use Rattle.pb_facts.specs.declared.facts.KeptFact.{KeptFact}
-use Rattle.pb_book.specs.declared.answer.Refused.{Refused}
 use Rattle.pb_book.specs.declared.answer.Refused.TheVariants.{Unknown, Duplicate, Order, Mismatch, Range, Full}
 use Rattle.pb_book.specs.declared.rows.BookRow.{BookRow}
 use Rattle.pb_book.specs.declared.rows.BookRow.TheVariants.{Declaration, Period as PeriodRow, Fact as FactRow}
 use Rattle.pb_book.specs.Accepted.{AreAccepted, IsAcceptable}
-use Rattle.pb_book.specs.Refusals.{refusal_of}
 use Rattle.pb_book.specs.Rows.{StoredRow, declaration_in, declared_of, fact_in, facts_of}
 
 -- the declarations are a plant, and each fact lies in its ranges

@@ -1,9 +1,9 @@
 -- What the facts at some places moved.
-use Rattle.std.specs.Prelude.{◌&&◌, if◌then◌else◌, filter, filter_map, int_le, option_and_then}
+use Rattle.std.specs.Prelude.{◌&&◌, filter, filter_map, int_le, option_and_then}
 use Rattle.std.specs.Int.{int_max, int_min}
 use Rattle.std.specs.List.{cons_option}
-use Rattle.std.proofs.Common.{◌≡◌, ◌∙◌, ◌<◌, ◌≤◌, ◌+◌, ℕ, ℤ, suc, List, [], ◌∷◌, length, drop, get_or, Bool, true, false, Option, Some, None, refl, sym, ap, arith, inl, inr, drop-cons}
-use Rattle.std.proofs.lemmas.Bool.{and_parts, cases_Bool}
+use Rattle.std.proofs.Common.{◌≡◌, ◌∙◌, ◌<◌, ◌≤◌, ◌+◌, ℕ, ℤ, suc, List, [], ◌∷◌, length, drop, get_or, Bool, false, Option, Some, None, refl, sym, ap, arith, inl, inr, drop-cons}
+use Rattle.std.proofs.lemmas.Bool.{cases_Bool}
 use Rattle.std.proofs.lemmas.Int.{int_max_is, int_min_is, ints}
 use Rattle.std.proofs.Math.ListN.{drop_of_length-le}
 use Rattle.pb_rows.specs.Name.{same_name}

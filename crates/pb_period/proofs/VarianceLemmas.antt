@@ -1,9 +1,9 @@
 -- No variance is negative, so that graphs are within their limits.
-use Rattle.std.specs.Prelude.{not, nat_lt, int_le, IfSome, IfOk, find, filter_map, map, option_and_then, is_some, position, if◌then◌else◌}
-use Rattle.std.specs.Int.{int_div_euclid, int_gap, int_max, int_min}
+use Rattle.std.specs.Prelude.{int_le, IfSome, IfOk, find, filter_map, map, option_and_then, is_some, position, if◌then◌else◌}
+use Rattle.std.specs.Int.{int_gap, int_max, int_min}
 use Rattle.std.specs.List.{cons_option, list_all, list_any, position_or_len}
 use Rattle.std.specs.Option.{option_map}
-use Rattle.std.proofs.Common.{◌≡◌, ◌≢◌, ◌∙◌, ◌≤◌, ◌<◌, ◌+◌, ◌*◌, ◌/◌, ◌^◌, ℕ, zero, suc, ℤ, pos, negsuc, ◌≤ℤ◌, ◌<ℤ◌, ◌+ℤ◌, ◌-ℤ◌, ◌*ℤ◌, List, [], ◌∷◌, length, get_or, All, Bool, true, false, true≢false, Option, Some, None, Ok, Err, refl, sym, ap, subst, arith, inl, inr}
+use Rattle.std.proofs.Common.{◌≡◌, ◌≤◌, ◌<◌, ◌*◌, ◌/◌, ℕ, suc, ℤ, pos, negsuc, ◌≤ℤ◌, ◌+ℤ◌, ◌-ℤ◌, List, [], ◌∷◌, length, get_or, All, Bool, true, false, true≢false, Option, Some, None, refl, sym, arith, inl, inr}
 use Rattle.std.proofs.lemmas.Bool.{cases_Bool, lt-ltb}
 use Rattle.std.proofs.lemmas.Int.{int_max_is, int_min_is, ints}
 use Rattle.std.proofs.lemmas.List.{length-map}
@@ -11,12 +11,11 @@ use Rattle.std.proofs.lemmas.List.Elements.{All-cons, All-nil}
 use Rattle.std.proofs.lemmas.List.Folds.{list_any_at}
 use Rattle.std.proofs.lemmas.Nat.{le-div}
 use Rattle.std.proofs.Math.Nat.{div-mul-le_self, mul-le-mul_left}
-use Rattle.pb_limits.specs.Limits.{most_nodes, most_streams}
 use Rattle.pb_rows.specs.Name.{same_name}
 use Rattle.pb_strap.specs.declared.strap.Point.{Point}
 use Rattle.pb_graph.specs.declared.records.Meas.{Meas}
 use Rattle.pb_graph.specs.declared.records.Stream.{Stream}
-use Rattle.pb_graph.specs.ProcessGraph.{IsMeasurement, IsProcessGraph, IsStream, IsWithinLimits, ProcessGraph}
+use Rattle.pb_graph.specs.ProcessGraph.{IsMeasurement, IsProcessGraph, IsStream, IsWithinLimits}
 use Rattle.pb_site.specs.declared.declared.Arc.{Arc}
 use Rattle.pb_site.specs.declared.declared.ArcKind.{ArcKind}
 use Rattle.pb_site.specs.declared.declared.ArcKind.TheVariants.{Metered, Batch, Plain, Tank}
@@ -28,14 +27,13 @@ use Rattle.pb_facts.specs.declared.fact.Fact.{Fact}
 use Rattle.pb_facts.specs.declared.fact.Fact.TheVariants.{Reading, Transfer, Dip}
 use Rattle.pb_facts.specs.declared.facts.KeptFact.{KeptFact}
 use Rattle.pb_facts.specs.Fact.{IsInRange, is_dip_on, is_reading_on}
-use Rattle.pb_facts.specs.Facts.{live_fact, live_facts}
-use Rattle.pb_facts.specs.Share.{share_of, up_to}
+use Rattle.pb_facts.specs.Facts.{live_facts}
+use Rattle.pb_facts.specs.Share.{share_of}
 use Rattle.pb_book.specs.Rows.{StoredRow, declared_of, facts_of}
 use Rattle.pb_period.specs.declared.amount.Amount.{Amount}
 use Rattle.pb_period.specs.declared.days.Days.{Days}
-use Rattle.pb_period.specs.declared.graph.Assembly.{Assembly}
 use Rattle.pb_period.specs.Days.{day_count, each_of}
-use Rattle.pb_period.specs.Facts.{common_share, content_of, read_amount, read_on, share_on, total_of, transferred}
+use Rattle.pb_period.specs.Facts.{content_of, read_amount, read_on, share_on, total_of, transferred}
 use Rattle.pb_period.specs.Measurement.{amount_of, change_of, measured, measurement, read_total}
 use Rattle.pb_period.specs.PeriodGraph.{assembly_of, base_of, base_of_kind, design_graph, graph_with, is_over, period_graph, stream_with, unless_over}
 use Rattle.pb_period.proofs.DayLemmas.{gap_is}

@@ -8,7 +8,7 @@ use Rattle.pb_limits.specs.Limits.{most_nodes, most_points, most_streams, most_u
 use Rattle.pb_rows.specs.Name.{same_name}
 use Rattle.pb_site.specs.declared.declared.Arc.{Arc}
 use Rattle.pb_site.specs.declared.declared.Declared.{Declared}
-use Rattle.pb_site.specs.declared.declared.Declared.TheVariants.{Unit as UnitRow, Tank, Strap, Stream, CritGlobal, CritNodal, CritMeasure}
+use Rattle.pb_site.specs.declared.declared.Declared.TheVariants.{Unit as UnitRow, Tank, Strap, Stream}
 use Rattle.pb_site.specs.declared.index.Index.{Index}
 use Rattle.pb_site.specs.Row.{IsInRange, arc_in, declared_name, node_name}
 use Rattle.pb_site.specs.Site.{arc_names, arcs_of, is_tank, node_names, points_of}

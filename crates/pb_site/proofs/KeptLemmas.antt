@@ -1,9 +1,9 @@
 -- What a site keeps stays right where a declaration joins the others.
-use Rattle.std.specs.Prelude.{◌||◌, ◌==◌, is_some, if◌then◌else◌, filter_map, map}
+use Rattle.std.specs.Prelude.{◌||◌, ◌==◌, is_some, if◌then◌else◌, filter_map}
 use Rattle.std.specs.Option.{option_map}
 use Rattle.std.specs.Cmp.Lexicographic.{bytes_decides}
 use Rattle.std.specs.List.{cons_option}
-use Rattle.std.proofs.Common.{◌≡◌, ◌≢◌, ◌∙◌, ◌+◌, ◌<◌, ◌≤◌, ℕ, suc, ℤ, List, [], ◌∷◌, ◌++◌, length, get_or, All, Bool, true, false, Option, Some, None, slice_get, codes, refl, sym, ap, ap₂, subst, arith, inl, inr, length-append}
+use Rattle.std.proofs.Common.{◌≡◌, ◌∙◌, ◌+◌, ◌<◌, ◌≤◌, ℕ, suc, ℤ, List, [], ◌∷◌, ◌++◌, length, get_or, All, Bool, true, false, Option, Some, None, slice_get, codes, refl, sym, ap, ap₂, subst, arith, inl, inr, length-append}
 use Rattle.std.proofs.lemmas.Bool.{cases_Bool, eqb-false, eqb-true, or_parts}
 use Rattle.std.proofs.lemmas.List.{append-nil}
 use Rattle.std.proofs.lemmas.List.Elements.{All-append, All-cons, All-nil, All-weaker, filter_map-append}
@@ -17,8 +17,8 @@ use Rattle.pb_site.specs.declared.declared.ArcKind.TheVariants.{Tank as TankArc}
 use Rattle.pb_site.specs.declared.declared.Declared.{Declared}
 use Rattle.pb_site.specs.declared.declared.Declared.TheVariants.{Unit as UnitRow, Tank, Strap, Stream, CritGlobal, CritNodal, CritMeasure}
 use Rattle.pb_site.specs.declared.index.Index.{Index}
-use Rattle.pb_site.specs.Row.{IsArcBase, IsInRange, arc_in, arc_kind, declared_name, declares_tank, global_value, measure_value, nodal_value, node_at, node_name, point_of}
-use Rattle.pb_site.specs.Site.{AreDistinct, HasDistinctNames, IsArc, arc_names, arcs_of, global_of, is_tank, measure_of, nodal_of, node_names, points_of, table_of}
+use Rattle.pb_site.specs.Row.{IsInRange, arc_in, arc_kind, declared_name, declares_tank, global_value, measure_value, nodal_value, node_at, node_name, point_of}
+use Rattle.pb_site.specs.Site.{AreDistinct, HasDistinctNames, IsArc, arcs_of, global_of, is_tank, measure_of, nodal_of, node_names, points_of, table_of}
 use Rattle.pb_site.specs.Faults.{is_among, is_node}
 use Rattle.pb_site.specs.Laws.{IsPlant, PlantLaw}
 use Rattle.pb_site.specs.Kept.{IsKept, Notes, SameIndex, arc_name, nodes_in, table_with, value_with}

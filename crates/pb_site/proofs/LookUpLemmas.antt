@@ -1,10 +1,8 @@
 -- Nodes, arcs and tables, as they are looked up.
 use Rattle.std.specs.Prelude.{◌||◌, find, filter_map, map, option_and_then, position}
-use Rattle.std.specs.Cmp.Lexicographic.{bytes_decides}
-use Rattle.std.specs.HashMap.{get}
 use Rattle.std.specs.List.{list_any, position_or_len}
 use Rattle.std.specs.Option.{IsSome, option_map}
-use Rattle.std.proofs.Common.{◌≡◌, ◌≢◌, ◌∙◌, ℕ, zero, suc, ◌+◌, ◌<◌, List, [], ◌∷◌, ◌++◌, length, get_or, slice_get, Bool, true, false, true≢false, Option, Some, None, codes, refl, sym, ap, subst, arith, inl, inr, length-append}
+use Rattle.std.proofs.Common.{◌≡◌, ◌≢◌, ◌∙◌, ℕ, zero, suc, ◌<◌, List, [], ◌∷◌, ◌++◌, length, get_or, slice_get, Bool, true, false, true≢false, Option, Some, None, codes, refl, sym, ap, subst, arith, inl, inr, length-append}
 use Rattle.std.proofs.lemmas.Bool.{cases_Bool, lt-ltb, or_parts}
 use Rattle.std.proofs.lemmas.List.{get_or-map, length-map}
 use Rattle.std.proofs.lemmas.List.Quantifiers.{position-Some}
@@ -15,7 +13,7 @@ use Rattle.pb_site.specs.declared.declared.Kind.{Kind}
 use Rattle.pb_site.specs.declared.declared.Kind.TheVariants.{Metered, Batch, Plain}
 use Rattle.pb_site.specs.declared.declared.Arc.{Arc}
 use Rattle.pb_site.specs.declared.declared.ArcKind.{ArcKind}
-use Rattle.pb_site.specs.declared.declared.ArcKind.TheVariants.{Metered as MeteredArc, Batch as BatchArc, Plain as PlainArc, Tank as TankArc}
+use Rattle.pb_site.specs.declared.declared.ArcKind.TheVariants.{Tank as TankArc}
 use Rattle.pb_site.specs.declared.declared.Declared.{Declared}
 use Rattle.pb_site.specs.declared.declared.Declared.TheVariants.{Tank, Stream}
 use Rattle.pb_site.specs.declared.index.Index.{Index}

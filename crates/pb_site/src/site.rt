@@ -1,6 +1,6 @@
 // The declared plant.
 
-ghost use Rattle.std.specs.Prelude.{◌≡◌, ℕ, ◌≤◌, ◌<◌, ◌∷◌, ◌++◌, [], length, Option, Some, None, IfOk, OnOk, OnErr, IsTrue, ◌↔◌, is_some, position, slice_get, option_and_then, option_copied, codes};
+ghost use Rattle.std.specs.Prelude.{◌≡◌, ◌≤◌, ◌<◌, ◌∷◌, ◌++◌, [], length, Option, Some, None, IfOk, OnOk, OnErr, IsTrue, ◌↔◌, position, slice_get, option_and_then, option_copied};
 ghost use Rattle.pb_limits.specs.Limits.{most_nodes, most_streams};
 ghost use Rattle.pb_rows.specs.Name.{same_name};
 ghost use Rattle.pb_site.specs.Row.{IsInRange};

@@ -1,4 +1,4 @@
-use Rattle.std.proofs.Common.{ℤ, pos, ◌+ℤ◌, FitsSigned, rules, arith}
+use Rattle.std.proofs.Common.{pos, ◌+ℤ◌, FitsSigned, arith}
 use mir.Syntax.{w32}
 use Rattle.std.proofs.lemmas.Int.{ints, to_z-of_z}
 use Rattle.pb_facts.proofs.places.make_room.Goals as goal

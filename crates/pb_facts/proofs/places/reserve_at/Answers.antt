@@ -1,4 +1,4 @@
-use Rattle.std.proofs.Common.{rules, arith, sym}
+use Rattle.std.proofs.Common.{arith, sym}
 use Rattle.pb_facts.proofs.TransferLemmas.{room_after, same_after}
 use Rattle.pb_facts.proofs.places.reserve_at.Goals as goal
 

@@ -1,17 +1,11 @@
-use Rattle.std.specs.Prelude.{option_and_then, find, ◌-ℤ◌}
-use Rattle.std.proofs.Common.{◌≡◌, ◌∙◌, ℕ, pos, List, Option, Some, None, slice_get, unwrap_or, sym, ap}
+use Rattle.std.specs.Prelude.{option_and_then}
+use Rattle.std.proofs.Common.{◌≡◌, ◌∙◌, ℕ, List, Option, Some, slice_get, unwrap_or, ap}
 use Rattle.pb_strap.specs.declared.strap.Point.{Point}
 use Rattle.pb_site.specs.declared.declared.Arc.{Arc}
 use Rattle.pb_site.specs.declared.declared.ArcKind.TheVariants.{Tank}
 use Rattle.pb_site.specs.declared.declared.Declared.{Declared}
 use Rattle.pb_site.specs.Site.{arcs_of, points_of, table_of_arc, table_of_kind}
-use Rattle.pb_facts.specs.declared.fact.Fact.{Fact}
-use Rattle.pb_facts.specs.declared.facts.KeptFact.{KeptFact}
-use Rattle.pb_facts.specs.Fact.{is_dip_on}
-use Rattle.pb_facts.specs.Facts.{live_facts}
-use Rattle.pb_book.specs.Rows.{declared_of, facts_of}
-use Rattle.pb_period.specs.Facts.{content_of}
-use Rattle.pb_period.specs.Measurement.{amount_of, change_of}
+use Rattle.pb_book.specs.Rows.{declared_of}
 use Rattle.pb_period.proofs.graph.amount_of.Goals as goal
 
 -- the table of a tank's arc is that of the tank

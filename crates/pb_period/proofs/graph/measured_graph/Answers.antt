@@ -1,15 +1,13 @@
 use Rattle.std.specs.Prelude.{map}
-use Rattle.std.proofs.Common.{◌≡◌, ◌∙◌, ◌+◌, ◌<◌, ◌≤◌, ℕ, false, [], ◌∷◌, ◌++◌, length, drop, inl, inr, sym, ap, arith, length-append}
-use Rattle.std.proofs.lemmas.Bool.{cases_Bool}
+use Rattle.std.proofs.Common.{◌≡◌, ◌∙◌, ◌+◌, ◌≤◌, ℕ, false, [], ◌∷◌, ◌++◌, length, drop, sym, ap, arith, length-append}
 use Rattle.std.proofs.lemmas.List.Elements.{All-push}
 use Rattle.pb_graph.specs.declared.records.Stream.{Stream}
-use Rattle.pb_graph.specs.ProcessGraph.{Fits}
 use Rattle.pb_site.specs.Site.{arcs_of}
 use Rattle.pb_book.specs.Rows.{declared_of, facts_of}
 use Rattle.pb_facts.specs.Facts.{live_facts}
 use Rattle.pb_period.specs.Measurement.{measured}
 use Rattle.pb_period.specs.PeriodGraph.{is_over, stream_with}
-use Rattle.pb_period.proofs.GraphLemmas.{finished, next, nothing_left, not_over, one_more, over_at, streams_of, within}
+use Rattle.pb_period.proofs.GraphLemmas.{finished, next, nothing_left, one_more, over_at, streams_of}
 use Rattle.pb_period.proofs.graph.measured_graph.Goals as goal
 
 pub is_over-requires-clause-room : goal.is_over-requires-clause-room

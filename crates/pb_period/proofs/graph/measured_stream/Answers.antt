@@ -1,5 +1,5 @@
 use Rattle.std.specs.Prelude.{option_map}
-use Rattle.std.proofs.Common.{◌≡◌, ◌∙◌, ℕ, List, Option, Some, None, FitsSigned, slice_get, sym, ap, rules}
+use Rattle.std.proofs.Common.{◌≡◌, ◌∙◌, ℕ, List, Option, Some, FitsSigned, slice_get, sym, ap, rules}
 use mir.Syntax.{w128}
 use Rattle.std.proofs.lemmas.Int.{to_z-of_z}
 use Rattle.pb_graph.specs.declared.records.Meas.{Meas}
@@ -10,9 +10,8 @@ use Rattle.pb_site.specs.Site.{arcs_of}
 use Rattle.pb_facts.specs.declared.fact.Fact.{Fact}
 use Rattle.pb_facts.specs.Facts.{live_facts}
 use Rattle.pb_book.specs.Rows.{declared_of, facts_of}
-use Rattle.pb_period.specs.declared.amount.Amount.{Amount}
 use Rattle.pb_period.specs.declared.days.Days.{Days}
-use Rattle.pb_period.specs.Measurement.{amount_of, measured, measurement}
+use Rattle.pb_period.specs.Measurement.{measured, measurement}
 use Rattle.pb_period.specs.PeriodGraph.{stream_with}
 use Rattle.pb_period.proofs.graph.measured_stream.Goals.{in-Some, in-None}
 use Rattle.pb_period.proofs.graph.measured_stream.Goals as goal

@@ -1,10 +1,8 @@
-use Rattle.std.proofs.Common.{rules, ◌≡◌, ◌∙◌, ◌+◌, ◌<◌, ℕ, ℤ, List, [], FitsSigned, None, Some, Option, ap, arith, length, get_or, subst, sym}
-use Rattle.std.specs.Global.{Vec}
-use Rattle.std.specs.HashMap.{get}
+use Rattle.std.proofs.Common.{rules, ◌≡◌, ◌∙◌, ◌<◌, ℕ, ℤ, List, [], FitsSigned, ap, arith, length, get_or, subst, sym}
 use mir.Syntax.{w32}
 use Rattle.std.proofs.lemmas.Int.{to_z-of_z}
 use Rattle.pb_facts.specs.Facts.{HoldsTransfers}
-use Rattle.pb_facts.specs.Places.{block_of, is_about, places_from, same_key}
+use Rattle.pb_facts.specs.Places.{block_of, is_about, places_from}
 use Rattle.pb_facts.specs.declared.facts.KeptFact.{KeptFact}
 use Rattle.pb_facts.proofs.TransferLemmas.{holds_transfers, places_from-below, places_from-few, places_in}
 use Rattle.pb_facts.proofs.facts.Facts.transfers_within.Goals as goal

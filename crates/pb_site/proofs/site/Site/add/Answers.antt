@@ -1,4 +1,3 @@
-use Rattle.std.proofs.Common.{sym}
 use Rattle.pb_site.proofs.FaultLemmas.{fine, new_row}
 use Rattle.pb_site.proofs.KeptLemmas.{kept_more, kept_same}
 use Rattle.pb_site.proofs.site.Site.add.Goals as goal

@@ -1,4 +1,4 @@
-use Rattle.std.proofs.Common.{◌∙◌, List, ap, sym}
+use Rattle.std.proofs.Common.{◌∙◌, List, ap}
 use Rattle.pb_strap.specs.Table.{is_full}
 use Rattle.pb_strap.specs.declared.strap.Point.{Point}
 use Rattle.pb_site.proofs.LookUpLemmas.{table_points}

@@ -1,8 +1,6 @@
-use Rattle.std.specs.Prelude.{position}
-use Rattle.std.proofs.Common.{◌≡◌, ◌∙◌, List, Some, ap, length, sym, arith}
-use Rattle.pb_rows.specs.Name.{same_name}
+use Rattle.std.proofs.Common.{◌∙◌, List, Some, ap, length, sym, arith}
 use Rattle.pb_site.specs.declared.declared.Arc.{Arc}
-use Rattle.pb_site.specs.Site.{arc_names, arcs_of}
+use Rattle.pb_site.specs.Site.{arcs_of}
 use Rattle.pb_site.proofs.LookUpLemmas.{kind_at, kind_within, no_kind}
 use Rattle.pb_site.proofs.site.Site.kind_of.Goals as goal
 
