@@ -74,9 +74,11 @@ itself : {X : Type 0} (xs : List X) → Extends xs xs
 itself xs = record { kept = λ i x is. is }
 
 longer : {X : Type 0} (xs ys : List X) → Extends xs (xs ++ ys)
-longer xs ys = record { kept = λ i x is.
-  let within : i < length xs = slice_get_within xs i x is in
-  slice_get-get_or (xs ++ ys) i x (omega (arith, within, length-append xs ys)) ∙ ap Some (get_or-append xs ys x i within ∙ get_or_from_slice_get xs i x x is) }
+longer xs ys = record {
+  kept = λ i x is.
+      let within : i < length xs = slice_get_within xs i x is in
+      slice_get-get_or (xs ++ ys) i x (omega (arith, within, length-append xs ys)) ∙ ap Some (get_or-append xs ys x i within ∙ get_or_from_slice_get xs i x x is);
+}
 
 -- an item found in a list is found in a longer one
 still : {X Y : Type 0} (f : X → Y) (xs ys : List X) (i : ℕ) → Extends xs ys → IsSome (option_map f (slice_get xs i)) → option_map f (slice_get ys i) ≡ option_map f (slice_get xs i)
@@ -174,7 +176,7 @@ kept_declaration declared kept periods places at i row right fine last =
 pub kept_period : (declared : List Declared) (kept : List KeptFact) (periods : List Period) (places : List Place) (at i : ℕ) (name : List ℕ) (first last : ℤ)
     → IsKept declared kept periods places → IsAcceptable (rows_at declared kept periods places) (PeriodRow name first last) → i ≡ length periods
     → IsKeptAfter declared kept periods places declared kept (periods ++ record { name = name; first = first; last = last; closed = false } ∷ [])
-        (record { at = at; part = InPeriods i }) (record { at = at; row = PeriodRow name first last })
+    (record { at = at; part = InPeriods i }) (record { at = at; row = PeriodRow name first last })
 kept_period declared kept periods places at i name first last right fine behind =
     let period : Period = record { name = name; first = first; last = last; closed = false } in
     kept_more declared kept periods places declared kept (periods ++ period ∷ []) (record { at = at; part = InPeriods i }) (record { at = at; row = PeriodRow name first last }) right

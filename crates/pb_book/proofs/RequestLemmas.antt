@@ -111,9 +111,12 @@ asked texts Transfer (id ∷ stream ∷ first ∷ last ∷ grams ∷ variance �
     (dated texts first days.0, dated texts last (last_fine _ days.1), grams_in_range grams parts.0, between (pos 0) (pos most_row_variance) variance (last_fine _ parts.1))
 asked texts Dip (id ∷ tank ∷ day ∷ mm ∷ density ∷ variance ∷ []) fine =
     let parts = or_parts (is_bad_number level_column mm) (is_bad_number density_column density || (is_bad_number variance_column variance || false)) fine.numbers in
-    let more = or_parts (is_bad_number density_column density) (is_bad_number variance_column variance || false) parts.1 in
-    (dated texts day (last_fine _ fine.dates), between (pos 0) (pos most_level) mm parts.0, between (pos 1) (pos most_density) density more.0,
-    between (pos 0) (pos most_row_variance) variance (last_fine _ more.1))
+    let more = or_parts (is_bad_number density_column density) (is_bad_number variance_column variance || false) parts.1 in (
+      dated texts day (last_fine _ fine.dates),
+      between (pos 0) (pos most_level) mm parts.0,
+      between (pos 1) (pos most_density) density more.0,
+      between (pos 0) (pos most_row_variance) variance (last_fine _ more.1),
+    )
 asked texts Design [] fine = tt
 asked texts Report (period ∷ []) fine = tt
 asked texts kind fields fine = tt

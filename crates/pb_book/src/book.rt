@@ -131,9 +131,7 @@ impl Book {
     fn answer(&mut self, at: u32, request: Request) -> Result<Accepted, NotAccepted>
         requires { IsRequestInRange request }
         ensures answer { result ≢ Err NoMemory → result ≡ said_of (answer_to self.old request) }
-        ensures stored {
-            result ≢ Err NoMemory → self.new ≡ after_answer self.old at (answer_to self.old request)
-        }
+        ensures stored { result ≢ Err NoMemory → self.new ≡ after_answer self.old at (answer_to self.old request) }
         ensures unchanged { result ≡ Err NoMemory → self.new ≡ self.old }
     {
         match request {
@@ -150,13 +148,9 @@ impl Book {
     // Stores a row, or says why it is refused.
     fn store(&mut self, at: u32, row: BookRow) -> Result<Accepted, NotAccepted>
         requires { IsRowInRange row }
-        ensures answer {
-            result ≢ Err NoMemory → result ≡ said_of (stored_or_refused row (refusal_of self.old row))
-        }
-        ensures stored {
-            result ≢ Err NoMemory
-            → self.new ≡ after_answer self.old at (stored_or_refused row (refusal_of self.old row))
-        }
+        ensures answer { result ≢ Err NoMemory → result ≡ said_of (stored_or_refused row (refusal_of self.old row)) }
+        ensures stored { result ≢ Err NoMemory
+            → self.new ≡ after_answer self.old at (stored_or_refused row (refusal_of self.old row)) }
         ensures unchanged { result ≡ Err NoMemory → self.new ≡ self.old }
     {
         if let Some(cause) = judge(&self.site, &self.facts, &self.periods, &row) {

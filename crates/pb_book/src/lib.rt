@@ -12,8 +12,8 @@ mod periods;
 mod requests;
 mod rows;
 
-pub use book::Book;
 pub use answer::{Accepted, NotAccepted, Refused};
+pub use book::Book;
 pub use laws::{accepted_law, requests_law};
 pub use requests::{Request, RowKind, Version, read_request};
 pub use rows::{BookRow, Part, Period, Place};

@@ -301,10 +301,8 @@ fn transfer(
     grams: &[u8],
     variance: &[u8],
 ) -> Result<Request, Refused>
-    ensures {
-        ReadsRow Transfer
-            (id.now ∷ stream.now ∷ first.now ∷ last.now ∷ grams.now ∷ variance.now ∷ []) result
-    }
+    ensures { ReadsRow Transfer
+        (id.now ∷ stream.now ∷ first.now ∷ last.now ∷ grams.now ∷ variance.now ∷ []) result }
 {
     let id = fields::name(id)?;
     let stream = fields::name(stream)?;
@@ -331,10 +329,8 @@ fn dip(
     density: &[u8],
     variance: &[u8],
 ) -> Result<Request, Refused>
-    ensures {
-        ReadsRow Dip
-            (id.now ∷ tank.now ∷ day.now ∷ mm.now ∷ density.now ∷ variance.now ∷ []) result
-    }
+    ensures { ReadsRow Dip
+        (id.now ∷ tank.now ∷ day.now ∷ mm.now ∷ density.now ∷ variance.now ∷ []) result }
 {
     let id = fields::name(id)?;
     let tank = fields::name(tank)?;

@@ -19,7 +19,11 @@ fn row(alloc: Global, text: &[u8]) -> Result<Row, Fail> {
 }
 
 // Takes a record, and tells the answer.
-fn tell(alloc: Global, book: &mut Book, text: &[u8]) -> Result<Result<Accepted, NotAccepted>, Fail> {
+fn tell(
+    alloc: Global,
+    book: &mut Book,
+    text: &[u8],
+) -> Result<Result<Accepted, NotAccepted>, Fail> {
     Ok(book.accept(1, &row(alloc, text)?))
 }
 
@@ -211,6 +215,9 @@ fn store_units(alloc: Global, book: &mut Book, count: u16) -> Result<(), Fail> {
 fn refuses_the_1001st_unit(rt: HostRuntime) -> Result<(), Fail> {
     let mut book = Book::new(rt.alloc());
     store_units(rt.alloc(), &mut book, 1_000)?;
-    assert_eq!(rt; tell(rt.alloc(), &mut book, b"unit,U")?, Err(NotAccepted::Refused(Refused::Full)));
+    assert_eq!(rt;
+        tell(rt.alloc(), &mut book, b"unit,U")?,
+        Err(NotAccepted::Refused(Refused::Full))
+    );
     Ok(())
 }

@@ -12,9 +12,9 @@ write_design-requires c = record {
   named = c.requires.names.each;
   each = c.in_ok-classes.ensures.each;
   within = λ j d lt.
-    let classes = c.in_ok-classes.classes in
-    let certified = (c.in_ok-classes.ensures.right j (get_or classes j d) (slice_get-get_or classes j d lt)).certified in
-    witness_within c.args.graph.now j (get_or classes j d) certified;
+      let classes = c.in_ok-classes.classes in
+      let certified = (c.in_ok-classes.ensures.right j (get_or classes j d) (slice_get-get_or classes j d lt)).certified in
+      witness_within c.args.graph.now j (get_or classes j d) certified;
 }
 
 pub returns-clause-ok : goal.returns-clause-ok
