@@ -53,8 +53,8 @@ impl From<SinkFailed> for Stopped {
     }
 }
 
-/// Answers the records of these bytes in order, in a session that has stored nothing, and writes what each adds to the
-/// output before it takes the next.
+/// Answers the records of these bytes in order, in a session that has stored nothing, and writes the output. (It writes what
+/// each record adds before it takes the next; no clause says when.)
 pub fn answer<W: Sink>(alloc: Global, input: &[u8], sink: &mut W) -> Status
     requires { length input.now ≤ most_bytes }
 

@@ -16,7 +16,8 @@ use std::alloc::Global;
 
 /// Reads a session from a source to its end, and writes its output to a sink.
 ///
-/// The whole input is read before anything is written, and what each record adds is written before the next is taken.
+/// The whole input is read before anything is written, and what each record adds is written before the next is taken: so the
+/// code does it, and no clause says when.
 ///
 /// The clauses speak of the bytes that were taken and put. Where an end doesn't tell its bytes, as standard input and output
 /// don't, they speak of the numbers of bytes alone; [`answer`] says the same of bytes in hand.
