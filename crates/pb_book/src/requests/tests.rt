@@ -22,17 +22,15 @@ fn record(alloc: Global, text: &[u8]) -> Result<Rows, Fail>
 
 // The fault of a record.
 fn fault_in(row: &Row) -> Option<Refused> {
-    read_request(Version::One, row).err()
+    match read_request(Version::One, row) {
+        Ok(_) => None,
+        Err(cause) => Some(cause),
+    }
 }
 
 // The fault of the first record of a text.
 fn fault(alloc: Global, text: &[u8]) -> Result<Option<Refused>, Fail> {
     Ok(fault_in(record(alloc, text)?.at(0)))
-}
-
-// What a record asks.
-fn asked(row: &Row) -> Option<Request> {
-    read_request(Version::One, row).ok()
 }
 
 // The row that a record asks to be stored.
@@ -271,12 +269,17 @@ fn report_of(request: Request) -> Option<Name> {
     }
 }
 
+// The period whose report a record asks for.
+fn report_in(row: &Row) -> Option<Name> {
+    match read_request(Version::One, row) {
+        Ok(request) => report_of(request),
+        Err(_) => None,
+    }
+}
+
 // The period whose report the first record of a text asks for.
 fn reported(alloc: Global, text: &[u8]) -> Result<Name, Fail> {
-    match asked(record(alloc, text)?.at(0)) {
-        Some(request) => Ok(report_of(request).ok_or("no report")?),
-        None => Err("no request")?,
-    }
+    Ok(report_in(record(alloc, text)?.at(0)).ok_or("no report")?)
 }
 
 #[test]
