@@ -2,6 +2,7 @@
 pub mod Bytes
 pub mod Records
 pub mod Name
+pub mod Reason
 pub mod Number
 pub mod Date
 pub mod Written

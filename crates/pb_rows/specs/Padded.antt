@@ -1,22 +1,22 @@
--- Inside. How a name lies in its 32 bytes: in front, with zeros behind it.
-use Rattle.std.specs.Prelude.{◌≡◌, ◌≤◌, ◌-◌, ◌++◌, ℕ, List, length, take, drop, replicate, true}
+-- Inside. How a text lies in an array of bytes: in front, with zeros behind it.
+use Rattle.std.specs.Prelude.{◌≡◌, ◌≤◌, ◌-◌, ◌++◌, ℕ, List, Bool, length, take, drop, replicate, true}
 use Rattle.std.proofs.Common.{arith, ap, sym, ◌∙◌}
 use Rattle.std.proofs.lemmas.List.{length-take-le, take-append-drop}
-use Rattle.pb_rows.specs.Name.{is_name}
-use Rattle.pb_rows.specs.declared.name.Name.TheInside.{Inside}
 
--- the first bytes are a name, and zeros come after it
-pub record IsPaddedName (len : ℕ) (bytes : List ℕ) : Type 0 where
-  pub room : length bytes ≡ 32
-  pub fits : len ≤ 32
-  pub form : is_name (take len bytes) ≡ true
-  pub zeros : drop len bytes ≡ replicate (32 - len) 0
+-- the first bytes are of the form, and zeros come after them
+pub record IsPadded (is_form : List ℕ → Bool) (room len : ℕ) (bytes : List ℕ) : Type 0 where
+  pub long : length bytes ≡ room
+  pub fits : len ≤ room
+  pub form : is_form (take len bytes) ≡ true
+  pub zeros : drop len bytes ≡ replicate (room - len) 0
 
--- the fields of a name follow from its bytes
-pub padded_back : (a : Inside) → IsPaddedName a.len a.bytes
-    → record { bytes = take a.len a.bytes ++ replicate (32 - length (take a.len a.bytes)) 0; len = length (take a.len a.bytes) } ≡ a
-padded_back a h =
-    let len : length (take a.len a.bytes) ≡ a.len = length-take-le a.len a.bytes (omega (arith, h.fits, h.room)) in
-    let bytes : take a.len a.bytes ++ replicate (32 - length (take a.len a.bytes)) 0 ≡ a.bytes =
-    ap (λ (n : ℕ). take a.len a.bytes ++ replicate {A = ℕ} (32 - n) 0) len ∙ ap (λ (z : List ℕ). take a.len a.bytes ++ z) (sym h.zeros) ∙ take-append-drop a.len a.bytes in
-    λ i. record { bytes = bytes i; len = len i }
+-- how long the text is follows from its bytes
+pub padded_len : (is_form : List ℕ → Bool) (room len : ℕ) (bytes : List ℕ) → IsPadded is_form room len bytes → length (take len bytes) ≡ len
+padded_len is_form room len bytes h = length-take-le len bytes (omega (arith, h.fits, h.long))
+
+-- and so does the array
+pub padded_bytes : (is_form : List ℕ → Bool) (room len : ℕ) (bytes : List ℕ) → IsPadded is_form room len bytes
+    → take len bytes ++ replicate (room - length (take len bytes)) 0 ≡ bytes
+padded_bytes is_form room len bytes h =
+    ap (λ (n : ℕ). take len bytes ++ replicate {A = ℕ} (room - n) 0) (padded_len is_form room len bytes h)
+    ∙ ap (λ (z : List ℕ). take len bytes ++ z) (sym h.zeros) ∙ take-append-drop len bytes

@@ -1,5 +1,6 @@
 // Laws: that numbers, dates and rows are read back from their texts.
 
+ghost use Rattle.pb_rows.specs.Reason.{IsMostReason};
 ghost use Rattle.pb_rows.specs.Texts.{HaveOneDateText, HaveOneNumberText, WrittenRowsReadBack};
 
 /// The law that each whole number has one text, which is what is written for it, and that no other field writes it.
@@ -17,4 +18,9 @@ pub fn date_text_law()
 /// first field of each is one or more letters from `a` to `z`.
 pub fn written_rows_law()
     ensures { WrittenRowsReadBack }
+{}
+
+/// The constant for the length of a reason is the number of its definition.
+pub fn reason_limit_law()
+    ensures { IsMostReason }
 {}

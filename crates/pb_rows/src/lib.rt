@@ -2,21 +2,23 @@
 //!
 //! A record is what `csv` reads by its own definition of reading (flexible, without headers, without trimming, a byte order
 //! mark taken off the front); a row is written as `csv` writes it and ended by a line feed.
-//! Fields are read exactly: names, whole numbers and civil dates.
+//! Fields are read exactly: names, reasons, whole numbers and civil dates.
 #![tactic(auto)]
 
 mod date;
 mod laws;
 mod name;
 mod number;
+mod reason;
 mod row;
 #[cfg(test)]
 mod tests;
 mod writer;
 
 pub use date::read_date;
-pub use laws::{date_text_law, number_text_law, written_rows_law};
+pub use laws::{date_text_law, number_text_law, reason_limit_law, written_rows_law};
 pub use name::{Name, NameList, Names};
 pub use number::{read_whole, whole_bytes};
+pub use reason::{MOST_REASON, Reason};
 pub use row::{Row, Rows};
 pub use writer::RowWriter;

@@ -25,17 +25,21 @@ pub struct Name {
 
 impl Model for Name {
     ghost use Rattle.std.specs.Prelude.{List, ℕ, take, ◌++◌, ◌-◌, replicate, length};
-    ghost use Rattle.pb_rows.specs.Padded.{IsPaddedName, padded_back};
+    ghost use Rattle.pb_rows.specs.Name.{is_name};
+    ghost use Rattle.pb_rows.specs.Padded.{IsPadded, padded_bytes, padded_len};
 
     ghost Value = { List ℕ };
 
     ghost view = { λ a. take a.len a.bytes };
 
-    ghost invariant = { λ a. IsPaddedName a.len a.bytes };
+    ghost invariant = { λ a. IsPadded is_name 32 a.len a.bytes };
 
     ghost inverse = { λ v. record { bytes = v ++ replicate (32 - length v) 0; len = length v } };
 
-    ghost inverse_ok = { λ a h. padded_back a h };
+    ghost inverse_ok = { λ a h. λ i. record {
+      bytes = padded_bytes is_name 32 a.len a.bytes h i;
+      len = padded_len is_name 32 a.len a.bytes h i;
+    } };
 }
 
 impl PartialEq for Name {

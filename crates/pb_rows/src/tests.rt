@@ -1,6 +1,8 @@
 // What no clause says: that calls succeed where memory is ample, and values from outside.
 
-use crate::{Name, NameList, Names, Row, RowWriter, Rows, read_date, read_whole, whole_bytes};
+use crate::{
+    Name, NameList, Names, Reason, Row, RowWriter, Rows, read_date, read_whole, whole_bytes,
+};
 use std::test::Fail;
 
 #[test]
@@ -172,4 +174,29 @@ fn writes_rows(rt: HostRuntime) -> Result<(), Fail> {
         b"edit,9,\"typed, \"\"twice\"\"\",\nend\n".as_slice()
     );
     Ok(())
+}
+
+#[test]
+fn reads_reasons(rt: HostRuntime) {
+    let long = [b'x'; 81];
+    let table: [(&[u8], bool); 8] = [
+        (b"misread dip, see ticket 7", true),
+        (b" ", true),
+        (b"~", true),
+        (&long[..80], true),
+        (&long, false),
+        (b"", false),
+        (b"tab\there", false),
+        ("caf\u{e9}".as_bytes(), false),
+    ];
+    for (field, is) in table {
+        assert_eq!(rt; Reason::read(field).is_some(), is, "the reason {field:?}");
+    }
+    match Reason::read(b"late ticket") {
+        Some(reason) => {
+            assert_eq!(rt; reason.bytes(), b"late ticket".as_slice());
+            assert!(rt; reason == reason);
+        }
+        None => assert!(rt; false, "no reason"),
+    }
 }

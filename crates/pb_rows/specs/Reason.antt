@@ -1,0 +1,29 @@
+-- Statement. The form of a reason.
+use Rattle.std.specs.Prelude.{◌≡◌, nat_eq, ℕ, List, length, Bool, ◌==◌, ◌&&◌, not, nat_le}
+use Rattle.std.specs.Cmp.Lexicographic.{pointwise}
+use Rattle.std.specs.List.{list_all}
+use Rattle.pb_rows.specs.declared.reason.TheConstants.{MOST_REASON}
+
+-- how many bytes a reason has at the most
+abbrev pub most_reason : ℕ
+most_reason = 80
+
+-- a byte from the space to `~`
+abbrev pub is_reason_byte : ℕ → Bool
+is_reason_byte byte = nat_le 32 byte && nat_le byte 126
+
+-- 1 to 80 bytes
+abbrev pub has_reason_length : List ℕ → Bool
+has_reason_length field = not (length field == 0) && nat_le (length field) most_reason
+
+-- 1 to 80 such bytes
+abbrev pub is_reason : List ℕ → Bool
+is_reason field = has_reason_length field && list_all is_reason_byte field
+
+-- whether two reasons are the same, byte for byte
+abbrev pub same_reason : List ℕ → List ℕ → Bool
+same_reason a b = pointwise nat_eq a b
+
+-- the constant of the code is the number of its definition
+abbrev pub IsMostReason : Type 0
+IsMostReason = MOST_REASON ≡ most_reason
