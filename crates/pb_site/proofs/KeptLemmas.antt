@@ -268,6 +268,7 @@ plant_more declared row plant good ranges =
     let more = filter_map node_name (row ∷ []) in
     let arcs = filter_map (arc_in (node_names declared ++ more)) (row ∷ []) in
     record {
+      ranges = All-append IsInRange declared (row ∷ []) plant.ranges (All-cons IsInRange row [] ranges (All-nil IsInRange));
       distinct = distinct_more declared row good plant.distinct;
       joined = joined_more declared row good ranges plant.joined;
       few_nodes = subst (λ (names : List (List ℕ)). length names ≤ most_nodes) (sym (nodes_more declared row))
@@ -298,7 +299,7 @@ kept_more declared old new row kept notes good ranges =
 
 pub plant_law : PlantLaw
 plant_law = (
-  record { distinct = record { nodes = one (codes "env"); arcs = none; all = one (codes "env") }; joined = All-nil (IsArc 1); few_nodes = omega arith; few_arcs = omega arith },
+  record { ranges = All-nil IsInRange; distinct = record { nodes = one (codes "env"); arcs = none; all = one (codes "env") }; joined = All-nil (IsArc 1); few_nodes = omega arith; few_arcs = omega arith },
   λ declared row plant ranges no_fault. plant_more declared row plant (fine declared row no_fault) ranges,
 )
   where

@@ -6,8 +6,9 @@ use Rattle.pb_site.specs.Row.{IsInRange}
 use Rattle.pb_site.specs.Site.{HasDistinctNames, IsArc, arcs_of, node_names}
 use Rattle.pb_site.specs.Faults.{fault_of}
 
--- names are distinct, each arc leads from a node to another one, and there are not too many nodes and arcs
+-- numbers are in their ranges, names are distinct, each arc leads from a node to another one, and there are not too many nodes and arcs
 pub record IsPlant (declared : List Declared) : Type 0 where
+  pub ranges : All IsInRange declared
   pub distinct : HasDistinctNames declared
   pub joined : All (IsArc (length (node_names declared))) (arcs_of declared)
   pub few_nodes : length (node_names declared) ≤ most_nodes

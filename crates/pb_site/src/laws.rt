@@ -2,8 +2,8 @@
 
 ghost use Rattle.pb_site.specs.Laws.{PlantLaw};
 
-/// Where no declaration has a fault behind those before it, names are distinct, each arc leads from a node to another one, and there
-/// are not too many nodes and arcs.
+/// Where no declaration has a fault behind those before it, numbers are in their ranges, names are distinct, each arc leads from a node
+/// to another one, and there are not too many nodes and arcs.
 pub fn plant_law()
     ensures { PlantLaw }
 {}

@@ -4,6 +4,7 @@ ghost use Rattle.std.specs.Prelude.{◌≡◌, ◌≤◌, ◌<◌, ◌∷◌, �
 ghost use Rattle.pb_limits.specs.Limits.{most_nodes, most_streams};
 ghost use Rattle.pb_rows.specs.Name.{same_name};
 ghost use Rattle.pb_site.specs.Row.{IsInRange};
+ghost use Rattle.pb_site.specs.Laws.{IsPlant};
 ghost use Rattle.pb_site.specs.Site.{HasDistinctNames, IsArc, arc_names, arcs_of, global_of, is_tank, kind_of, measure_of, names_of, nodal_of, node_names, node_of, table_of, table_of_arc};
 ghost use Rattle.pb_site.specs.Faults.{fault_of, has_most_arcs, has_most_nodes, is_duplicate, is_full, is_mismatch, is_node, is_one_node, is_out_of_order, is_taken, is_unknown};
 
@@ -88,6 +89,14 @@ impl Site {
         self.index.note(self.alloc, &row)?;
         self.declared.push_reserved(row);
         Ok(())
+    }
+
+    /// The declarations in order.
+    pub fn declared(&self) -> &[Declared]
+        ensures value { result.now ≡ self.now }
+        ensures plant { IsPlant self.now }
+    {
+        self.declared.as_slice()
     }
 
     /// The number of declarations.
