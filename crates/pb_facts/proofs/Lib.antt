@@ -1,3 +1,4 @@
+mod ChangeLemmas
 mod LiveLemmas
 mod PlaceLemmas
 mod PositionLemmas

@@ -23,7 +23,7 @@ use Rattle.pb_facts.proofs.PositionLemmas.{any_absent, is_some-position, positio
 
 -- ---- a new fact that repeats none
 
-or_none : (a b : Bool) → (a || b) ≡ false → (a ≡ false) × (b ≡ false)
+pub or_none : (a b : Bool) → (a || b) ≡ false → (a ≡ false) × (b ≡ false)
 or_none false false e = (refl, refl)
 or_none false true e = cc e
 or_none true b e = cc e

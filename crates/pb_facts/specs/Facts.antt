@@ -13,6 +13,10 @@ use Rattle.pb_facts.specs.declared.facts.KeptFact.{KeptFact}
 abbrev pub has_id : List ℕ → KeptFact → Bool
 has_id id kept = same_name (id_of kept.fact) id
 
+-- a live fact with this id
+abbrev pub is_live_with : List ℕ → KeptFact → Bool
+is_live_with id kept = not kept.struck && has_id id kept
+
 -- a live reading of this stream on this day
 abbrev pub is_live_reading_on : List ℕ → ℤ → KeptFact → Bool
 is_live_reading_on stream day kept = not kept.struck && is_reading_on stream day kept.fact
@@ -59,9 +63,13 @@ NoRepeats kept = AllPairs (λ earlier later. is_repeat later.fact earlier ≡ fa
 abbrev pub live_fact : KeptFact → Option Fact
 live_fact kept = if kept.struck then None else Some kept.fact
 
+-- the place of the fact with this id, struck or not
+abbrev pub place_of : List ℕ → List KeptFact → Option ℕ
+place_of id kept = position (has_id id) kept
+
 -- the place of the live fact with this id
 abbrev pub live_place_of : List ℕ → List KeptFact → Option ℕ
-live_place_of id kept = position (λ k. not k.struck && has_id id k) kept
+live_place_of id kept = position (is_live_with id) kept
 
 -- the facts that weren't struck, in order
 abbrev pub live_facts : List KeptFact → List Fact

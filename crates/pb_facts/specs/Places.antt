@@ -1,5 +1,5 @@
 -- Inside. Where the kept facts stand, as the maps of facts have it.
-use Rattle.std.specs.Prelude.{◌≡◌, ◌+◌, ◌<◌, ◌≤◌, ◌&&◌, ◌||◌, ◌++◌, ℕ, ℤ, pos, ◌+ℤ◌, List, [], ◌∷◌, length, Bool, false, Some, IsSomeAnd, if◌then◌else◌, All, position, vec_len, vec_capacity}
+use Rattle.std.specs.Prelude.{◌≡◌, ◌+◌, ◌<◌, ◌≤◌, ◌&&◌, ◌||◌, ◌++◌, ℕ, ℤ, pos, ◌+ℤ◌, List, [], ◌∷◌, length, Bool, false, Some, None, IsSomeAnd, if◌then◌else◌, All, position, vec_len, vec_capacity}
 use Rattle.std.specs.Int.{int_div_euclid}
 use Rattle.std.specs.Option.{option_map_or}
 use Rattle.std.specs.Ordering.{int_eq}
@@ -91,3 +91,14 @@ pub record Notes (old new : Places) (fact : Fact) (place : ℕ) : Type 0 where
   pub transfers : (key : List ℕ × ℤ)
       → places_at new.transfers key
       ≡ places_at old.transfers key ++ (if is_about key fact then place ∷ [] else [])
+
+-- the maps don't give the place of a fact by its stream or tank and day, and else what they gave
+pub record Forgets (old new : Places) (fact : Fact) : Type 0 where
+  pub ids : (id : List ℕ) → get same_name new.ids id ≡ get same_name old.ids id
+  pub readings : (key : List ℕ × ℤ)
+      → get same_key new.readings key
+      ≡ (if is_reading_on key.0 key.1 fact then None else get same_key old.readings key)
+  pub dips : (key : List ℕ × ℤ)
+      → get same_key new.dips key
+      ≡ (if is_dip_on key.0 key.1 fact then None else get same_key old.dips key)
+  pub transfers : (key : List ℕ × ℤ) → places_at new.transfers key ≡ places_at old.transfers key

@@ -1,6 +1,7 @@
 // One fact, and what can be wrong with it.
 
 ghost use Rattle.std.specs.Prelude.{◌≡◌};
+ghost use Rattle.pb_facts.specs.Changes.{changed, fits};
 ghost use Rattle.pb_facts.specs.Fact.{id_of, is_out_of_order, is_too_long};
 
 use pb_limits::MOST_DAYS_OF_TRANSFER;
@@ -32,6 +33,23 @@ pub enum Fact {
         id: Name,
         tank: Name,
         day: i32,
+        mm: i64,
+        density: i64,
+        variance: i128,
+    },
+}
+
+/// New values of a fact: its id, its stream or tank and its days stay.
+#[derive(Clone, Copy)]
+pub enum Change {
+    /// What a reading or a transfer carried: grams, with their variance in squared grams.
+    Amount {
+        grams: i64,
+        variance: i128,
+    },
+    /// What a dip says: the level in millimetres, the density in grams per cubic metre, and the variance of the content in
+    /// squared grams.
+    Level {
         mm: i64,
         density: i64,
         variance: i128,
@@ -86,6 +104,76 @@ impl Fact {
                 i64::from(*last) - i64::from(*first) >= i64::from(MOST_DAYS_OF_TRANSFER)
             }
             _ => false,
+        }
+    }
+
+    /// The fact with these values in place of its own, where they are of its kind.
+    pub fn changed(&self, change: Change) -> Fact
+        ensures { result ≡ changed change self.now }
+    {
+        match (change, *self) {
+            (
+                Change::Amount { grams, variance },
+                Fact::Reading {
+                    id,
+                    stream,
+                    day,
+                    ..
+                },
+            ) => Fact::Reading {
+                id,
+                stream,
+                day,
+                grams,
+                variance,
+            },
+            (
+                Change::Amount { grams, variance },
+                Fact::Transfer {
+                    id,
+                    stream,
+                    first,
+                    last,
+                    ..
+                },
+            ) => Fact::Transfer {
+                id,
+                stream,
+                first,
+                last,
+                grams,
+                variance,
+            },
+            (
+                Change::Level {
+                    mm,
+                    density,
+                    variance,
+                },
+                Fact::Dip { id, tank, day, .. },
+            ) => Fact::Dip {
+                id,
+                tank,
+                day,
+                mm,
+                density,
+                variance,
+            },
+            (_, fact) => fact,
+        }
+    }
+}
+
+impl Change {
+    /// Whether it is of a fact's kind: a level of a dip, an amount of a reading or a transfer.
+    pub fn fits(&self, fact: &Fact) -> bool
+        ensures { result ≡ fits self.now fact.now }
+    {
+        match (self, fact) {
+            (Change::Level { .. }, Fact::Dip { .. }) => true,
+            (Change::Level { .. }, _) => false,
+            (Change::Amount { .. }, Fact::Dip { .. }) => false,
+            (Change::Amount { .. }, _) => true,
         }
     }
 }

@@ -1,12 +1,13 @@
 // The facts of a plant, in the order in which they were added.
 
-ghost use Rattle.std.specs.Prelude.{◌≡◌, ◌<◌, ◌≤◌, ◌-ℤ◌, ◌<ℤ◌, ◌∷◌, ◌++◌, [], pos, length, All, IfSome, OnOk, OnErr, find, position, slice_get, option_and_then, false, IsTrue, ◌↔◌};
+ghost use Rattle.std.specs.Prelude.{◌≡◌, ◌<◌, ◌≤◌, ◌-ℤ◌, ◌<ℤ◌, ◌∷◌, ◌++◌, [], pos, length, All, IfSome, IsSome, OnOk, OnErr, find, position, slice_get, option_and_then, false, IsTrue, ◌↔◌};
 ghost use Rattle.std.specs.List.{list_any};
 ghost use Rattle.pb_limits.specs.Limits.{most_days_of_period, most_facts};
+ghost use Rattle.pb_facts.specs.Changes.{IsChangeInRange, amend_fault_of, amended, struck};
 ghost use Rattle.pb_facts.specs.Fact.{IsInRange, is_dip_on, is_reading_on, is_too_long};
-ghost use Rattle.pb_facts.specs.Facts.{HoldsTransfers, NoRepeats, fault_of, has_id, is_duplicate, is_live_dip_on, is_live_reading_on, is_repeat_by_day, live_at, live_facts, live_place_of};
+ghost use Rattle.pb_facts.specs.Facts.{HoldsTransfers, NoRepeats, fault_of, has_id, is_duplicate, is_live_dip_on, is_live_reading_on, is_repeat_by_day, live_at, live_facts, live_place_of, place_of};
 
-use crate::fact::{Fact, FactFault};
+use crate::fact::{Change, Fact, FactFault};
 use crate::places::{Places, block_of};
 use pb_limits::MOST_FACTS;
 use pb_rows::Name;
@@ -95,6 +96,54 @@ impl Facts {
         Ok(())
     }
 
+    /// The first fault of an amendment, of Unknown and Mismatch: no live fact has the id; the change is a level and the fact no dip,
+    /// or an amount and the fact a dip. `None` exactly where there is none.
+    pub fn judge_amend(&self, id: &Name, change: &Change) -> Option<FactFault>
+        ensures { result ≡ amend_fault_of self.now id.now change.now }
+    {
+        match self.find(id) {
+            None => Some(FactFault::Unknown),
+            Some(place) => {
+                let kept = self.kept[place as usize];
+                if change.fits(&kept.fact) {
+                    None
+                } else {
+                    Some(FactFault::Mismatch)
+                }
+            }
+        }
+    }
+
+    /// Gives the live fact that has the id new values, by a change that has no fault. Its stream or tank and its days stay.
+    pub fn amend(&mut self, id: &Name, change: Change)
+        requires in_range { IsChangeInRange change }
+        requires no_fault { amend_fault_of self.old id.now change ≡ None }
+        ensures { self.new ≡ amended id.now change self.old }
+    {
+        if let Some(place) = self.find(id) {
+            let kept = self.kept[place as usize];
+            self.kept[place as usize] = KeptFact {
+                fact: kept.fact.changed(change),
+                struck: false,
+            };
+        }
+    }
+
+    /// Takes the live fact that has the id out. The id stays used, and the fact can still be asked for by its place.
+    pub fn strike(&mut self, id: &Name)
+        requires { IsSome (live_place_of id.now self.old) }
+        ensures { self.new ≡ struck id.now self.old }
+    {
+        if let Some(place) = self.find(id) {
+            let kept = self.kept[place as usize];
+            self.places.forget(&kept.fact);
+            self.kept[place as usize] = KeptFact {
+                fact: kept.fact,
+                struck: true,
+            };
+        }
+    }
+
     /// The number of facts added, struck ones counted.
     pub fn len(&self) -> u32
         ensures value { result ≡ length self.now }
@@ -134,6 +183,7 @@ impl Facts {
     /// The place of the live fact that has the id; `None` exactly where there is none. No fact repeats an earlier one.
     pub fn find(&self, id: &Name) -> Option<u32>
         ensures value { result ≡ live_place_of id.now self.now }
+        ensures within { IfSome result (λ place. place < length self.now) }
         ensures no_repeats { NoRepeats self.now }
     {
         let place = *self.places.ids.get(id)?;
@@ -142,6 +192,13 @@ impl Facts {
         } else {
             Some(place)
         }
+    }
+
+    /// The place of the fact that has the id, struck or not; `None` exactly where there is none.
+    pub fn place_of(&self, id: &Name) -> Option<u32>
+        ensures { result ≡ place_of id.now self.now }
+    {
+        self.places.ids.get(id).copied()
     }
 
     /// The place of the live reading of a stream on a day; `None` exactly where there is none.

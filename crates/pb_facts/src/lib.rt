@@ -11,7 +11,7 @@ mod shares;
 #[cfg(test)]
 mod tests;
 
-pub use fact::{Fact, FactFault};
+pub use fact::{Change, Fact, FactFault};
 pub use facts::{Facts, KeptFact};
 pub use laws::shares_law;
 pub use shares::share;

@@ -1,11 +1,11 @@
 // The places of kept facts, so that no look-up walks the facts.
 
-ghost use Rattle.std.specs.Prelude.{◌≡◌, ◌<◌, ◌+◌, ◌∷◌, ◌++◌, [], ℕ, ℤ, pos, neg_ℤ, ◌+ℤ◌, ◌≤ℤ◌, ◌^◌, List, Some, if◌then◌else◌, IsSome, OnOk};
+ghost use Rattle.std.specs.Prelude.{◌≡◌, ◌<◌, ◌+◌, ◌∷◌, ◌++◌, [], ℕ, ℤ, pos, neg_ℤ, ◌+ℤ◌, ◌≤ℤ◌, ◌^◌, List, Some, None, if◌then◌else◌, IsSome, OnOk};
 ghost use Rattle.std.specs.HashMap.{get, spare};
 ghost use Rattle.std.specs.Prelude.{◌&&◌, ◌||◌, false};
 ghost use Rattle.std.specs.Ordering.{int_eq};
 ghost use Rattle.pb_rows.specs.Name.{same_name};
-ghost use Rattle.pb_facts.specs.Places.{HasRoom, HasRoomAt, Notes, SamePlaces, block_of, places_at, same_key};
+ghost use Rattle.pb_facts.specs.Places.{Forgets, HasRoom, HasRoomAt, Notes, SamePlaces, block_of, places_at, same_key};
 
 use crate::fact::Fact;
 use pb_rows::Name;
@@ -54,6 +54,24 @@ impl Places {
             }
         }
     }
+
+    /// Takes out the place of a fact that is struck, by its stream or tank and day. Its id keeps its place, and so does a transfer.
+    pub fn forget(&mut self, fact: &Fact)
+        ensures { Forgets self.old self.new fact.now }
+    {
+        match fact {
+            Fact::Reading { stream, day, .. } => take(&mut self.readings, (*stream, *day)),
+            Fact::Dip { tank, day, .. } => take(&mut self.dips, (*tank, *day)),
+            Fact::Transfer { .. } => {}
+        }
+    }
+}
+
+// Takes out the entry at a key.
+fn take(map: &mut HashMap<(Name, i32), u32>, key: (Name, i32))
+    ensures { (q : List ℕ × ℤ) → get same_key map.new q ≡ (if same_key key q then None else get same_key map.old q) }
+{
+    map.remove(&key);
 }
 
 /// The block of 512 days that a day lies in.

@@ -1,9 +1,10 @@
 // What no clause says: that calls succeed where memory is ample, values from outside, and that many facts are added in good time.
 
 ghost use Rattle.std.specs.Prelude.{IfOk};
+ghost use Rattle.pb_facts.specs.Changes.{IsChangeInRange};
 ghost use Rattle.pb_facts.specs.Fact.{IsDay, IsInRange};
 
-use crate::{Fact, FactFault, Facts, share};
+use crate::{Change, Fact, FactFault, Facts, share};
 use pb_rows::{Name, whole_bytes};
 use std::alloc::Global;
 use std::test::Fail;
@@ -62,6 +63,36 @@ fn add(facts: &mut Facts, fact: Fact) -> Result<(), Fail>
         return Err("a fault")?;
     }
     facts.add(fact)?;
+    Ok(())
+}
+
+// An amount of 7 grams.
+fn seven() -> Change
+    ensures { IsChangeInRange result }
+{
+    Change::Amount {
+        grams: 7,
+        variance: 2,
+    }
+}
+
+// Amends a fact by a change that has no fault.
+fn amend(facts: &mut Facts, id: &Name, change: Change) -> Result<(), Fail>
+    requires { IsChangeInRange change }
+{
+    if facts.judge_amend(id, &change).is_some() {
+        return Err("a fault")?;
+    }
+    facts.amend(id, change);
+    Ok(())
+}
+
+// Strikes a live fact.
+fn strike(facts: &mut Facts, id: &Name) -> Result<(), Fail> {
+    if facts.find(id).is_none() {
+        return Err("no such fact")?;
+    }
+    facts.strike(id);
     Ok(())
 }
 
@@ -157,6 +188,52 @@ fn keeps_facts(rt: HostRuntime) -> Result<(), Fail> {
     let kept = facts.kept(1);
     assert!(rt; kept.fact.id() == name(b"p1")?);
     assert!(rt; !kept.struck);
+    Ok(())
+}
+
+#[test]
+fn judges_amendments(rt: HostRuntime) -> Result<(), Fail> {
+    let facts = three(rt.alloc())?;
+    let level = Change::Level {
+        mm: 5,
+        density: 1,
+        variance: 0,
+    };
+    let mismatch = Some(FactFault::Mismatch);
+    assert_eq!(rt; facts.judge_amend(&name(b"r1")?, &seven()), None);
+    assert_eq!(rt; facts.judge_amend(&name(b"t1")?, &seven()), None);
+    assert_eq!(rt; facts.judge_amend(&name(b"p1")?, &seven()), mismatch);
+    assert_eq!(rt; facts.judge_amend(&name(b"r1")?, &level), mismatch);
+    assert_eq!(rt; facts.judge_amend(&name(b"p1")?, &level), None);
+    assert_eq!(rt;
+        facts.judge_amend(&name(b"x")?, &level),
+        Some(FactFault::Unknown)
+    );
+    Ok(())
+}
+
+#[test]
+fn amends_and_strikes(rt: HostRuntime) -> Result<(), Fail> {
+    let mut facts = three(rt.alloc())?;
+    let id = name(b"r1")?;
+    amend(&mut facts, &id, seven())?;
+    assert_eq!(rt; facts.len(), 3);
+    match facts.live(0) {
+        Some(Fact::Reading { grams, .. }) => assert_eq!(rt; grams, 7),
+        _ => assert!(rt; false, "no reading"),
+    }
+    strike(&mut facts, &id)?;
+    assert_eq!(rt; facts.find(&id), None);
+    assert_eq!(rt; facts.place_of(&id), Some(0));
+    assert_eq!(rt; facts.reading_on(&name(b"A")?, 19782), None);
+    assert_eq!(rt; facts.judge_amend(&id, &seven()), Some(FactFault::Unknown));
+    assert_eq!(rt;
+        facts.judge(&reading(b"r1", b"A", 19782)?),
+        Some(FactFault::Duplicate)
+    );
+    add(&mut facts, reading(b"r2", b"A", 19782)?)?;
+    assert_eq!(rt; facts.reading_on(&name(b"A")?, 19782), Some(3));
+    assert_eq!(rt; facts.len(), 4);
     Ok(())
 }
 
