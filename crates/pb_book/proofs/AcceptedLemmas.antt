@@ -1,8 +1,8 @@
 -- Rows that were accepted, and one more.
 use Rattle.std.specs.Prelude.{filter_map, All, take, is_none, not, option_and_then, is_some}
 use Rattle.std.specs.List.{list_any}
-use Rattle.std.proofs.Common.{◌≡◌, ◌∙◌, ℕ, ◌+◌, ◌<◌, ◌≤◌, List, [], ◌∷◌, ◌++◌, length, slice_get, get_or, Bool, true, false, Option, Some, None, Result, Ok, Err, refl, sym, ap, subst, arith, inl, inr, length-append, append_assoc}
-use Rattle.std.proofs.lemmas.Bool.{cases_Bool, cases_lt}
+use Rattle.std.proofs.Common.{◌≡◌, ◌∙◌, ℕ, ◌<◌, List, [], ◌∷◌, ◌++◌, length, slice_get, Option, Some, None, Result, Ok, Err, refl, sym, ap, subst, arith, inl, inr, length-append, append_assoc}
+use Rattle.std.proofs.lemmas.Bool.{cases_lt}
 use Rattle.std.proofs.lemmas.List.{append-nil, take-append-le}
 use Rattle.std.proofs.lemmas.Option.{get_or_from_slice_get, slice_get-get_or, slice_get_within}
 use Rattle.std.proofs.Math.ListN.{get_or-append}
@@ -11,9 +11,9 @@ use Rattle.pb_rows.specs.Records.{without_trailing_empty}
 use Rattle.pb_book.specs.declared.answer.Refused.{Refused as Refusal}
 use Rattle.pb_book.specs.declared.rows.BookRow.{BookRow}
 use Rattle.pb_book.specs.declared.requests.Request.{Request}
-use Rattle.pb_book.specs.declared.requests.Request.TheVariants.{Blank, Store, Design, Report}
+use Rattle.pb_book.specs.declared.requests.Request.TheVariants.{Blank, Store, Design, Report, History}
 use Rattle.pb_book.specs.Accepted.{AreAccepted, IsAcceptable}
-use Rattle.pb_book.specs.Answer.{after, after_answer, answer_if, answer_to, report_or_refused, stored_or_refused}
+use Rattle.pb_book.specs.Answer.{after, after_answer, answer_if, history_or_refused, report_or_refused, stored_or_refused}
 use Rattle.pb_book.specs.Laws.{RequestsLaw}
 use Rattle.pb_book.specs.Ranges.{IsRowInRange}
 use Rattle.pb_book.specs.Refusals.{refusal_of}
@@ -56,9 +56,29 @@ accepted_after law rows at fields right =
     reported (Some place) = right
     reported None = right
 
+    told : (place : Option ℕ) → AreAccepted (after_answer rows at (history_or_refused place))
+    told (Some place) = right
+    told None = right
+
     by : (request : Result Request Refusal) → ((row : BookRow) → request ≡ Ok (Store row) → IsRowInRange row) → AreAccepted (after_answer rows at (answer_if rows request))
     by (Err cause) range = right
     by (Ok Blank) range = right
     by (Ok (Store row)) range = stored_then row (range row refl) (refusal_of rows row) refl
     by (Ok Design) range = right
     by (Ok (Report name)) range = reported (period_place rows name)
+    by (Ok (History name)) range = told (period_place rows name)
+
+-- all rows, one behind the other: what holds of no row and stays where one joins the others
+grown : (P : List StoredRow → Type 0) → ((rows : List StoredRow) (stored : StoredRow) → P rows → IsAcceptable rows stored.row → P (rows ++ stored ∷ []))
+    → (before rest : List StoredRow) → P before → AreAccepted (before ++ rest) → P (before ++ rest)
+grown P step before [] right accepted = subst P (sym (append-nil before)) right
+grown P step before (stored ∷ rest) right accepted =
+    let here = get_or-append_seam before stored rest stored in
+    let own : IsAcceptable before stored.row =
+    rw (take-append_seam before (stored ∷ rest)) at (accepted (length before) stored (slice_get-get_or (before ++ stored ∷ rest) (length before) stored (omega (arith, length-append before (stored ∷ rest))) ∙ ap Some here)) in
+    let split : (before ++ stored ∷ []) ++ rest ≡ before ++ stored ∷ rest = append_assoc before (stored ∷ []) rest in
+    subst P split (grown P step (before ++ stored ∷ []) rest (step before stored right own) (subst AreAccepted (sym split) accepted))
+
+pub by_accepted : (P : List StoredRow → Type 0) → P [] → ((rows : List StoredRow) (stored : StoredRow) → P rows → IsAcceptable rows stored.row → P (rows ++ stored ∷ []))
+    → (rows : List StoredRow) → AreAccepted rows → P rows
+by_accepted P begin step rows accepted = grown P step [] rows begin accepted

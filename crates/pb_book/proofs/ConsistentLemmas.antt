@@ -1,16 +1,14 @@
 -- What follows of accepted rows.
-use Rattle.std.specs.Prelude.{◌-ℤ◌, ◌||◌, filter_map, int_le, int_lt, is_none, not, option_and_then, if◌then◌else◌}
+use Rattle.std.specs.Prelude.{◌||◌, All, filter_map, map, is_none, not, if◌then◌else◌}
 use Rattle.std.specs.Cmp.Lexicographic.{bytes_decides}
 use Rattle.std.specs.List.{list_any}
-use Rattle.std.proofs.Common.{◌≡◌, ◌∙◌, ℕ, ℤ, pos, List, [], ◌∷◌, ◌++◌, length, take, Bool, true, false, Option, Some, None, refl, sym, ap, subst, arith, inl, inr, append_assoc, length-append}
+use Rattle.std.proofs.Common.{◌≡◌, ◌∙◌, ℕ, ℤ, List, [], ◌∷◌, ◌++◌, ◌<◌, get_or, length, Bool, true, false, Option, Some, None, refl, sym, ap, subst, arith, inl, inr}
 use Rattle.std.proofs.lemmas.Bool.{cases_Bool, or_parts}
 use Rattle.std.proofs.lemmas.Int.{ints}
-use Rattle.std.proofs.lemmas.List.{append-nil}
+use Rattle.std.proofs.lemmas.List.{append-nil, get_or-map, length-map}
 use Rattle.std.proofs.lemmas.List.Elements.{All-push, filter_map-append}
 use Rattle.std.proofs.lemmas.List.Folds.{list_any-append}
 use Rattle.std.proofs.lemmas.List.Quantifiers.{all_pairs_push}
-use Rattle.std.proofs.lemmas.Option.{slice_get-get_or}
-use Rattle.std.proofs.Math.Seq.{get_or-append_seam, take-append_seam}
 use Rattle.pb_rows.specs.Name.{same_name}
 use Rattle.pb_strap.specs.declared.strap.Point.{Point}
 use Rattle.pb_strap.specs.Table.{rises, volume_of}
@@ -23,42 +21,54 @@ use Rattle.pb_site.specs.Faults.{is_out_of_order as is_out_of_order_declared}
 use Rattle.pb_facts.specs.declared.fact.Fact.{Fact}
 use Rattle.pb_facts.specs.declared.fact.Fact.TheVariants.{Reading, Transfer, Dip}
 use Rattle.pb_facts.specs.declared.facts.KeptFact.{KeptFact}
-use Rattle.pb_facts.specs.Fact.{is_too_long}
-use Rattle.pb_book.specs.declared.answer.Refused.{Refused}
-use Rattle.pb_book.specs.declared.answer.Refused.TheVariants.{Unknown, Duplicate, Order, Mismatch, Range, Full}
+use Rattle.pb_facts.specs.declared.fact.Change.{Change}
+use Rattle.pb_facts.specs.declared.fact.Change.TheVariants.{Amount, Level}
+use Rattle.pb_facts.specs.Changes.{IsChangeInRange, amended, changed, struck}
+use Rattle.pb_facts.specs.Fact.{IsInRange, is_too_long}
+use Rattle.pb_facts.specs.Facts.{has_id, is_live_with}
+use Rattle.pb_book.specs.declared.answer.Refused.TheVariants.{Unknown, Duplicate, Order, Mismatch, Sealed, Closed, Range, Full}
 use Rattle.pb_book.specs.declared.rows.BookRow.{BookRow}
-use Rattle.pb_book.specs.declared.rows.BookRow.TheVariants.{Declaration, Period as PeriodRow, Fact as FactRow}
+use Rattle.pb_book.specs.declared.rows.BookRow.TheVariants.{Declaration, Period as PeriodRow, Fact as FactRow, Late, Amend, Strike, Close}
 use Rattle.pb_book.specs.declared.rows.Period.{Period}
 use Rattle.pb_book.specs.Accepted.{AreAccepted, AreConsistent, IsAcceptable}
 use Rattle.pb_book.specs.Apart.{IsApart, is_named, shares_a_day}
 use Rattle.pb_book.specs.Ranges.{IsPeriod, IsRowInRange}
-use Rattle.pb_book.specs.Refusals.{is_duplicate, is_full, is_mismatch, is_out_of_order, is_out_of_range, is_outside_table, is_unknown, refusal_behind}
-use Rattle.pb_book.specs.Rows.{StoredRow, declared_of, facts_of, periods_of}
-use Rattle.pb_book.proofs.KeptLemmas.{of_declaration, of_fact, of_period}
-use Rattle.pb_book.proofs.PeriodLemmas.{fails_at}
+use Rattle.pb_book.specs.Refusals.{is_closed, is_duplicate, is_full, is_mismatch, is_moved_outside, is_out_of_order, is_out_of_range, is_outside_table, is_sealed, is_unknown, refusal_behind}
+use Rattle.pb_book.specs.Rows.{StoredRow, closed_if_named, declared_of, facts_after, facts_of, live, open_period, periods_after, periods_of}
+use Rattle.pb_book.proofs.AcceptedLemmas.{by_accepted}
+use Rattle.pb_book.proofs.KeptLemmas.{declared_more, declared_same, facts_more, periods_more_of}
+use Rattle.pb_book.proofs.PeriodLemmas.{closed_apart, closed_days, fails_at}
 
 -- no cause holds of a row
-record IsFine (declared : List Declared) (kept : List KeptFact) (periods : List Period) (row : BookRow) : Type 0 where
-  new : is_duplicate declared kept periods row ≡ false
-  order : is_out_of_order declared row ≡ false
-  matching : is_mismatch declared periods row ≡ false
-  range : is_out_of_range declared row ≡ false
+pub record IsFine (declared : List Declared) (kept : List KeptFact) (periods : List Period) (row : BookRow) : Type 0 where
+  pub known : is_unknown declared kept periods row ≡ false
+  pub new : is_duplicate declared kept periods row ≡ false
+  pub order : is_out_of_order declared row ≡ false
+  pub matching : is_mismatch declared kept periods row ≡ false
+  pub sealed : is_sealed periods row ≡ false
+  pub opened : is_closed periods row ≡ false
+  pub range : is_out_of_range declared kept row ≡ false
+  pub room : is_full declared kept periods row ≡ false
 
-fine : (declared : List Declared) (kept : List KeptFact) (periods : List Period) (row : BookRow) → refusal_behind declared kept periods row ≡ None → IsFine declared kept periods row
+pub fine : (declared : List Declared) (kept : List KeptFact) (periods : List Period) (row : BookRow) → refusal_behind declared kept periods row ≡ None → IsFine declared kept periods row
 fine declared kept periods row none =
-    by (is_unknown declared row) (is_duplicate declared kept periods row) (is_out_of_order declared row) (is_mismatch declared periods row) (is_out_of_range declared row)
-    (is_full declared kept periods row) refl refl refl refl none
+    by (is_unknown declared kept periods row) (is_duplicate declared kept periods row) (is_out_of_order declared row) (is_mismatch declared kept periods row) (is_sealed periods row)
+    (is_closed periods row) (is_out_of_range declared kept row) (is_full declared kept periods row) refl refl refl refl refl refl refl refl none
   where
-    by : (a b c d e f : Bool) → is_duplicate declared kept periods row ≡ b → is_out_of_order declared row ≡ c → is_mismatch declared periods row ≡ d → is_out_of_range declared row ≡ e
-        → (if a then Some Unknown else if b then Some Duplicate else if c then Some Order else if d then Some Mismatch else if e then Some Range else if f then Some Full else None) ≡ None
-        → IsFine declared kept periods row
-    by true b c d e f new order matching range none = cc none
-    by false true c d e f new order matching range none = cc none
-    by false false true d e f new order matching range none = cc none
-    by false false false true e f new order matching range none = cc none
-    by false false false false true f new order matching range none = cc none
-    by false false false false false true new order matching range none = cc none
-    by false false false false false false new order matching range none = record { new = new; order = order; matching = matching; range = range }
+    by : (a b c d e f g h : Bool) → is_unknown declared kept periods row ≡ a → is_duplicate declared kept periods row ≡ b → is_out_of_order declared row ≡ c
+        → is_mismatch declared kept periods row ≡ d → is_sealed periods row ≡ e → is_closed periods row ≡ f → is_out_of_range declared kept row ≡ g → is_full declared kept periods row ≡ h
+        → (if a then Some Unknown else if b then Some Duplicate else if c then Some Order else if d then Some Mismatch else if e then Some Sealed else if f then Some Closed
+        else if g then Some Range else if h then Some Full else None) ≡ None → IsFine declared kept periods row
+    by true b c d e f g h known new order matching sealed opened range room none = cc none
+    by false true c d e f g h known new order matching sealed opened range room none = cc none
+    by false false true d e f g h known new order matching sealed opened range room none = cc none
+    by false false false true e f g h known new order matching sealed opened range room none = cc none
+    by false false false false true f g h known new order matching sealed opened range room none = cc none
+    by false false false false false true g h known new order matching sealed opened range room none = cc none
+    by false false false false false false true h known new order matching sealed opened range room none = cc none
+    by false false false false false false false true known new order matching sealed opened range room none = cc none
+    by false false false false false false false false known new order matching sealed opened range room none =
+        record { known = known; new = new; order = order; matching = matching; sealed = sealed; opened = opened; range = range; room = room }
 
 -- ---- tables that grow
 
@@ -104,6 +114,13 @@ stays_in_table declared row (Dip id tank day mm density variance) order inside =
     by is None at inside = cc inside
     by is (Some volume) at inside = rw (table_more declared row tank is, volume_more declared row tank mm volume order at) refl
 
+-- what an amendment and a strike make of one fact
+abbrev pub amended_one : List ℕ → Change → KeptFact → KeptFact
+amended_one id change k = if is_live_with id k then record { fact = changed change k.fact; struck = false } else k
+
+abbrev pub struck_one : List ℕ → KeptFact → KeptFact
+struck_one id k = if has_id id k then record { fact = k.fact; struck = true } else k
+
 -- ---- one more row
 
 more_declared : (declared : List Declared) (kept : List KeptFact) (periods : List Period) (row : Declared) → AreConsistent declared kept periods
@@ -111,54 +128,127 @@ more_declared : (declared : List Declared) (kept : List KeptFact) (periods : Lis
 more_declared declared kept periods row right good = record {
   days = right.days;
   apart = right.apart;
+  ranges = right.ranges;
   in_tables = λ i d lt. stays_in_table declared row _ good.order (right.in_tables i d lt);
 }
 
 more_periods : (declared : List Declared) (kept : List KeptFact) (periods : List Period) (name : List ℕ) (first last : ℤ) → AreConsistent declared kept periods
     → IsFine declared kept periods (PeriodRow name first last) → IsRowInRange (PeriodRow name first last)
-    → AreConsistent declared kept (periods ++ record { name = name; first = first; last = last; closed = false } ∷ [])
+    → AreConsistent declared kept (periods ++ open_period name first last ∷ [])
 more_periods declared kept periods name first last right good range =
-    let period : Period = record { name = name; first = first; last = last; closed = false } in
+    let period = open_period name first last in
     let days : IsPeriod period = record { begins = range.0; ends = range.1; rises = omega (arith, ints, good.order); few = omega (arith, ints, good.range) } in record {
       days = All-push IsPeriod periods period right.days days;
       apart = all_pairs_push IsApart periods period right.apart
           (λ k d lt. record { names = fails_at (is_named name) periods k d good.new lt; days = fails_at (shares_a_day first last) periods k d good.matching lt });
+      ranges = right.ranges;
       in_tables = right.in_tables;
     }
 
+-- one more fact that is in order, with a level that lies in its table
 more_facts : (declared : List Declared) (kept : List KeptFact) (periods : List Period) (fact : Fact) → AreConsistent declared kept periods
-    → IsFine declared kept periods (FactRow fact) → AreConsistent declared (kept ++ record { fact = fact; struck = false } ∷ []) periods
-more_facts declared kept periods fact right good = record {
+    → IsInRange fact → (is_too_long fact || is_outside_table declared fact) ≡ false → AreConsistent declared (kept ++ live fact ∷ []) periods
+more_facts declared kept periods fact right range good = record {
   days = right.days;
   apart = right.apart;
-  in_tables = All-push (λ (k : KeptFact). is_outside_table declared k.fact ≡ false) kept (record { fact = fact; struck = false }) right.in_tables
-      (or_parts (is_too_long fact) (is_outside_table declared fact) good.range).1;
+  ranges = All-push (λ (k : KeptFact). IsInRange k.fact) kept (live fact) right.ranges range;
+  in_tables = All-push (λ (k : KeptFact). is_outside_table declared k.fact ≡ false) kept (live fact) right.in_tables
+      (or_parts (is_too_long fact) (is_outside_table declared fact) good).1;
+}
+
+-- what holds of each item's image
+pub all_images : {X Y : Type 0} (P : X → Type 0) (Q : Y → Type 0) (f : X → Y) (xs : List X) → All P xs
+    → ((k : ℕ) (d : X) → k < length xs → P (get_or xs k d) → Q (f (get_or xs k d))) → All Q (map f xs)
+all_images P Q f [] all step = λ i e lt. absurd (omega (arith, lt))
+all_images P Q f (x ∷ xs) all step = λ i e lt.
+    let within : i < length (x ∷ xs) = omega (arith, lt, length-map (x ∷ xs) f) in
+    subst Q (sym (get_or-map f (x ∷ xs) i x e within)) (step i x within (all i x within))
+
+-- a fact with other values in their ranges
+changed_in_range : (change : Change) (fact : Fact) → IsChangeInRange change → IsInRange fact → IsInRange (changed change fact)
+changed_in_range (Amount grams variance) (Reading id stream day old_grams old_variance) new old = (old.0, new.0, new.1)
+changed_in_range (Amount grams variance) (Transfer id stream first last old_grams old_variance) new old = (old.0, old.1, new.0, new.1)
+changed_in_range (Amount grams variance) (Dip id tank day mm density old_variance) new old = old
+changed_in_range (Level mm density variance) (Reading id stream day grams old_variance) new old = old
+changed_in_range (Level mm density variance) (Transfer id stream first last grams old_variance) new old = old
+changed_in_range (Level mm density variance) (Dip id tank day old_mm old_density old_variance) new old = (old.0, new.0, new.1, new.2)
+
+-- one fact with other values
+amended_facts : (declared : List Declared) (kept : List KeptFact) (periods : List Period) (id : List ℕ) (change : Change) → AreConsistent declared kept periods
+    → IsChangeInRange change → list_any (is_moved_outside declared id change) kept ≡ false → AreConsistent declared (amended id change kept) periods
+amended_facts declared kept periods id change right range good = record {
+  days = right.days;
+  apart = right.apart;
+  ranges = all_images (λ (k : KeptFact). IsInRange k.fact) (λ (k : KeptFact). IsInRange k.fact) (amended_one id change) kept right.ranges (λ k d lt old. in_range (get_or kept k d) old);
+  in_tables = all_images (λ (k : KeptFact). is_outside_table declared k.fact ≡ false) (λ (k : KeptFact). is_outside_table declared k.fact ≡ false) (amended_one id change) kept right.in_tables
+      (λ k d lt old. in_table (get_or kept k d) (fails_at (is_moved_outside declared id change) kept k d good lt) old);
+}
+  where
+    in_range : (k : KeptFact) → IsInRange k.fact → IsInRange (amended_one id change k).fact
+    in_range k old = elim (cases_Bool (is_live_with id k)) [
+      | inl is ↦ rw is (changed_in_range change k.fact range old)
+      | inr other ↦ rw other old
+    ]
+
+    in_table : (k : KeptFact) → is_moved_outside declared id change k ≡ false → is_outside_table declared k.fact ≡ false → is_outside_table declared (amended_one id change k).fact ≡ false
+    in_table k moved old = elim (cases_Bool (is_live_with id k)) [
+      | inl is ↦ rw is (rw is at moved)
+      | inr other ↦ rw other old
+    ]
+
+-- one fact struck
+struck_facts : (declared : List Declared) (kept : List KeptFact) (periods : List Period) (id : List ℕ) → AreConsistent declared kept periods → AreConsistent declared (struck id kept) periods
+struck_facts declared kept periods id right = record {
+  days = right.days;
+  apart = right.apart;
+  ranges = all_images (λ (k : KeptFact). IsInRange k.fact) (λ (k : KeptFact). IsInRange k.fact) (struck_one id) kept right.ranges
+      (λ k d lt old. subst IsInRange (sym (same_fact (get_or kept k d))) old);
+  in_tables = all_images (λ (k : KeptFact). is_outside_table declared k.fact ≡ false) (λ (k : KeptFact). is_outside_table declared k.fact ≡ false) (struck_one id) kept right.in_tables
+      (λ k d lt old. ap (is_outside_table declared) (same_fact (get_or kept k d)) ∙ old);
+}
+  where
+    same_fact : (k : KeptFact) → (struck_one id k).fact ≡ k.fact
+    same_fact k = elim (cases_Bool (has_id id k)) [ inl is ↦ rw is refl | inr other ↦ rw other refl ]
+
+-- one period closed
+closed_periods : (declared : List Declared) (kept : List KeptFact) (periods : List Period) (name : List ℕ) → AreConsistent declared kept periods
+    → AreConsistent declared kept (map (closed_if_named name) periods)
+closed_periods declared kept periods name right = record {
+  days = closed_days name periods right.days;
+  apart = closed_apart name periods right.apart;
+  ranges = right.ranges;
+  in_tables = right.in_tables;
 }
 
 abbrev AreSound : List StoredRow → Type 0
 AreSound rows = AreConsistent (declared_of rows) (facts_of rows) (periods_of rows)
 
+-- the parts with one row more
+sound_by : (rows : List StoredRow) (at : ℕ) (row : BookRow) → declared_of (record { at = at; row = row } ∷ []) ≡ []
+    → AreConsistent (declared_of rows) (facts_after (facts_of rows) row) (periods_after (periods_of rows) row) → AreSound (rows ++ record { at = at; row = row } ∷ [])
+sound_by rows at row none right =
+    let stored : StoredRow = record { at = at; row = row } in
+    rw (declared_same rows stored none, facts_more rows stored, periods_more_of rows stored) right
+
 one_more : (rows : List StoredRow) (at : ℕ) (row : BookRow) → AreSound rows → IsAcceptable rows row → AreSound (rows ++ record { at = at; row = row } ∷ [])
 one_more rows at (Declaration row) right accepted =
-    let parts = of_declaration rows (declared_of rows) (facts_of rows) (periods_of rows) at row (record { site = refl; facts = refl; spans = refl }) in
-    rw (← parts.site, ← parts.facts, ← parts.spans) (more_declared (declared_of rows) (facts_of rows) (periods_of rows) row right (fine _ _ _ _ accepted.no_cause))
+    let stored : StoredRow = record { at = at; row = Declaration row } in
+    rw (declared_more rows stored, facts_more rows stored, periods_more_of rows stored)
+    (more_declared (declared_of rows) (facts_of rows) (periods_of rows) row right (fine _ _ _ _ accepted.no_cause))
 one_more rows at (PeriodRow name first last) right accepted =
-    let parts = of_period rows (declared_of rows) (facts_of rows) (periods_of rows) at name first last (record { site = refl; facts = refl; spans = refl }) in
-    rw (← parts.site, ← parts.facts, ← parts.spans)
+    sound_by rows at (PeriodRow name first last) refl
     (more_periods (declared_of rows) (facts_of rows) (periods_of rows) name first last right (fine _ _ _ _ accepted.no_cause) accepted.in_range)
 one_more rows at (FactRow fact) right accepted =
-    let parts = of_fact rows (declared_of rows) (facts_of rows) (periods_of rows) at fact (record { site = refl; facts = refl; spans = refl }) in
-    rw (← parts.site, ← parts.facts, ← parts.spans) (more_facts (declared_of rows) (facts_of rows) (periods_of rows) fact right (fine _ _ _ _ accepted.no_cause))
-
--- all rows, one behind the other
-grown : (before rest : List StoredRow) → AreSound before → AreAccepted (before ++ rest) → AreSound (before ++ rest)
-grown before [] right accepted = subst AreSound (sym (append-nil before)) right
-grown before (stored ∷ rest) right accepted =
-    let here = get_or-append_seam before stored rest stored in
-    let own : IsAcceptable before stored.row =
-    rw (take-append_seam before (stored ∷ rest)) at (accepted (length before) stored (slice_get-get_or (before ++ stored ∷ rest) (length before) stored (omega (arith, length-append before (stored ∷ rest))) ∙ ap Some here)) in
-    let split : (before ++ stored ∷ []) ++ rest ≡ before ++ stored ∷ rest = append_assoc before (stored ∷ []) rest in
-    subst AreSound split (grown (before ++ stored ∷ []) rest (one_more before stored.at stored.row right own) (subst AreAccepted (sym split) accepted))
+    sound_by rows at (FactRow fact) refl (more_facts (declared_of rows) (facts_of rows) (periods_of rows) fact right accepted.in_range (fine (declared_of rows) (facts_of rows) (periods_of rows) (FactRow fact) accepted.no_cause).range)
+one_more rows at (Late fact) right accepted =
+    sound_by rows at (Late fact) refl (more_facts (declared_of rows) (facts_of rows) (periods_of rows) fact right accepted.in_range (fine (declared_of rows) (facts_of rows) (periods_of rows) (Late fact) accepted.no_cause).range)
+one_more rows at (Amend id change reason) right accepted =
+    sound_by rows at (Amend id change reason) refl (amended_facts (declared_of rows) (facts_of rows) (periods_of rows) id change right accepted.in_range (fine (declared_of rows) (facts_of rows) (periods_of rows) (Amend id change reason) accepted.no_cause).range)
+one_more rows at (Strike id reason) right accepted = sound_by rows at (Strike id reason) refl (struck_facts (declared_of rows) (facts_of rows) (periods_of rows) id right)
+one_more rows at (Close name) right accepted = sound_by rows at (Close name) refl (closed_periods (declared_of rows) (facts_of rows) (periods_of rows) name right)
 
 pub consistent : (rows : List StoredRow) → AreAccepted rows → AreConsistent (declared_of rows) (facts_of rows) (periods_of rows)
-consistent rows accepted = grown [] rows (record { days = λ i d lt. absurd (omega (arith, lt)); apart = λ i j d before lt. absurd (omega (arith, lt)); in_tables = λ i d lt. absurd (omega (arith, lt)) }) accepted
+consistent rows accepted =
+    by_accepted AreSound
+    (record { days = λ i d lt. absurd (omega (arith, lt)); apart = λ i j d before lt. absurd (omega (arith, lt)); ranges = λ i d lt. absurd (omega (arith, lt)); in_tables = λ i d lt. absurd (omega (arith, lt)) })
+    (λ before stored right own. one_more before stored.at stored.row right own) rows accepted

@@ -1,68 +1,69 @@
 -- What a book keeps stays right where a row joins the others.
-use Rattle.std.specs.Prelude.{All, filter_map, IsSome}
+use Rattle.std.specs.Prelude.{if◌then◌else◌, IsSome, map}
 use Rattle.std.specs.List.{cons_option}
 use Rattle.std.specs.Option.{option_map}
-use Rattle.std.proofs.Common.{◌≡◌, ◌∙◌, ℕ, suc, ℤ, ◌+◌, ◌<◌, refl, false, List, [], ◌∷◌, ◌++◌, length, slice_get, Option, Some, None, sym, ap, ap₂, subst, arith, length-append}
+use Rattle.std.proofs.Common.{◌≡◌, ◌∙◌, ℕ, suc, ℤ, ◌<◌, refl, true, List, [], ◌∷◌, ◌++◌, length, slice_get, Option, Some, None, sym, ap, ap₂, subst, arith, inl, inr, length-append}
+use Rattle.std.proofs.lemmas.Bool.{cases_Bool}
 use Rattle.std.proofs.lemmas.List.{append-nil}
-use Rattle.std.proofs.lemmas.List.Elements.{All-push, filter_map-append}
-use Rattle.std.proofs.lemmas.Option.{get_or_from_slice_get, slice_get-get_or, slice_get_within}
+use Rattle.std.proofs.lemmas.List.Elements.{All-push, filter-append, filter_map-append}
+use Rattle.std.proofs.lemmas.List.Sums.{fold_push}
+use Rattle.std.proofs.lemmas.Option.{get_or_from_slice_get, slice_get-get_or, slice_get-map, slice_get_within}
 use Rattle.std.proofs.Math.ListN.{get_or-append}
 use Rattle.std.proofs.Math.Seq.{get_or-append_seam}
 use Rattle.pb_site.specs.declared.declared.Declared.{Declared}
 use Rattle.pb_facts.specs.declared.fact.Fact.{Fact}
 use Rattle.pb_facts.specs.declared.facts.KeptFact.{KeptFact}
 use Rattle.pb_book.specs.declared.rows.BookRow.{BookRow}
-use Rattle.pb_book.specs.declared.rows.BookRow.TheVariants.{Declaration, Period as PeriodRow, Fact as FactRow}
+use Rattle.pb_book.specs.declared.rows.BookRow.TheVariants.{Declaration, Period as PeriodRow, Fact as FactRow, Late as LateRow}
+use Rattle.pb_book.specs.declared.rows.Edited.{Edited}
+use Rattle.pb_book.specs.declared.rows.Edited.TheVariants.{Amend, Strike, Close as CloseEdit}
 use Rattle.pb_book.specs.declared.rows.Part.{Part}
-use Rattle.pb_book.specs.declared.rows.Part.TheVariants.{Declaration as InDeclarations, Period as InPeriods, Fact as InFacts}
+use Rattle.pb_book.specs.declared.rows.Part.TheVariants.{Declaration as InDeclarations, Period as InPeriods, Fact as InFacts, Late as InLate, Edit as InEdits}
 use Rattle.pb_book.specs.declared.rows.Period.{Period}
 use Rattle.pb_book.specs.declared.rows.Place.{Place}
 use Rattle.pb_book.specs.Accepted.{AreAccepted, IsAcceptable}
-use Rattle.pb_book.specs.Kept.{AreOf, IsKept, row_at, row_in, rows_at}
-use Rattle.pb_book.specs.Ranges.{IsRowInRange}
-use Rattle.pb_book.specs.Refusals.{refusal_of}
-use Rattle.pb_book.specs.Rows.{StoredRow, declaration_in, declared_of, fact_in, facts_of, period_in, periods_of}
+use Rattle.pb_book.specs.Apart.{is_named}
+use Rattle.pb_book.specs.Edits.{edits_of, is_edit}
+use Rattle.pb_book.specs.Kept.{AreOf, ArePlaced, IsKept, Shelves, edited_row, row_at, row_in, rows_at, shelves_of}
+use Rattle.pb_book.specs.Rows.{StoredRow, closed_if_named, declaration_in, declared_of, facts_after, facts_of, live, open_period, periods_after, periods_of}
 use Rattle.pb_book.proofs.AcceptedLemmas.{accepted_more}
 
 -- ---- the parts of the rows, with one row more
 
--- what the rows give with one more
-more : {X : Type 0} (f : StoredRow → Option X) (rows : List StoredRow) (stored : StoredRow) (xs : List X) → xs ≡ filter_map f rows
-    → xs ++ filter_map f (stored ∷ []) ≡ filter_map f (rows ++ stored ∷ [])
-more f rows stored xs right = ap (λ (ys : List _). ys ++ filter_map f (stored ∷ [])) right ∙ sym (filter_map-append f rows (stored ∷ []))
+pub facts_more : (rows : List StoredRow) (stored : StoredRow) → facts_of (rows ++ stored ∷ []) ≡ facts_after (facts_of rows) stored.row
+facts_more rows stored = fold_push (λ (kept : List KeptFact) (s : StoredRow). facts_after kept s.row) [] rows stored
 
--- a row that gives nothing
-same : {X : Type 0} (f : StoredRow → Option X) (rows : List StoredRow) (stored : StoredRow) (xs : List X) → filter_map f (stored ∷ []) ≡ [] → xs ≡ filter_map f rows
-    → xs ≡ filter_map f (rows ++ stored ∷ [])
-same f rows stored xs nothing right = sym (append-nil xs) ∙ ap (λ (ys : List _). xs ++ ys) (sym nothing) ∙ more f rows stored xs right
+pub periods_more_of : (rows : List StoredRow) (stored : StoredRow) → periods_of (rows ++ stored ∷ []) ≡ periods_after (periods_of rows) stored.row
+periods_more_of rows stored = fold_push (λ (periods : List Period) (s : StoredRow). periods_after periods s.row) [] rows stored
 
-abbrev declaration_of : StoredRow → Option Declared
-declaration_of stored = declaration_in stored.row
+pub declared_more : (rows : List StoredRow) (stored : StoredRow) → declared_of (rows ++ stored ∷ []) ≡ declared_of rows ++ declared_of (stored ∷ [])
+declared_more rows stored = filter_map-append (λ (s : StoredRow). declaration_in s.row) rows (stored ∷ [])
 
-abbrev fact_of : StoredRow → Option KeptFact
-fact_of stored = fact_in stored.row
+pub declared_same : (rows : List StoredRow) (stored : StoredRow) → declared_of (stored ∷ []) ≡ [] → declared_of (rows ++ stored ∷ []) ≡ declared_of rows
+declared_same rows stored none = declared_more rows stored ∙ ap (λ (more : List Declared). declared_of rows ++ more) none ∙ append-nil (declared_of rows)
 
-abbrev period_of : StoredRow → Option Period
-period_of stored = period_in stored.row
-
+-- the parts behind one more declaration
 pub of_declaration : (rows : List StoredRow) (declared : List Declared) (kept : List KeptFact) (periods : List Period) (at : ℕ) (row : Declared)
     → AreOf rows declared kept periods → AreOf (rows ++ record { at = at; row = Declaration row } ∷ []) (declared ++ row ∷ []) kept periods
 of_declaration rows declared kept periods at row right =
     let stored : StoredRow = record { at = at; row = Declaration row } in
-    record { site = more declaration_of rows stored declared right.site; facts = same fact_of rows stored kept refl right.facts; spans = same period_of rows stored periods refl right.spans }
+    record {
+      site = ap (λ (ds : List Declared). ds ++ row ∷ []) right.site ∙ sym (declared_more rows stored);
+      facts = right.facts ∙ sym (facts_more rows stored);
+      spans = right.spans ∙ sym (periods_more_of rows stored);
+    }
 
-pub of_period : (rows : List StoredRow) (declared : List Declared) (kept : List KeptFact) (periods : List Period) (at : ℕ) (name : List ℕ) (first last : ℤ)
-    → AreOf rows declared kept periods
-    → AreOf (rows ++ record { at = at; row = PeriodRow name first last } ∷ []) declared kept (periods ++ record { name = name; first = first; last = last; closed = false } ∷ [])
-of_period rows declared kept periods at name first last right =
-    let stored : StoredRow = record { at = at; row = PeriodRow name first last } in
-    record { site = same declaration_of rows stored declared refl right.site; facts = same fact_of rows stored kept refl right.facts; spans = more period_of rows stored periods right.spans }
-
-pub of_fact : (rows : List StoredRow) (declared : List Declared) (kept : List KeptFact) (periods : List Period) (at : ℕ) (fact : Fact)
-    → AreOf rows declared kept periods → AreOf (rows ++ record { at = at; row = FactRow fact } ∷ []) declared (kept ++ record { fact = fact; struck = false } ∷ []) periods
-of_fact rows declared kept periods at fact right =
-    let stored : StoredRow = record { at = at; row = FactRow fact } in
-    record { site = same declaration_of rows stored declared refl right.site; facts = more fact_of rows stored kept right.facts; spans = same period_of rows stored periods refl right.spans }
+-- the parts behind one more row that declares nothing
+pub of_row : (rows : List StoredRow) (declared : List Declared) (kept : List KeptFact) (periods : List Period) (at : ℕ) (row : BookRow)
+    → declared_of (record { at = at; row = row } ∷ []) ≡ [] → AreOf rows declared kept periods
+    → AreOf (rows ++ record { at = at; row = row } ∷ []) declared (facts_after kept row) (periods_after periods row)
+of_row rows declared kept periods at row none right =
+    let stored : StoredRow = record { at = at; row = row } in
+    record {
+      site = right.site ∙ sym (declared_same rows stored none);
+      facts = ap (λ (ks : List KeptFact). facts_after ks row) right.facts ∙ sym (facts_more rows stored);
+      spans = ap (λ (ps : List Period). periods_after ps row) right.spans ∙ sym (periods_more_of rows stored);
+    }
 
 -- ---- the places of the rows, with one row more
 
@@ -80,81 +81,133 @@ longer xs ys = record {
       slice_get-get_or (xs ++ ys) i x (omega (arith, within, length-append xs ys)) ∙ ap Some (get_or-append xs ys x i within ∙ get_or_from_slice_get xs i x x is);
 }
 
--- an item found in a list is found in a longer one
-still : {X Y : Type 0} (f : X → Y) (xs ys : List X) (i : ℕ) → Extends xs ys → IsSome (option_map f (slice_get xs i)) → option_map f (slice_get ys i) ≡ option_map f (slice_get xs i)
-still f xs ys i extends some = by (slice_get xs i) refl some
+-- the images of a list's items stay where they are
+pub record StayAs {X Y : Type 0} (f : X → Y) (xs ys : List X) : Type 0 where
+  pub kept : (i : ℕ) (y : Y) → option_map f (slice_get xs i) ≡ Some y → option_map f (slice_get ys i) ≡ Some y
+
+stay_as : {X Y : Type 0} (f : X → Y) (xs ys : List X) → Extends xs ys → StayAs f xs ys
+stay_as {X} {Y} f xs ys extends = record { kept = λ i y is. by i y (slice_get xs i) refl is }
   where
-    by : (o : Option _) → slice_get xs i ≡ o → IsSome (option_map f o) → option_map f (slice_get ys i) ≡ option_map f (slice_get xs i)
+    by : (i : ℕ) (y : Y) (o : Option X) → slice_get xs i ≡ o → option_map f o ≡ Some y → option_map f (slice_get ys i) ≡ Some y
+    by i y None at is = cc is
+    by i y (Some x) at is = ap (option_map f) (extends.kept i x at) ∙ is
+
+abbrev pub span_row : Period → BookRow
+span_row period = PeriodRow period.name period.first period.last
+
+closed_span : (name : List ℕ) (period : Period) → span_row (closed_if_named name period) ≡ span_row period
+closed_span name period = elim (cases_Bool (is_named name period)) [ inl is ↦ rw is refl | inr other ↦ rw other refl ]
+
+closed_spans : (name : List ℕ) (periods : List Period) → StayAs span_row periods (map (closed_if_named name) periods)
+closed_spans name periods = record {
+  kept = λ i y is. ap (option_map span_row) (slice_get-map (closed_if_named name) periods i) ∙ by (slice_get periods i) ∙ is;
+}
+  where
+    by : (o : Option Period) → option_map span_row (option_map (closed_if_named name) o) ≡ option_map span_row o
+    by None = refl
+    by (Some period) = ap Some (closed_span name period)
+
+-- shelves that have the rows of others where those have them
+pub record Grows (shelves more : Shelves) : Type 0 where
+  pub grown : (part : Part) (row : BookRow) → row_in shelves part ≡ Some row → row_in more part ≡ Some row
+
+grows_by : (d ds : List Declared) (t ts : List Fact) (p ps : List Period) (e es : List Edited) → Extends d ds → Extends t ts → StayAs span_row p ps → Extends e es
+    → Grows (shelves_of d t p e) (shelves_of ds ts ps es)
+grows_by d ds t ts p ps e es declared told spans edited = record { grown = by }
+  where
+    by : (part : Part) (row : BookRow) → row_in (shelves_of d t p e) part ≡ Some row → row_in (shelves_of ds ts ps es) part ≡ Some row
+    by (InDeclarations i) row is = (stay_as (λ (x : Declared). Declaration x) d ds declared).kept i row is
+    by (InPeriods i) row is = spans.kept i row is
+    by (InFacts i) row is = (stay_as (λ (x : Fact). FactRow x) t ts told).kept i row is
+    by (InLate i) row is = (stay_as (λ (x : Fact). LateRow x) t ts told).kept i row is
+    by (InEdits i) row is = (stay_as edited_row e es edited).kept i row is
+
+-- a row with the number of its record
+abbrev stored_at : ℕ → Option BookRow → Option StoredRow
+stored_at at o = option_map (λ (row : BookRow). let stored : StoredRow = record { at = at; row = row } in stored) o
+
+-- the row at a place is the same on shelves that grew
+row_stays : (shelves more : Shelves) (place : Place) → Grows shelves more → IsSome (row_at shelves place) → row_at more place ≡ row_at shelves place
+row_stays shelves more place grows some = by (row_in shelves place.part) refl (subst (λ (o : Option BookRow). IsSome (stored_at place.at o)) refl some)
+  where
+    by : (o : Option BookRow) → row_in shelves place.part ≡ o → IsSome (stored_at place.at o) → stored_at place.at (row_in more place.part) ≡ stored_at place.at (row_in shelves place.part)
     by None is some = cc some
-    by (Some x) is some = ap (option_map f) (extends.kept i x is ∙ sym is)
-
--- longer parts
-record Grows (declared : List Declared) (kept : List KeptFact) (periods : List Period) (more_declared : List Declared) (more_kept : List KeptFact) (more_periods : List Period) : Type 0 where
-  site : Extends declared more_declared
-  facts : Extends kept more_kept
-  spans : Extends periods more_periods
-
-some_row : (at : ℕ) (o : Option BookRow) → IsSome (option_map (λ (row : BookRow). let stored : StoredRow = record { at = at; row = row } in stored) o) → IsSome o
-some_row at None some = cc some
-some_row at (Some row) some = refl
-
--- the row at a place is the same in longer parts
-row_stays : (declared : List Declared) (kept : List KeptFact) (periods : List Period) (d : List Declared) (k : List KeptFact) (p : List Period) (place : Place)
-    → Grows declared kept periods d k p → IsSome (row_at declared kept periods place) → row_at d k p place ≡ row_at declared kept periods place
-row_stays declared kept periods d k p place grows some =
-    ap (option_map (λ (row : BookRow). let stored : StoredRow = record { at = place.at; row = row } in stored)) (by place.part (some_row place.at (row_in declared kept periods place.part) some))
-  where
-    by : (part : Part) → IsSome (row_in declared kept periods part) → row_in d k p part ≡ row_in declared kept periods part
-    by (InDeclarations i) some = still (λ (x : Declared). Declaration x) declared d i grows.site some
-    by (InPeriods i) some = still (λ (x : Period). PeriodRow x.name x.first x.last) periods p i grows.spans some
-    by (InFacts i) some = still (λ (x : KeptFact). FactRow x.fact) kept k i grows.facts some
-
-abbrev ArePlaced : List Declared → List KeptFact → List Period → List Place → Type 0
-ArePlaced declared kept periods places = All (λ (place : Place). IsSome (row_at declared kept periods place)) places
+    by (Some row) is some = ap (stored_at place.at) (grows.grown place.part row is ∙ sym is)
 
 -- so are all rows
-rows_stay : (declared : List Declared) (kept : List KeptFact) (periods : List Period) (d : List Declared) (k : List KeptFact) (p : List Period) (places : List Place)
-    → Grows declared kept periods d k p → ArePlaced declared kept periods places → rows_at d k p places ≡ rows_at declared kept periods places
-rows_stay declared kept periods d k p [] grows placed = refl
-rows_stay declared kept periods d k p (place ∷ places) grows placed =
-    let first = row_stays declared kept periods d k p place grows (placed 0 place (omega arith)) in
-    let rest = rows_stay declared kept periods d k p places grows (λ i e lt. placed (suc i) e (omega (arith, lt))) in
+rows_stay : (shelves more : Shelves) (places : List Place) → Grows shelves more → ArePlaced shelves places → rows_at more places ≡ rows_at shelves places
+rows_stay shelves more [] grows placed = refl
+rows_stay shelves more (place ∷ places) grows placed =
+    let first = row_stays shelves more place grows (placed 0 place (omega arith)) in
+    let rest = rows_stay shelves more places grows (λ i e lt. placed (suc i) e (omega (arith, lt))) in
     ap₂ cons_option first rest
 
--- one more place
-rows_more : (declared : List Declared) (kept : List KeptFact) (periods : List Period) (d : List Declared) (k : List KeptFact) (p : List Period) (places : List Place) (place : Place)
-    (stored : StoredRow) → Grows declared kept periods d k p → ArePlaced declared kept periods places → row_at d k p place ≡ Some stored
-    → rows_at d k p (places ++ place ∷ []) ≡ rows_at declared kept periods places ++ stored ∷ []
-rows_more declared kept periods d k p places place stored grows placed is =
-    filter_map-append (row_at d k p) places (place ∷ [])
-    ∙ ap₂ (λ (xs ys : List StoredRow). xs ++ ys) (rows_stay declared kept periods d k p places grows placed) (ap (λ (o : Option StoredRow). cons_option o []) is)
+placed_stay : (shelves more : Shelves) (places : List Place) → Grows shelves more → ArePlaced shelves places → ArePlaced more places
+placed_stay shelves more places grows placed =
+    λ i e lt. let some = placed i e lt in subst (λ (o : Option StoredRow). IsSome o) (sym (row_stays shelves more _ grows some)) some
 
-placed_more : (declared : List Declared) (kept : List KeptFact) (periods : List Period) (d : List Declared) (k : List KeptFact) (p : List Period) (places : List Place) (place : Place)
-    (stored : StoredRow) → Grows declared kept periods d k p → ArePlaced declared kept periods places → row_at d k p place ≡ Some stored → ArePlaced d k p (places ++ place ∷ [])
-placed_more declared kept periods d k p places place stored grows placed is =
-    All-push (λ (q : Place). IsSome (row_at d k p q)) places place
-    (λ i e lt. let some = placed i e lt in subst (λ (o : Option StoredRow). IsSome o) (sym (row_stays declared kept periods d k p _ grows some)) some)
+-- one more place
+rows_more : (shelves more : Shelves) (places : List Place) (place : Place) (stored : StoredRow) → Grows shelves more → ArePlaced shelves places
+    → row_at more place ≡ Some stored → rows_at more (places ++ place ∷ []) ≡ rows_at shelves places ++ stored ∷ []
+rows_more shelves more places place stored grows placed is =
+    filter_map-append (row_at more) places (place ∷ [])
+    ∙ ap₂ (λ (xs ys : List StoredRow). xs ++ ys) (rows_stay shelves more places grows placed) (ap (λ (o : Option StoredRow). cons_option o []) is)
+
+placed_more : (shelves more : Shelves) (places : List Place) (place : Place) (stored : StoredRow) → Grows shelves more → ArePlaced shelves places
+    → row_at more place ≡ Some stored → ArePlaced more (places ++ place ∷ [])
+placed_more shelves more places place stored grows placed is =
+    All-push (λ (q : Place). IsSome (row_at more q)) places place (placed_stay shelves more places grows placed)
     (subst (λ (o : Option StoredRow). IsSome o) (sym is) refl)
 
 -- ---- what is kept, with one row more
 
--- what is kept of the rows, and of one more
-pub record IsKeptAfter (declared : List Declared) (kept : List KeptFact) (periods : List Period) (places : List Place) (d : List Declared) (k : List KeptFact) (p : List Period)
-    (place : Place) (stored : StoredRow) : Type 0 where
-  pub rows : rows_at d k p (places ++ place ∷ []) ≡ rows_at declared kept periods places ++ stored ∷ []
-  pub right : IsKept d k p (places ++ place ∷ [])
+-- the places of the edits, where a row joins the others: that of an edit joins them
+abbrev edits_after : BookRow → List Place → Place → List Place
+edits_after row edits place = if is_edit row then edits ++ place ∷ [] else edits
 
-kept_more : (declared : List Declared) (kept : List KeptFact) (periods : List Period) (places : List Place) (d : List Declared) (k : List KeptFact) (p : List Period)
-    (place : Place) (stored : StoredRow) → IsKept declared kept periods places → Grows declared kept periods d k p → row_at d k p place ≡ Some stored
-    → IsAcceptable (rows_at declared kept periods places) stored.row → AreOf (rows_at declared kept periods places ++ stored ∷ []) d k p
-    → IsKeptAfter declared kept periods places d k p place stored
-kept_more declared kept periods places d k p place stored right grows is fine parts =
-    let rows = rows_more declared kept periods d k p places place stored grows right.placed is in record {
+-- what is kept of the rows, and of one more
+pub record IsKeptAfter (shelves more : Shelves) (kept : List KeptFact) (places edits : List Place) (place : Place) (stored : StoredRow) : Type 0 where
+  pub rows : rows_at more (places ++ place ∷ []) ≡ rows_at shelves places ++ stored ∷ []
+  pub right : IsKept more kept (places ++ place ∷ []) edits
+
+-- the edits, where a row joins the others
+record AreEditsOf (more : Shelves) (edits : List Place) (rows : List StoredRow) : Type 0 where
+  placed : ArePlaced more edits
+  are : rows_at more edits ≡ edits_of rows
+
+edits_more : (shelves more : Shelves) (edits : List Place) (place : Place) (stored : StoredRow) (rows : List StoredRow) → Grows shelves more → ArePlaced shelves edits
+    → rows_at shelves edits ≡ edits_of rows → row_at more place ≡ Some stored → AreEditsOf more (edits_after stored.row edits place) (rows ++ stored ∷ [])
+edits_more shelves more edits place stored rows grows placed are is = elim (cases_Bool (is_edit stored.row)) [
+  | inl edit ↦ rw edit (record {
+    placed = placed_more shelves more edits place stored grows placed is;
+    are =
+        rows_more shelves more edits place stored grows placed is ∙ ap (λ (xs : List StoredRow). xs ++ stored ∷ []) are
+        ∙ sym (split ∙ rw edit refl);
+  })
+  | inr other ↦ rw other (record {
+    placed = placed_stay shelves more edits grows placed;
+    are = rows_stay shelves more edits grows placed ∙ are ∙ sym (split ∙ rw other (append-nil (edits_of rows)));
+  })
+]
+  where
+    split : edits_of (rows ++ stored ∷ []) ≡ edits_of rows ++ edits_of (stored ∷ [])
+    split = filter-append (λ (s : StoredRow). is_edit s.row) rows (stored ∷ [])
+
+kept_more : (shelves more : Shelves) (kept ks : List KeptFact) (places edits : List Place) (place : Place) (stored : StoredRow) → IsKept shelves kept places edits
+    → Grows shelves more → row_at more place ≡ Some stored → IsAcceptable (rows_at shelves places) stored.row
+    → AreOf (rows_at shelves places ++ stored ∷ []) more.declared ks more.spans → length more.told ≡ length ks
+    → IsKeptAfter shelves more ks places (edits_after stored.row edits place) place stored
+kept_more shelves more kept ks places edits place stored right grows is fine parts told =
+    let rows = rows_more shelves more places place stored grows right.placed is in
+    let edited = edits_more shelves more edits place stored (rows_at shelves places) grows right.edited right.edit_rows is in record {
       rows = rows;
       right = record {
-        placed = placed_more declared kept periods d k p places place stored grows right.placed is;
-        parts = subst (λ (r : List StoredRow). AreOf r d k p) (sym rows) parts;
-        accepted = subst AreAccepted (sym rows) (accepted_more (rows_at declared kept periods places) stored right.accepted fine);
+        placed = placed_more shelves more places place stored grows right.placed is;
+        parts = subst (λ (r : List StoredRow). AreOf r more.declared ks more.spans) (sym rows) parts;
+        accepted = subst AreAccepted (sym rows) (accepted_more (rows_at shelves places) stored right.accepted fine);
+        told = told;
+        edited = edited.placed;
+        edit_rows = edited.are ∙ ap edits_of (sym rows);
       };
     }
 
@@ -162,37 +215,107 @@ last_item : {X : Type 0} (xs : List X) (x : X) → slice_get (xs ++ x ∷ []) (l
 last_item xs x = slice_get-get_or (xs ++ x ∷ []) (length xs) x (omega (arith, length-append xs (x ∷ []))) ∙ ap Some (get_or-append_seam xs x [] x)
 
 -- one more declaration
-pub kept_declaration : (declared : List Declared) (kept : List KeptFact) (periods : List Period) (places : List Place) (at i : ℕ) (row : Declared)
-    → IsKept declared kept periods places → IsAcceptable (rows_at declared kept periods places) (Declaration row) → i ≡ length declared
-    → IsKeptAfter declared kept periods places (declared ++ row ∷ []) kept periods (record { at = at; part = InDeclarations i }) (record { at = at; row = Declaration row })
-kept_declaration declared kept periods places at i row right fine last =
-    kept_more declared kept periods places (declared ++ row ∷ []) kept periods (record { at = at; part = InDeclarations i }) (record { at = at; row = Declaration row }) right
-    (record { site = longer declared (row ∷ []); facts = itself kept; spans = itself periods })
+pub kept_declaration : (declared : List Declared) (told : List Fact) (spans : List Period) (edited : List Edited) (kept : List KeptFact) (places edits : List Place) (at i : ℕ) (row : Declared)
+    → IsKept (shelves_of declared told spans edited) kept places edits → IsAcceptable (rows_at (shelves_of declared told spans edited) places) (Declaration row) → i ≡ length declared
+    → IsKeptAfter (shelves_of declared told spans edited) (shelves_of (declared ++ row ∷ []) told spans edited) kept places edits
+    (record { at = at; part = InDeclarations i }) (record { at = at; row = Declaration row })
+kept_declaration declared told spans edited kept places edits at i row right fine last =
+    let before = shelves_of declared told spans edited in
+    kept_more before (shelves_of (declared ++ row ∷ []) told spans edited) kept kept places edits (record { at = at; part = InDeclarations i })
+    (record { at = at; row = Declaration row }) right
+    (grows_by declared (declared ++ row ∷ []) told told spans spans edited edited (longer declared (row ∷ [])) (itself told) (stay_as span_row spans spans (itself spans)) (itself edited))
     (rw (last, last_item declared row) refl)
     fine
-    (of_declaration (rows_at declared kept periods places) declared kept periods at row right.parts)
+    (of_declaration (rows_at before places) declared kept spans at row right.parts)
+    right.told
 
 -- one more period
-pub kept_period : (declared : List Declared) (kept : List KeptFact) (periods : List Period) (places : List Place) (at i : ℕ) (name : List ℕ) (first last : ℤ)
-    → IsKept declared kept periods places → IsAcceptable (rows_at declared kept periods places) (PeriodRow name first last) → i ≡ length periods
-    → IsKeptAfter declared kept periods places declared kept (periods ++ record { name = name; first = first; last = last; closed = false } ∷ [])
+pub kept_period : (declared : List Declared) (told : List Fact) (spans : List Period) (edited : List Edited) (kept : List KeptFact) (places edits : List Place) (at i : ℕ) (name : List ℕ) (first last : ℤ)
+    → IsKept (shelves_of declared told spans edited) kept places edits → IsAcceptable (rows_at (shelves_of declared told spans edited) places) (PeriodRow name first last) → i ≡ length spans
+    → IsKeptAfter (shelves_of declared told spans edited) (shelves_of declared told (spans ++ open_period name first last ∷ []) edited) kept places edits
     (record { at = at; part = InPeriods i }) (record { at = at; row = PeriodRow name first last })
-kept_period declared kept periods places at i name first last right fine behind =
-    let period : Period = record { name = name; first = first; last = last; closed = false } in
-    kept_more declared kept periods places declared kept (periods ++ period ∷ []) (record { at = at; part = InPeriods i }) (record { at = at; row = PeriodRow name first last }) right
-    (record { site = itself declared; facts = itself kept; spans = longer periods (period ∷ []) })
-    (rw (behind, last_item periods period) refl)
+kept_period declared told spans edited kept places edits at i name first last right fine behind =
+    let before = shelves_of declared told spans edited in
+    let period = open_period name first last in
+    kept_more before (shelves_of declared told (spans ++ period ∷ []) edited) kept kept places edits (record { at = at; part = InPeriods i })
+    (record { at = at; row = PeriodRow name first last }) right
+    (grows_by declared declared told told spans (spans ++ period ∷ []) edited edited (itself declared) (itself told) (stay_as span_row spans (spans ++ period ∷ []) (longer spans (period ∷ []))) (itself edited))
+    (rw (behind, last_item spans period) refl)
     fine
-    (of_period (rows_at declared kept periods places) declared kept periods at name first last right.parts)
+    (of_row (rows_at before places) declared kept spans at (PeriodRow name first last) refl right.parts)
+    right.told
+
+more_told : (told : List Fact) (fact : Fact) (kept : List KeptFact) → length told ≡ length kept → length (told ++ fact ∷ []) ≡ length (kept ++ live fact ∷ [])
+more_told told fact kept same = omega (arith, same, length-append told (fact ∷ []), length-append kept (live fact ∷ []))
 
 -- one more fact
-pub kept_fact : (declared : List Declared) (kept : List KeptFact) (periods : List Period) (places : List Place) (at i : ℕ) (fact : Fact)
-    → IsKept declared kept periods places → IsAcceptable (rows_at declared kept periods places) (FactRow fact) → i ≡ length kept
-    → IsKeptAfter declared kept periods places declared (kept ++ record { fact = fact; struck = false } ∷ []) periods (record { at = at; part = InFacts i }) (record { at = at; row = FactRow fact })
-kept_fact declared kept periods places at i fact right fine last =
-    let one : KeptFact = record { fact = fact; struck = false } in
-    kept_more declared kept periods places declared (kept ++ one ∷ []) periods (record { at = at; part = InFacts i }) (record { at = at; row = FactRow fact }) right
-    (record { site = itself declared; facts = longer kept (one ∷ []); spans = itself periods })
-    (rw (last, last_item kept one) refl)
+pub kept_fact : (declared : List Declared) (told : List Fact) (spans : List Period) (edited : List Edited) (kept : List KeptFact) (places edits : List Place) (at i : ℕ) (fact : Fact)
+    → IsKept (shelves_of declared told spans edited) kept places edits → IsAcceptable (rows_at (shelves_of declared told spans edited) places) (FactRow fact) → i ≡ length kept
+    → IsKeptAfter (shelves_of declared told spans edited) (shelves_of declared (told ++ fact ∷ []) spans edited) (kept ++ live fact ∷ []) places edits
+    (record { at = at; part = InFacts i }) (record { at = at; row = FactRow fact })
+kept_fact declared told spans edited kept places edits at i fact right fine last =
+    let before = shelves_of declared told spans edited in
+    let place : i ≡ length told = last ∙ sym right.told in
+    kept_more before (shelves_of declared (told ++ fact ∷ []) spans edited) kept (kept ++ live fact ∷ []) places edits (record { at = at; part = InFacts i })
+    (record { at = at; row = FactRow fact }) right
+    (grows_by declared declared told (told ++ fact ∷ []) spans spans edited edited (itself declared) (longer told (fact ∷ [])) (stay_as span_row spans spans (itself spans)) (itself edited))
+    (rw (place, last_item told fact) refl)
     fine
-    (of_fact (rows_at declared kept periods places) declared kept periods at fact right.parts)
+    (of_row (rows_at before places) declared kept spans at (FactRow fact) refl right.parts)
+    (more_told told fact kept right.told)
+
+-- one more late fact
+pub kept_late : (declared : List Declared) (told : List Fact) (spans : List Period) (edited : List Edited) (kept : List KeptFact) (places edits : List Place) (at i : ℕ) (fact : Fact)
+    → IsKept (shelves_of declared told spans edited) kept places edits → IsAcceptable (rows_at (shelves_of declared told spans edited) places) (LateRow fact) → i ≡ length kept
+    → IsKeptAfter (shelves_of declared told spans edited) (shelves_of declared (told ++ fact ∷ []) spans edited) (kept ++ live fact ∷ []) places
+    (edits ++ record { at = at; part = InLate i } ∷ []) (record { at = at; part = InLate i }) (record { at = at; row = LateRow fact })
+kept_late declared told spans edited kept places edits at i fact right fine last =
+    let before = shelves_of declared told spans edited in
+    let place : i ≡ length told = last ∙ sym right.told in
+    kept_more before (shelves_of declared (told ++ fact ∷ []) spans edited) kept (kept ++ live fact ∷ []) places edits (record { at = at; part = InLate i })
+    (record { at = at; row = LateRow fact }) right
+    (grows_by declared declared told (told ++ fact ∷ []) spans spans edited edited (itself declared) (longer told (fact ∷ [])) (stay_as span_row spans spans (itself spans)) (itself edited))
+    (rw (place, last_item told fact) refl)
+    fine
+    (of_row (rows_at before places) declared kept spans at (LateRow fact) refl right.parts)
+    (more_told told fact kept right.told)
+
+edits_are : (edited : Edited) → is_edit (edited_row edited) ≡ true
+edits_are (Amend id change reason) = refl
+edits_are (Strike id reason) = refl
+edits_are (CloseEdit name) = refl
+
+none_declared : (at : ℕ) (edited : Edited) → declared_of (record { at = at; row = edited_row edited } ∷ []) ≡ []
+none_declared at (Amend id change reason) = refl
+none_declared at (Strike id reason) = refl
+none_declared at (CloseEdit name) = refl
+
+-- one more edit of another kind: it changes the facts, or a period
+pub kept_edit : (declared : List Declared) (told : List Fact) (spans ps : List Period) (edited : List Edited) (kept : List KeptFact) (places edits : List Place) (at i : ℕ) (one : Edited)
+    → IsKept (shelves_of declared told spans edited) kept places edits → IsAcceptable (rows_at (shelves_of declared told spans edited) places) (edited_row one) → i ≡ length edited
+    → ps ≡ periods_after spans (edited_row one) → StayAs span_row spans ps → length kept ≡ length (facts_after kept (edited_row one))
+    → IsKeptAfter (shelves_of declared told spans edited) (shelves_of declared told ps (edited ++ one ∷ [])) (facts_after kept (edited_row one)) places
+    (edits ++ record { at = at; part = InEdits i } ∷ []) (record { at = at; part = InEdits i }) (record { at = at; row = edited_row one })
+kept_edit declared told spans ps edited kept places edits at i one right fine last is stay long =
+    let before = shelves_of declared told spans edited in
+    let place : Place = record { at = at; part = InEdits i } in
+    let row = edited_row one in
+    let stored : StoredRow = record { at = at; row = row } in
+    let more = shelves_of declared told ps (edited ++ one ∷ []) in
+    let there : row_at more place ≡ Some stored = rw (last, last_item edited one) refl in
+    subst (λ (es : List Place). IsKeptAfter before more (facts_after kept row) places es place stored) (rw (edits_are one) refl)
+    (kept_more before more kept (facts_after kept row) places edits place stored right
+    (grows_by declared declared told told spans ps edited (edited ++ one ∷ []) (itself declared) (itself told) stay (longer edited (one ∷ [])))
+    there
+    fine
+    (subst (λ (spans_now : List Period). AreOf (rows_at before places ++ stored ∷ []) declared (facts_after kept row) spans_now) (sym is)
+    (of_row (rows_at before places) declared kept spans at row (none_declared at one) right.parts))
+    (right.told ∙ long))
+
+-- the periods stay, where nothing is closed
+pub same_spans : (spans : List Period) → StayAs span_row spans spans
+same_spans spans = stay_as span_row spans spans (itself spans)
+
+-- they stay but for being closed
+pub spans_closed : (name : List ℕ) (spans : List Period) → StayAs span_row spans (map (closed_if_named name) spans)
+spans_closed name spans = closed_spans name spans

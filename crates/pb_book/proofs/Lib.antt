@@ -1,7 +1,13 @@
 mod AcceptedLemmas
+mod ChangeLemmas
 mod ConsistentLemmas
+mod EditLemmas
+mod FactLemmas
 mod FieldLemmas
 mod KeptLemmas
+mod LiveLemmas
 mod NameLemmas
 mod PeriodLemmas
+mod PlainLemmas
 mod RequestLemmas
+mod WrittenLemmas

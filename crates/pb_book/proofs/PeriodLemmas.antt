@@ -1,27 +1,35 @@
 -- Periods of which no two share a day: the last one that begins by a day, and one more.
-use Rattle.std.specs.Prelude.{◌&&◌, int_le, if◌then◌else◌, map, IsSome, ◌⊎◌}
-use Rattle.std.specs.List.{list_any}
+use Rattle.std.specs.Prelude.{◌&&◌, ◌||◌, ◌-ℤ◌, ◌+ℤ◌, int_le, if◌then◌else◌, find, map, position, is_some, nat_lt, set, slice_get, All, IsSome, ◌⊎◌}
+use Rattle.std.specs.List.{list_any, position_or_len}
 use Rattle.std.specs.Cmp.{int_cmp_is}
+use Rattle.std.specs.Cmp.Lexicographic.{bytes_decides}
 use Rattle.std.specs.Ordering.{int_cmp, int_eq, is_gt, is_lt}
 use Rattle.std.specs.declared.cmp.Ordering.TheVariants.{Less, Equal, Greater}
 use Rattle.std.specs.declared.ops.Bound.TheVariants.{Included, Unbounded}
 use Rattle.std.specs.BTreeMap.Range.{IsRangeOf}
 use Rattle.std.specs.BTreeMap.{BTreeMap, get}
-use Rattle.std.proofs.Common.{◌≡◌, ◌∙◌, ◌+◌, ◌<◌, ◌≤◌, ◌≤ℤ◌, ◌<ℤ◌, ℕ, ℤ, pos, List, [], ◌∷◌, ◌++◌, length, get_or, Bool, true, false, Option, Some, None, refl, sym, ap, arith, inl, inr, length-append}
-use Rattle.std.proofs.lemmas.Bool.{and_parts, cases_Bool, cases_lt}
+use Rattle.std.proofs.Common.{◌≡◌, ◌∙◌, ◌<◌, ◌≤ℤ◌, ◌<ℤ◌, ℕ, ℤ, pos, List, [], ◌∷◌, ◌++◌, length, get_or, Bool, true, false, Option, Some, None, refl, sym, ap, arith, inl, inr, length-append}
+use Rattle.std.proofs.lemmas.Bool.{and_parts, cases_Bool, cases_lt, ltb-false, ltb-true, or_parts}
 use Rattle.std.proofs.lemmas.Bool.Decides.{Decides-int_eq}
 use Rattle.std.proofs.lemmas.Int.{by_lt_z, ints}
-use Rattle.std.proofs.lemmas.List.{get_or_default, map-append}
+use Rattle.std.proofs.lemmas.List.{ext_get_or, get_or-map, get_or-set_other, get_or-set_same, get_or_default, length-map, length-set, map-append}
 use Rattle.std.proofs.lemmas.List.Elements.{All-push}
-use Rattle.std.proofs.lemmas.List.Folds.{list_any_at, list_any_none}
+use Rattle.std.proofs.lemmas.List.Folds.{find_at, list_any-append, list_any_at, list_any_none}
+use Rattle.std.proofs.lemmas.Option.{slice_get_past}
+use Rattle.std.proofs.lemmas.List.Sums.{fails_before_first, passes_at_first}
 use Rattle.std.proofs.lemmas.List.Quantifiers.{all_pairs_push}
 use Rattle.std.proofs.Math.ListN.{get_or-append}
 use Rattle.std.proofs.Math.Seq.{get_or-append_seam}
 use Rattle.pb_limits.specs.Limits.{most_periods}
 use Rattle.pb_book.specs.declared.rows.Period.{Period}
 use Rattle.pb_book.specs.Apart.{AreApart, IsApart, is_named, shares_a_day}
-use Rattle.pb_book.specs.Kept.{ArePeriods, FindsLast, HasBegin, IsLastBy, SameBegins}
+use Rattle.pb_book.specs.Kept.{AreBegun, ArePeriods, FindsLast, HasBegin, IsLastBy, SameBegins}
 use Rattle.pb_book.specs.Ranges.{IsPeriod}
+use Rattle.pb_book.specs.Refusals.{is_closed_named}
+use Rattle.pb_book.specs.Rows.{closed, closed_if_named}
+use Rattle.pb_book.specs.Touching.{is_boundary_of, some_closed}
+use Rattle.pb_rows.specs.Name.{same_name}
+use Rattle.pb_book.proofs.NameLemmas.{same_flip}
 
 -- each item fails a test that none passes
 pub fails_at : {X : Type 0} (p : X → Bool) (xs : List X) (k : ℕ) (d : X) → list_any p xs ≡ false → k < length xs → p (get_or xs k d) ≡ false
@@ -87,92 +95,249 @@ last_of begins day key place part before range split =
 pub none_of : (begins : BTreeMap ℤ ℕ) (day : ℤ) (part : List (ℤ × ℕ)) → IsRangeOf int_cmp Unbounded (Included day) begins part → part ≡ [] → FindsLast begins day None
 none_of begins day part range none = λ other le. range.5 none other (tt, up_to other day le)
 
-pub none_begun : (periods : List Period) (names : List (List ℕ)) (begins : BTreeMap ℤ ℕ) (first last : ℤ) → ArePeriods periods names begins
-    → FindsLast begins last None → false ≡ list_any (shares_a_day first last) periods
-none_begun periods names begins first last right none = sym (list_any_none (shares_a_day first last) periods each)
+-- where no chosen period begins by a day, none has a day up to it
+pub none_begun : (chosen : Period → Bool) (periods : List Period) (begins : BTreeMap ℤ ℕ) (first last : ℤ) → AreBegun chosen periods begins
+    → FindsLast begins last None → false ≡ list_any (λ (p : Period). chosen p && shares_a_day first last p) periods
+none_begun chosen periods begins first last right none = sym (list_any_none (λ (p : Period). chosen p && shares_a_day first last p) periods each)
   where
-    each : (k : ℕ) (d : Period) → k < length periods → shares_a_day first last (get_or periods k d) ≡ false
-    each k d lt = elim (cases_Bool (shares_a_day first last (get_or periods k d))) [
-      | inl shares ↦
-          let ends = (overlap first last (get_or periods k d) shares).1 in
-          cc (sym (none (get_or periods k d).first ends) ∙ right.there k d lt)
+    each : (k : ℕ) (d : Period) → k < length periods → (chosen (get_or periods k d) && shares_a_day first last (get_or periods k d)) ≡ false
+    each k d lt = elim (cases_Bool (chosen (get_or periods k d) && shares_a_day first last (get_or periods k d))) [
+      | inl both ↦
+          let parts = and_parts (chosen (get_or periods k d)) (shares_a_day first last (get_or periods k d)) both in
+          let ends = (overlap first last (get_or periods k d) parts.1).1 in
+          cc (sym (none (get_or periods k d).first ends) ∙ right.there k d lt parts.0)
       | inr apart ↦ apart
     ]
 
--- the last one ends before a day, and so do those before it
-ended : (periods : List Period) (names : List (List ℕ)) (begins : BTreeMap ℤ ℕ) (first last key : ℤ) (place k : ℕ) (period d : Period) → ArePeriods periods names begins
-    → IsLastBy begins last key place → place < length periods → get_or periods place d ≡ period → period.first ≡ key → period.last <ℤ first → k < length periods
-    → first ≤ℤ (get_or periods k d).last → (get_or periods k d).first ≤ℤ last → ⊥
-ended periods names begins first last key place k period d right found within here begins_on ends lt reaches starts =
+-- none ends on that day
+pub none_ends : (chosen : Period → Bool) (periods : List Period) (begins : BTreeMap ℤ ℕ) (day : ℤ) → All IsPeriod periods → AreBegun chosen periods begins
+    → FindsLast begins day None → false ≡ list_any (λ (p : Period). chosen p && int_eq day p.last) periods
+none_ends chosen periods begins day days right none = sym (list_any_none (λ (p : Period). chosen p && int_eq day p.last) periods each)
+  where
+    each : (k : ℕ) (d : Period) → k < length periods → (chosen (get_or periods k d) && int_eq day (get_or periods k d).last) ≡ false
+    each k d lt = elim (cases_Bool (chosen (get_or periods k d) && int_eq day (get_or periods k d).last)) [
+      | inl both ↦
+          let period = get_or periods k d in
+          let parts = and_parts (chosen period) (int_eq day period.last) both in
+          let is : day ≡ period.last = (Decides-int_eq day period.last).0 parts.1 in
+          let begun : period.first ≤ℤ day = omega (arith, ints, is, (days k d lt).rises) in
+          cc (sym (none period.first begun) ∙ right.there k d lt parts.0)
+      | inr apart ↦ apart
+    ]
+
+-- a chosen period that begins by a day is the last one found, or ends before that begins
+earlier : (chosen : Period → Bool) (periods : List Period) (begins : BTreeMap ℤ ℕ) (last key : ℤ) (place k : ℕ) (period d : Period) → All IsPeriod periods → AreApart periods
+    → AreBegun chosen periods begins → IsLastBy begins last key place → place < length periods → get_or periods place d ≡ period → period.first ≡ key → k < length periods
+    → chosen (get_or periods k d) ≡ true → (get_or periods k d).first ≤ℤ last → (k ≡ place) ⊎ ((get_or periods k d).last <ℤ period.first)
+earlier chosen periods begins last key place k period d days apart right found within here begins_on lt is starts =
     let other = get_or periods k d in
-    let there = right.there k d lt in
+    let there = right.there k d lt is in
     let up_to : other.first ≤ℤ key = found.last other.first starts (rw there refl) in
-    let own = right.days k d lt in
-    let rises : period.first ≤ℤ period.last = rw here at (right.days place d within).rises in
+    let rises : period.first ≤ℤ period.last = rw here at (days place d within).rises in
     elim (cases_lt k place) [
       | inl before ↦
-          let apart = rw here at (right.apart k place d before within) in
-          elim (one_after other period apart) [
-            | inl first_ends ↦ omega (arith, ints, first_ends, reaches, ends, rises)
-            | inr last_ends ↦ omega (arith, ints, last_ends, up_to, begins_on, rises)
+          let two = rw here at (apart k place d before within) in
+          elim (one_after other period two) [
+            | inl first_ends ↦ inr first_ends
+            | inr last_ends ↦ absurd (omega (arith, ints, last_ends, up_to, begins_on, rises))
           ]
       | inr from ↦ elim (cases_lt place k) [
         | inl behind ↦
-            let apart = rw here at (right.apart place k d behind lt) in
-            elim (one_after period other apart) [
-              | inl first_ends ↦ omega (arith, ints, first_ends, up_to, begins_on, rises)
-              | inr last_ends ↦ omega (arith, ints, last_ends, reaches, ends, rises)
+            let two = rw here at (apart place k d behind lt) in
+            elim (one_after period other two) [
+              | inl first_ends ↦ absurd (omega (arith, ints, first_ends, up_to, begins_on, rises))
+              | inr last_ends ↦ inr last_ends
             ]
-        | inr to ↦
-            let same : k ≡ place = omega arith in
-            let is : other ≡ period = ap (λ (n : ℕ). get_or periods n d) same ∙ here in
-            let late : first ≤ℤ period.last = rw is at reaches in
-            omega (arith, ints, late, ends)
+        | inr to ↦ inl (omega (arith, from, to))
       ]
     ]
 
-pub last_begun : (periods : List Period) (names : List (List ℕ)) (begins : BTreeMap ℤ ℕ) (first last : ℤ) (place : ℕ) (period : Period) → ArePeriods periods names begins
-    → FindsLast begins last (Some place) → get_or periods place period ≡ period → int_le first period.last ≡ list_any (shares_a_day first last) periods
-last_begun periods names begins first last place period right (key, found) here =
+pub last_begun : (chosen : Period → Bool) (periods : List Period) (begins : BTreeMap ℤ ℕ) (first last : ℤ) (place : ℕ) (period : Period) → All IsPeriod periods → AreApart periods
+    → AreBegun chosen periods begins → FindsLast begins last (Some place) → get_or periods place period ≡ period
+    → int_le first period.last ≡ list_any (λ (p : Period). chosen p && shares_a_day first last p) periods
+last_begun chosen periods begins first last place period days apart right (key, found) here =
     let at = right.back key place period found.here in
     let begins_on : period.first ≡ key = rw here at at.1 in
+    let is : chosen period ≡ true = rw here at at.2 in
     let starts : period.first ≤ℤ last = omega (arith, ints, begins_on, found.early) in
     elim (cases_Bool (int_le first period.last)) [
       | inl reaches ↦
           let shares = share_days first last period (omega (arith, ints, reaches)) starts in
-          reaches ∙ sym (list_any_at (shares_a_day first last) periods place period at.0 (rw here shares))
-      | inr ends ↦ ends ∙ sym (list_any_none (shares_a_day first last) periods (each at.0 begins_on (omega (arith, ints, ends))))
+          reaches ∙ sym (list_any_at (λ (p : Period). chosen p && shares_a_day first last p) periods place period at.0 (rw (here, is) shares))
+      | inr ends ↦ ends ∙ sym (list_any_none (λ (p : Period). chosen p && shares_a_day first last p) periods (each at.0 begins_on (omega (arith, ints, ends))))
     ]
   where
-    each : place < length periods → period.first ≡ key → period.last <ℤ first → (k : ℕ) (d : Period) → k < length periods → shares_a_day first last (get_or periods k d) ≡ false
-    each within begins_on ends k d lt = elim (cases_Bool (shares_a_day first last (get_or periods k d))) [
-      | inl shares ↦
-          let days = overlap first last (get_or periods k d) shares in
-          let there = get_or_default periods place d period within ∙ here in
-          absurd (ended periods names begins first last key place k period d right found within there begins_on ends lt days.0 days.1)
+    each : place < length periods → period.first ≡ key → period.last <ℤ first → (k : ℕ) (d : Period) → k < length periods
+        → (chosen (get_or periods k d) && shares_a_day first last (get_or periods k d)) ≡ false
+    each within begins_on ends k d lt = elim (cases_Bool (chosen (get_or periods k d) && shares_a_day first last (get_or periods k d))) [
+      | inl both ↦
+          let other = get_or periods k d in
+          let parts = and_parts (chosen other) (shares_a_day first last other) both in
+          let shared = overlap first last other parts.1 in
+          let rises : period.first ≤ℤ period.last = rw here at (days place period within).rises in
+          elim (earlier chosen periods begins last key place k period d days apart right found within (get_or_default periods place d period within ∙ here) begins_on lt parts.0 shared.1) [
+            | inl same ↦
+                let other_is : other ≡ period = ap (λ (n : ℕ). get_or periods n d) same ∙ get_or_default periods place d period within ∙ here in
+                let late : first ≤ℤ period.last = rw other_is at shared.0 in
+                absurd (omega (arith, ints, late, ends))
+            | inr before ↦ absurd (omega (arith, ints, before, shared.0, ends, rises))
+          ]
       | inr apart ↦ apart
     ]
 
+-- the last one that begins by a day ends on it, or none does
+pub last_ends : (chosen : Period → Bool) (periods : List Period) (begins : BTreeMap ℤ ℕ) (day : ℤ) (place : ℕ) (period : Period) → All IsPeriod periods → AreApart periods
+    → AreBegun chosen periods begins → FindsLast begins day (Some place) → get_or periods place period ≡ period
+    → int_eq day period.last ≡ list_any (λ (p : Period). chosen p && int_eq day p.last) periods
+last_ends chosen periods begins day place period days apart right (key, found) here =
+    let at = right.back key place period found.here in
+    let begins_on : period.first ≡ key = rw here at at.1 in
+    let is : chosen period ≡ true = rw here at at.2 in
+    elim (cases_Bool (int_eq day period.last)) [
+      | inl ends ↦ ends ∙ sym (list_any_at (λ (p : Period). chosen p && int_eq day p.last) periods place period at.0 (rw (here, is) ends))
+      | inr other ↦ other ∙ sym (list_any_none (λ (p : Period). chosen p && int_eq day p.last) periods (each at.0 begins_on other))
+    ]
+  where
+    each : place < length periods → period.first ≡ key → int_eq day period.last ≡ false → (k : ℕ) (d : Period) → k < length periods
+        → (chosen (get_or periods k d) && int_eq day (get_or periods k d).last) ≡ false
+    each within begins_on differs k d lt = elim (cases_Bool (chosen (get_or periods k d) && int_eq day (get_or periods k d).last)) [
+      | inl both ↦
+          let other = get_or periods k d in
+          let parts = and_parts (chosen other) (int_eq day other.last) both in
+          let ends : day ≡ other.last = (Decides-int_eq day other.last).0 parts.1 in
+          let starts : other.first ≤ℤ day = omega (arith, ints, ends, (days k d lt).rises) in
+          elim (earlier chosen periods begins day key place k period d days apart right found within (get_or_default periods place d period within ∙ here) begins_on lt parts.0 starts) [
+            | inl same ↦
+                let other_is : other ≡ period = ap (λ (n : ℕ). get_or periods n d) same ∙ get_or_default periods place d period within ∙ here in
+                let equal : int_eq day period.last ≡ true = rw other_is at parts.1 in
+                cc (sym differs ∙ equal)
+            | inr before ↦ absurd (omega (arith, ints, before, ends, begins_on, found.early))
+          ]
+      | inr apart ↦ apart
+    ]
+
+-- a chosen period begins on the day behind one, or none does
+pub next_begins : (chosen : Period → Bool) (periods : List Period) (begins : BTreeMap ℤ ℕ) (day : ℤ) → AreBegun chosen periods begins
+    → is_some (get int_cmp begins (day +ℤ pos 1)) ≡ list_any (λ (p : Period). chosen p && int_eq day (p.first -ℤ pos 1)) periods
+next_begins chosen periods begins day right = by (get int_cmp begins (day +ℤ pos 1)) refl
+  where
+    by : (o : Option ℕ) → get int_cmp begins (day +ℤ pos 1) ≡ o → is_some o ≡ list_any (λ (p : Period). chosen p && int_eq day (p.first -ℤ pos 1)) periods
+    by (Some place) is =
+        let d : Period = record { name = []; first = pos 0; last = pos 0; closed = false } in
+        let at = right.back (day +ℤ pos 1) place d is in
+        let own : day ≡ (get_or periods place d).first -ℤ pos 1 = omega (arith, ints, at.1) in
+        sym (list_any_at (λ (p : Period). chosen p && int_eq day (p.first -ℤ pos 1)) periods place d at.0 (rw at.2 ((Decides-int_eq day ((get_or periods place d).first -ℤ pos 1)).1 own)))
+    by None is = sym (list_any_none (λ (p : Period). chosen p && int_eq day (p.first -ℤ pos 1)) periods (λ k d lt. elim (cases_Bool (chosen (get_or periods k d) && int_eq day ((get_or periods k d).first -ℤ pos 1))) [
+      | inl both ↦
+          let period = get_or periods k d in
+          let parts = and_parts (chosen period) (int_eq day (period.first -ℤ pos 1)) both in
+          let equal : day ≡ period.first -ℤ pos 1 = (Decides-int_eq day (period.first -ℤ pos 1)).0 parts.1 in
+          let first : period.first ≡ day +ℤ pos 1 = omega (arith, ints, equal) in
+          cc (sym is ∙ sym (ap (get int_cmp begins) first) ∙ right.there k d lt parts.0)
+      | inr apart ↦ apart
+    ]))
+
+-- some chosen item passes one of two tests
+pub any_of_two : {X : Type 0} (chosen p q : X → Bool) (xs : List X) → list_any (λ x. chosen x && (p x || q x)) xs ≡ (list_any (λ x. chosen x && p x) xs || list_any (λ x. chosen x && q x) xs)
+any_of_two chosen p q [] = refl
+any_of_two chosen p q (x ∷ xs) = rw (any_of_two chosen p q xs) (by (chosen x) (p x) (q x) (list_any (λ y. chosen y && p y) xs) (list_any (λ y. chosen y && q y) xs))
+  where
+    by : (a b c d e : Bool) → ((a && (b || c)) || (d || e)) ≡ (((a && b) || d) || ((a && c) || e))
+    by true true c d e = refl
+    by true false true true e = refl
+    by true false true false e = refl
+    by true false false d e = refl
+    by false b c d e = refl
+
+-- a day is the last of a chosen period, or the one before its first
+pub at_boundary : (chosen : Period → Bool) (periods : List Period) (begins : BTreeMap ℤ ℕ) (day : ℤ) (ends : Bool) → AreBegun chosen periods begins
+    → ends ≡ list_any (λ (p : Period). chosen p && int_eq day p.last) periods
+    → (ends || is_some (get int_cmp begins (day +ℤ pos 1))) ≡ list_any (λ (p : Period). chosen p && is_boundary_of day p) periods
+at_boundary chosen periods begins day ends right is =
+    rw (is, next_begins chosen periods begins day right) (sym (any_of_two chosen (λ (p : Period). int_eq day p.last) (λ (p : Period). int_eq day (p.first -ℤ pos 1)) periods))
+
 -- the place that is found, and its period
-pub place_found : (periods : List Period) (names : List (List ℕ)) (begins : BTreeMap ℤ ℕ) (last : ℤ) (place : ℕ) → ArePeriods periods names begins
+pub place_found : (chosen : Period → Bool) (periods : List Period) (begins : BTreeMap ℤ ℕ) (last : ℤ) (place : ℕ) → AreBegun chosen periods begins
     → FindsLast begins last (Some place) → place < length periods
-place_found periods names begins last place right (key, found) =
+place_found chosen periods begins last place right (key, found) =
     let d : Period = record { name = []; first = pos 0; last = pos 0; closed = false } in
     (right.back key place d found.here).0
 
-pub period_found : (periods : List Period) (names : List (List ℕ)) (begins : BTreeMap ℤ ℕ) (last : ℤ) (place : ℕ) (period : Period) → ArePeriods periods names begins
-    → FindsLast begins last (Some place) → get_or periods place period ≡ period → IsPeriod period
-period_found periods names begins last place period right (key, found) here =
-    rw here at (right.days place period (right.back key place period found.here).0)
+pub period_found : (chosen : Period → Bool) (periods : List Period) (begins : BTreeMap ℤ ℕ) (last : ℤ) (place : ℕ) (period : Period) → All IsPeriod periods
+    → AreBegun chosen periods begins → FindsLast begins last (Some place) → get_or periods place period ≡ period → IsPeriod period
+period_found chosen periods begins last place period days right (key, found) here =
+    rw here at (days place period (right.back key place period found.here).0)
+
+-- the first place at which a test passes
+pub position_at_first : {X : Type 0} (p : X → Bool) (xs : List X) (i : ℕ) (d : X) → Some i ≡ position p xs → (i < length xs) × (p (get_or xs i d) ≡ true)
+position_at_first p xs i d is = by (nat_lt (position_or_len p xs) (length xs)) refl is
+  where
+    by : (b : Bool) → nat_lt (position_or_len p xs) (length xs) ≡ b → Some i ≡ (if b then Some (position_or_len p xs) else None) → (i < length xs) × (p (get_or xs i d) ≡ true)
+    by true lt same =
+        let at : i ≡ position_or_len p xs = cc same in
+        let within : position_or_len p xs < length xs = ltb-true (position_or_len p xs) (length xs) lt in
+        (omega (arith, at, within), rw at (passes_at_first p xs d within))
+    by false lt same = cc same
+
+-- the item at the first place at which a test passes
+pub find_at_first : {X : Type 0} (p : X → Bool) (xs : List X) (i : ℕ) (x : X) → Some i ≡ position p xs → slice_get xs i ≡ Some x → find p xs ≡ Some x
+find_at_first p xs i x is at = by (nat_lt (position_or_len p xs) (length xs)) refl is
+  where
+    by : (b : Bool) → nat_lt (position_or_len p xs) (length xs) ≡ b → Some i ≡ (if b then Some (position_or_len p xs) else None) → find p xs ≡ Some x
+    by true lt same = let place : i ≡ position_or_len p xs = cc same in find_at p xs ∙ ap (slice_get xs) (sym place) ∙ at
+    by false ge same = cc same
+
+pub find_nothing : {X : Type 0} (p : X → Bool) (xs : List X) → None ≡ position p xs → find p xs ≡ None
+find_nothing p xs is = by (nat_lt (position_or_len p xs) (length xs)) refl is
+  where
+    by : (b : Bool) → nat_lt (position_or_len p xs) (length xs) ≡ b → None ≡ (if b then Some (position_or_len p xs) else None) → find p xs ≡ None
+    by true lt same = cc same
+    by false ge same = find_at p xs ∙ slice_get_past xs (position_or_len p xs) (ltb-false (position_or_len p xs) (length xs) ge)
+
+-- no place at which a test passes
+pub none_at_first : {X : Type 0} (p : X → Bool) (xs : List X) → None ≡ position p xs → list_any p xs ≡ false
+none_at_first p xs is = by (nat_lt (position_or_len p xs) (length xs)) refl is
+  where
+    by : (b : Bool) → nat_lt (position_or_len p xs) (length xs) ≡ b → None ≡ (if b then Some (position_or_len p xs) else None) → list_any p xs ≡ false
+    by true lt same = cc same
+    by false ge same = list_any_none p xs (λ k d lt. fails_before_first p xs k d (omega (arith, lt, ltb-false (position_or_len p xs) (length xs) ge)))
+
+-- some place, where some item passes
+pub some_place : {X : Type 0} (p : X → Bool) (xs : List X) → list_any p xs ≡ true → IsSome (position p xs)
+some_place p xs some = by (position p xs) refl
+  where
+    by : (o : Option ℕ) → position p xs ≡ o → IsSome (position p xs)
+    by (Some i) is = rw is refl
+    by None is = cc (sym (none_at_first p xs (sym is)) ∙ some)
 
 -- ---- one more period
 
 -- the same days with their places
-pub same_periods : (periods : List Period) (names : List (List ℕ)) (begins new : BTreeMap ℤ ℕ) → ArePeriods periods names begins → SameBegins begins new → ArePeriods periods names new
-same_periods periods names begins new right same = record {
-  named = right.named;
-  there = λ k d lt. same (get_or periods k d).first ∙ right.there k d lt;
+pub same_begun : (chosen : Period → Bool) (periods : List Period) (begins new : BTreeMap ℤ ℕ) → AreBegun chosen periods begins → SameBegins begins new → AreBegun chosen periods new
+same_begun chosen periods begins new right same = record {
+  there = λ k d lt is. same (get_or periods k d).first ∙ right.there k d lt is;
   back = λ day place d is. right.back day place d (sym (same day) ∙ is);
+}
+
+pub same_periods : (periods : List Period) (names : List (List ℕ)) (begins closes new : BTreeMap ℤ ℕ) (sealed : Bool) → ArePeriods periods names begins closes sealed → SameBegins begins new
+    → ArePeriods periods names new closes sealed
+same_periods periods names begins closes new sealed right same = record {
+  named = right.named;
+  all = same_begun (λ (p : Period). true) periods begins new right.all same;
+  closed = right.closed;
+  sealing = right.sealing;
+  days = right.days;
+  apart = right.apart;
+  few = right.few;
+}
+
+pub same_closings : (periods : List Period) (names : List (List ℕ)) (begins closes new : BTreeMap ℤ ℕ) (sealed : Bool) → ArePeriods periods names begins closes sealed → SameBegins closes new
+    → ArePeriods periods names begins new sealed
+same_closings periods names begins closes new sealed right same = record {
+  named = right.named;
+  all = right.all;
+  closed = same_begun (λ (p : Period). p.closed) periods closes new right.closed same;
+  sealing = right.sealing;
   days = right.days;
   apart = right.apart;
   few = right.few;
@@ -187,42 +352,290 @@ begins_apart period other days own apart = elim (cases_Bool (int_eq period.first
   | inr differs ↦ differs
 ]
 
-pub periods_more : (periods : List Period) (names : List (List ℕ)) (begins new : BTreeMap ℤ ℕ) (period : Period) → ArePeriods periods names begins → IsPeriod period
-    → list_any (is_named period.name) periods ≡ false → list_any (shares_a_day period.first period.last) periods ≡ false → length periods < most_periods
-    → HasBegin begins new period.first (length periods) → ArePeriods (periods ++ period ∷ []) (names ++ period.name ∷ []) new
-periods_more periods names begins new period right days name apart room begun = record {
-  named = ap (λ (ns : List (List ℕ)). ns ++ period.name ∷ []) right.named ∙ sym (map-append (λ (p : Period). p.name) periods (period ∷ []));
-  there = there;
-  back = back;
-  days = All-push IsPeriod periods period right.days days;
-  apart = all_pairs_push IsApart periods period right.apart
-      (λ k d lt. record { names = fails_at (is_named period.name) periods k d name lt; days = fails_at (shares_a_day period.first period.last) periods k d apart lt });
-  few = omega (arith, length-append periods (period ∷ []), room);
-}
+-- the days on which all periods begin, with one more
+more_begun : (periods : List Period) (begins new : BTreeMap ℤ ℕ) (period : Period) → All IsPeriod periods → AreBegun (λ (p : Period). true) periods begins → IsPeriod period
+    → list_any (shares_a_day period.first period.last) periods ≡ false → HasBegin begins new period.first (length periods) → AreBegun (λ (p : Period). true) (periods ++ period ∷ []) new
+more_begun periods begins new period all right days apart begun = record { there = there; back = back }
   where
     here : (d : Period) → get_or (periods ++ period ∷ []) (length periods) d ≡ period
     here d = get_or-append_seam periods period [] d
 
-    there : (k : ℕ) (d : Period) → k < length (periods ++ period ∷ []) → get int_cmp new (get_or (periods ++ period ∷ []) k d).first ≡ Some k
-    there k d lt = elim (cases_lt k (length periods)) [
+    there : (k : ℕ) (d : Period) → k < length (periods ++ period ∷ []) → true ≡ true → get int_cmp new (get_or (periods ++ period ∷ []) k d).first ≡ Some k
+    there k d lt is = elim (cases_lt k (length periods)) [
       | inl old ↦
           let other = get_or periods k d in
-          let differs = begins_apart period other days (right.days k d old) (fails_at (shares_a_day period.first period.last) periods k d apart old) in
-          rw (get_or-append periods (period ∷ []) d k old) (begun other.first ∙ rw differs (right.there k d old))
+          let differs = begins_apart period other days (all k d old) (fails_at (shares_a_day period.first period.last) periods k d apart old) in
+          rw (get_or-append periods (period ∷ []) d k old) (begun other.first ∙ rw differs (right.there k d old refl))
       | inr past ↦
           let last : k ≡ length periods = omega (arith, length-append periods (period ∷ []), lt, past) in
           let same : int_eq period.first period.first ≡ true = (Decides-int_eq period.first period.first).1 refl in
           rw (last, here d) (begun period.first ∙ rw same refl)
     ]
 
-    back : (day : ℤ) (place : ℕ) (d : Period) → get int_cmp new day ≡ Some place → (place < length (periods ++ period ∷ [])) × ((get_or (periods ++ period ∷ []) place d).first ≡ day)
+    back : (day : ℤ) (place : ℕ) (d : Period) → get int_cmp new day ≡ Some place
+        → (place < length (periods ++ period ∷ [])) × ((get_or (periods ++ period ∷ []) place d).first ≡ day) × (true ≡ true)
     back day place d is = elim (cases_Bool (int_eq period.first day)) [
       | inl same ↦
           let at : Some (length periods) ≡ Some place = sym (begun day ∙ rw same refl) ∙ is in
           let place_is : length periods ≡ place = cc at in
-          (omega (arith, length-append periods (period ∷ []), place_is), rw (← place_is, here d) ((Decides-int_eq period.first day).0 same))
+          (omega (arith, length-append periods (period ∷ []), place_is), rw (← place_is, here d) ((Decides-int_eq period.first day).0 same), refl)
       | inr differs ↦
           let old : get int_cmp begins day ≡ Some place = sym (begun day ∙ rw differs refl) ∙ is in
           let found = right.back day place d old in
-          (omega (arith, length-append periods (period ∷ []), found.0), rw (get_or-append periods (period ∷ []) d place found.0) found.1)
+          (omega (arith, length-append periods (period ∷ []), found.0), rw (get_or-append periods (period ∷ []) d place found.0) found.1, refl)
     ]
+
+-- the days on which closed periods begin, with one more that is open
+still_closed : (periods : List Period) (closes : BTreeMap ℤ ℕ) (period : Period) → AreBegun (λ (p : Period). p.closed) periods closes → period.closed ≡ false
+    → AreBegun (λ (p : Period). p.closed) (periods ++ period ∷ []) closes
+still_closed periods closes period right opened = record { there = there; back = back }
+  where
+    there : (k : ℕ) (d : Period) → k < length (periods ++ period ∷ []) → (get_or (periods ++ period ∷ []) k d).closed ≡ true
+        → get int_cmp closes (get_or (periods ++ period ∷ []) k d).first ≡ Some k
+    there k d lt is = elim (cases_lt k (length periods)) [
+      | inl old ↦
+          let same = get_or-append periods (period ∷ []) d k old in
+          rw same (right.there k d old (rw same at is))
+      | inr past ↦
+          let last : k ≡ length periods = omega (arith, length-append periods (period ∷ []), lt, past) in
+          let own : (get_or (periods ++ period ∷ []) (length periods) d).closed ≡ true = rw last at is in
+          cc (sym opened ∙ sym (ap (λ (p : Period). p.closed) (get_or-append_seam periods period [] d)) ∙ own)
+    ]
+
+    back : (day : ℤ) (place : ℕ) (d : Period) → get int_cmp closes day ≡ Some place
+        → (place < length (periods ++ period ∷ [])) × ((get_or (periods ++ period ∷ []) place d).first ≡ day) × ((get_or (periods ++ period ∷ []) place d).closed ≡ true)
+    back day place d is =
+        let found = right.back day place d is in
+        let same = get_or-append periods (period ∷ []) d place found.0 in
+        (omega (arith, length-append periods (period ∷ []), found.0), rw same found.1, rw same found.2)
+
+pub periods_more : (periods : List Period) (names : List (List ℕ)) (begins new closes : BTreeMap ℤ ℕ) (sealed : Bool) (period : Period) → ArePeriods periods names begins closes sealed → IsPeriod period
+    → period.closed ≡ false → list_any (is_named period.name) periods ≡ false → list_any (shares_a_day period.first period.last) periods ≡ false → length periods < most_periods
+    → HasBegin begins new period.first (length periods) → ArePeriods (periods ++ period ∷ []) (names ++ period.name ∷ []) new closes sealed
+periods_more periods names begins new closes sealed period right days opened name apart room begun = record {
+  named = ap (λ (ns : List (List ℕ)). ns ++ period.name ∷ []) right.named ∙ sym (map-append (λ (p : Period). p.name) periods (period ∷ []));
+  all = more_begun periods begins new period right.days right.all days apart begun;
+  closed = still_closed periods closes period right.closed opened;
+  sealing = right.sealing ∙ same_sealing (some_closed periods) ∙ sym (list_any-append (λ (p : Period). p.closed) periods (period ∷ []));
+  days = All-push IsPeriod periods period right.days days;
+  apart = all_pairs_push IsApart periods period right.apart
+      (λ k d lt. record { names = fails_at (is_named period.name) periods k d name lt; days = fails_at (shares_a_day period.first period.last) periods k d apart lt });
+  few = omega (arith, length-append periods (period ∷ []), room);
+}
+  where
+    same_sealing : (b : Bool) → b ≡ (b || (period.closed || false))
+    same_sealing true = refl
+    same_sealing false = rw opened refl
+
+-- ---- one period closed
+
+closed_name : (name : List ℕ) (period : Period) → (closed_if_named name period).name ≡ period.name
+closed_name name period = elim (cases_Bool (is_named name period)) [ inl is ↦ rw is refl | inr other ↦ rw other refl ]
+
+closed_first : (name : List ℕ) (period : Period) → (closed_if_named name period).first ≡ period.first
+closed_first name period = elim (cases_Bool (is_named name period)) [ inl is ↦ rw is refl | inr other ↦ rw other refl ]
+
+closed_last : (name : List ℕ) (period : Period) → (closed_if_named name period).last ≡ period.last
+closed_last name period = elim (cases_Bool (is_named name period)) [ inl is ↦ rw is refl | inr other ↦ rw other refl ]
+
+-- a period of the list with one of a name closed
+closed_at : (name : List ℕ) (periods : List Period) (k : ℕ) (d : Period) → k < length periods → get_or (map (closed_if_named name) periods) k d ≡ closed_if_named name (get_or periods k d)
+closed_at name periods k d lt = get_or-map (closed_if_named name) periods k d d lt
+
+pub closed_days : (name : List ℕ) (periods : List Period) → All IsPeriod periods → All IsPeriod (map (closed_if_named name) periods)
+closed_days name periods days = λ k d lt.
+    let within : k < length periods = omega (arith, lt, length-map periods (closed_if_named name)) in
+    let own = days k d within in
+    let period = get_or periods k d in
+    rw (closed_at name periods k d within) (elim (cases_Bool (is_named name period)) [
+      | inl is ↦ rw is (record { begins = own.begins; ends = own.ends; rises = own.rises; few = own.few })
+      | inr other ↦ rw other own
+    ])
+
+pub closed_apart : (name : List ℕ) (periods : List Period) → AreApart periods → AreApart (map (closed_if_named name) periods)
+closed_apart name periods apart = λ i j d before lt.
+    let within : j < length periods = omega (arith, lt, length-map periods (closed_if_named name)) in
+    let a = get_or periods i d in
+    let b = get_or periods j d in
+    let own = apart i j d before within in
+    rw (closed_at name periods i d (omega (arith, before, within)), closed_at name periods j d within) (elim (cases_Bool (is_named name a)) [
+      | inl first ↦ elim (cases_Bool (is_named name b)) [
+        | inl second ↦ rw (first, second) (record { names = own.names; days = own.days })
+        | inr second ↦ rw (first, second) (record { names = own.names; days = own.days })
+      ]
+      | inr first ↦ elim (cases_Bool (is_named name b)) [
+        | inl second ↦ rw (first, second) (record { names = own.names; days = own.days })
+        | inr second ↦ rw (first, second) own
+      ]
+    ])
+
+-- the names of periods of which one is closed
+closed_names : (name : List ℕ) (periods : List Period) → map (λ (p : Period). p.name) (map (closed_if_named name) periods) ≡ map (λ (p : Period). p.name) periods
+closed_names name [] = refl
+closed_names name (period ∷ periods) = rw (closed_name name period, closed_names name periods) refl
+
+-- no other period has the name of the one at a place
+only_named : (name : List ℕ) (periods : List Period) (i k : ℕ) (d : Period) → AreApart periods → i < length periods → is_named name (get_or periods i d) ≡ true → k < length periods
+    → is_named name (get_or periods k d) ≡ true → k ≡ i
+only_named name periods i k d apart within is lt also =
+    let a = get_or periods i d in
+    let b = get_or periods k d in
+    let first : name ≡ a.name = (bytes_decides name a.name).0 is in
+    let second : name ≡ b.name = (bytes_decides name b.name).0 also in
+    let same : same_name a.name b.name ≡ true = (bytes_decides a.name b.name).1 (sym first ∙ second) in
+    elim (cases_lt i k) [
+      | inl before ↦ cc (sym (apart i k d before lt).names ∙ same_flip b.name a.name ∙ same)
+      | inr from ↦ elim (cases_lt k i) [
+        | inl behind ↦ cc (sym (apart k i d behind within).names ∙ same)
+        | inr to ↦ omega (arith, from, to)
+      ]
+    ]
+
+-- closing the one at a place closes the one of its name
+pub closed_set : (name : List ℕ) (periods : List Period) (i : ℕ) (d : Period) → AreApart periods → i < length periods → is_named name (get_or periods i d) ≡ true
+    → set periods i (closed (get_or periods i d)) ≡ map (closed_if_named name) periods
+closed_set name periods i d apart within is =
+    ext_get_or d (set periods i (closed (get_or periods i d))) (map (closed_if_named name) periods)
+    (length-set periods i (closed (get_or periods i d)) ∙ sym (length-map periods (closed_if_named name)))
+    (λ k lt.
+    let here : k < length periods = omega (arith, lt, length-set periods i (closed (get_or periods i d))) in
+    rw (closed_at name periods k d here) (at k here))
+  where
+    at : (k : ℕ) → k < length periods → get_or (set periods i (closed (get_or periods i d))) k d ≡ closed_if_named name (get_or periods k d)
+    at k lt = elim (cases_Bool (is_named name (get_or periods k d))) [
+      | inl also ↦
+          let same = only_named name periods i k d apart within is lt also in
+          rw (same, is) (get_or-set_same periods i (closed (get_or periods i d)) d within)
+      | inr other ↦ rw other (get_or-set_other periods i k (closed (get_or periods i d)) d (λ same. let now : is_named name (get_or periods k d) ≡ true = rw same is in cc (sym other ∙ now)))
+    ]
+
+-- where no period has the name, none is closed
+pub none_closed : (name : List ℕ) (periods : List Period) → list_any (is_named name) periods ≡ false → map (closed_if_named name) periods ≡ periods
+none_closed name [] none = refl
+none_closed name (period ∷ periods) none =
+    let parts = or_parts (is_named name period) (list_any (is_named name) periods) none in
+    rw (parts.0, none_closed name periods parts.1) refl
+
+-- the days on which periods begin, of which one is closed
+closed_begun : (name : List ℕ) (periods : List Period) (begins : BTreeMap ℤ ℕ) → AreBegun (λ (p : Period). true) periods begins
+    → AreBegun (λ (p : Period). true) (map (closed_if_named name) periods) begins
+closed_begun name periods begins right = record {
+  there = λ k d lt is.
+      let within : k < length periods = omega (arith, lt, length-map periods (closed_if_named name)) in
+      rw (closed_at name periods k d within, closed_first name (get_or periods k d)) (right.there k d within refl);
+  back = λ day place d is.
+      let found = right.back day place d is in
+      (omega (arith, found.0, length-map periods (closed_if_named name)), rw (closed_at name periods place d found.0, closed_first name (get_or periods place d)) found.1, refl);
+}
+
+-- one more of them is closed
+more_closed : (name : List ℕ) (periods : List Period) (closes new : BTreeMap ℤ ℕ) (i : ℕ) (d₀ : Period) → All IsPeriod periods → AreApart periods
+    → AreBegun (λ (p : Period). p.closed) periods closes → i < length periods → is_named name (get_or periods i d₀) ≡ true → HasBegin closes new (get_or periods i d₀).first i
+    → AreBegun (λ (p : Period). p.closed) (map (closed_if_named name) periods) new
+more_closed name periods closes new i d₀ days apart right within is begun = record { there = there; back = back }
+  where
+    first_at : (d : Period) → get_or periods i d₀ ≡ get_or periods i d
+    first_at d = get_or_default periods i d₀ d within
+
+    named_at : (d : Period) → is_named name (get_or periods i d) ≡ true
+    named_at d = rw (first_at d) at is
+
+    closes_at : (d : Period) (day : ℤ) → get int_cmp new day ≡ (if int_eq (get_or periods i d).first day then Some i else get int_cmp closes day)
+    closes_at d day = rw (first_at d) at (begun day)
+
+    -- another period begins on another day
+    differs : (k : ℕ) (d : Period) → k < length periods → (k ≡ i → ⊥) → int_eq (get_or periods i d).first (get_or periods k d).first ≡ false
+    differs k d lt other =
+        let a = get_or periods i d in
+        let b = get_or periods k d in
+        elim (cases_lt i k) [
+          | inl before ↦ elim (cases_Bool (int_eq a.first b.first)) [
+            | inl same ↦ cc (sym (begins_apart b a (days k d lt) (days i d within) (apart i k d before lt).days) ∙ (Decides-int_eq b.first a.first).1 (sym ((Decides-int_eq a.first b.first).0 same)))
+            | inr not_same ↦ not_same
+          ]
+          | inr from ↦ elim (cases_lt k i) [
+            | inl behind ↦ begins_apart a b (days i d within) (days k d lt) (apart k i d behind within).days
+            | inr to ↦ absurd (other (omega (arith, from, to)))
+          ]
+        ]
+
+    there : (k : ℕ) (d : Period) → k < length (map (closed_if_named name) periods) → (get_or (map (closed_if_named name) periods) k d).closed ≡ true
+        → get int_cmp new (get_or (map (closed_if_named name) periods) k d).first ≡ Some k
+    there k d lt closed_is =
+        let here : k < length periods = omega (arith, lt, length-map periods (closed_if_named name)) in
+        let image = closed_at name periods k d here in
+        rw (image, closed_first name (get_or periods k d)) (at k d here (rw image at closed_is))
+      where
+        at : (k : ℕ) (d : Period) → k < length periods → (closed_if_named name (get_or periods k d)).closed ≡ true → get int_cmp new (get_or periods k d).first ≡ Some k
+        at k d here closed_is = elim (cases_Bool (is_named name (get_or periods k d))) [
+          | inl also ↦
+              let same = only_named name periods i k d apart within (named_at d) here also in
+              let equal : int_eq (get_or periods i d).first (get_or periods i d).first ≡ true = (Decides-int_eq (get_or periods i d).first (get_or periods i d).first).1 refl in
+              rw same (closes_at d (get_or periods i d).first ∙ rw equal refl)
+          | inr other ↦
+              let old : (get_or periods k d).closed ≡ true = rw other at closed_is in
+              let apart_from = differs k d here (λ same. let now : is_named name (get_or periods k d) ≡ true = rw same (named_at d) in cc (sym other ∙ now)) in
+              closes_at d (get_or periods k d).first ∙ rw apart_from (right.there k d here old)
+        ]
+
+    back : (day : ℤ) (place : ℕ) (d : Period) → get int_cmp new day ≡ Some place
+        → (place < length (map (closed_if_named name) periods)) × ((get_or (map (closed_if_named name) periods) place d).first ≡ day)
+        × ((get_or (map (closed_if_named name) periods) place d).closed ≡ true)
+    back day place d at = elim (cases_Bool (int_eq (get_or periods i d).first day)) [
+      | inl same ↦
+          let found : Some i ≡ Some place = sym (closes_at d day ∙ rw same refl) ∙ at in
+          let place_is : i ≡ place = cc found in (
+            omega (arith, length-map periods (closed_if_named name), place_is, within),
+            rw (← place_is, closed_at name periods i d within, closed_first name (get_or periods i d)) ((Decides-int_eq (get_or periods i d).first day).0 same),
+            rw (← place_is, closed_at name periods i d within, named_at d) refl,
+          )
+      | inr other ↦
+          let old : get int_cmp closes day ≡ Some place = sym (closes_at d day ∙ rw other refl) ∙ at in
+          let found = right.back day place d old in (
+            omega (arith, length-map periods (closed_if_named name), found.0),
+            rw (closed_at name periods place d found.0, closed_first name (get_or periods place d)) found.1,
+            rw (closed_at name periods place d found.0) (stays (get_or periods place d) found.2),
+          )
+    ]
+      where
+        stays : (p : Period) → p.closed ≡ true → (closed_if_named name p).closed ≡ true
+        stays p is_closed = elim (cases_Bool (is_named name p)) [ inl also ↦ rw also refl | inr other ↦ rw other is_closed ]
+
+pub periods_closed : (name : List ℕ) (periods : List Period) (names : List (List ℕ)) (begins closes new : BTreeMap ℤ ℕ) (sealed : Bool) (i : ℕ) (d : Period)
+    → ArePeriods periods names begins closes sealed → i < length periods → is_named name (get_or periods i d) ≡ true → HasBegin closes new (get_or periods i d).first i
+    → ArePeriods (map (closed_if_named name) periods) names begins new true
+periods_closed name periods names begins closes new sealed i d right within is begun = record {
+  named = right.named ∙ sym (closed_names name periods);
+  all = closed_begun name periods begins right.all;
+  closed = more_closed name periods closes new i d right.days right.apart right.closed within is begun;
+  sealing = sym (list_any_at (λ (p : Period). p.closed) (map (closed_if_named name) periods) i d (omega (arith, within, length-map periods (closed_if_named name)))
+      (rw (closed_at name periods i d within, is) refl));
+  days = closed_days name periods right.days;
+  apart = closed_apart name periods right.apart;
+  few = omega (arith, right.few, length-map periods (closed_if_named name));
+}
+
+-- whether the period of a name is closed, by the first of that name
+pub closed_by_name : (name : List ℕ) (periods : List Period) (i : ℕ) (d : Period) → AreApart periods → Some i ≡ position (is_named name) periods
+    → (get_or periods i d).closed ≡ list_any (is_closed_named name) periods
+closed_by_name name periods i d apart is =
+    let found = position_at_first (is_named name) periods i d is in
+    elim (cases_Bool (get_or periods i d).closed) [
+      | inl closed_is ↦ closed_is ∙ sym (list_any_at (is_closed_named name) periods i d found.0 (rw (closed_is, found.1) refl))
+      | inr opened ↦ opened ∙ sym (list_any_none (is_closed_named name) periods (λ k e lt. elim (cases_Bool (is_closed_named name (get_or periods k e))) [
+        | inl both ↦
+            let parts = and_parts (get_or periods k e).closed (is_named name (get_or periods k e)) both in
+            let named_at : is_named name (get_or periods i e) ≡ true = rw (get_or_default periods i d e found.0) at found.1 in
+            let same = only_named name periods i k e apart found.0 named_at lt parts.1 in
+            let own : (get_or periods i e).closed ≡ true = rw same at parts.0 in
+            cc (sym opened ∙ ap (λ (p : Period). p.closed) (get_or_default periods i d e found.0) ∙ own)
+        | inr apart_from ↦ apart_from
+      ]))
+    ]
+
+pub none_closed_by_name : (name : List ℕ) (periods : List Period) → list_any (is_named name) periods ≡ false → list_any (is_closed_named name) periods ≡ false
+none_closed_by_name name periods none = list_any_none (is_closed_named name) periods (λ k e lt. by (get_or periods k e).closed (is_named name (get_or periods k e)) (fails_at (is_named name) periods k e none lt))
+  where
+    by : (a b : Bool) → b ≡ false → (a && b) ≡ false
+    by true b is = is
+    by false b is = refl

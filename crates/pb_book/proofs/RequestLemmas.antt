@@ -1,6 +1,6 @@
 -- What a record asks to be stored lies in its ranges.
-use Rattle.std.specs.Prelude.{◌==◌, ◌||◌, ◌&&◌, not, is_some, int_le, if◌then◌else◌, unwrap_or}
-use Rattle.std.proofs.Common.{◌≡◌, ◌∙◌, ◌≤◌, ℕ, ℤ, pos, List, [], ◌∷◌, length, Bool, true, false, Option, Some, None, Result, Ok, Err, refl, sym, ap, arith, neg_ℤ, inl, inr}
+use Rattle.std.specs.Prelude.{◌==◌, ◌||◌, ◌&&◌, not, IfSome, is_some, int_le, if◌then◌else◌, unwrap_or}
+use Rattle.std.proofs.Common.{◌≡◌, ℕ, ℤ, pos, List, [], ◌∷◌, length, Bool, true, false, Option, Some, None, Result, Ok, Err, refl, sym, arith, neg_ℤ, inl, inr}
 use Rattle.std.proofs.lemmas.Bool.{and_parts, cases_Bool, or_parts}
 use Rattle.std.proofs.lemmas.Int.{ints}
 use Rattle.pb_rows.specs.Date.{IsDay, day_of}
@@ -15,14 +15,18 @@ use Rattle.pb_book.specs.declared.answer.Refused.{Refused}
 use Rattle.pb_book.specs.declared.answer.Refused.TheVariants.{Fields as FieldsFault, BadName, Number as NumberFault, Date as DateFault}
 use Rattle.pb_book.specs.declared.requests.Version.{Version}
 use Rattle.pb_book.specs.declared.requests.RowKind.{RowKind}
-use Rattle.pb_book.specs.declared.requests.RowKind.TheVariants.{Unit as UnitRow, Tank, Strap, Stream, Period, CriticalGlobal, CriticalNodal, CriticalMeasure, Reading, Transfer, Dip, Design, Report}
+use Rattle.pb_book.specs.declared.requests.RowKind.TheVariants.{Unit as UnitRow, Tank, Strap, Stream, Period, CriticalGlobal, CriticalNodal, CriticalMeasure, Fact, Late, AmendAmount, AmendLevel, Strike, Close, Design, Report, History}
+use Rattle.pb_book.specs.declared.requests.FactKind.{FactKind}
+use Rattle.pb_book.specs.declared.requests.FactKind.TheVariants.{Reading, Transfer, Dip}
+use Rattle.pb_facts.specs.Fact.{IsInRange as IsFactInRange}
+use Rattle.pb_facts.specs.declared.fact.Fact.{Fact as PlantFact}
 use Rattle.pb_book.specs.declared.requests.Request.{Request}
 use Rattle.pb_book.specs.declared.requests.Request.TheVariants.{Store}
 use Rattle.pb_book.specs.declared.rows.BookRow.{BookRow}
-use Rattle.pb_book.specs.Columns.{Column, Number, Date, base_column, columns_of, critical_column, density_column, dof_column, grams_column, level_column, variance_column, volume_column, fields_fault, is_bad_date, is_bad_name, is_bad_number, some_bad}
+use Rattle.pb_book.specs.Columns.{Column, Number, Date, base_column, columns_of, critical_column, density_column, dof_column, fact_columns, grams_column, level_column, variance_column, volume_column, fields_fault, is_bad_date, is_bad_name, is_bad_number, some_bad}
 use Rattle.pb_book.specs.Kinds.{kind_of}
 use Rattle.pb_book.specs.Ranges.{IsBetween, IsRequestInRange, IsRowInRange}
-use Rattle.pb_book.specs.Requests.{day_in, request_by, request_if, request_in, request_of, unless_faulty, value_in}
+use Rattle.pb_book.specs.Requests.{day_in, fact_of, request_by, request_if, request_in, request_of, store_fact, store_late, unless_faulty, value_in}
 use Rattle.pb_book.specs.Laws.{RequestsLaw}
 
 same_request : (a b : Request) → (let one : Result Request Refused = Ok a in one) ≡ Ok b → a ≡ b
@@ -83,6 +87,33 @@ grams_in_range grams fine =
 last_fine : (bad : Bool) → (bad || false) ≡ false → bad ≡ false
 last_fine bad fine = (or_parts bad false fine).0
 
+-- the fact that fields without a fault write lies in its ranges
+told : HaveOneDateText → (kind : FactKind) (fields : List (List ℕ)) → AreGood (fact_columns kind) fields → IfSome (fact_of kind fields) IsFactInRange
+told texts Reading (id ∷ stream ∷ day ∷ grams ∷ variance ∷ []) fine =
+    let parts = or_parts (is_bad_number grams_column grams) (is_bad_number variance_column variance || false) fine.numbers in
+    (dated texts day (last_fine _ fine.dates), grams_in_range grams parts.0, between (pos 0) (pos most_row_variance) variance (last_fine _ parts.1))
+told texts Transfer (id ∷ stream ∷ first ∷ last ∷ grams ∷ variance ∷ []) fine =
+    let parts = or_parts (is_bad_number grams_column grams) (is_bad_number variance_column variance || false) fine.numbers in
+    let days = or_parts (is_bad_date Date first) (is_bad_date Date last || false) fine.dates in
+    (dated texts first days.0, dated texts last (last_fine _ days.1), grams_in_range grams parts.0, between (pos 0) (pos most_row_variance) variance (last_fine _ parts.1))
+told texts Dip (id ∷ tank ∷ day ∷ mm ∷ density ∷ variance ∷ []) fine =
+    let parts = or_parts (is_bad_number level_column mm) (is_bad_number density_column density || (is_bad_number variance_column variance || false)) fine.numbers in
+    let more = or_parts (is_bad_number density_column density) (is_bad_number variance_column variance || false) parts.1 in (
+      dated texts day (last_fine _ fine.dates),
+      between (pos 0) (pos most_level) mm parts.0,
+      between (pos 1) (pos most_density) density more.0,
+      between (pos 0) (pos most_row_variance) variance (last_fine _ more.1),
+    )
+told texts kind fields fine = tt
+
+stored_in_range : (fact : Option PlantFact) → IfSome fact IsFactInRange → IsRequestInRange (store_fact fact)
+stored_in_range None right = tt
+stored_in_range (Some fact) right = right
+
+late_in_range : (fact : Option PlantFact) → IfSome fact IsFactInRange → IsRequestInRange (store_late fact)
+late_in_range None right = tt
+late_in_range (Some fact) right = right
+
 -- what a record of a kind asks lies in its ranges, where its fields have no fault
 asked : HaveOneDateText → (kind : RowKind) (fields : List (List ℕ)) → AreGood (columns_of kind) fields → IsRequestInRange (request_of kind fields)
 asked texts UnitRow (name ∷ []) fine = tt
@@ -102,23 +133,21 @@ asked texts CriticalGlobal (word ∷ dof ∷ value ∷ []) fine =
     (omega (arith, ints, degrees.0), omega (arith, ints, degrees.0, degrees.1), between (pos 0) (pos most_critical) value (last_fine _ parts.1))
 asked texts CriticalNodal (word ∷ value ∷ []) fine = between (pos 0) (pos most_critical) value (last_fine _ fine.numbers)
 asked texts CriticalMeasure (word ∷ value ∷ []) fine = between (pos 0) (pos most_critical) value (last_fine _ fine.numbers)
-asked texts Reading (id ∷ stream ∷ day ∷ grams ∷ variance ∷ []) fine =
+asked texts (Fact kind) fields fine = stored_in_range (fact_of kind fields) (told texts kind fields fine)
+asked texts (Late kind) (word ∷ fields) fine =
+    late_in_range (fact_of kind fields) (told texts kind fields (record { numbers = fine.numbers; dates = fine.dates }))
+asked texts AmendAmount (id ∷ grams ∷ variance ∷ reason ∷ []) fine =
     let parts = or_parts (is_bad_number grams_column grams) (is_bad_number variance_column variance || false) fine.numbers in
-    (dated texts day (last_fine _ fine.dates), grams_in_range grams parts.0, between (pos 0) (pos most_row_variance) variance (last_fine _ parts.1))
-asked texts Transfer (id ∷ stream ∷ first ∷ last ∷ grams ∷ variance ∷ []) fine =
-    let parts = or_parts (is_bad_number grams_column grams) (is_bad_number variance_column variance || false) fine.numbers in
-    let days = or_parts (is_bad_date Date first) (is_bad_date Date last || false) fine.dates in
-    (dated texts first days.0, dated texts last (last_fine _ days.1), grams_in_range grams parts.0, between (pos 0) (pos most_row_variance) variance (last_fine _ parts.1))
-asked texts Dip (id ∷ tank ∷ day ∷ mm ∷ density ∷ variance ∷ []) fine =
+    (grams_in_range grams parts.0, between (pos 0) (pos most_row_variance) variance (last_fine _ parts.1))
+asked texts AmendLevel (id ∷ mm ∷ density ∷ variance ∷ reason ∷ []) fine =
     let parts = or_parts (is_bad_number level_column mm) (is_bad_number density_column density || (is_bad_number variance_column variance || false)) fine.numbers in
-    let more = or_parts (is_bad_number density_column density) (is_bad_number variance_column variance || false) parts.1 in (
-      dated texts day (last_fine _ fine.dates),
-      between (pos 0) (pos most_level) mm parts.0,
-      between (pos 1) (pos most_density) density more.0,
-      between (pos 0) (pos most_row_variance) variance (last_fine _ more.1),
-    )
+    let more = or_parts (is_bad_number density_column density) (is_bad_number variance_column variance || false) parts.1 in
+    (between (pos 0) (pos most_level) mm parts.0, between (pos 1) (pos most_density) density more.0, between (pos 0) (pos most_row_variance) variance (last_fine _ more.1))
+asked texts Strike (id ∷ reason ∷ []) fine = tt
+asked texts Close (period ∷ []) fine = tt
 asked texts Design [] fine = tt
 asked texts Report (period ∷ []) fine = tt
+asked texts History (period ∷ []) fine = tt
 asked texts kind fields fine = tt
 
 -- a record of a known kind

@@ -1,5 +1,6 @@
 -- Statement. Rows that were accepted, one behind the other, and what follows of them.
-use Rattle.std.specs.Prelude.{◌≡◌, ℕ, false, List, [], take, All, None, Some, slice_get}
+use Rattle.std.specs.Prelude.{◌≡◌, ℕ, false, List, take, All, None, Some, slice_get}
+use Rattle.pb_facts.specs.Fact.{IsInRange}
 use Rattle.pb_facts.specs.declared.facts.KeptFact.{KeptFact}
 use Rattle.pb_site.specs.declared.declared.Declared.{Declared}
 use Rattle.pb_book.specs.declared.rows.BookRow.{BookRow}
@@ -23,9 +24,10 @@ AreAccepted rows =
 abbrev pub AreInTables : List Declared → List KeptFact → Type 0
 AreInTables declared kept = All (λ (k : KeptFact). is_outside_table declared k.fact ≡ false) kept
 
--- What follows of accepted rows: each period has as many days as it may have, no two share a name or a day, and
--- each dip lies in its tank's table, which may have grown since.
+-- What follows of accepted rows: each period has as many days as it may have, no two share a name or a day, the
+-- numbers and days of each fact lie in their ranges, and each dip lies in its tank's table, which may have grown since.
 pub record AreConsistent (declared : List Declared) (kept : List KeptFact) (periods : List Period) : Type 0 where
   pub days : All IsPeriod periods
   pub apart : AreApart periods
+  pub ranges : All (λ (k : KeptFact). IsInRange k.fact) kept
   pub in_tables : AreInTables declared kept

@@ -2,13 +2,13 @@
 use Rattle.std.specs.Prelude.{ℕ, Bool, true, false, List, [], ◌∷◌, ◌++◌, Option, Some, None, Result, Ok, Err}
 use Rattle.pb_rows.specs.Records.{without_trailing_empty}
 use Rattle.pb_book.specs.declared.answer.Accepted.{Accepted}
-use Rattle.pb_book.specs.declared.answer.Accepted.TheVariants.{Blank, Stored as StoredAccepted, Design, Report}
+use Rattle.pb_book.specs.declared.answer.Accepted.TheVariants.{Blank, Stored as StoredAccepted, Design, Report, History}
 use Rattle.pb_book.specs.declared.answer.NotAccepted.{NotAccepted}
 use Rattle.pb_book.specs.declared.answer.NotAccepted.TheVariants.{Refused as NotAcceptedFor}
 use Rattle.pb_book.specs.declared.answer.Refused.{Refused as Refusal}
-use Rattle.pb_book.specs.declared.answer.Refused.TheVariants.{Kind, Fields, BadName, Number, Date, Unknown, Duplicate, Order, Mismatch, Range, Full}
+use Rattle.pb_book.specs.declared.answer.Refused.TheVariants.{Kind, Fields, BadName, Number, Date, Unknown, Duplicate, Order, Mismatch, Sealed, Closed, Range, Full}
 use Rattle.pb_book.specs.declared.requests.Request.{Request}
-use Rattle.pb_book.specs.declared.requests.Request.TheVariants.{Blank as BlankAsked, Store, Design as DesignAsked, Report as ReportAsked}
+use Rattle.pb_book.specs.declared.requests.Request.TheVariants.{Blank as BlankAsked, Store, Design as DesignAsked, Report as ReportAsked, History as HistoryAsked}
 use Rattle.pb_book.specs.declared.rows.BookRow.{BookRow}
 use Rattle.pb_book.specs.Requests.{request_in}
 use Rattle.pb_book.specs.Refusals.{refusal_of}
@@ -25,6 +25,8 @@ code_of Unknown = 6
 code_of Duplicate = 7
 code_of Order = 8
 code_of Mismatch = 9
+code_of Sealed = 10
+code_of Closed = 11
 code_of Range = 12
 code_of Full = 13
 
@@ -44,12 +46,18 @@ abbrev pub report_or_refused : Option ℕ → Answer
 report_or_refused (Some period) = Says (Report period)
 report_or_refused None = Refused Unknown
 
+-- so is a history
+abbrev pub history_or_refused : Option ℕ → Answer
+history_or_refused (Some period) = Says (History period)
+history_or_refused None = Refused Unknown
+
 -- the answer to a request
 abbrev pub answer_to : List StoredRow → Request → Answer
 answer_to rows BlankAsked = Says Blank
 answer_to rows (Store row) = stored_or_refused row (refusal_of rows row)
 answer_to rows DesignAsked = Says Design
 answer_to rows (ReportAsked period) = report_or_refused (period_place rows period)
+answer_to rows (HistoryAsked period) = history_or_refused (period_place rows period)
 
 -- the answer to a request, or to a record that has a fault
 abbrev pub answer_if : List StoredRow → Result Request Refusal → Answer

@@ -2,15 +2,22 @@
 use Rattle.std.specs.Prelude.{◌≡◌, ℕ, ℤ, true, false, List, Some, None, Result, Ok, Err, unsigned_abs}
 use Rattle.pb_book.specs.declared.answer.Refused.{Refused}
 use Rattle.pb_book.specs.declared.answer.Refused.TheVariants.{BadName, Number as NumberFault, Date as DateFault}
+use Rattle.pb_book.specs.declared.requests.FactKind.{FactKind}
 use Rattle.pb_book.specs.declared.requests.RowKind.{RowKind}
 use Rattle.pb_book.specs.declared.requests.Request.{Request}
-use Rattle.pb_book.specs.Columns.{Column, Name, Date, columns_of, dof_column, fields_fault, is_bad_date, is_bad_name, is_bad_number}
-use Rattle.pb_book.specs.Requests.{day_in, request_of, value_in}
+use Rattle.pb_facts.specs.declared.fact.Fact.{Fact}
+use Rattle.pb_book.specs.Columns.{Column, Name, Reason, Date, columns_of, dof_column, fact_columns, fields_fault, is_bad_date, is_bad_name, is_bad_number}
+use Rattle.pb_book.specs.Requests.{day_in, fact_of, request_of, value_in}
 
 -- a field read as a name
 abbrev pub ReadsName : List ℕ → Result (List ℕ) Refused → Type 0
 ReadsName field (Ok name) = (is_bad_name Name field ≡ false) × (name ≡ field)
 ReadsName field (Err fault) = (is_bad_name Name field ≡ true) × (fault ≡ BadName)
+
+-- a field read as a reason
+abbrev pub ReadsReason : List ℕ → Result (List ℕ) Refused → Type 0
+ReadsReason field (Ok reason) = (is_bad_name Reason field ≡ false) × (reason ≡ field)
+ReadsReason field (Err fault) = (is_bad_name Reason field ≡ true) × (fault ≡ BadName)
 
 -- a field read as a number of a column
 abbrev pub ReadsNumber : Column → List ℕ → Result ℤ Refused → Type 0
@@ -26,6 +33,12 @@ ReadsDof field (Err fault) = (is_bad_number dof_column field ≡ true) × (fault
 abbrev pub ReadsDate : List ℕ → Result ℤ Refused → Type 0
 ReadsDate field (Ok day) = (is_bad_date Date field ≡ false) × (day ≡ day_in field)
 ReadsDate field (Err fault) = (is_bad_date Date field ≡ true) × (fault ≡ DateFault)
+
+-- the fields of a fact read
+abbrev pub ReadsFact : FactKind → List (List ℕ) → Result Fact Refused → Type 0
+ReadsFact kind fields (Ok fact) =
+    (fields_fault (fact_columns kind) fields ≡ None) × (Some fact ≡ fact_of kind fields)
+ReadsFact kind fields (Err fault) = fields_fault (fact_columns kind) fields ≡ Some fault
 
 -- the fields of a row of a kind, behind its first one, read
 abbrev pub ReadsRow : RowKind → List (List ℕ) → Result Request Refused → Type 0

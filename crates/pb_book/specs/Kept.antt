@@ -1,30 +1,42 @@
 -- Inside. What a book keeps beside its rows, so that no look-up walks them.
-use Rattle.std.specs.Prelude.{◌≡◌, ℕ, ◌<◌, ◌≤◌, ℤ, ◌≤ℤ◌, List, length, map, filter_map, slice_get, slice_index_or, All, Option, Some, None, if◌then◌else◌, IsSome}
+use Rattle.std.specs.Prelude.{◌≡◌, ℕ, ◌<◌, ◌≤◌, ℤ, ◌≤ℤ◌, Bool, true, List, [], length, map, filter_map, slice_get, slice_index_or, All, Option, Some, None, if◌then◌else◌, IsSome}
 use Rattle.std.specs.Ordering.{int_cmp, int_eq}
 use Rattle.std.specs.BTreeMap.{BTreeMap, get}
 use Rattle.std.specs.Option.{option_map}
 use Rattle.pb_limits.specs.Limits.{most_periods}
 use Rattle.pb_site.specs.declared.declared.Declared.{Declared}
+use Rattle.pb_facts.specs.declared.fact.Fact.{Fact}
 use Rattle.pb_facts.specs.declared.facts.KeptFact.{KeptFact}
 use Rattle.pb_book.specs.declared.rows.BookRow.{BookRow}
-use Rattle.pb_book.specs.declared.rows.BookRow.TheVariants.{Declaration, Period as PeriodRow, Fact as FactRow}
+use Rattle.pb_book.specs.declared.rows.BookRow.TheVariants.{Declaration, Period as PeriodRow, Fact as FactRow, Late as LateRow, Amend as AmendRow, Strike as StrikeRow, Close as CloseRow}
+use Rattle.pb_book.specs.declared.rows.Edited.{Edited}
+use Rattle.pb_book.specs.declared.rows.Edited.TheVariants.{Amend, Strike, Close}
 use Rattle.pb_book.specs.declared.rows.Part.{Part}
-use Rattle.pb_book.specs.declared.rows.Part.TheVariants.{Declaration as InDeclarations, Period as InPeriods, Fact as InFacts}
+use Rattle.pb_book.specs.declared.rows.Part.TheVariants.{Declaration as InDeclarations, Period as InPeriods, Fact as InFacts, Late as InLate, Edit as InEdits}
 use Rattle.pb_book.specs.declared.rows.Place.{Place}
 use Rattle.pb_book.specs.declared.rows.Period.{Period}
 use Rattle.pb_book.specs.Accepted.{AreAccepted}
 use Rattle.pb_book.specs.Apart.{AreApart}
+use Rattle.pb_book.specs.Edits.{edits_of}
 use Rattle.pb_book.specs.Ranges.{IsPeriod}
 use Rattle.pb_book.specs.Rows.{StoredRow, declared_of, facts_of, periods_of}
+use Rattle.pb_book.specs.Touching.{some_closed}
 
--- these are the names of the periods, in order, and the places of those that begin on a day; no two share a name
--- or a day, each has as many days as it may have, and there are as many as there may be
-pub record ArePeriods (periods : List Period) (names : List (List ℕ)) (begins : BTreeMap ℤ ℕ) : Type 0 where
-  pub named : names ≡ map (λ period. period.name) periods
-  pub there : (k : ℕ) (d : Period) → k < length periods
+-- the places of the periods that pass a test, by the days on which these begin
+pub record AreBegun (chosen : Period → Bool) (periods : List Period) (begins : BTreeMap ℤ ℕ) : Type 0 where
+  pub there : (k : ℕ) (d : Period) → k < length periods → chosen (slice_index_or periods k d) ≡ true
       → get int_cmp begins (slice_index_or periods k d).first ≡ Some k
   pub back : (day : ℤ) (place : ℕ) (d : Period) → get int_cmp begins day ≡ Some place
       → (place < length periods) × ((slice_index_or periods place d).first ≡ day)
+      × (chosen (slice_index_or periods place d) ≡ true)
+
+-- these are the names of the periods, in order, the places of those that begin on a day, and of those of them that
+-- are closed; no two share a name or a day, each has as many days as it may have, and there are as many as there may be
+pub record ArePeriods (periods : List Period) (names : List (List ℕ)) (begins closes : BTreeMap ℤ ℕ) (sealed : Bool) : Type 0 where
+  pub named : names ≡ map (λ period. period.name) periods
+  pub all : AreBegun (λ period. true) periods begins
+  pub closed : AreBegun (λ period. period.closed) periods closes
+  pub sealing : sealed ≡ some_closed periods
   pub days : All IsPeriod periods
   pub apart : AreApart periods
   pub few : length periods ≤ most_periods
@@ -49,21 +61,48 @@ HasBegin old new first place =
 abbrev pub SameBegins : BTreeMap ℤ ℕ → BTreeMap ℤ ℕ → Type 0
 SameBegins old new = (day : ℤ) → get int_cmp new day ≡ get int_cmp old day
 
+-- the row that is kept so
+abbrev pub edited_row : Edited → BookRow
+edited_row (Amend id change reason) = AmendRow id change reason
+edited_row (Strike id reason) = StrikeRow id reason
+edited_row (Close name) = CloseRow name
+
+-- What the stored rows are kept as: the declarations, the facts as they came, the periods, and the rows that close a
+-- period, amend a fact or strike it.
+pub record Shelves : Type 0 where
+  pub declared : List Declared
+  pub told : List Fact
+  pub spans : List Period
+  pub edited : List Edited
+
+abbrev pub shelves_of : List Declared → List Fact → List Period → List Edited → Shelves
+shelves_of declared told spans edited =
+    record { declared = declared; told = told; spans = spans; edited = edited }
+
+-- those that an edit may stand on
+abbrev pub edits_shelved : List Fact → List Edited → Shelves
+edits_shelved told edited = shelves_of [] told [] edited
+
 -- the row that is kept at a place of a part
-abbrev pub row_in : List Declared → List KeptFact → List Period → Part → Option BookRow
-row_in declared kept periods (InDeclarations i) = option_map (λ d. Declaration d) (slice_get declared i)
-row_in declared kept periods (InPeriods i) =
-    option_map (λ (period : Period). PeriodRow period.name period.first period.last) (slice_get periods i)
-row_in declared kept periods (InFacts i) = option_map (λ (k : KeptFact). FactRow k.fact) (slice_get kept i)
+abbrev pub row_in : Shelves → Part → Option BookRow
+row_in shelves (InDeclarations i) = option_map (λ d. Declaration d) (slice_get shelves.declared i)
+row_in shelves (InPeriods i) =
+    option_map (λ (period : Period). PeriodRow period.name period.first period.last) (slice_get shelves.spans i)
+row_in shelves (InFacts i) = option_map (λ fact. FactRow fact) (slice_get shelves.told i)
+row_in shelves (InLate i) = option_map (λ fact. LateRow fact) (slice_get shelves.told i)
+row_in shelves (InEdits i) = option_map edited_row (slice_get shelves.edited i)
 
 -- the stored row at a place
-abbrev pub row_at : List Declared → List KeptFact → List Period → Place → Option StoredRow
-row_at declared kept periods place =
-    option_map (λ row. record { at = place.at; row = row }) (row_in declared kept periods place.part)
+abbrev pub row_at : Shelves → Place → Option StoredRow
+row_at shelves place = option_map (λ row. record { at = place.at; row = row }) (row_in shelves place.part)
 
 -- the stored rows at these places
-abbrev pub rows_at : List Declared → List KeptFact → List Period → List Place → List StoredRow
-rows_at declared kept periods places = filter_map (row_at declared kept periods) places
+abbrev pub rows_at : Shelves → List Place → List StoredRow
+rows_at shelves places = filter_map (row_at shelves) places
+
+-- each of these places has a row
+abbrev pub ArePlaced : Shelves → List Place → Type 0
+ArePlaced shelves places = All (λ place. IsSome (row_at shelves place)) places
 
 -- the declarations, facts and periods are those of the rows
 pub record AreOf (rows : List StoredRow) (declared : List Declared) (kept : List KeptFact) (periods : List Period) : Type 0 where
@@ -71,8 +110,25 @@ pub record AreOf (rows : List StoredRow) (declared : List Declared) (kept : List
   pub facts : kept ≡ facts_of rows
   pub spans : periods ≡ periods_of rows
 
--- each place has a row, the rows were accepted, and the declarations, facts and periods are theirs
-pub record IsKept (declared : List Declared) (kept : List KeptFact) (periods : List Period) (places : List Place) : Type 0 where
-  pub placed : All (λ place. IsSome (row_at declared kept periods place)) places
-  pub parts : AreOf (rows_at declared kept periods places) declared kept periods
-  pub accepted : AreAccepted (rows_at declared kept periods places)
+-- each place has a row, the rows were accepted, and the declarations, facts, periods and edits are theirs
+pub record IsKept (shelves : Shelves) (kept : List KeptFact) (places edits : List Place) : Type 0 where
+  pub placed : ArePlaced shelves places
+  pub parts : AreOf (rows_at shelves places) shelves.declared kept shelves.spans
+  pub accepted : AreAccepted (rows_at shelves places)
+  pub told : length shelves.told ≡ length kept
+  pub edited : ArePlaced shelves edits
+  pub edit_rows : rows_at shelves edits ≡ edits_of (rows_at shelves places)
+
+-- the row at a place, if it declares something, or a period
+abbrev pub settled_by : List Declared → List Period → Part → Option BookRow
+settled_by declared periods (InDeclarations i) = option_map (λ d. Declaration d) (slice_get declared i)
+settled_by declared periods (InPeriods i) =
+    option_map (λ (period : Period). PeriodRow period.name period.first period.last) (slice_get periods i)
+settled_by declared periods part = None
+
+abbrev pub settled_in : List Declared → List Period → Place → Option BookRow
+settled_in declared periods place = settled_by declared periods place.part
+
+-- such rows at these places
+abbrev pub settled_at : List Declared → List Period → List Place → List BookRow
+settled_at declared periods places = filter_map (settled_in declared periods) places

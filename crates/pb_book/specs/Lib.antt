@@ -4,11 +4,17 @@ pub mod Columns
 pub mod Requests
 pub mod Apart
 pub mod Rows
+pub mod Touching
+pub mod Edits
 pub mod Ranges
 pub mod Refusals
 pub mod Answer
 pub mod Accepted
+pub mod Live
+pub mod Plain
+pub mod Written
 pub mod Laws
 -- Inside
+pub mod Causes
 pub mod Fields
 pub mod Kept

@@ -2,11 +2,12 @@
 use Rattle.std.specs.Prelude.{ℤ, pos, ◌-ℤ◌, ◌≤ℤ◌, ◌<ℤ◌}
 use Rattle.pb_limits.specs.Limits.{most_days_of_period}
 use Rattle.pb_site.specs.Row.{IsInRange as IsDeclaredInRange}
+use Rattle.pb_facts.specs.Changes.{IsChangeInRange}
 use Rattle.pb_facts.specs.Fact.{IsDay, IsInRange as IsFactInRange}
 use Rattle.pb_book.specs.declared.requests.Request.{Request}
 use Rattle.pb_book.specs.declared.requests.Request.TheVariants.{Store}
 use Rattle.pb_book.specs.declared.rows.BookRow.{BookRow}
-use Rattle.pb_book.specs.declared.rows.BookRow.TheVariants.{Declaration, Period as PeriodRow, Fact as FactRow}
+use Rattle.pb_book.specs.declared.rows.BookRow.TheVariants.{Declaration, Period as PeriodRow, Fact as FactRow, Late, Amend, Strike, Close}
 use Rattle.pb_book.specs.declared.rows.Period.{Period}
 
 -- z lies from lo to hi, both included
@@ -18,6 +19,10 @@ abbrev pub IsRowInRange : BookRow → Type 0
 IsRowInRange (Declaration declared) = IsDeclaredInRange declared
 IsRowInRange (PeriodRow name first last) = IsDay first × IsDay last
 IsRowInRange (FactRow fact) = IsFactInRange fact
+IsRowInRange (Late fact) = IsFactInRange fact
+IsRowInRange (Amend id change reason) = IsChangeInRange change
+IsRowInRange (Strike id reason) = Unit {0}
+IsRowInRange (Close name) = Unit {0}
 
 -- so do those of a row that is asked to be stored
 abbrev pub IsRequestInRange : Request → Type 0

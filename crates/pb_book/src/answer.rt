@@ -18,6 +18,8 @@ pub enum Accepted {
     Design,
     /// A report of the period at this place is asked for.
     Report(u32),
+    /// The history of the period at this place is asked for.
+    History(u32),
 }
 
 /// Why a record is refused, in the order in which the causes are asked for.
@@ -39,8 +41,12 @@ pub enum Refused {
     Duplicate,
     /// A level or volume that falls, or a first day after the last.
     Order,
-    /// A stream from a node to itself or of another kind, or a day in two periods.
+    /// A stream from a node to itself, a fact of another kind, or a day in two periods.
     Mismatch,
+    /// A unit, a tank, a point of a table or a stream, once some period is closed.
+    Sealed,
+    /// A fact that touches a closed period, or a second closing.
+    Closed,
     /// A period or transfer that is too long, or a level outside the tank's table.
     Range,
     /// As many as there may be.
@@ -73,6 +79,8 @@ impl Refused {
             Refused::Duplicate => 7,
             Refused::Order => 8,
             Refused::Mismatch => 9,
+            Refused::Sealed => 10,
+            Refused::Closed => 11,
             Refused::Range => 12,
             Refused::Full => 13,
         }

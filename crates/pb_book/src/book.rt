@@ -1,34 +1,47 @@
 // The book of accepted rows.
 
-ghost use Rattle.std.specs.Prelude.{◌≡◌, ◌≢◌, ◌<◌, ◌≤◌, ◌∷◌, ◌++◌, [], length, Err, None, OnOk, OnErr, slice_get, Some};
+ghost use Rattle.std.specs.Prelude.{◌≡◌, ◌≢◌, ◌<◌, ◌≤◌, ◌∷◌, ◌++◌, [], length, Err, None, IfOk, OnOk, OnErr, slice_get, Some, option_and_then};
+ghost use Rattle.pb_book.specs.declared.rows.BookRow.TheVariants.{Declaration, Fact as FactRow, Late, Period as PeriodRow};
 ghost use Rattle.pb_limits.specs.Limits.{most_periods};
 ghost use Rattle.pb_book.specs.declared.answer.NotAccepted.TheVariants.{NoMemory};
-ghost use Rattle.pb_book.specs.Accepted.{AreAccepted, AreInTables};
+ghost use Rattle.pb_book.specs.Accepted.{AreAccepted, AreInTables, IsAcceptable};
 ghost use Rattle.pb_book.specs.Answer.{after, after_answer, answer_of, answer_to, said_of, stored_or_refused};
-ghost use Rattle.pb_book.specs.Apart.{AreApart};
+ghost use Rattle.pb_book.specs.Apart.{AreApart, is_named};
+ghost use Rattle.pb_book.specs.Edits.{edit_at, edit_by, edit_in, edit_touches, edits_of, row_touches, touches_at, touches_by_id};
+ghost use Rattle.pb_book.specs.Kept.{edited_row, edits_shelved, row_at};
+ghost use Rattle.pb_book.specs.Plain.{plain_rows};
 ghost use Rattle.pb_book.specs.Ranges.{IsPeriod, IsRequestInRange, IsRowInRange};
 ghost use Rattle.pb_book.specs.Refusals.{refusal_of};
-ghost use Rattle.pb_book.specs.Rows.{declared_of, facts_of, period_place, periods_of, version_of};
+ghost use Rattle.pb_book.specs.Rows.{declared_of, facts_of, period_place, periods_of, version_of, with_row};
+ghost use Rattle.pb_book.specs.Written.{WriteRows};
 
 use crate::answer::{Accepted, NotAccepted, Refused};
 use crate::judge::judge;
 use crate::laws::requests_law;
 use crate::periods::Periods;
+use crate::plain::plain_records;
 use crate::requests::{Request, Version, read_request};
-use crate::rows::{BookRow, Part, Period, Place};
-use pb_facts::Facts;
-use pb_rows::{Name, Row};
-use pb_site::Site;
+use crate::rows::{BookRow, Edit, EditWord, Edited, Part, Period, Place};
+use crate::touching::touches;
+use pb_facts::{Fact, Facts};
+use pb_rows::{Name, Row, Rows};
+use pb_site::{Declared, Site};
 use std::alloc::{AllocError, Global};
 use std::marker::Model;
 
 #[cfg(test)]
+mod edit_tests;
+#[cfg(test)]
 mod tests;
 
-/// The accepted rows of a session, in order: the places of all, and what they hold by its parts.
+/// The accepted rows of a session, in order: the places of all and those of the edits, and what they hold by its parts.
+/// The facts are kept as they came and with their last values.
 #[derive(Drop)]
 pub struct Book {
     places: Vec<Place>,
+    edits: Vec<Place>,
+    told: Vec<Fact>,
+    edited: Vec<Edited>,
     site: Site,
     facts: Facts,
     periods: Periods,
@@ -37,13 +50,15 @@ pub struct Book {
 impl Model for Book {
     ghost use Rattle.std.specs.Prelude.{List};
     ghost use Rattle.pb_book.specs.Rows.{StoredRow};
-    ghost use Rattle.pb_book.specs.Kept.{IsKept, rows_at};
+    ghost use Rattle.pb_book.specs.Kept.{IsKept, rows_at, shelves_of};
 
     ghost Value = { List StoredRow };
 
-    ghost view = { λ a. rows_at a.site a.facts a.periods a.places.items };
+    ghost view = { λ a.
+        rows_at (shelves_of a.site a.told.items a.periods a.edited.items) a.places.items };
 
-    ghost invariant = { λ a. IsKept a.site a.facts a.periods a.places.items };
+    ghost invariant = { λ a. IsKept
+        (shelves_of a.site a.told.items a.periods a.edited.items) a.facts a.places.items a.edits.items };
 }
 
 impl Book {
@@ -53,6 +68,9 @@ impl Book {
     {
         Book {
             places: Vec::new(alloc),
+            edits: Vec::new(alloc),
+            told: Vec::new(alloc),
+            edited: Vec::new(alloc),
             site: Site::new(alloc),
             facts: Facts::new(alloc),
             periods: Periods::new(alloc),
@@ -60,7 +78,7 @@ impl Book {
     }
 
     /// Takes the record with the number `at`, counted from 1: it is refused with the first cause that holds, or it joins the
-    /// book, or it asks for a design or a report. After a refusal the book is as it was.
+    /// book, or it asks for a design, a report or a history. After a refusal the book is as it was.
     pub fn accept(&mut self, at: u32, row: &Row) -> Result<Accepted, NotAccepted>
         ensures answer { result ≢ Err NoMemory → result ≡ said_of (answer_of self.old row.now) }
         ensures stored { result ≢ Err NoMemory → self.new ≡ after self.old at row.now }
@@ -113,6 +131,56 @@ impl Book {
         self.periods.place_of(name)
     }
 
+    /// The number of edits: rows that close a period, come late, amend a fact or strike it.
+    pub fn edits(&self) -> usize
+        ensures { result ≡ length (edits_of self.now) }
+    {
+        self.edits.len()
+    }
+
+    /// The edit at a place, counted from 0 in the order of the records.
+    pub fn edit(&self, i: usize) -> Edit
+        requires { i < length (edits_of self.now) }
+        ensures { edit_at self.now i ≡ Some result }
+    {
+        match edit_kept(&self.told, &self.edited, self.edits[i]) {
+            Some(edit) => edit,
+            None => unreachable!(),
+        }
+    }
+
+    /// Whether an edit touches the period at a place: a closing its own, a late fact those that it touches, an amendment
+    /// and a strike those that their fact touches.
+    pub fn touches(&self, e: usize, i: u32) -> bool
+        requires edit { e < length (edits_of self.now) }
+        requires period { i < length (periods_of self.now) }
+        ensures { result ≡ touches_at self.now e i }
+    {
+        let period = self.periods.at(i);
+        kept_touches(
+            &self.facts,
+            &self.told,
+            &self.edited,
+            self.edits[e],
+            &period,
+        )
+    }
+
+    /// The plain rows as records: the declarations, periods and critical values in order, and then the live facts with
+    /// their last values. None of them is refused, and a report behind them is the one behind the book's rows. Refused
+    /// alone for want of memory.
+    pub fn plain(&self, alloc: Global) -> Result<Rows, AllocError>
+        ensures { IfOk result (λ records. WriteRows records (plain_rows self.now)) }
+    {
+        plain_records(
+            alloc,
+            self.site.declared(),
+            &self.periods,
+            &self.places,
+            &self.facts,
+        )
+    }
+
     /// Its rows were accepted, one behind the other.
     pub fn accepted_law(&self)
         ensures { AreAccepted self.now }
@@ -131,7 +199,8 @@ impl Book {
     fn answer(&mut self, at: u32, request: Request) -> Result<Accepted, NotAccepted>
         requires { IsRequestInRange request }
         ensures answer { result ≢ Err NoMemory → result ≡ said_of (answer_to self.old request) }
-        ensures stored { result ≢ Err NoMemory → self.new ≡ after_answer self.old at (answer_to self.old request) }
+        ensures stored { result ≢ Err NoMemory
+            → self.new ≡ after_answer self.old at (answer_to self.old request) }
         ensures unchanged { result ≡ Err NoMemory → self.new ≡ self.old }
     {
         match request {
@@ -142,13 +211,18 @@ impl Book {
                 Some(period) => Ok(Accepted::Report(period)),
                 None => Err(NotAccepted::Refused(Refused::Unknown)),
             },
+            Request::History(name) => match self.period_of(&name) {
+                Some(period) => Ok(Accepted::History(period)),
+                None => Err(NotAccepted::Refused(Refused::Unknown)),
+            },
         }
     }
 
     // Stores a row, or says why it is refused.
     fn store(&mut self, at: u32, row: BookRow) -> Result<Accepted, NotAccepted>
         requires { IsRowInRange row }
-        ensures answer { result ≢ Err NoMemory → result ≡ said_of (stored_or_refused row (refusal_of self.old row)) }
+        ensures answer { result ≢ Err NoMemory
+            → result ≡ said_of (stored_or_refused row (refusal_of self.old row)) }
         ensures stored { result ≢ Err NoMemory
             → self.new ≡ after_answer self.old at (stored_or_refused row (refusal_of self.old row)) }
         ensures unchanged { result ≡ Err NoMemory → self.new ≡ self.old }
@@ -162,35 +236,223 @@ impl Book {
 
     // Adds a row that there is no cause to refuse. After an `Err`, want of memory, the book is as it was.
     fn add(&mut self, at: u32, row: &BookRow) -> Result<(), AllocError>
-        requires in_range { IsRowInRange row.now }
-        requires no_cause { refusal_of self.old row.now ≡ None }
-        ensures ok { OnOk result (self.new ≡ self.old ++ record { at = at; row = row.now } ∷ []) }
+        requires { IsAcceptable self.old row.now }
+        ensures ok { OnOk result (self.new ≡ with_row self.old at row.now) }
+        ensures err { OnErr result (self.new ≡ self.old) }
+    {
+        match row {
+            BookRow::Declaration(declared) => self.add_declaration(at, declared),
+            BookRow::Period { name, first, last } => self.add_period(at, name, *first, *last),
+            BookRow::Fact(fact) => self.add_fact(at, fact),
+            BookRow::Late(fact) => self.add_late(at, fact),
+            BookRow::Amend { id, change, reason } => self.add_edit(
+                at,
+                &Edited::Amend {
+                    id: *id,
+                    change: *change,
+                    reason: *reason,
+                },
+            ),
+            BookRow::Strike { id, reason } => self.add_edit(
+                at,
+                &Edited::Strike {
+                    id: *id,
+                    reason: *reason,
+                },
+            ),
+            BookRow::Close(name) => self.add_edit(at, &Edited::Close(*name)),
+        }
+    }
+
+    fn add_declaration(&mut self, at: u32, declared: &Declared) -> Result<(), AllocError>
+        requires { IsAcceptable self.old (Declaration declared.now) }
+        ensures ok { OnOk result (self.new ≡ with_row self.old at (Declaration declared.now)) }
         ensures err { OnErr result (self.new ≡ self.old) }
     {
         self.places.reserve(1)?;
-        let part = match row {
-            BookRow::Declaration(declared) => {
-                let place = self.site.len();
-                self.site.add(*declared)?;
-                Part::Declaration(place)
-            }
-            BookRow::Period { name, first, last } => {
-                let place = self.periods.len();
-                self.periods.push(Period {
-                    name: *name,
-                    first: *first,
-                    last: *last,
-                    closed: false,
-                })?;
-                Part::Period(place)
-            }
-            BookRow::Fact(fact) => {
-                let place = self.facts.len();
-                self.facts.add(*fact)?;
-                Part::Fact(place)
-            }
-        };
+        let part = Part::Declaration(self.site.len());
+        self.site.add(*declared)?;
         self.places.push_reserved(Place { at, part });
         Ok(())
+    }
+
+    fn add_period(&mut self, at: u32, name: &Name, first: i32, last: i32) -> Result<(), AllocError>
+        requires { IsAcceptable self.old (PeriodRow name.now first last) }
+        ensures ok { OnOk result (self.new ≡ with_row self.old at (PeriodRow name.now first last)) }
+        ensures err { OnErr result (self.new ≡ self.old) }
+    {
+        self.places.reserve(1)?;
+        let part = Part::Period(self.periods.len());
+        self.periods.push(Period {
+            name: *name,
+            first,
+            last,
+            closed: false,
+        })?;
+        self.places.push_reserved(Place { at, part });
+        Ok(())
+    }
+
+    fn add_fact(&mut self, at: u32, fact: &Fact) -> Result<(), AllocError>
+        requires { IsAcceptable self.old (FactRow fact.now) }
+        ensures ok { OnOk result (self.new ≡ with_row self.old at (FactRow fact.now)) }
+        ensures err { OnErr result (self.new ≡ self.old) }
+    {
+        self.places.reserve(1)?;
+        self.told.reserve(1)?;
+        let part = Part::Fact(self.facts.len());
+        self.facts.add(*fact)?;
+        self.told.push_reserved(*fact);
+        self.places.push_reserved(Place { at, part });
+        Ok(())
+    }
+
+    fn add_late(&mut self, at: u32, fact: &Fact) -> Result<(), AllocError>
+        requires { IsAcceptable self.old (Late fact.now) }
+        ensures ok { OnOk result (self.new ≡ with_row self.old at (Late fact.now)) }
+        ensures err { OnErr result (self.new ≡ self.old) }
+    {
+        self.places.reserve(1)?;
+        self.edits.reserve(1)?;
+        self.told.reserve(1)?;
+        let part = Part::Late(self.facts.len());
+        self.facts.add(*fact)?;
+        self.told.push_reserved(*fact);
+        self.edits.push_reserved(Place { at, part });
+        self.places.push_reserved(Place { at, part });
+        Ok(())
+    }
+
+    fn add_edit(&mut self, at: u32, edited: &Edited) -> Result<(), AllocError>
+        requires { IsAcceptable self.old (edited_row edited.now) }
+        ensures ok { OnOk result (self.new ≡ with_row self.old at (edited_row edited.now)) }
+        ensures err { OnErr result (self.new ≡ self.old) }
+    {
+        self.places.reserve(1)?;
+        self.edits.reserve(1)?;
+        self.edited.reserve(1)?;
+        let part = Part::Edit(self.edited.len());
+        match edited {
+            Edited::Amend {
+                id,
+                change,
+                reason: _reason,
+            } => self.facts.amend(id, *change),
+            Edited::Strike {
+                id,
+                reason: _reason,
+            } => self.facts.strike(id),
+            Edited::Close(name) => self.periods.close(name)?,
+        }
+        self.edited.push_reserved(*edited);
+        self.edits.push_reserved(Place { at, part });
+        self.places.push_reserved(Place { at, part });
+        Ok(())
+    }
+}
+
+// What is told of the edit at a place; `None` where that has another row.
+fn edit_kept(told: &[Fact], edited: &[Edited], place: Place) -> Option<Edit>
+    ensures { result ≡ option_and_then edit_in (row_at (edits_shelved told.now edited.now) place) }
+{
+    match place.part {
+        Part::Late(i) => match told.get(i as usize) {
+            Some(fact) => late_edit(place.at, fact),
+            None => None,
+        },
+        Part::Edit(i) => match edited.get(i) {
+            Some(edited) => edit_by(place.at, edited),
+            None => None,
+        },
+        _ => None,
+    }
+}
+
+// What is told of a late fact.
+fn late_edit(at: u32, fact: &Fact) -> Option<Edit>
+    ensures { result ≡ edit_by at (Late fact.now) }
+{
+    Some(Edit {
+        at,
+        word: EditWord::Late,
+        id: Some(fact.id()),
+        reason: None,
+    })
+}
+
+// What is told of an edit.
+fn edit_by(at: u32, edited: &Edited) -> Option<Edit>
+    ensures { result ≡ edit_by at (edited_row edited.now) }
+{
+    Some(match edited {
+        Edited::Close(_) => Edit {
+            at,
+            word: EditWord::Close,
+            id: None,
+            reason: None,
+        },
+        Edited::Amend { id, reason, .. } => Edit {
+            at,
+            word: EditWord::Amend,
+            id: Some(*id),
+            reason: Some(*reason),
+        },
+        Edited::Strike { id, reason } => Edit {
+            at,
+            word: EditWord::Strike,
+            id: Some(*id),
+            reason: Some(*reason),
+        },
+    })
+}
+
+// Whether the edit at a place touches a period; none does where that has another row.
+fn kept_touches(
+    facts: &Facts,
+    told: &[Fact],
+    edited: &[Edited],
+    place: Place,
+    period: &Period,
+) -> bool
+    ensures { result
+        ≡ row_touches facts.now period.now (row_at (edits_shelved told.now edited.now) place) }
+{
+    match place.part {
+        Part::Late(i) => match told.get(i as usize) {
+            Some(fact) => touches(fact, period),
+            None => false,
+        },
+        Part::Edit(i) => match edited.get(i) {
+            Some(edited) => edit_touches(facts, edited, period),
+            None => false,
+        },
+        _ => false,
+    }
+}
+
+// Whether an edit touches a period.
+fn edit_touches(facts: &Facts, edited: &Edited, period: &Period) -> bool
+    ensures { result ≡ edit_touches facts.now (edited_row edited.now) period.now }
+{
+    match edited {
+        Edited::Close(name) => is_named(name, period),
+        Edited::Amend { id, .. } => touches_by_id(facts, id, period),
+        Edited::Strike { id, .. } => touches_by_id(facts, id, period),
+    }
+}
+
+fn is_named(name: &Name, period: &Period) -> bool
+    ensures { result ≡ is_named name.now period.now }
+{
+    *name == period.name
+}
+
+// Whether the fact of an id, struck or not, touches a period.
+fn touches_by_id(facts: &Facts, id: &Name, period: &Period) -> bool
+    ensures { result ≡ touches_by_id facts.now id.now period.now }
+{
+    match facts.place_of(id) {
+        Some(place) => touches(&facts.kept(place).fact, period),
+        None => false,
     }
 }

@@ -2,7 +2,7 @@
 
 ghost use Rattle.std.specs.Prelude.{IfOk};
 ghost use Rattle.pb_book.specs.Columns.{Number, base_column, critical_column, density_column, dof_column, grams_column, level_column, variance_column, volume_column};
-ghost use Rattle.pb_book.specs.Fields.{ReadsDate, ReadsDof, ReadsName, ReadsNumber};
+ghost use Rattle.pb_book.specs.Fields.{ReadsDate, ReadsDof, ReadsName, ReadsNumber, ReadsReason};
 ghost use Rattle.pb_book.specs.Ranges.{IsBetween};
 
 use crate::answer::Refused;
@@ -10,7 +10,7 @@ use pb_limits::{
     MOST_CRITICAL, MOST_DENSITY, MOST_FREEDOM, MOST_GRAMS, MOST_LEVEL, MOST_ROW_VARIANCE,
     MOST_VOLUME,
 };
-use pb_rows::{Name, read_date, read_whole};
+use pb_rows::{Name, Reason, read_date, read_whole};
 use pb_site::Kind;
 
 // A name.
@@ -18,6 +18,13 @@ pub(crate) fn name(field: &[u8]) -> Result<Name, Refused>
     ensures { ReadsName field.now result }
 {
     Name::read(field).ok_or(Refused::BadName)
+}
+
+// A reason.
+pub(crate) fn reason(field: &[u8]) -> Result<Reason, Refused>
+    ensures { ReadsReason field.now result }
+{
+    Reason::read(field).ok_or(Refused::BadName)
 }
 
 // A date, as days since 1970-01-01. Reading one takes no memory, so there is always an answer.

@@ -1,21 +1,25 @@
 // Why a row is refused: the causes in the order in which they are asked for. What is declared and the facts tell some of them.
 
 ghost use Rattle.std.specs.Prelude.{◌≡◌, Option, Some};
+ghost use Rattle.pb_facts.specs.Changes.{changed, fits};
 ghost use Rattle.pb_site.specs.declared.declared.ArcKind.{ArcKind};
-ghost use Rattle.pb_book.specs.declared.rows.BookRow.TheVariants.{Declaration, Fact as FactRow, Period as PeriodRow};
-ghost use Rattle.pb_book.specs.Refusals.{is_of_other_kind, is_outside_table, kind_of_fact, names_other, refusal_behind};
+ghost use Rattle.pb_book.specs.declared.rows.BookRow.TheVariants.{Amend, Close, Declaration, Fact as FactRow, Late, Period as PeriodRow, Strike};
+ghost use Rattle.pb_book.specs.Causes.{cause_of_change, cause_of_fact};
+ghost use Rattle.pb_book.specs.Ranges.{IsRowInRange};
+ghost use Rattle.pb_book.specs.Refusals.{is_of_other_kind, is_of_plant, is_outside_table, kind_of_fact, names_other, refusal_behind};
 
 use crate::answer::Refused;
 use crate::periods::Periods;
 use crate::rows::BookRow;
-use pb_facts::{Fact, FactFault, Facts};
+use pb_facts::{Change, Fact, FactFault, Facts};
 use pb_limits::{MOST_DAYS_OF_PERIOD, MOST_PERIODS};
-use pb_rows::Name;
-use pb_site::{ArcKind, Declared, Site};
+use pb_rows::{Name, Reason};
+use pb_site::{ArcKind, Declared, Site, SiteFault};
 
 /// The first cause to refuse a row, behind what is declared, the facts and the periods; `None` exactly where
 /// there is none.
 pub fn judge(site: &Site, facts: &Facts, periods: &Periods, row: &BookRow) -> Option<Refused>
+    requires { IsRowInRange row.now }
     ensures { result ≡ refusal_behind site.now facts.now periods.now row.now }
 {
     match row {
@@ -24,21 +28,47 @@ pub fn judge(site: &Site, facts: &Facts, periods: &Periods, row: &BookRow) -> Op
             judge_period(site, facts, periods, name, *first, *last)
         }
         BookRow::Fact(fact) => judge_fact(site, facts, periods, fact),
+        BookRow::Late(fact) => judge_late(site, facts, periods, fact),
+        BookRow::Amend { id, change, reason } => {
+            judge_amend(site, facts, periods, id, change, reason)
+        }
+        BookRow::Strike { id, reason } => judge_strike(site, facts, periods, id, reason),
+        BookRow::Close(name) => judge_close(site, facts, periods, name),
     }
 }
 
-// The first cause to refuse a declaration.
+// The first cause to refuse a declaration: that some period is closed comes before that there are too many.
 fn judge_declaration(
     site: &Site,
     _facts: &Facts,
-    _periods: &Periods,
+    periods: &Periods,
     declared: &Declared,
 ) -> Option<Refused>
-    ensures { result ≡ refusal_behind site.now _facts.now _periods.now (Declaration declared.now) }
+    ensures { result ≡ refusal_behind site.now _facts.now periods.now (Declaration declared.now) }
 {
+    let sealed = is_of_plant(declared) && periods.some_closed();
     match site.judge(declared) {
-        Some(fault) => Some(Refused::from(fault)),
-        None => None,
+        Some(SiteFault::Unknown) => Some(Refused::Unknown),
+        Some(SiteFault::Duplicate) => Some(Refused::Duplicate),
+        Some(SiteFault::Order) => Some(Refused::Order),
+        Some(SiteFault::Mismatch) => Some(Refused::Mismatch),
+        Some(SiteFault::Full) => Some(if sealed {
+            Refused::Sealed
+        } else {
+            Refused::Full
+        }),
+        None => if sealed { Some(Refused::Sealed) } else { None },
+    }
+}
+
+// Whether it is a unit, a tank, a point of its table or a stream.
+fn is_of_plant(declared: &Declared) -> bool
+    ensures { result ≡ is_of_plant declared.now }
+{
+    match declared {
+        Declared::CritGlobal { .. } | Declared::CritNodal { .. } | Declared::CritMeasure { .. } =>
+            false,
+        _ => true,
     }
 }
 
@@ -68,9 +98,24 @@ fn judge_period(
     }
 }
 
-// The first cause to refuse a fact.
-fn judge_fact(site: &Site, facts: &Facts, _periods: &Periods, fact: &Fact) -> Option<Refused>
-    ensures { result ≡ refusal_behind site.now facts.now _periods.now (FactRow fact.now) }
+// The first cause to refuse a fact that doesn't come as a late one.
+fn judge_fact(site: &Site, facts: &Facts, periods: &Periods, fact: &Fact) -> Option<Refused>
+    requires { IsRowInRange (FactRow fact.now) }
+    ensures { result ≡ refusal_behind site.now facts.now periods.now (FactRow fact.now) }
+{
+    cause_of_fact(site, facts, fact, periods.touches_closed(fact))
+}
+
+// The first cause to refuse a late fact.
+fn judge_late(site: &Site, facts: &Facts, _periods: &Periods, fact: &Fact) -> Option<Refused>
+    ensures { result ≡ refusal_behind site.now facts.now _periods.now (Late fact.now) }
+{
+    cause_of_fact(site, facts, fact, false)
+}
+
+// The first cause to refuse a fact, which is closed out or not.
+fn cause_of_fact(site: &Site, facts: &Facts, fact: &Fact, closed: bool) -> Option<Refused>
+    ensures { result ≡ cause_of_fact site.now facts.now closed fact.now }
 {
     let kind = kind_of_fact(site, fact);
     if names_other(fact, kind) {
@@ -83,10 +128,72 @@ fn judge_fact(site: &Site, facts: &Facts, _periods: &Periods, fact: &Fact) -> Op
         Some(Refused::Order)
     } else if is_of_other_kind(fact, kind) {
         Some(Refused::Mismatch)
+    } else if closed {
+        Some(Refused::Closed)
     } else if fault == Some(FactFault::Range) || is_outside_table(site, fact) {
         Some(Refused::Range)
     } else if fault == Some(FactFault::Full) {
         Some(Refused::Full)
+    } else {
+        None
+    }
+}
+
+// The first cause to refuse an amendment.
+fn judge_amend(
+    site: &Site,
+    facts: &Facts,
+    _periods: &Periods,
+    id: &Name,
+    change: &Change,
+    _reason: &Reason,
+) -> Option<Refused>
+    ensures { result
+        ≡ refusal_behind site.now facts.now _periods.now (Amend id.now change.now _reason.now) }
+{
+    match facts.find(id) {
+        Some(place) => cause_of_change(site, &facts.kept(place).fact, change),
+        None => Some(Refused::Unknown),
+    }
+}
+
+// The first cause to refuse a change of a fact.
+fn cause_of_change(site: &Site, fact: &Fact, change: &Change) -> Option<Refused>
+    ensures { result ≡ cause_of_change site.now fact.now change.now }
+{
+    if !change.fits(fact) {
+        Some(Refused::Mismatch)
+    } else if is_outside_table(site, &fact.changed(*change)) {
+        Some(Refused::Range)
+    } else {
+        None
+    }
+}
+
+// The first cause to refuse a strike.
+fn judge_strike(
+    _site: &Site,
+    facts: &Facts,
+    _periods: &Periods,
+    id: &Name,
+    _reason: &Reason,
+) -> Option<Refused>
+    ensures { result ≡ refusal_behind _site.now facts.now _periods.now (Strike id.now _reason.now) }
+{
+    match facts.find(id) {
+        Some(_) => None,
+        None => Some(Refused::Unknown),
+    }
+}
+
+// The first cause to refuse a closing.
+fn judge_close(_site: &Site, _facts: &Facts, periods: &Periods, name: &Name) -> Option<Refused>
+    ensures { result ≡ refusal_behind _site.now _facts.now periods.now (Close name.now) }
+{
+    if !periods.has_name(name) {
+        Some(Refused::Unknown)
+    } else if periods.is_closed(name) {
+        Some(Refused::Closed)
     } else {
         None
     }

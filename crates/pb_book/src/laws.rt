@@ -1,6 +1,8 @@
 // Laws of the book.
 
 ghost use Rattle.pb_book.specs.Laws.{AcceptedLaw, RequestsLaw};
+ghost use Rattle.pb_book.specs.Live.{LiveLaw};
+ghost use Rattle.pb_book.specs.Plain.{PlainLaw};
 
 use pb_rows::date_text_law;
 
@@ -18,3 +20,15 @@ pub fn accepted_law()
 {
     requests_law();
 }
+
+/// The law that the plain rows of accepted rows are accepted one behind the other, and that they declare the same plant and the
+/// same periods and have the live facts with their last values.
+pub fn plain_law()
+    ensures { PlainLaw }
+{}
+
+/// The law that the live facts of accepted rows are the fact rows in order, late or not, whose id no row strikes, each with the values
+/// of the last row that amends it, else its own.
+pub fn live_law()
+    ensures { LiveLaw }
+{}

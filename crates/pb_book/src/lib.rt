@@ -9,11 +9,15 @@ mod fields;
 mod judge;
 mod laws;
 mod periods;
+mod plain;
 mod requests;
 mod rows;
+mod texts;
+mod touching;
+mod written;
 
 pub use answer::{Accepted, NotAccepted, Refused};
 pub use book::Book;
-pub use laws::{accepted_law, requests_law};
-pub use requests::{Request, RowKind, Version, read_request};
-pub use rows::{BookRow, Part, Period, Place};
+pub use laws::{accepted_law, live_law, plain_law, requests_law};
+pub use requests::{FactKind, Request, RowKind, Version, read_request};
+pub use rows::{BookRow, Edit, EditWord, Edited, Part, Period, Place};

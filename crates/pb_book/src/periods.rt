@@ -1,27 +1,35 @@
 // The periods of a book.
 
-ghost use Rattle.std.specs.Prelude.{◌≡◌, ◌<◌, ◌≤◌, ◌∷◌, ◌++◌, [], length, false, Some, OnOk, OnErr, position, slice_get};
+ghost use Rattle.std.specs.Prelude.{◌≡◌, ◌<◌, ◌≤◌, ◌∷◌, ◌++◌, [], length, map, false, Some, OnOk, OnErr, position, slice_get};
 ghost use Rattle.std.specs.List.{list_any};
+ghost use Rattle.std.specs.Ordering.{int_eq};
 ghost use Rattle.indexmap.specs.IndexSet as set;
 ghost use Rattle.pb_limits.specs.Limits.{most_periods};
 ghost use Rattle.pb_site.specs.Faults.{is_among};
 ghost use Rattle.pb_book.specs.Apart.{AreApart, is_named, shares_a_day};
 ghost use Rattle.pb_book.specs.Kept.{FindsLast, HasBegin, SameBegins};
 ghost use Rattle.pb_book.specs.Ranges.{IsPeriod};
+ghost use Rattle.pb_book.specs.Refusals.{is_closed_named};
+ghost use Rattle.pb_book.specs.Rows.{closed_if_named};
+ghost use Rattle.pb_book.specs.Touching.{ends_closed, has_closed_day, is_closed_boundary, some_closed, touches_closed};
+ghost use Rattle.pb_facts.specs.Fact.{IsDay, IsInRange};
 
 use crate::rows::Period;
 use indexmap::IndexSet;
+use pb_facts::Fact;
 use pb_rows::Name;
 use std::alloc::{AllocError, Global};
 use std::collections::BTreeMap;
 use std::marker::Model;
 
-/// The periods in the order of declaration. They are looked up by name, and by day.
+/// The periods in the order of declaration. They are looked up by name, and by day; the closed ones by day too.
 #[derive(Drop)]
 pub struct Periods {
     periods: Vec<Period>,
     names: IndexSet<Name>,
     begins: BTreeMap<i32, u32>,
+    closes: BTreeMap<i32, u32>,
+    sealed: bool,
 }
 
 impl Model for Periods {
@@ -33,7 +41,7 @@ impl Model for Periods {
 
     ghost view = { λ a. a.periods.items };
 
-    ghost invariant = { λ a. ArePeriods a.periods.items a.names.keys a.begins };
+    ghost invariant = { λ a. ArePeriods a.periods.items a.names.keys a.begins a.closes a.sealed };
 }
 
 impl Periods {
@@ -45,6 +53,8 @@ impl Periods {
             periods: Vec::new(alloc),
             names: IndexSet::new(alloc),
             begins: BTreeMap::new(alloc),
+            closes: BTreeMap::new(alloc),
+            sealed: false,
         }
     }
 
@@ -94,10 +104,85 @@ impl Periods {
         }
     }
 
-    /// Appends a period that shares neither its name nor a day with another one. After an `Err`, want of
+    /// Whether some period is closed.
+    pub fn some_closed(&self) -> bool
+        ensures { result ≡ some_closed self.now }
+    {
+        self.sealed
+    }
+
+    /// Whether the period of a name is closed.
+    pub fn is_closed(&self, name: &Name) -> bool
+        ensures { result ≡ list_any (is_closed_named name.now) self.now }
+    {
+        match self.names.get_index_of(name) {
+            Some(i) => self.periods[i].closed,
+            None => false,
+        }
+    }
+
+    /// Whether a fact touches a closed period.
+    pub fn touches_closed(&self, fact: &Fact) -> bool
+        requires { IsInRange fact.now }
+        ensures { result ≡ list_any (touches_closed fact.now) self.now }
+    {
+        match fact {
+            Fact::Reading { day, .. } => self.has_closed_day_within(*day, *day),
+            Fact::Transfer { first, last, .. } => self.has_closed_day_within(*first, *last),
+            Fact::Dip { day, .. } => self.has_closed_boundary(*day),
+        }
+    }
+
+    // Whether some closed period has a day from the first to the last one.
+    fn has_closed_day_within(&self, first: i32, last: i32) -> bool
+        ensures { result ≡ list_any (has_closed_day first last) self.now }
+    {
+        match begun_by(&self.closes, last) {
+            Some(place) => first <= self.periods[place as usize].last,
+            None => false,
+        }
+    }
+
+    // Whether a day is the last of a closed period, or the one before its first.
+    fn has_closed_boundary(&self, day: i32) -> bool
+        requires { IsDay day }
+        ensures { result ≡ list_any (is_closed_boundary day) self.now }
+    {
+        self.ends_closed(day) || self.closes.contains_key(&(day + 1))
+    }
+
+    // Whether a day is the last of a closed period: of those that begin by then it is the last, since no two share
+    // a day.
+    fn ends_closed(&self, day: i32) -> bool
+        ensures { result ≡ list_any (ends_closed day) self.now }
+    {
+        match begun_by(&self.closes, day) {
+            Some(place) => is_day(day, self.periods[place as usize].last),
+            None => false,
+        }
+    }
+
+    /// Closes the period of a name, if there is one. After an `Err`, want of memory, the periods are as they were.
+    pub fn close(&mut self, name: &Name) -> Result<(), AllocError>
+        ensures ok { OnOk result (self.new ≡ map (closed_if_named name.now) self.old) }
+        ensures err { OnErr result (self.new ≡ self.old) }
+    {
+        match self.names.get_index_of(name) {
+            Some(i) => {
+                put_begin(&mut self.closes, self.periods[i].first, i as u32)?;
+                self.periods[i].closed = true;
+                self.sealed = true;
+                Ok(())
+            }
+            None => Ok(()),
+        }
+    }
+
+    /// Appends an open period that shares neither its name nor a day with another one. After an `Err`, want of
     /// memory, the periods are as they were.
     pub fn push(&mut self, period: Period) -> Result<(), AllocError>
         requires days { IsPeriod period }
+        requires open { period.closed ≡ false }
         requires name { list_any (is_named period.name) self.old ≡ false }
         requires apart { list_any (shares_a_day period.first period.last) self.old ≡ false }
         requires room { length self.old < most_periods }
@@ -112,6 +197,13 @@ impl Periods {
         self.periods.push_reserved(period);
         Ok(())
     }
+}
+
+// Whether two days are one.
+fn is_day(day: i32, other: i32) -> bool
+    ensures { result ≡ int_eq day other }
+{
+    day == other
 }
 
 // The place of the last period that begins by a day.

@@ -2,15 +2,16 @@
 
 ghost use Rattle.std.specs.Prelude.{◌≡◌, ◌∷◌, [], map, bytes_eq};
 ghost use Rattle.pb_rows.specs.Records.{without_trailing_empty};
-ghost use Rattle.pb_book.specs.declared.requests.RowKind.TheVariants.{CriticalGlobal, CriticalMeasure, CriticalNodal, Dip, Period, Reading, Report, Strap, Stream, Tank, Transfer, Unit as UnitRow};
-ghost use Rattle.pb_book.specs.Kinds.{critical_kind, critical_kind_of, kind_of, stream_kind, stream_kind_of};
+ghost use Rattle.pb_book.specs.declared.requests.RowKind.TheVariants.{AmendAmount, AmendLevel, Close, CriticalGlobal, CriticalMeasure, CriticalNodal, Fact as FactOf, History, Late, Period, Report, Strap, Stream, Strike, Tank, Unit as UnitRow};
+ghost use Rattle.pb_book.specs.declared.requests.FactKind.TheVariants.{Dip, Reading, Transfer};
+ghost use Rattle.pb_book.specs.Kinds.{amend_kind, critical_kind, critical_kind_of, kind_of, late_kind, late_kind_of, stream_kind, stream_kind_of};
 ghost use Rattle.pb_book.specs.Requests.{request_in};
-ghost use Rattle.pb_book.specs.Fields.{ReadsRow};
+ghost use Rattle.pb_book.specs.Fields.{ReadsFact, ReadsRow};
 
 use crate::answer::Refused;
 use crate::fields;
 use crate::rows::BookRow;
-use pb_facts::Fact;
+use pb_facts::{Change, Fact};
 use pb_rows::{Name, Row};
 use pb_site::{Declared, Kind};
 
@@ -21,6 +22,14 @@ mod tests;
 #[derive(Clone, Copy, PartialEq, Eq, Debug)]
 pub enum Version {
     One,
+}
+
+/// The kind of a fact.
+#[derive(Clone, Copy, PartialEq, Eq, Debug)]
+pub enum FactKind {
+    Reading,
+    Transfer,
+    Dip,
 }
 
 /// The kind of a record: what its first field says, and where that isn't enough the word that tells more.
@@ -34,11 +43,15 @@ pub enum RowKind {
     CriticalGlobal,
     CriticalNodal,
     CriticalMeasure,
-    Reading,
-    Transfer,
-    Dip,
+    Fact(FactKind),
+    Late(FactKind),
+    AmendAmount,
+    AmendLevel,
+    Strike,
+    Close,
     Design,
     Report,
+    History,
 }
 
 /// What a record asks of the book.
@@ -51,6 +64,8 @@ pub enum Request {
     Design,
     /// The report of the period of this name.
     Report(Name),
+    /// The history of the period of this name.
+    History(Name),
 }
 
 /// Reads a record of a session of a version: what it asks, or the first fault of its fields. The empty
@@ -82,15 +97,25 @@ fn kind_of(version: Version, word: &[u8], fields: &[Vec<u8>]) -> Result<RowKind,
     } else if is_word(word, b"critical") {
         critical_kind(fields)
     } else if is_word(word, b"reading") {
-        Ok(RowKind::Reading)
+        Ok(RowKind::Fact(FactKind::Reading))
     } else if is_word(word, b"transfer") {
-        Ok(RowKind::Transfer)
+        Ok(RowKind::Fact(FactKind::Transfer))
     } else if is_word(word, b"dip") {
-        Ok(RowKind::Dip)
+        Ok(RowKind::Fact(FactKind::Dip))
+    } else if is_word(word, b"late") {
+        late_kind(fields)
+    } else if is_word(word, b"amend") {
+        amend_kind(fields)
+    } else if is_word(word, b"strike") {
+        Ok(RowKind::Strike)
+    } else if is_word(word, b"close") {
+        Ok(RowKind::Close)
     } else if is_word(word, b"design") {
         Ok(RowKind::Design)
     } else if is_word(word, b"report") {
         Ok(RowKind::Report)
+    } else if is_word(word, b"history") {
+        Ok(RowKind::History)
     } else {
         Err(Refused::Kind)
     }
@@ -146,6 +171,42 @@ fn critical_kind_of(word: &[u8]) -> Result<RowKind, Refused>
     }
 }
 
+// The kind of a `late` row, by its second field.
+fn late_kind(fields: &[Vec<u8>]) -> Result<RowKind, Refused>
+    ensures { result ≡ late_kind (map (λ field. field.items) fields.now) }
+{
+    match fields {
+        [word, ..] => late_kind_of(word),
+        _ => Err(Refused::Fields),
+    }
+}
+
+// The kind of a late fact, by its word.
+fn late_kind_of(word: &[u8]) -> Result<RowKind, Refused>
+    ensures { result ≡ late_kind_of word.now }
+{
+    if is_word(word, b"reading") {
+        Ok(RowKind::Late(FactKind::Reading))
+    } else if is_word(word, b"transfer") {
+        Ok(RowKind::Late(FactKind::Transfer))
+    } else if is_word(word, b"dip") {
+        Ok(RowKind::Late(FactKind::Dip))
+    } else {
+        Err(Refused::Kind)
+    }
+}
+
+// The kind of an `amend` row, by the number of its fields.
+fn amend_kind(fields: &[Vec<u8>]) -> Result<RowKind, Refused>
+    ensures { result ≡ amend_kind (map (λ field. field.items) fields.now) }
+{
+    match fields {
+        [_, _, _, _] => Ok(RowKind::AmendAmount),
+        [_, _, _, _, _] => Ok(RowKind::AmendLevel),
+        _ => Err(Refused::Fields),
+    }
+}
+
 fn is_word(field: &[u8], word: &[u8]) -> bool
     ensures { result ≡ bytes_eq field.now word.now }
 {
@@ -167,17 +228,19 @@ fn request_of(kind: RowKind, fields: &[Vec<u8>]) -> Result<Request, Refused>
         (RowKind::CriticalGlobal, [word, dof, value]) => critical_global(word, dof, value),
         (RowKind::CriticalNodal, [word, value]) => critical_nodal(word, value),
         (RowKind::CriticalMeasure, [word, value]) => critical_measure(word, value),
-        (RowKind::Reading, [id, stream, day, grams, variance]) => {
-            reading(id, stream, day, grams, variance)
+        (RowKind::Fact(kind), fields) => stored_fact(kind, fields),
+        (RowKind::Late(kind), [word, fields @ ..]) => late(kind, word, fields),
+        (RowKind::AmendAmount, [id, grams, variance, reason]) => {
+            amend_amount(id, grams, variance, reason)
         }
-        (RowKind::Transfer, [id, stream, first, last, grams, variance]) => {
-            transfer(id, stream, first, last, grams, variance)
+        (RowKind::AmendLevel, [id, mm, density, variance, reason]) => {
+            amend_level(id, mm, density, variance, reason)
         }
-        (RowKind::Dip, [id, tank, day, mm, density, variance]) => {
-            dip(id, tank, day, mm, density, variance)
-        }
+        (RowKind::Strike, [id, reason]) => strike(id, reason),
+        (RowKind::Close, [period]) => close(period),
         (RowKind::Design, []) => Ok(Request::Design),
         (RowKind::Report, [period]) => report(period),
+        (RowKind::History, [period]) => history(period),
         _ => Err(Refused::Fields),
     }
 }
@@ -268,6 +331,40 @@ fn critical_measure(_word: &[u8], value: &[u8]) -> Result<Request, Refused>
     Ok(Request::Store(BookRow::Declaration(Declared::CritMeasure { value })))
 }
 
+// A row of a fact.
+fn stored_fact(kind: FactKind, fields: &[Vec<u8>]) -> Result<Request, Refused>
+    ensures { ReadsRow (FactOf kind) (map (λ field. field.items) fields.now) result }
+{
+    let fact = fact_of(kind, fields)?;
+    Ok(Request::Store(BookRow::Fact(fact)))
+}
+
+// `late,` and then a row of a fact, whose word has told its kind
+fn late(kind: FactKind, _word: &[u8], fields: &[Vec<u8>]) -> Result<Request, Refused>
+    ensures { ReadsRow (Late kind) (_word.now ∷ map (λ field. field.items) fields.now) result }
+{
+    let fact = fact_of(kind, fields)?;
+    Ok(Request::Store(BookRow::Late(fact)))
+}
+
+// The fact that the fields write.
+fn fact_of(kind: FactKind, fields: &[Vec<u8>]) -> Result<Fact, Refused>
+    ensures { ReadsFact kind (map (λ field. field.items) fields.now) result }
+{
+    match (kind, fields) {
+        (FactKind::Reading, [id, stream, day, grams, variance]) => {
+            reading(id, stream, day, grams, variance)
+        }
+        (FactKind::Transfer, [id, stream, first, last, grams, variance]) => {
+            transfer(id, stream, first, last, grams, variance)
+        }
+        (FactKind::Dip, [id, tank, day, mm, density, variance]) => {
+            dip(id, tank, day, mm, density, variance)
+        }
+        _ => Err(Refused::Fields),
+    }
+}
+
 // `reading,ID,STREAM,DATE,GRAMS,VARIANCE`
 fn reading(
     id: &[u8],
@@ -275,21 +372,21 @@ fn reading(
     day: &[u8],
     grams: &[u8],
     variance: &[u8],
-) -> Result<Request, Refused>
-    ensures { ReadsRow Reading (id.now ∷ stream.now ∷ day.now ∷ grams.now ∷ variance.now ∷ []) result }
+) -> Result<Fact, Refused>
+    ensures { ReadsFact Reading (id.now ∷ stream.now ∷ day.now ∷ grams.now ∷ variance.now ∷ []) result }
 {
     let id = fields::name(id)?;
     let stream = fields::name(stream)?;
     let grams = fields::grams(grams)?;
     let variance = fields::variance(variance)?;
     let day = fields::day(day)?;
-    Ok(Request::Store(BookRow::Fact(Fact::Reading {
+    Ok(Fact::Reading {
         id,
         stream,
         day,
         grams,
         variance,
-    })))
+    })
 }
 
 // `transfer,ID,STREAM,FIRST,LAST,GRAMS,VARIANCE`
@@ -300,8 +397,8 @@ fn transfer(
     last: &[u8],
     grams: &[u8],
     variance: &[u8],
-) -> Result<Request, Refused>
-    ensures { ReadsRow Transfer
+) -> Result<Fact, Refused>
+    ensures { ReadsFact Transfer
         (id.now ∷ stream.now ∷ first.now ∷ last.now ∷ grams.now ∷ variance.now ∷ []) result }
 {
     let id = fields::name(id)?;
@@ -310,14 +407,14 @@ fn transfer(
     let variance = fields::variance(variance)?;
     let first = fields::day(first)?;
     let last = fields::day(last)?;
-    Ok(Request::Store(BookRow::Fact(Fact::Transfer {
+    Ok(Fact::Transfer {
         id,
         stream,
         first,
         last,
         grams,
         variance,
-    })))
+    })
 }
 
 // `dip,ID,TANK,DATE,MM,DENSITY,VARIANCE`
@@ -328,8 +425,8 @@ fn dip(
     mm: &[u8],
     density: &[u8],
     variance: &[u8],
-) -> Result<Request, Refused>
-    ensures { ReadsRow Dip
+) -> Result<Fact, Refused>
+    ensures { ReadsFact Dip
         (id.now ∷ tank.now ∷ day.now ∷ mm.now ∷ density.now ∷ variance.now ∷ []) result }
 {
     let id = fields::name(id)?;
@@ -338,14 +435,75 @@ fn dip(
     let density = fields::density(density)?;
     let variance = fields::variance(variance)?;
     let day = fields::day(day)?;
-    Ok(Request::Store(BookRow::Fact(Fact::Dip {
+    Ok(Fact::Dip {
         id,
         tank,
         day,
         mm,
         density,
         variance,
-    })))
+    })
+}
+
+// `amend,ID,GRAMS,VARIANCE,REASON`
+fn amend_amount(id: &[u8], grams: &[u8], variance: &[u8], reason: &[u8]) -> Result<Request, Refused>
+    ensures { ReadsRow AmendAmount (id.now ∷ grams.now ∷ variance.now ∷ reason.now ∷ []) result }
+{
+    let id = fields::name(id)?;
+    let reason = fields::reason(reason)?;
+    let grams = fields::grams(grams)?;
+    let variance = fields::variance(variance)?;
+    let change = Change::Amount { grams, variance };
+    Ok(Request::Store(BookRow::Amend { id, change, reason }))
+}
+
+// `amend,ID,MM,DENSITY,VARIANCE,REASON`
+fn amend_level(
+    id: &[u8],
+    mm: &[u8],
+    density: &[u8],
+    variance: &[u8],
+    reason: &[u8],
+) -> Result<Request, Refused>
+    ensures { ReadsRow AmendLevel
+        (id.now ∷ mm.now ∷ density.now ∷ variance.now ∷ reason.now ∷ []) result }
+{
+    let id = fields::name(id)?;
+    let reason = fields::reason(reason)?;
+    let mm = fields::level(mm)?;
+    let density = fields::density(density)?;
+    let variance = fields::variance(variance)?;
+    let change = Change::Level {
+        mm,
+        density,
+        variance,
+    };
+    Ok(Request::Store(BookRow::Amend { id, change, reason }))
+}
+
+// `strike,ID,REASON`
+fn strike(id: &[u8], reason: &[u8]) -> Result<Request, Refused>
+    ensures { ReadsRow Strike (id.now ∷ reason.now ∷ []) result }
+{
+    let id = fields::name(id)?;
+    let reason = fields::reason(reason)?;
+    Ok(Request::Store(BookRow::Strike { id, reason }))
+}
+
+// `close,PERIOD`
+fn close(period: &[u8]) -> Result<Request, Refused>
+    ensures { ReadsRow Close (period.now ∷ []) result }
+{
+    let period = fields::name(period)?;
+    Ok(Request::Store(BookRow::Close(period)))
+}
+
+// `history,PERIOD`
+fn history(period: &[u8]) -> Result<Request, Refused>
+    ensures { ReadsRow History (period.now ∷ []) result }
+{
+    let period = fields::name(period)?;
+    Ok(Request::History(period))
 }
 
 // `report,PERIOD`

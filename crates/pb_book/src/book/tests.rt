@@ -10,7 +10,7 @@ fn name(text: &[u8]) -> Result<Name, Fail> {
 }
 
 // The record of a text, its fields between commas.
-fn row(alloc: Global, text: &[u8]) -> Result<Row, Fail> {
+pub(crate) fn row(alloc: Global, text: &[u8]) -> Result<Row, Fail> {
     let mut row = Row::new(alloc);
     for field in text.split(|byte| *byte == b',') {
         row.push(field)?;
@@ -19,7 +19,7 @@ fn row(alloc: Global, text: &[u8]) -> Result<Row, Fail> {
 }
 
 // Takes a record, and tells the answer.
-fn tell(
+pub(crate) fn tell(
     alloc: Global,
     book: &mut Book,
     text: &[u8],
@@ -28,7 +28,7 @@ fn tell(
 }
 
 // Takes records that are stored.
-fn store(alloc: Global, book: &mut Book, text: &[u8]) -> Result<(), Fail> {
+pub(crate) fn store(alloc: Global, book: &mut Book, text: &[u8]) -> Result<(), Fail> {
     let rows = Rows::of(alloc, text)?;
     for i in 0..rows.len() {
         if book.accept(1, rows.at(i)) != Ok(Accepted::Stored) {
@@ -39,7 +39,7 @@ fn store(alloc: Global, book: &mut Book, text: &[u8]) -> Result<(), Fail> {
 }
 
 // The cause to refuse a record behind records that are stored; `None` where it isn't refused.
-fn cause(alloc: Global, stored: &[u8], text: &[u8]) -> Result<Option<Refused>, Fail> {
+pub(crate) fn cause(alloc: Global, stored: &[u8], text: &[u8]) -> Result<Option<Refused>, Fail> {
     let mut book = Book::new(alloc);
     store(alloc, &mut book, stored)?;
     match tell(alloc, &mut book, text)? {

@@ -16,16 +16,18 @@ put_name-requires-clause-new c =
 
 pub invariant_of-self-in_err-put_begin : goal.invariant_of-self-in_err-put_begin
 invariant_of-self-in_err-put_begin c =
+    let inside = c.self.inside in
     rw (c.in_ok-reserve.ensures.items, c.in_ok-reserve-2.ensures.keys)
-    (same_periods c.self.inside.periods.items c.self.inside.names.keys c.self.inside.begins c.put_begin.new.begins c.self.invariant c.in_err-put_begin.ensures.err)
+    (same_periods inside.periods.items inside.names.keys inside.begins inside.closes c.put_begin.new.begins inside.sealed c.self.invariant c.in_err-put_begin.ensures.err)
 
 pub invariant_of-self-2 : goal.invariant_of-self-2
 invariant_of-self-2 c =
+    let inside = c.self.inside in
     let first : FitsSigned w32 c.args.period.first = omega (arith, ints, c.requires.days.begins.0, c.requires.days.begins.1) in
-    let place : c.len-place.result ≡ length c.self.inside.periods.items = rw (← c.in_ok-reserve.ensures.items) (search rules) in
+    let place : c.len-place.result ≡ length inside.periods.items = rw (← c.in_ok-reserve.ensures.items) (search rules) in
     let begun = rw place at (simp to_z-of_z at c.in_ok-put_begin.ensures.ok) in
     let name = rw (← c.self.view_is) at c.requires.name in
     let apart = rw (← c.self.view_is) at c.requires.apart in
     let room = rw (← c.self.view_is) at c.requires.room in
     rw (c.push_reserved.ensures.items, c.put_name.ensures, c.in_ok-reserve.ensures.items, c.in_ok-reserve-2.ensures.keys)
-    (periods_more c.self.inside.periods.items c.self.inside.names.keys c.self.inside.begins c.put_begin.new.begins c.args.period c.self.invariant c.requires.days name apart room begun)
+    (periods_more inside.periods.items inside.names.keys inside.begins c.put_begin.new.begins inside.closes inside.sealed c.args.period c.self.invariant c.requires.days c.requires.open name apart room begun)

@@ -1,0 +1,503 @@
+-- The plain rows of accepted rows: none is refused.
+use Rattle.std.specs.Prelude.{◌||◌, ◌&&◌, All, filter_map, find, map, nat_le}
+use Rattle.std.specs.List.{cons_option, list_any}
+use Rattle.std.specs.Option.{option_map}
+use Rattle.std.proofs.Common.{◌≡◌, ◌∙◌, ◌+◌, ◌<◌, ◌≤◌, ℕ, ℤ, List, [], ◌∷◌, ◌++◌, get_or, length, Bool, true, false, Option, Some, None, refl, sym, ap, subst, arith, inl, inr, append_assoc, length-append}
+use Rattle.std.proofs.lemmas.Bool.{cases_Bool, leb-false, leb-true, or_parts}
+use Rattle.std.proofs.lemmas.List.{append-nil, get_or-map, length-map, map-append}
+use Rattle.std.proofs.lemmas.List.Elements.{All-push, filter_map-append}
+use Rattle.std.proofs.lemmas.List.Folds.{list_any_none}
+use Rattle.std.proofs.lemmas.List.Quantifiers.{all_pairs_push}
+use Rattle.std.proofs.Math.ListN.{get_or-append}
+use Rattle.std.proofs.Math.Seq.{get_or-append_seam}
+use Rattle.pb_limits.specs.Limits.{most_facts, most_periods}
+use Rattle.pb_rows.specs.Name.{same_name}
+use Rattle.pb_site.specs.declared.declared.Arc.{Arc}
+use Rattle.pb_site.specs.declared.declared.ArcKind.{ArcKind}
+use Rattle.pb_site.specs.declared.declared.Declared.{Declared}
+use Rattle.pb_site.specs.declared.declared.Declared.TheVariants.{Unit as UnitRow, Tank, Strap, Stream, CritGlobal, CritNodal, CritMeasure}
+use Rattle.pb_site.specs.Row.{arc_in}
+use Rattle.pb_site.specs.Site.{kind_of, node_names}
+use Rattle.pb_facts.specs.declared.fact.Change.{Change}
+use Rattle.pb_facts.specs.declared.fact.Change.TheVariants.{Amount, Level}
+use Rattle.pb_facts.specs.declared.fact.Fact.{Fact}
+use Rattle.pb_facts.specs.declared.fact.Fact.TheVariants.{Reading, Transfer, Dip}
+use Rattle.pb_facts.specs.declared.facts.KeptFact.{KeptFact}
+use Rattle.pb_facts.specs.Changes.{changed}
+use Rattle.pb_facts.specs.Fact.{IsInRange, id_of, is_out_of_order, is_too_long}
+use Rattle.pb_facts.specs.Facts.{NoRepeats, has_id, is_duplicate, is_full, is_live_with, is_repeat, live_fact, live_facts}
+use Rattle.pb_book.specs.declared.rows.BookRow.{BookRow}
+use Rattle.pb_book.specs.declared.rows.BookRow.TheVariants.{Declaration, Period as PeriodRow, Fact as FactRow, Late, Amend, Strike, Close}
+use Rattle.pb_book.specs.declared.rows.Period.{Period}
+use Rattle.pb_book.specs.Accepted.{AreAccepted, AreInTables, IsAcceptable}
+use Rattle.pb_book.specs.Apart.{is_named, shares_a_day}
+use Rattle.pb_book.specs.Plain.{PlainLaw, numbered, opened, plain_stored, settled, settled_rows}
+use Rattle.pb_book.specs.Ranges.{IsRowInRange}
+use Rattle.pb_book.specs.Refusals.{is_of_other_kind, is_of_plant, is_outside_table, kind_of_fact, names_other, refusal_behind, refusal_of}
+use Rattle.pb_book.specs.Rows.{StoredRow, closed_if_named, declared_of, facts_after, facts_of, live, open_period, periods_after, periods_of}
+use Rattle.pb_book.specs.Touching.{some_closed, touches_closed}
+use Rattle.pb_book.proofs.AcceptedLemmas.{accepted_more, by_accepted, none_accepted}
+use Rattle.pb_book.proofs.ConsistentLemmas.{IsFine, amended_one, consistent, fine, struck_one}
+use Rattle.pb_book.proofs.KeptLemmas.{declared_more, declared_same, facts_more, periods_more_of}
+use Rattle.pb_book.proofs.NameLemmas.{any_map}
+use Rattle.pb_book.proofs.PeriodLemmas.{fails_at}
+
+-- ---- the kind of what a fact names stays, where more is declared
+
+abbrev kind_by : List (List ℕ) → List ℕ → List Declared → Option ArcKind
+kind_by nodes name declared =
+    option_map (λ (arc : Arc). arc.kind) (find (λ (arc : Arc). same_name name arc.name) (filter_map (arc_in nodes) declared))
+
+kind_stays : (nodes more_nodes : List (List ℕ)) (name : List ℕ) (kind : ArcKind) (declared more : List Declared) → kind_by nodes name declared ≡ Some kind
+    → kind_by more_nodes name (declared ++ more) ≡ Some kind
+kind_stays nodes more_nodes name kind [] more is = cc is
+kind_stays nodes more_nodes name kind (Tank own base ∷ declared) more is = elim (cases_Bool (same_name name own)) [
+  | inl same ↦ rw same (rw same at is)
+  | inr other ↦ rw other (kind_stays nodes more_nodes name kind declared more (rw other at is))
+]
+kind_stays nodes more_nodes name kind (Stream own from to arc_kind base ∷ declared) more is = elim (cases_Bool (same_name name own)) [
+  | inl same ↦ rw same (rw same at is)
+  | inr other ↦ rw other (kind_stays nodes more_nodes name kind declared more (rw other at is))
+]
+kind_stays nodes more_nodes name kind (UnitRow own ∷ declared) more is = kind_stays nodes more_nodes name kind declared more is
+kind_stays nodes more_nodes name kind (Strap tank mm ml ∷ declared) more is = kind_stays nodes more_nodes name kind declared more is
+kind_stays nodes more_nodes name kind (CritGlobal dof value ∷ declared) more is = kind_stays nodes more_nodes name kind declared more is
+kind_stays nodes more_nodes name kind (CritNodal value ∷ declared) more is = kind_stays nodes more_nodes name kind declared more is
+kind_stays nodes more_nodes name kind (CritMeasure value ∷ declared) more is = kind_stays nodes more_nodes name kind declared more is
+
+-- the name of what a fact is of
+abbrev of_name : Fact → List ℕ
+of_name (Reading id stream day grams variance) = stream
+of_name (Transfer id stream first last grams variance) = stream
+of_name (Dip id tank day mm density variance) = tank
+
+kind_is : (declared : List Declared) (fact : Fact) → kind_of_fact declared fact ≡ kind_of declared (of_name fact)
+kind_is declared (Reading id stream day grams variance) = refl
+kind_is declared (Transfer id stream first last grams variance) = refl
+kind_is declared (Dip id tank day mm density variance) = refl
+
+-- what a fact names is declared, and of its kind
+pub record IsFactOf (declared : List Declared) (fact : Fact) : Type 0 where
+  known : names_other fact (kind_of_fact declared fact) ≡ false
+  matching : is_of_other_kind fact (kind_of_fact declared fact) ≡ false
+  order : is_out_of_order fact ≡ false
+  short : is_too_long fact ≡ false
+
+names_other_none : (fact : Fact) → names_other fact None ≡ true
+names_other_none (Reading id stream day grams variance) = refl
+names_other_none (Transfer id stream first last grams variance) = refl
+names_other_none (Dip id tank day mm density variance) = refl
+
+fact_of_more : (declared more : List Declared) (fact : Fact) → IsFactOf declared fact → IsFactOf (declared ++ more) fact
+fact_of_more declared more fact right = by (kind_of_fact declared fact) refl
+  where
+    by : (kind : Option ArcKind) → kind_of_fact declared fact ≡ kind → IsFactOf (declared ++ more) fact
+    by None is = cc (sym (names_other_none fact) ∙ sym (ap (names_other fact) is) ∙ right.known)
+    by (Some kind) is =
+        let stays = kind_stays (node_names declared) (node_names (declared ++ more)) (of_name fact) kind declared more (sym (kind_is declared fact) ∙ is) in
+        let now : kind_of_fact (declared ++ more) fact ≡ kind_of_fact declared fact = kind_is (declared ++ more) fact ∙ stays ∙ sym is in
+        record { known = ap (names_other fact) now ∙ right.known; matching = ap (is_of_other_kind fact) now ∙ right.matching; order = right.order; short = right.short }
+
+-- a fact with other values is of the same
+changed_fact : (declared : List Declared) (change : Change) (fact : Fact) → IsFactOf declared fact → IsFactOf declared (changed change fact)
+changed_fact declared (Amount grams variance) (Reading id stream day old_grams old_variance) right = record { known = right.known; matching = right.matching; order = refl; short = refl }
+changed_fact declared (Amount grams variance) (Transfer id stream first last old_grams old_variance) right =
+    record { known = right.known; matching = right.matching; order = right.order; short = right.short }
+changed_fact declared (Amount grams variance) (Dip id tank day mm density old_variance) right = right
+changed_fact declared (Level mm density variance) (Reading id stream day grams old_variance) right = right
+changed_fact declared (Level mm density variance) (Transfer id stream first last grams old_variance) right = right
+changed_fact declared (Level mm density variance) (Dip id tank day old_mm old_density old_variance) right = record { known = right.known; matching = right.matching; order = refl; short = refl }
+
+-- ---- kept facts repeat none before them
+
+-- a fact with other values repeats what it repeated, and is repeated so
+changed_later : (change : Change) (fact : Fact) (k : KeptFact) → is_repeat (changed change fact) k ≡ is_repeat fact k
+changed_later (Amount grams variance) (Reading id stream day old_grams old_variance) k = refl
+changed_later (Amount grams variance) (Transfer id stream first last old_grams old_variance) k = refl
+changed_later (Amount grams variance) (Dip id tank day mm density old_variance) k = refl
+changed_later (Level mm density variance) (Reading id stream day grams old_variance) k = refl
+changed_later (Level mm density variance) (Transfer id stream first last grams old_variance) k = refl
+changed_later (Level mm density variance) (Dip id tank day old_mm old_density old_variance) k = refl
+
+changed_earlier : (change : Change) (later fact : Fact) → is_repeat later (live (changed change fact)) ≡ is_repeat later (live fact)
+changed_earlier change (Reading i s d g v) fact = by change fact
+  where
+    by : (change : Change) (fact : Fact) → is_repeat (Reading i s d g v) (live (changed change fact)) ≡ is_repeat (Reading i s d g v) (live fact)
+    by (Amount grams variance) (Reading id stream day old_grams old_variance) = refl
+    by (Amount grams variance) (Transfer id stream first last old_grams old_variance) = refl
+    by (Amount grams variance) (Dip id tank day mm density old_variance) = refl
+    by (Level mm density variance) (Reading id stream day grams old_variance) = refl
+    by (Level mm density variance) (Transfer id stream first last grams old_variance) = refl
+    by (Level mm density variance) (Dip id tank day old_mm old_density old_variance) = refl
+changed_earlier change (Transfer i s f l g v) fact = by change fact
+  where
+    by : (change : Change) (fact : Fact) → is_repeat (Transfer i s f l g v) (live (changed change fact)) ≡ is_repeat (Transfer i s f l g v) (live fact)
+    by (Amount grams variance) (Reading id stream day old_grams old_variance) = refl
+    by (Amount grams variance) (Transfer id stream first last old_grams old_variance) = refl
+    by (Amount grams variance) (Dip id tank day mm density old_variance) = refl
+    by (Level mm density variance) (Reading id stream day grams old_variance) = refl
+    by (Level mm density variance) (Transfer id stream first last grams old_variance) = refl
+    by (Level mm density variance) (Dip id tank day old_mm old_density old_variance) = refl
+changed_earlier change (Dip i t d m r v) fact = by change fact
+  where
+    by : (change : Change) (fact : Fact) → is_repeat (Dip i t d m r v) (live (changed change fact)) ≡ is_repeat (Dip i t d m r v) (live fact)
+    by (Amount grams variance) (Reading id stream day old_grams old_variance) = refl
+    by (Amount grams variance) (Transfer id stream first last old_grams old_variance) = refl
+    by (Amount grams variance) (Dip id tank day mm density old_variance) = refl
+    by (Level mm density variance) (Reading id stream day grams old_variance) = refl
+    by (Level mm density variance) (Transfer id stream first last grams old_variance) = refl
+    by (Level mm density variance) (Dip id tank day old_mm old_density old_variance) = refl
+
+-- what doesn't repeat a fact doesn't repeat it amended
+amended_earlier : (id : List ℕ) (change : Change) (later : Fact) (k : KeptFact) → is_repeat later k ≡ false → is_repeat later (amended_one id change k) ≡ false
+amended_earlier id change later k none = elim (cases_Bool (is_live_with id k)) [
+  | inl is ↦ rw is (changed_earlier change later k.fact ∙ lives k is ∙ none)
+  | inr other ↦ rw other none
+]
+  where
+    lives : (k : KeptFact) → is_live_with id k ≡ true → is_repeat later (live k.fact) ≡ is_repeat later k
+    lives k is = by k.struck refl
+      where
+        by : (b : Bool) → k.struck ≡ b → is_repeat later (live k.fact) ≡ is_repeat later k
+        by false alive = rw alive refl
+        by true gone = cc (rw gone at is)
+
+amended_later : (id : List ℕ) (change : Change) (k earlier : KeptFact) → is_repeat k.fact earlier ≡ false → is_repeat (amended_one id change k).fact earlier ≡ false
+amended_later id change k earlier none = elim (cases_Bool (is_live_with id k)) [
+  | inl is ↦ rw is (changed_later change k.fact earlier ∙ none)
+  | inr other ↦ rw other none
+]
+
+-- nor does it where it is struck
+struck_earlier : (id : List ℕ) (later : Fact) (k : KeptFact) → is_repeat later k ≡ false → is_repeat later (struck_one id k) ≡ false
+struck_earlier id later k none = elim (cases_Bool (has_id id k)) [
+  | inl is ↦ rw is (only_id (has_id (id_of later) k) _ none)
+  | inr other ↦ rw other none
+]
+  where
+    only_id : (a b : Bool) → (a || b) ≡ false → (a || false) ≡ false
+    only_id false b none = refl
+    only_id true b none = cc none
+
+struck_later : (id : List ℕ) (k earlier : KeptFact) → is_repeat k.fact earlier ≡ false → is_repeat (struck_one id k).fact earlier ≡ false
+struck_later id k earlier none = elim (cases_Bool (has_id id k)) [ inl is ↦ rw is none | inr other ↦ rw other none ]
+
+-- what is needed of the facts, that they are added again
+pub record AreWell (declared : List Declared) (kept : List KeptFact) : Type 0 where
+  pub facts : All (λ (k : KeptFact). IsFactOf declared k.fact) kept
+  pub apart : NoRepeats kept
+  pub few : length kept ≤ most_facts
+
+below : (a b : ℕ) → nat_le a b ≡ false → b < a
+below a b is = omega (arith, leb-false a b is)
+
+not_le : (a b : ℕ) → b < a → nat_le a b ≡ false
+not_le a b lt = elim (cases_Bool (nat_le a b)) [ inl le ↦ absurd (omega (arith, leb-true a b le, lt)) | inr is ↦ is ]
+
+well_more : (declared : List Declared) (kept : List KeptFact) (fact : Fact) → AreWell declared kept → IsFactOf declared fact → is_duplicate kept fact ≡ false → is_full kept ≡ false
+    → AreWell declared (kept ++ live fact ∷ [])
+well_more declared kept fact right own new room = record {
+  facts = All-push (λ (k : KeptFact). IsFactOf declared k.fact) kept (live fact) right.facts own;
+  apart = all_pairs_push (λ (a b : KeptFact). is_repeat b.fact a ≡ false) kept (live fact) right.apart (λ k d lt. fails_at (is_repeat fact) kept k d new lt);
+  few = omega (arith, below most_facts (length kept) room, length-append kept (live fact ∷ []));
+}
+
+-- facts of which each has an image that is of the same, and repeats what it repeated
+well_images : (declared : List Declared) (kept : List KeptFact) (f : KeptFact → KeptFact) → AreWell declared kept
+    → ((k : KeptFact) → IsFactOf declared k.fact → IsFactOf declared (f k).fact)
+    → ((a b : KeptFact) → is_repeat b.fact a ≡ false → is_repeat (f b).fact (f a) ≡ false) → AreWell declared (map f kept)
+well_images declared kept f right own apart = record {
+  facts = λ i d lt.
+      let within : i < length kept = omega (arith, lt, length-map kept f) in
+      rw (get_or-map f kept i d d within) (own (get_or kept i d) (right.facts i d within));
+  apart = λ i j d before lt.
+      let within : j < length kept = omega (arith, lt, length-map kept f) in
+      rw (get_or-map f kept i d d (omega (arith, before, within)), get_or-map f kept j d d within) (apart (get_or kept i d) (get_or kept j d) (right.apart i j d before within));
+  few = omega (arith, right.few, length-map kept f);
+}
+
+abbrev pub AreWellIn : List StoredRow → Type 0
+AreWellIn rows = AreWell (declared_of rows) (facts_of rows)
+
+well_by : (rows : List StoredRow) (stored : StoredRow) → declared_of (stored ∷ []) ≡ [] → AreWell (declared_of rows) (facts_after (facts_of rows) stored.row) → AreWellIn (rows ++ stored ∷ [])
+well_by rows stored none right = rw (declared_same rows stored none, facts_more rows stored) right
+
+pub well_step : (rows : List StoredRow) (at : ℕ) (row : BookRow) → AreWellIn rows → IsAcceptable rows row → AreWellIn (rows ++ record { at = at; row = row } ∷ [])
+well_step rows at (Declaration declared) right accepted =
+    let stored : StoredRow = record { at = at; row = Declaration declared } in
+    rw (declared_more rows stored, facts_more rows stored) (record {
+      facts = λ i d lt. fact_of_more (declared_of rows) (declared ∷ []) _ (right.facts i d lt);
+      apart = right.apart;
+      few = right.few;
+    })
+well_step rows at (PeriodRow name first last) right accepted = well_by rows (record { at = at; row = PeriodRow name first last }) refl right
+well_step rows at (FactRow fact) right accepted =
+    let good = fine (declared_of rows) (facts_of rows) (periods_of rows) (FactRow fact) accepted.no_cause in
+    let own : IsFactOf (declared_of rows) fact =
+    record { known = good.known; matching = good.matching; order = good.order; short = (or_parts (is_too_long fact) (is_outside_table (declared_of rows) fact) good.range).0 } in
+    well_by rows (record { at = at; row = FactRow fact }) refl (well_more (declared_of rows) (facts_of rows) fact right own good.new good.room)
+well_step rows at (Late fact) right accepted =
+    let good = fine (declared_of rows) (facts_of rows) (periods_of rows) (Late fact) accepted.no_cause in
+    let own : IsFactOf (declared_of rows) fact =
+    record { known = good.known; matching = good.matching; order = good.order; short = (or_parts (is_too_long fact) (is_outside_table (declared_of rows) fact) good.range).0 } in
+    well_by rows (record { at = at; row = Late fact }) refl (well_more (declared_of rows) (facts_of rows) fact right own good.new good.room)
+well_step rows at (Amend id change reason) right accepted =
+    well_by rows (record { at = at; row = Amend id change reason }) refl
+    (well_images (declared_of rows) (facts_of rows) (amended_one id change) right (λ k own. amended_fact k own)
+    (λ a b none. amended_later id change b (amended_one id change a) (amended_earlier id change b.fact a none)))
+  where
+    amended_fact : (k : KeptFact) → IsFactOf (declared_of rows) k.fact → IsFactOf (declared_of rows) (amended_one id change k).fact
+    amended_fact k own = elim (cases_Bool (is_live_with id k)) [ inl is ↦ rw is (changed_fact (declared_of rows) change k.fact own) | inr other ↦ rw other own ]
+well_step rows at (Strike id reason) right accepted =
+    well_by rows (record { at = at; row = Strike id reason }) refl
+    (well_images (declared_of rows) (facts_of rows) (struck_one id) right (λ k own. struck_fact k own)
+    (λ a b none. struck_later id b (struck_one id a) (struck_earlier id b.fact a none)))
+  where
+    struck_fact : (k : KeptFact) → IsFactOf (declared_of rows) k.fact → IsFactOf (declared_of rows) (struck_one id k).fact
+    struck_fact k own = elim (cases_Bool (has_id id k)) [ inl is ↦ rw is own | inr other ↦ rw other own ]
+well_step rows at (Close name) right accepted = well_by rows (record { at = at; row = Close name }) refl right
+
+pub none_well : AreWellIn []
+none_well = record { facts = λ i d lt. absurd (omega (arith, lt)); apart = λ i j d before lt. absurd (omega (arith, lt)); few = omega arith }
+
+well : (rows : List StoredRow) → AreAccepted rows → AreWellIn rows
+well rows accepted =
+    by_accepted AreWellIn none_well
+    (λ before stored right own. well_step before stored.at stored.row right own) rows accepted
+
+-- ---- the declarations and periods alone
+
+-- where no condition holds there is no cause
+no_cause : (declared : List Declared) (kept : List KeptFact) (periods : List Period) (row : BookRow) → IsFine declared kept periods row → refusal_behind declared kept periods row ≡ None
+no_cause declared kept periods row good = rw (good.known, good.new, good.order, good.matching, good.sealed, good.opened, good.range, good.room) refl
+
+none_closed_now : (periods : List Period) → some_closed (map opened periods) ≡ false
+none_closed_now [] = refl
+none_closed_now (period ∷ periods) = none_closed_now periods
+
+none_touched : (fact : Fact) (periods : List Period) → list_any (touches_closed fact) (map opened periods) ≡ false
+none_touched fact [] = refl
+none_touched fact (period ∷ periods) = none_touched fact periods
+
+opened_named : (name : List ℕ) (periods : List Period) → list_any (is_named name) (map opened periods) ≡ list_any (is_named name) periods
+opened_named name periods = any_map (is_named name) opened periods
+
+opened_days : (first last : ℤ) (periods : List Period) → list_any (shares_a_day first last) (map opened periods) ≡ list_any (shares_a_day first last) periods
+opened_days first last periods = any_map (shares_a_day first last) opened periods
+
+opened_closed : (name : List ℕ) (periods : List Period) → map opened (map (closed_if_named name) periods) ≡ map opened periods
+opened_closed name [] = refl
+opened_closed name (period ∷ periods) = elim (cases_Bool (is_named name period)) [
+  | inl is ↦ rw is (ap (λ (ps : List Period). opened period ∷ ps) (opened_closed name periods))
+  | inr other ↦ rw other (ap (λ (ps : List Period). opened period ∷ ps) (opened_closed name periods))
+]
+
+numbered_append : (at : ℕ) (xs ys : List BookRow) → numbered at (xs ++ ys) ≡ numbered at xs ++ numbered (at + length xs) ys
+numbered_append at [] ys = let same : at ≡ at + 0 = omega arith in ap (λ (n : ℕ). numbered n ys) same
+numbered_append at (x ∷ xs) ys =
+    let next : at + 1 + length xs ≡ at + length (x ∷ xs) = omega arith in
+    ap (λ (rest : List StoredRow). record { at = at; row = x } ∷ rest) (numbered_append (at + 1) xs ys ∙ ap (λ (n : ℕ). numbered (at + 1) xs ++ numbered n ys) next)
+
+-- rows that declare what is declared, the same periods, all open, and these facts
+record IsPlainSoFar (declared : List Declared) (periods : List Period) (facts : List KeptFact) (plain : List StoredRow) : Type 0 where
+  accepted : AreAccepted plain
+  declares : declared_of plain ≡ declared
+  spans : periods_of plain ≡ map opened periods
+  has : facts_of plain ≡ facts
+
+abbrev IsBase : List StoredRow → Type 0
+IsBase rows = IsPlainSoFar (declared_of rows) (periods_of rows) [] (numbered 1 (settled_rows rows))
+
+-- a row that is neither declaration nor period
+base_same : (rows : List StoredRow) (stored : StoredRow) → declared_of (stored ∷ []) ≡ [] → settled stored.row ≡ None
+    → map opened (periods_after (periods_of rows) stored.row) ≡ map opened (periods_of rows) → IsBase rows → IsBase (rows ++ stored ∷ [])
+base_same rows stored none unsettled spans right =
+    let same : settled_rows (rows ++ stored ∷ []) ≡ settled_rows rows =
+    filter_map-append (λ (s : StoredRow). settled s.row) rows (stored ∷ []) ∙ ap (λ (o : Option BookRow). settled_rows rows ++ cons_option o []) unsettled ∙ append-nil (settled_rows rows) in
+    rw (same, declared_same rows stored none, periods_more_of rows stored)
+    (record { accepted = right.accepted; declares = right.declares; spans = right.spans ∙ sym spans; has = right.has })
+
+-- one more row behind plain ones
+plain_more : (declared : List Declared) (periods : List Period) (facts : List KeptFact) (plain : List StoredRow) (at : ℕ) (row : BookRow) (ds : List Declared) (ps : List Period) (ks : List KeptFact)
+    → IsPlainSoFar declared periods facts plain → IsFine declared facts (map opened periods) row → IsRowInRange row
+    → declared ++ declared_of (record { at = at; row = row } ∷ []) ≡ ds → periods_after (map opened periods) row ≡ map opened ps → facts_after facts row ≡ ks
+    → IsPlainSoFar ds ps ks (plain ++ record { at = at; row = row } ∷ [])
+plain_more declared periods facts plain at row ds ps ks right good range declares spans has =
+    let stored : StoredRow = record { at = at; row = row } in
+    let none : refusal_of plain row ≡ None = rw (right.declares, right.has, right.spans) (no_cause declared facts (map opened periods) row good) in record {
+      accepted = accepted_more plain stored right.accepted (record { no_cause = none; in_range = range });
+      declares = declared_more plain stored ∙ ap (λ (d : List Declared). d ++ declared_of (stored ∷ [])) right.declares ∙ declares;
+      spans = periods_more_of plain stored ∙ ap (λ (p : List Period). periods_after p row) right.spans ∙ spans;
+      has = facts_more plain stored ∙ ap (λ (k : List KeptFact). facts_after k row) right.has ∙ has;
+    }
+
+base_step : (rows : List StoredRow) (at : ℕ) (row : BookRow) → IsBase rows → IsAcceptable rows row → IsBase (rows ++ record { at = at; row = row } ∷ [])
+base_step rows at (Declaration declared) right accepted =
+    let stored : StoredRow = record { at = at; row = Declaration declared } in
+    let good = fine (declared_of rows) (facts_of rows) (periods_of rows) (Declaration declared) accepted.no_cause in
+    let again : IsFine (declared_of rows) [] (map opened (periods_of rows)) (Declaration declared) =
+    record {
+      known = good.known;
+      new = good.new;
+      order = good.order;
+      matching = good.matching;
+      sealed = unsealed (is_of_plant declared) (none_closed_now (periods_of rows));
+      opened = refl;
+      range = refl;
+      room = good.room;
+    } in
+    let rows_are : numbered 1 (settled_rows (rows ++ stored ∷ [])) ≡ numbered 1 (settled_rows rows) ++ record { at = 1 + length (settled_rows rows); row = Declaration declared } ∷ [] =
+    ap (numbered 1) (filter_map-append (λ (s : StoredRow). settled s.row) rows (stored ∷ [])) ∙ numbered_append 1 (settled_rows rows) (Declaration declared ∷ []) in
+    rw (rows_are, declared_more rows stored, periods_more_of rows stored)
+    (plain_more (declared_of rows) (periods_of rows) [] (numbered 1 (settled_rows rows)) (1 + length (settled_rows rows)) (Declaration declared) (declared_of rows ++ declared ∷ []) (periods_of rows) [] right again
+    accepted.in_range refl refl refl)
+  where
+    unsealed : (a : Bool) {b : Bool} → b ≡ false → (a && b) ≡ false
+    unsealed true is = is
+    unsealed false is = refl
+base_step rows at (PeriodRow name first last) right accepted =
+    let stored : StoredRow = record { at = at; row = PeriodRow name first last } in
+    let periods = periods_of rows in
+    let good = fine (declared_of rows) (facts_of rows) periods (PeriodRow name first last) accepted.no_cause in
+    let again : IsFine (declared_of rows) [] (map opened periods) (PeriodRow name first last) =
+    record {
+      known = refl;
+      new = opened_named name periods ∙ good.new;
+      order = good.order;
+      matching = opened_days first last periods ∙ good.matching;
+      sealed = refl;
+      opened = refl;
+      range = good.range;
+      room = ap (λ (n : ℕ). nat_le most_periods n) (length-map periods opened) ∙ good.room;
+    } in
+    let rows_are : numbered 1 (settled_rows (rows ++ stored ∷ [])) ≡ numbered 1 (settled_rows rows) ++ record { at = 1 + length (settled_rows rows); row = PeriodRow name first last } ∷ [] =
+    ap (numbered 1) (filter_map-append (λ (s : StoredRow). settled s.row) rows (stored ∷ [])) ∙ numbered_append 1 (settled_rows rows) (PeriodRow name first last ∷ []) in
+    rw (rows_are, declared_same rows stored refl, periods_more_of rows stored)
+    (plain_more (declared_of rows) periods [] (numbered 1 (settled_rows rows)) (1 + length (settled_rows rows)) (PeriodRow name first last) (declared_of rows) (periods ++ open_period name first last ∷ []) [] right again
+    accepted.in_range (append-nil (declared_of rows)) (sym (map-append opened periods (open_period name first last ∷ []))) refl)
+base_step rows at (FactRow fact) right accepted = base_same rows (record { at = at; row = FactRow fact }) refl refl refl right
+base_step rows at (Late fact) right accepted = base_same rows (record { at = at; row = Late fact }) refl refl refl right
+base_step rows at (Amend id change reason) right accepted = base_same rows (record { at = at; row = Amend id change reason }) refl refl refl right
+base_step rows at (Strike id reason) right accepted = base_same rows (record { at = at; row = Strike id reason }) refl refl refl right
+base_step rows at (Close name) right accepted = base_same rows (record { at = at; row = Close name }) refl refl (opened_closed name (periods_of rows)) right
+
+base : (rows : List StoredRow) → AreAccepted rows → IsBase rows
+base rows accepted =
+    by_accepted IsBase (record { accepted = none_accepted; declares = refl; spans = refl; has = refl })
+    (λ before stored right own. base_step before stored.at stored.row right own) rows accepted
+
+-- ---- the live facts behind them
+
+live_more : (before : List KeptFact) (k : KeptFact) → live_facts (before ++ k ∷ []) ≡ live_facts before ++ live_facts (k ∷ [])
+live_more before k = filter_map-append live_fact before (k ∷ [])
+
+live_short : (kept : List KeptFact) → length (live_facts kept) ≤ length kept
+live_short [] = omega arith
+live_short (k ∷ kept) = elim (cases_Bool k.struck) [ inl gone ↦ rw gone (omega (arith, live_short kept)) | inr alive ↦ rw alive (omega (arith, live_short kept)) ]
+
+live_itself : (facts : List Fact) → live_facts (map live facts) ≡ facts
+live_itself [] = refl
+live_itself (fact ∷ facts) = ap (λ (fs : List Fact). fact ∷ fs) (live_itself facts)
+
+-- a fact that repeats none of some repeats none of the live ones among them
+none_among_live : (fact : Fact) (kept : List KeptFact) → list_any (is_repeat fact) kept ≡ false → list_any (is_repeat fact) (map live (live_facts kept)) ≡ false
+none_among_live fact [] none = refl
+none_among_live fact (k ∷ kept) none =
+    let parts = or_parts (is_repeat fact k) (list_any (is_repeat fact) kept) none in
+    by (none_among_live fact kept parts.1) parts.0 k.struck refl
+  where
+    by : list_any (is_repeat fact) (map live (live_facts kept)) ≡ false → is_repeat fact k ≡ false → (b : Bool) → k.struck ≡ b
+        → list_any (is_repeat fact) (map live (live_facts (k ∷ kept))) ≡ false
+    by rest first true gone = rw gone rest
+    by rest first false alive =
+        let own : is_repeat fact (live k.fact) ≡ false = rw alive at first in
+        rw alive (rw own rest)
+
+-- the first of some more facts repeats none before it
+repeats_none : (before : List KeptFact) (k : KeptFact) (rest : List KeptFact) → NoRepeats (before ++ k ∷ rest) → list_any (is_repeat k.fact) before ≡ false
+repeats_none before k rest apart = list_any_none (is_repeat k.fact) before (λ i d lt.
+    let long = length-append before (k ∷ rest) in
+    let pair = apart i (length before) d lt (omega (arith, long)) in
+    rw (get_or-append before (k ∷ rest) d i lt, get_or-append_seam before k rest d) at pair)
+
+-- what holds of all holds of the first of some more
+own_of : (P : KeptFact → Type 0) (before : List KeptFact) (k : KeptFact) (rest : List KeptFact) → All P (before ++ k ∷ rest) → P k
+own_of P before k rest all = subst P (get_or-append_seam before k rest k) (all (length before) k (omega (arith, length-append before (k ∷ rest))))
+
+record AreAddable (declared : List Declared) (kept : List KeptFact) : Type 0 where
+  well : AreWell declared kept
+  ranges : All (λ (k : KeptFact). IsInRange k.fact) kept
+  in_tables : AreInTables declared kept
+
+live_fine : (declared : List Declared) (periods : List Period) (before : List KeptFact) (k : KeptFact) (rest : List KeptFact) → AreAddable declared (before ++ k ∷ rest)
+    → IsFine declared (map live (live_facts before)) (map opened periods) (FactRow k.fact)
+live_fine declared periods before k rest right =
+    let own = own_of (λ (q : KeptFact). IsFactOf declared q.fact) before k rest right.well.facts in
+    let inside = own_of (λ (q : KeptFact). is_outside_table declared q.fact ≡ false) before k rest right.in_tables in record {
+      known = own.known;
+      new = none_among_live k.fact before (repeats_none before k rest right.well.apart);
+      order = own.order;
+      matching = own.matching;
+      sealed = refl;
+      opened = none_touched k.fact periods;
+      range = rw (own.short, inside) refl;
+      room = above (omega (arith, length-append before (k ∷ rest), right.well.few, live_short before, length-map (live_facts before) live));
+    }
+  where
+    above : length (map live (live_facts before)) < most_facts → is_full (map live (live_facts before)) ≡ false
+    above lt = not_le most_facts (length (map live (live_facts before))) lt
+
+live_added : (declared : List Declared) (periods : List Period) (before rest : List KeptFact) (at : ℕ) (plain : List StoredRow) → AreAddable declared (before ++ rest)
+    → IsPlainSoFar declared periods (map live (live_facts before)) plain
+    → IsPlainSoFar declared periods (map live (live_facts (before ++ rest))) (plain ++ numbered at (map (λ (fact : Fact). FactRow fact) (live_facts rest)))
+live_added declared periods before [] at plain right so_far = rw (append-nil before, append-nil plain) so_far
+live_added declared periods before (k ∷ rest) at plain right so_far =
+    let again : AreAddable declared ((before ++ k ∷ []) ++ rest) = subst (AreAddable declared) (sym (append_assoc before (k ∷ []) rest)) right in
+    by (λ n more is. live_added declared periods (before ++ k ∷ []) rest n more again is) k.struck refl
+  where
+    split : (before ++ k ∷ []) ++ rest ≡ before ++ k ∷ rest
+    split = append_assoc before (k ∷ []) rest
+
+    by : ((n : ℕ) (more : List StoredRow) → IsPlainSoFar declared periods (map live (live_facts (before ++ k ∷ []))) more
+        → IsPlainSoFar declared periods (map live (live_facts ((before ++ k ∷ []) ++ rest))) (more ++ numbered n (map (λ (fact : Fact). FactRow fact) (live_facts rest))))
+        → (b : Bool) → k.struck ≡ b
+        → IsPlainSoFar declared periods (map live (live_facts (before ++ k ∷ rest))) (plain ++ numbered at (map (λ (fact : Fact). FactRow fact) (live_facts (k ∷ rest))))
+    by go_on true gone =
+        let same : live_facts (before ++ k ∷ []) ≡ live_facts before = live_more before k ∙ rw gone (append-nil (live_facts before)) in
+        let next = go_on at plain (subst (λ (fs : List Fact). IsPlainSoFar declared periods (map live fs) plain) (sym same) so_far) in
+        let there = subst (λ (ks : List KeptFact). IsPlainSoFar declared periods (map live (live_facts ks)) (plain ++ numbered at (map (λ (fact : Fact). FactRow fact) (live_facts rest)))) split next in
+        let first : live_facts (k ∷ rest) ≡ live_facts rest = rw gone refl in
+        subst (λ (fs : List Fact). IsPlainSoFar declared periods (map live (live_facts (before ++ k ∷ rest))) (plain ++ numbered at (map (λ (fact : Fact). FactRow fact) fs))) (sym first) there
+    by go_on false alive =
+        let row : StoredRow = record { at = at; row = FactRow k.fact } in
+        let same : map live (live_facts before) ++ live k.fact ∷ [] ≡ map live (live_facts (before ++ k ∷ [])) =
+        sym (ap (map live) (live_more before k ∙ rw alive refl) ∙ map-append live (live_facts before) (k.fact ∷ [])) in
+        let more : IsPlainSoFar declared periods (map live (live_facts (before ++ k ∷ []))) (plain ++ row ∷ []) =
+        plain_more declared periods (map live (live_facts before)) plain at (FactRow k.fact) declared periods (map live (live_facts (before ++ k ∷ []))) so_far
+        (live_fine declared periods before k rest right) (own_of (λ (q : KeptFact). IsInRange q.fact) before k rest right.ranges) (append-nil declared) refl same in
+        let next = go_on (at + 1) (plain ++ row ∷ []) more in
+        let rows = append_assoc plain (row ∷ []) (numbered (at + 1) (map (λ (fact : Fact). FactRow fact) (live_facts rest))) in
+        let there = subst (λ (ks : List KeptFact). IsPlainSoFar declared periods (map live (live_facts ks)) ((plain ++ row ∷ []) ++ numbered (at + 1) (map (λ (fact : Fact). FactRow fact) (live_facts rest)))) split next in
+        let all = subst (IsPlainSoFar declared periods (map live (live_facts (before ++ k ∷ rest)))) rows there in
+        let first : live_facts (k ∷ rest) ≡ k.fact ∷ live_facts rest = rw alive refl in
+        subst (λ (fs : List Fact). IsPlainSoFar declared periods (map live (live_facts (before ++ k ∷ rest))) (plain ++ numbered at (map (λ (fact : Fact). FactRow fact) fs))) (sym first) all
+
+-- ---- all
+
+pub plain : PlainLaw
+plain rows accepted =
+    let declared = declared_of rows in
+    let kept = facts_of rows in
+    let sound = consistent rows accepted in
+    let n = 1 + length (settled_rows rows) in
+    let start = base rows accepted in
+    let all = live_added declared (periods_of rows) [] kept n (numbered 1 (settled_rows rows)) (record { well = well rows accepted; ranges = sound.ranges; in_tables = sound.in_tables }) start in
+    let are : plain_stored rows ≡ numbered 1 (settled_rows rows) ++ numbered n (map (λ (fact : Fact). FactRow fact) (live_facts kept)) =
+    numbered_append 1 (settled_rows rows) (map (λ (fact : Fact). FactRow fact) (live_facts kept)) in
+    rw are (record {
+      accepted = all.accepted;
+      declared = all.declares;
+      periods = all.spans;
+      facts = all.has;
+      same = ap live_facts all.has ∙ live_itself (live_facts kept);
+    })

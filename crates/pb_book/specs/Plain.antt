@@ -1,0 +1,48 @@
+-- Statement. The plain rows: those of a session in which nothing was closed, late, amended or struck.
+use Rattle.std.specs.Prelude.{◌≡◌, ℕ, ◌+◌, List, [], ◌∷◌, ◌++◌, map, filter_map, Option, Some, None}
+use Rattle.pb_facts.specs.Facts.{live_facts}
+use Rattle.pb_book.specs.declared.rows.BookRow.{BookRow}
+use Rattle.pb_book.specs.declared.rows.BookRow.TheVariants.{Declaration, Period as PeriodRow, Fact as FactRow}
+use Rattle.pb_book.specs.declared.rows.Period.{Period}
+use Rattle.pb_book.specs.Accepted.{AreAccepted}
+use Rattle.pb_book.specs.Rows.{StoredRow, declared_of, facts_of, live, open_period, periods_of}
+
+-- a row that declares something, or a period
+abbrev pub settled : BookRow → Option BookRow
+settled (Declaration declared) = Some (Declaration declared)
+settled (PeriodRow name first last) = Some (PeriodRow name first last)
+settled row = None
+
+-- the declarations, periods and critical values, in order
+abbrev pub settled_rows : List StoredRow → List BookRow
+settled_rows rows = filter_map (λ (stored : StoredRow). settled stored.row) rows
+
+-- The plain rows: the declarations, periods and critical values in order, and then the live facts with their last values.
+abbrev pub plain_rows : List StoredRow → List BookRow
+plain_rows rows = settled_rows rows ++ map (λ fact. FactRow fact) (live_facts (facts_of rows))
+
+-- rows of the records from a number on
+abbrev pub numbered : ℕ → List BookRow → List StoredRow
+numbered at [] = []
+numbered at (row ∷ rows) = record { at = at; row = row } ∷ numbered (at + 1) rows
+
+-- the rows of the records of an edited file
+abbrev pub plain_stored : List StoredRow → List StoredRow
+plain_stored rows = numbered 1 (plain_rows rows)
+
+-- a period, open
+abbrev pub opened : Period → Period
+opened period = open_period period.name period.first period.last
+
+-- The plain rows were accepted one behind the other: none is refused. They declare the same plant and the same periods,
+-- but for their being closed, and their facts are the live ones.
+pub record ArePlain (rows plain : List StoredRow) : Type 0 where
+  pub accepted : AreAccepted plain
+  pub declared : declared_of plain ≡ declared_of rows
+  pub periods : periods_of plain ≡ map opened (periods_of rows)
+  pub facts : facts_of plain ≡ map live (live_facts (facts_of rows))
+  pub same : live_facts (facts_of plain) ≡ live_facts (facts_of rows)
+
+-- the plain rows of accepted rows are plain
+abbrev pub PlainLaw : Type 0
+PlainLaw = (rows : List StoredRow) → AreAccepted rows → ArePlain rows (plain_stored rows)
