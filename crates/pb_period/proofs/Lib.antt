@@ -1,6 +1,7 @@
 mod AmountLemmas
 mod DayLemmas
 mod GraphLemmas
+mod PlainLemmas
 mod PlantLemmas
 mod TransferLemmas
 mod VarianceLemmas

@@ -1,12 +1,14 @@
 -- Statement. What holds of the graphs of accepted rows.
-use Rattle.std.specs.Prelude.{List, All, IfOk}
+use Rattle.std.specs.Prelude.{◌≡◌, List, All, IfOk}
 use Rattle.pb_graph.specs.ProcessGraph.{IsProcessGraph}
 use Rattle.pb_site.specs.Site.{HasDistinctNames}
 use Rattle.pb_book.specs.declared.rows.Period.{Period}
 use Rattle.pb_book.specs.Accepted.{AreAccepted}
+use Rattle.pb_book.specs.Plain.{plain_stored}
 use Rattle.pb_book.specs.Rows.{StoredRow, declared_of, periods_of}
 use Rattle.pb_period.specs.Days.{days_of}
-use Rattle.pb_period.specs.PeriodGraph.{assembly_of, design_graph}
+use Rattle.pb_period.specs.declared.days.Days.{Days}
+use Rattle.pb_period.specs.PeriodGraph.{assembly_of, design_graph, period_names}
 
 -- names are distinct, and the graphs of the design and of each period that has one are within the limits
 pub record HaveGraphs (rows : List StoredRow) : Type 0 where
@@ -17,3 +19,13 @@ pub record HaveGraphs (rows : List StoredRow) : Type 0 where
 -- so it is of accepted rows
 abbrev pub GraphsLaw : Type 0
 GraphsLaw = (rows : List StoredRow) → AreAccepted rows → HaveGraphs rows
+
+-- rows with the same graphs, of the design and of all days, and with the same names
+pub record HaveSameGraphs (rows other : List StoredRow) : Type 0 where
+  pub design : design_graph other ≡ design_graph rows
+  pub days : (days : Days) → assembly_of other days ≡ assembly_of rows days
+  pub names : (days : Days) → period_names other days ≡ period_names rows days
+
+-- the plain rows of accepted rows have the graphs of these
+abbrev pub PlainGraphsLaw : Type 0
+PlainGraphsLaw = (rows : List StoredRow) → AreAccepted rows → HaveSameGraphs rows (plain_stored rows)

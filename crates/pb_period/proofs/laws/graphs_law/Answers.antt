@@ -7,7 +7,7 @@ use Rattle.pb_period.proofs.laws.graphs_law.Goals as goal
 
 pub returns : goal.returns
 returns c rows accepted =
-    let right = ready c.plant_law.ensures rows accepted in
+    let right = ready c.plant_law.ensures c.accepted_law.ensures rows accepted in
     record {
       names = right.plant.distinct;
       design = design_right rows right.plant;
