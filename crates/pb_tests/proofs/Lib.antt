@@ -1,0 +1,7 @@
+mod VerdictLemmas
+mod DecidedLemmas
+mod DropLemmas
+mod NodalLemmas
+mod EndLemmas
+mod GroupLemmas
+mod FreeTestLemmas

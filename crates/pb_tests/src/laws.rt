@@ -1,0 +1,65 @@
+// What is proved of the definitions alone. The contract of each function is a law; it calls those that the proof stands on.
+
+ghost use Rattle.pb_tests.specs.Laws.{SomeNodalTestsLaw, OneNodalTestsLaw, FreeGroupsLaw, SomeMeasureTestLaw, OneMeasureTestLaw, SomeMeasureTestsLaw, OneMeasureTestsLaw, EndsLaw, GlobalRejectLaw, GlobalAcceptLaw, DropRejectLaw, DropAcceptLaw, MeasureRejectLaw, MeasureAcceptLaw};
+
+use pb_gap::{solved_statistic_law, statistic_law, weight_law};
+
+/// A process graph has nodal tests by each critical value, and no others.
+pub fn nodal_tests_law()
+    ensures some { SomeNodalTestsLaw }
+    ensures one { OneNodalTestsLaw }
+{}
+
+/// The nodal tests of a graph are of its free groups, each named by its least node, and no free group is left out.
+pub fn free_groups_law()
+    ensures { FreeGroupsLaw }
+{}
+
+/// The measurement of a stream has a test, and no other.
+pub fn measure_test_law()
+    ensures some { SomeMeasureTestLaw }
+    ensures one { OneMeasureTestLaw }
+{
+    solved_statistic_law();
+}
+
+/// The measurements of a list of streams have tests, and no others.
+pub fn measure_tests_law()
+    ensures some { SomeMeasureTestsLaw }
+    ensures one { OneMeasureTestsLaw }
+{
+    solved_statistic_law();
+}
+
+/// The ends of the statistic of a graph that is solved are below the weighted squares of each balanced vector, and above those of its
+/// flows.
+pub fn ends_law()
+    ensures { EndsLaw }
+{
+    statistic_law();
+}
+
+/// A global test that rejects is right for each balanced vector, and one that accepts is right for the flows.
+pub fn decided_global_law()
+    ensures reject { GlobalRejectLaw }
+    ensures accept { GlobalAcceptLaw }
+{
+    weight_law();
+}
+
+/// The same of the drop between the ends of two statistics, wherever these come from.
+pub fn decided_drop_law()
+    ensures reject { DropRejectLaw }
+    ensures accept { DropAcceptLaw }
+{
+    weight_law();
+}
+
+/// A test of a measurement that rejects is right for each balanced vector, and one that accepts is right for the flows.
+pub fn decided_measure_law()
+    ensures reject { MeasureRejectLaw }
+    ensures accept { MeasureAcceptLaw }
+{
+    ends_law();
+    decided_drop_law();
+}
