@@ -1,5 +1,11 @@
 mod ListLemmas
-mod OneStageLemmas
+mod TakenLemmas
+mod SuspectLemmas
+mod RoundLemmas
+mod NextLemmas
+mod FormedLemmas
+mod TestLemmas
+mod DecidedLemmas
 mod ShownLemmas
 mod SolutionLemmas
 mod UniqueLemmas

@@ -1,6 +1,6 @@
 -- A shown stage is certified.
-use Rattle.std.proofs.Common.{◌≡◌, ◌∙◌, ℕ, ℤ, List, Option, Some, None, refl, sym, ap, subst, arith}
-use Rattle.std.specs.Prelude.{IfSome, MatchOption}
+use Rattle.std.proofs.Common.{◌≡◌, ◌∙◌, ◌==◌, ℕ, ℤ, Bool, true, false, List, Option, Some, None, refl, sym, ap, subst, arith}
+use Rattle.std.specs.Prelude.{IfSome, MatchOption, if◌then◌else◌}
 use Rattle.std.proofs.lemmas.Int.{ints}
 use Rattle.pb_graph.specs.declared.records.Stream.{Stream}
 use Rattle.pb_graph.specs.declared.records.Class.{Class}
@@ -8,7 +8,11 @@ use Rattle.pb_graph.specs.declared.records.Class.TheVariants.{Observable, Unobse
 use Rattle.pb_graph.specs.declared.records.Witness.{Witness}
 use Rattle.pb_graph.specs.declared.records.Witness.TheVariants.{Cut, Cycle}
 use Rattle.pb_graph.specs.declared.results.Bounds.{Bounds}
-use Rattle.pb_graph.specs.ProcessGraph.{ProcessGraph}
+use Rattle.pb_graph.specs.declared.results.Verdict.{Verdict}
+use Rattle.pb_graph.specs.declared.results.Verdict.TheVariants.{Reject, Accept, Undecided, NoCritical, NoTest}
+use Rattle.pb_graph.specs.declared.results.Tests.{Tests}
+use Rattle.pb_graph.specs.declared.results.Stage.{Stage}
+use Rattle.pb_graph.specs.ProcessGraph.{ProcessGraph, IsProcessGraph}
 use Rattle.pb_graph.specs.Certificates.{Shows}
 use Rattle.pb_graph.specs.Squares.{Fractional, IsBalancedFractional, AreSquaresAtLeast, AreSquaresAtMost, whole_flows}
 use Rattle.pb_balance.specs.Laws.{CertificateLaw}
@@ -18,6 +22,10 @@ use Rattle.pb_gap.specs.StreamBounds.{IsStreamWithin, stream_bounds}
 use Rattle.pb_gap.specs.Statistic.{low_of}
 use Rattle.pb_gap.specs.Laws.{IsDualPair, AreGaps, StreamLaw, LowLaw, HighLaw}
 use Rattle.pb_gap.specs.Least.{AreWithinGap, DistanceLaw}
+use Rattle.pb_tests.specs.Verdicts.{global_verdict}
+use Rattle.pb_tests.specs.Decided.{AreEnds}
+use Rattle.pb_tests.specs.Laws.{GlobalAcceptLaw, GlobalRejectLaw}
+use Rattle.pb_elim.specs.Certified.{AreShownTests, IsGlobalRight, IsUndecided, IsVerdictRight}
 use Rattle.pb_elim.specs.Printed.{printed_price, printed_flows, printed_gap}
 use Rattle.pb_elim.specs.Laws.{ShownLaw}
 
@@ -38,6 +46,35 @@ enclosed_by x j class (Some b) within unobservable = within
 high_by : (g : ProcessGraph) (x : Fractional) (one other : Option ℤ) → one ≡ other → IfSome other (AreSquaresAtMost g x) → IfSome one (AreSquaresAtMost g x)
 high_by g x one other same most = subst (λ (o : Option ℤ). IfSome o (AreSquaresAtMost g x)) (sym same) most
 
+-- ---- the global test
+-- what the laws of tests give
+pub record Decides : Type 0 where
+  pub rejects : GlobalRejectLaw
+  pub accepts : GlobalAcceptLaw
+
+verdict_right : Decides → (stage : Stage) (critical : ℤ) (v : Verdict) → IsProcessGraph stage.graph → AreEnds stage.graph (printed_flows stage) stage.low stage.high
+    → global_verdict stage.low stage.high stage.dof (Some critical) ≡ v → IsVerdictRight stage critical v
+verdict_right laws stage critical Reject limits ends is =
+    λ x even. laws.rejects stage.graph (printed_flows stage) stage.low stage.high stage.dof critical x limits ends is even
+verdict_right laws stage critical Accept limits ends is = laws.accepts stage.graph (printed_flows stage) stage.low stage.high stage.dof critical limits ends is
+verdict_right laws stage critical Undecided limits ends is = tt
+verdict_right laws stage critical NoCritical limits ends is = tt
+verdict_right laws stage critical NoTest limits ends is = tt
+
+no_verdict : (b : Bool) → IsUndecided (if b then NoTest else NoCritical)
+no_verdict true = tt
+no_verdict false = tt
+
+global_right : Decides → (stage : Stage) (critical : Option ℤ) (v : Verdict) → IsProcessGraph stage.graph → AreEnds stage.graph (printed_flows stage) stage.low stage.high
+    → v ≡ global_verdict stage.low stage.high stage.dof critical → MatchOption critical (IsUndecided v) (λ value. IsVerdictRight stage value v)
+global_right laws stage None v limits ends is = subst IsUndecided (sym is) (no_verdict (stage.dof == 0))
+global_right laws stage (Some critical) v limits ends is = verdict_right laws stage critical v limits ends (sym is)
+
+decided_if : Decides → (stage : Stage) (o : Option Tests) → IsProcessGraph stage.graph → AreEnds stage.graph (printed_flows stage) stage.low stage.high → IfSome o (AreShownTests stage)
+    → IfSome o (λ tests. IsGlobalRight stage tests.global)
+decided_if laws stage None limits ends shown = tt
+decided_if laws stage (Some tests) limits ends shown = global_right laws stage tests.global.critical tests.global.verdict limits ends shown.overall
+
 -- what the laws below give
 pub record Laws : Type 0 where
   pub certificate : CertificateLaw
@@ -46,6 +83,7 @@ pub record Laws : Type 0 where
   pub distance : DistanceLaw
   pub low : LowLaw
   pub high : HighLaw
+  pub decides : Decides
 
 pub shown_by : Laws → ShownLaw
 shown_by laws stage is =
@@ -55,6 +93,9 @@ shown_by laws stage is =
     let numbers = is.numbers in
     let gap : printed_gap stage ≡ gap_of price g.streams flows = laws.gaps.only (deviations_of price g.streams flows) (printed_gap stage) numbers.deviation in
     let pair : (x : Fractional) → IsBalancedFractional g x → IsDualPair g price x = λ x even. record { limits = is.limits; fit = is.fit; balanced = even } in
+    let least : (x : Fractional) → IsBalancedFractional g x → AreSquaresAtLeast g x stage.low =
+    λ x even. subst (AreSquaresAtLeast g x) (sym (numbers.from_below ∙ ap (low_of g.streams flows) gap)) (laws.low g price flows x (pair x even) is.balanced) in
+    let most = high_by g (whole_flows flows) stage.high _ numbers.from_above (laws.high g flows is.limits) in
     record {
       shown = is;
       classes = λ j r at. laws.certificate g j r.classified is.limits (is.shown j r at);
@@ -68,7 +109,7 @@ shown_by laws stage is =
       near = λ x least.
           let whole : IsBalancedFractional g (whole_flows flows) = record { positive = omega (arith, ints); balanced = is.balanced } in
           subst (λ (gap : Gap). AreWithinGap g gap (whole_flows flows) x) (sym gap) (laws.distance g price flows x (pair (whole_flows flows) whole) least);
-      least = λ x even.
-          subst (AreSquaresAtLeast g x) (sym (numbers.from_below ∙ ap (low_of g.streams flows) gap)) (laws.low g price flows x (pair x even) is.balanced);
-      most = high_by g (whole_flows flows) stage.high _ numbers.from_above (laws.high g flows is.limits);
+      least = least;
+      most = most;
+      decided = decided_if laws.decides stage stage.tests is.limits (record { least = least; most = most }) is.tests;
     }

@@ -1,12 +1,16 @@
 -- A stage of a study is shown, and its prices and flows are the solution of its graph.
-use Rattle.std.proofs.Common.{◌∙◌, ℕ, ℤ, List, sym, subst}
+use Rattle.std.proofs.Common.{◌≡◌, ◌∙◌, ℕ, ℤ, List, take, Option, Some, None, get_or, sym, subst}
+use Rattle.std.specs.Prelude.{IfSome}
 use Rattle.std.proofs.lemmas.List.{length-map}
+use Rattle.std.proofs.lemmas.Option.{slice_get-get_or}
 use Rattle.pb_graph.specs.declared.records.Classified.{Classified}
 use Rattle.pb_graph.specs.declared.results.Solved.{Solved}
 use Rattle.pb_graph.specs.declared.results.Solved.TheVariants.{Converged, Unconverged}
 use Rattle.pb_graph.specs.declared.results.StreamResult.{StreamResult}
+use Rattle.pb_graph.specs.declared.results.Tests.{Tests}
 use Rattle.pb_graph.specs.declared.results.Stage.{Stage}
 use Rattle.pb_graph.specs.declared.results.Options.{Options}
+use Rattle.pb_graph.specs.declared.results.Critical.{Critical}
 use Rattle.pb_graph.specs.ProcessGraph.{ProcessGraph, IsProcessGraph}
 use Rattle.pb_graph.specs.Prices.{PricesFit}
 use Rattle.pb_dual.specs.Laws.{AscentLaw}
@@ -15,11 +19,14 @@ use Rattle.pb_gap.specs.State.{IsStateAfter}
 use Rattle.pb_gap.specs.Solution.{IsSolution}
 use Rattle.pb_gap.specs.Laws.{AreGaps}
 use Rattle.pb_elim.specs.Printed.{printed_price, printed_flows}
-use Rattle.pb_elim.specs.Stage.{IsStageOf}
-use Rattle.pb_elim.specs.Certified.{IsShownStage, IsCertifiedStage}
-use Rattle.pb_elim.specs.Laws.{ShownLaw, CertifiedLaw, IsSolved, SolutionLaw}
+use Rattle.pb_elim.specs.StageTests.{AreTestsOf}
+use Rattle.pb_elim.specs.Stage.{IsReconciliationOf, IsStageOf}
+use Rattle.pb_elim.specs.Study.{without_taken}
+use Rattle.pb_elim.specs.Certified.{AreShownTests, IsShownStage}
+use Rattle.pb_elim.specs.Laws.{ShownLaw, CertifiedLaw, SolutionLaw}
 use Rattle.pb_elim.proofs.ListLemmas.{at_map}
-use Rattle.pb_elim.proofs.OneStageLemmas.{one_stage_of, only_stage}
+use Rattle.pb_elim.proofs.TakenLemmas.{without_limits}
+use Rattle.pb_elim.proofs.TestLemmas.{tests_shown}
 
 -- a solution is the state after some number of sweeps
 pub state_of : (g : ProcessGraph) (gap sweeps : ℕ) (solved : Solved) (price : ℕ → ℤ) (flows : List ℤ) → IsSolution g gap sweeps solved price flows
@@ -31,13 +38,21 @@ state_of g gap sweeps (Unconverged k) price flows is = (k, is.here)
 pub state_fits : AscentLaw → (g : ProcessGraph) (k : ℕ) (price : ℕ → ℤ) (flows : List ℤ) → IsProcessGraph g → IsStateAfter g k price flows → PricesFit g price
 state_fits ascent g k price flows limits is = subst (PricesFit g) (sym is.swept) (ascent g is.group k limits is.groups).fit
 
--- the stage of its own graph
-own_stage : (g : ProcessGraph) (options : Options) (stage : Stage) → IsStageOf g options stage → IsStageOf stage.graph options stage
-own_stage g options stage is = subst (λ (h : ProcessGraph). IsStageOf h options stage) (sym is.graph_is) is
+-- the reconciliation of its own graph
+own_stage : (g : ProcessGraph) (options : Options) (stage : Stage) → IsReconciliationOf g options stage → IsReconciliationOf stage.graph options stage
+own_stage g options stage is = subst (λ (h : ProcessGraph). IsReconciliationOf h options stage) (sym is.graph_is) is
 
-stage_shown : AscentLaw → AreGaps → (options : Options) (stage : Stage) → IsProcessGraph stage.graph → IsStageOf stage.graph options stage → IsShownStage stage
-stage_shown ascent gaps options stage limits is =
+-- tests, where there are tests
+shown_if : (g : ProcessGraph) (options : Options) (critical : Critical) (stage : Stage) (o : Option Tests) → stage.graph ≡ g → IfSome o (AreTestsOf g options critical stage)
+    → IfSome o (AreShownTests stage)
+shown_if g options critical stage None graph_is are = tt
+shown_if g options critical stage (Some tests) graph_is are = tests_shown g options critical stage tests graph_is are
+
+stage_shown : AscentLaw → AreGaps → (g : ProcessGraph) (options : Options) (critical : Critical) (stage : Stage) → IsProcessGraph g → IsStageOf g options critical stage → IsShownStage stage
+stage_shown ascent gaps h options critical stage within whole =
     let g = stage.graph in
+    let is = own_stage h options stage whole.reconciled in
+    let limits : IsProcessGraph g = subst IsProcessGraph (sym whole.reconciled.graph_is) within in
     let price = printed_price stage in
     let flows = printed_flows stage in
     let classified : StreamResult → Classified = λ r. r.classified in
@@ -57,16 +72,18 @@ stage_shown ascent gaps options stage limits is =
         from_below = is.low;
         from_above = is.high;
       };
+      tests = shown_if h options critical stage stage.tests whole.reconciled.graph_is whole.tests;
     }
 
 pub certified_by : AscentLaw → AreGaps → ShownLaw → CertifiedLaw
-certified_by ascent gaps shown g options critical study limits is =
-    let one = one_stage_of g options critical study is.asked is in
-    let stage = one.stage in
-    only_stage IsCertifiedStage stage study.stages one.one
-    (shown stage (stage_shown ascent gaps options stage (subst IsProcessGraph (sym one.is.graph_is) limits) (own_stage g options stage one.is)))
+certified_by ascent gaps shown g options critical study limits is = λ k d lt.
+    let stage = get_or study.stages k d in
+    let at = slice_get-get_or study.stages k d lt in
+    let within = without_limits g (take k study.taken) limits in
+    shown stage (stage_shown ascent gaps (without_taken g (take k study.taken)) options critical stage within (is.rounds.each k stage at))
 
 pub solution : SolutionLaw
-solution g options critical study is =
-    let one = one_stage_of g options critical study is.asked is in
-    only_stage (IsSolved options) one.stage study.stages one.one (own_stage g options one.stage one.is).solution
+solution g options critical study is = λ k d lt.
+    let stage = get_or study.stages k d in
+    let at = slice_get-get_or study.stages k d lt in
+    (own_stage (without_taken g (take k study.taken)) options stage (is.rounds.each k stage at).reconciled).solution

@@ -1,16 +1,21 @@
 -- A process graph has a study.
-use Rattle.std.proofs.Common.{◌≡◌, ◌∙◌, ◌+◌, ◌<◌, ◌≤◌, ℕ, zero, suc, ℤ, pos, List, [], ◌∷◌, length, map, Some, None, slice_get, refl, sym, ap, subst, inl, inr, arith}
-use Rattle.std.proofs.lemmas.Bool.{cases_lt}
-use Rattle.std.proofs.lemmas.List.{get_or_past}
+use Rattle.std.proofs.Common.{◌≡◌, ◌≢◌, ◌∙◌, ◌+◌, ◌<◌, ◌≤◌, ℕ, zero, suc, ℤ, pos, Bool, true, false, List, [], ◌∷◌, ◌++◌, length, map, Option, Some, None, slice_get, refl, sym, ap, subst, inl, inr, arith}
+use Rattle.std.specs.Prelude.{IsSomeAnd}
+use Rattle.std.proofs.lemmas.Bool.{cases_eq, cases_lt}
+use Rattle.std.proofs.lemmas.List.{get_or_past, length_push}
 use Rattle.pb_integers.specs.Sums.{item}
 use Rattle.pb_graph.specs.declared.records.Stream.{Stream}
 use Rattle.pb_graph.specs.declared.records.Classified.{Classified}
 use Rattle.pb_graph.specs.declared.results.Solved.{Solved}
 use Rattle.pb_graph.specs.declared.results.StreamResult.{StreamResult}
+use Rattle.pb_graph.specs.declared.results.Tests.{Tests}
 use Rattle.pb_graph.specs.declared.results.Stage.{Stage}
+use Rattle.pb_graph.specs.declared.results.Taken.{Taken}
+use Rattle.pb_graph.specs.declared.results.Stop.{Stop}
 use Rattle.pb_graph.specs.declared.results.Study.{Study}
 use Rattle.pb_graph.specs.declared.results.Options.{Options}
-use Rattle.pb_graph.specs.ProcessGraph.{ProcessGraph, IsProcessGraph}
+use Rattle.pb_graph.specs.declared.results.Critical.{Critical}
+use Rattle.pb_graph.specs.ProcessGraph.{ProcessGraph, IsProcessGraph, unmeasured_at}
 use Rattle.pb_graph.proofs.WalkLemmas.{some_same}
 use Rattle.pb_forest.specs.Forest.{degrees_of_freedom}
 use Rattle.pb_classify.specs.Laws.{SomeClassificationLaw}
@@ -20,11 +25,21 @@ use Rattle.pb_gap.specs.Gap.{gap_of}
 use Rattle.pb_gap.specs.StreamBounds.{stream_bounds}
 use Rattle.pb_gap.specs.Statistic.{low_of, high_of}
 use Rattle.pb_gap.specs.Solution.{IsSolution, OutsideLaw, SomeSolutionLaw}
+use Rattle.pb_tests.specs.Verdicts.{global_test_of}
+use Rattle.pb_tests.specs.Laws.{SomeNodalTestsLaw, SomeMeasureTestsLaw}
+use Rattle.pb_elim.specs.Options.{AreOptions}
 use Rattle.pb_elim.specs.Printed.{printed_price, printed_flows, printed_classes}
-use Rattle.pb_elim.specs.Stage.{IsStageOf}
+use Rattle.pb_elim.specs.StageTests.{AreTestsOf, redundant_streams}
+use Rattle.pb_elim.specs.Stage.{IsReconciliationOf, IsStageOf}
+use Rattle.pb_elim.specs.Elimination.{IsStop, IsTakenAfter, stop_after}
+use Rattle.pb_elim.specs.Study.{AreRounds, IsStudyOf}
 use Rattle.pb_elim.specs.Laws.{SomeStudyLaw}
-use Rattle.pb_elim.proofs.OneStageLemmas.{study_of_one}
+use Rattle.pb_elim.proofs.ListLemmas.{get_last, some_and, the_some}
+use Rattle.pb_elim.proofs.NextLemmas.{decided, reason_of}
+use Rattle.pb_elim.proofs.RoundLemmas.{has_tests, last_graph, more_rounds, one_round, spent_done}
 use Rattle.pb_elim.proofs.SolutionLemmas.{state_of}
+use Rattle.pb_elim.proofs.StageLemmas.{stage_tested}
+use Rattle.pb_elim.proofs.TakenLemmas.{unmeasured_limits, without_limits}
 
 -- ---- the price of each node
 abbrev firsts : (ℕ → ℤ) → ℕ → List ℤ
@@ -80,6 +95,8 @@ pub record Laws : Type 0 where
   pub classification : SomeClassificationLaw
   pub solution : SomeSolutionLaw
   pub outside : OutsideLaw
+  pub nodal : SomeNodalTestsLaw
+  pub measure : SomeMeasureTestsLaw
 
 -- ---- the stage
 abbrev stage_by : ProcessGraph → List Classified → Solved → (ℕ → ℤ) → List ℤ → ℕ → Stage
@@ -96,8 +113,8 @@ stage_by g classes solved price flows dof = record {
   tests = None;
 }
 
-some_stage : Laws → (g : ProcessGraph) (options : Options) → IsProcessGraph g → (stage : Stage) × IsStageOf g options stage × (stage.tests ≡ None)
-some_stage laws g options limits =
+some_reconciliation : Laws → (g : ProcessGraph) (options : Options) → IsProcessGraph g → (stage : Stage) × IsReconciliationOf g options stage
+some_reconciliation laws g options limits =
     let ss = g.streams in
     let (classes, classified) = laws.classification g limits in
     let (solved, price, flows, solution) = laws.solution g options.gap options.sweeps limits in
@@ -124,11 +141,92 @@ some_stage laws g options limits =
         low = λ i. low_of ss (same_flows i) gap;
         high = λ i. high_of ss (same_flows i);
       },
-      refl,
     )
 
+-- ---- its tests
+some_tests : Laws → (g : ProcessGraph) (options : Options) (critical : Critical) (stage : Stage) → IsProcessGraph g → (tests : Tests) × AreTestsOf g options critical stage tests
+some_tests laws g options critical stage limits =
+    let (nodal, are_nodal) = laws.nodal g critical.nodal limits in
+    let (measure, are_measure) = laws.measure g options.gap options.sweeps stage.low stage.high critical.measure (redundant_streams stage.streams) limits in (
+      record { global = global_test_of critical.global stage.low stage.high stage.dof; nodal = nodal; measure = measure },
+      record { overall = refl; nodal = are_nodal; measure = are_measure },
+    )
+
+tested : Laws → (g : ProcessGraph) (options : Options) (critical : Critical) (stage : Stage) (asked : Bool) → asked ≡ options.tests → IsProcessGraph g → IsReconciliationOf g options stage
+    → (stage : Stage) × IsStageOf g options critical stage
+tested laws g options critical stage false asked limits is = (record stage { tests = None }, stage_tested g options critical stage None is asked tt)
+tested laws g options critical stage true asked limits is =
+    let (tests, are) = some_tests laws g options critical stage limits in
+    (record stage { tests = Some tests }, stage_tested g options critical stage (Some tests) is asked are)
+
+some_stage : Laws → (g : ProcessGraph) (options : Options) (critical : Critical) → IsProcessGraph g → (stage : Stage) × IsStageOf g options critical stage
+some_stage laws g options critical limits =
+    let (stage, is) = some_reconciliation laws g options limits in
+    tested laws g options critical stage options.tests refl limits is
+
+-- ---- the rounds
+-- stages and the streams taken between them, of options within their limits
+record IsBegun (g : ProcessGraph) (options : Options) (critical : Critical) (stages : List Stage) (taken : List Taken) (last : Stage) : Type 0 where
+  limits : IsProcessGraph g
+  within : AreOptions options
+  rounds : AreRounds g options critical stages taken
+  at : slice_get stages (length taken) ≡ Some last
+
+-- a study that ends here
+ended : (g : ProcessGraph) (options : Options) (critical : Critical) (stages : List Stage) (taken : List Taken) (last : Stage) (stop : Option Stop) → IsBegun g options critical stages taken last
+    → IsStop options critical (length taken) last stop → (study : Study) × IsStudyOf g options critical study
+ended g options critical stages taken last stop begun is = (
+  record { stages = stages; taken = taken; stop = stop },
+  record {
+    rounds = begun.rounds;
+    stop = λ s at. subst (λ (s : Stage). IsStop options critical (length taken) s stop) (some_same (sym begun.at ∙ at)) is;
+  },
+)
+
+-- one stream more is taken
+begun_more : Laws → (g : ProcessGraph) (options : Options) (critical : Critical) (stages : List Stage) (taken : List Taken) (last : Stage) (t : Taken) → IsBegun g options critical stages taken last
+    → length taken < options.eliminate → IsSomeAnd last.tests (IsTakenAfter options critical (length taken) t)
+    → (next : Stage) × IsBegun g options critical (stages ++ next ∷ []) (taken ++ t ∷ []) next
+begun_more laws g options critical stages taken last t begun left suspect =
+    let without = record last.graph { streams = unmeasured_at t.stream last.graph.streams } in
+    let graph_is = last_graph g options critical stages taken last begun.rounds begun.at in
+    let limits : IsProcessGraph without = unmeasured_limits last.graph t.stream (subst IsProcessGraph (sym graph_is) (without_limits g taken begun.limits)) in
+    let (next, is) = some_stage laws without options critical limits in (
+      next,
+      record {
+        limits = begun.limits;
+        within = begun.within;
+        rounds = more_rounds g options critical stages taken last next t begun.rounds begun.at left suspect is;
+        at =
+            let end : length stages ≡ length (taken ++ t ∷ []) = omega (arith, length_push taken t, begun.rounds.between) in
+            subst (λ (k : ℕ). slice_get (stages ++ next ∷ []) k ≡ Some next) end (get_last stages next);
+      },
+    )
+
+some_study_from : Laws → (left : ℕ) (g : ProcessGraph) (options : Options) (critical : Critical) (stages : List Stage) (taken : List Taken) (last : Stage)
+    → IsBegun g options critical stages taken last → left + length taken ≡ options.eliminate → options.eliminate ≢ 0 → (study : Study) × IsStudyOf g options critical study
+some_study_from laws zero g options critical stages taken last begun count asked =
+    let done = spent_done _ options critical (length taken) last begun.within (begun.rounds.each (length taken) last begun.at) (omega (arith, count)) asked in
+    let (reason, names) = reason_of options critical (length taken) last.tests done in
+    ended g options critical stages taken last (Some reason) begun (asked, names)
+some_study_from laws (suc left) g options critical stages taken last begun count asked =
+    let is = begun.rounds.each (length taken) last begun.at in
+    let (tests, there) = the_some last.tests (has_tests _ options critical last begun.within asked is) in
+    elim (decided options critical (length taken) tests) [
+      | inl (reason, names) ↦
+          ended g options critical stages taken last (Some reason) begun
+          (asked, some_and last.tests tests (λ tests. stop_after options critical (length taken) tests ≡ Some reason) there names)
+      | inr (t, suspect) ↦
+          let (next, more) = begun_more laws g options critical stages taken last t begun (omega (arith, count)) (some_and last.tests tests (IsTakenAfter options critical (length taken) t) there suspect) in
+          some_study_from laws left g options critical (stages ++ next ∷ []) (taken ++ t ∷ []) next more (omega (arith, count, length_push taken t)) asked
+    ]
+
 pub some_study_by : Laws → SomeStudyLaw
-some_study_by laws g options critical limits asked =
-    let (stage, is, untested) = some_stage laws g options limits in
-    let study : Study = record { stages = stage ∷ []; taken = []; stop = None } in
-    (study, study_of_one g options critical study asked (record { stage = stage; one = refl; is = is; untested = untested; taken = refl; stop = refl }))
+some_study_by laws g options critical limits within =
+    let (stage, is) = some_stage laws g options critical limits in
+    let begun : IsBegun g options critical (stage ∷ []) [] stage =
+    record { limits = limits; within = within; rounds = one_round g options critical stage is; at = refl } in
+    elim (cases_eq options.eliminate 0) [
+      | inl none ↦ ended g options critical (stage ∷ []) [] stage None begun none
+      | inr asked ↦ some_study_from laws options.eliminate g options critical (stage ∷ []) [] stage begun (omega arith) asked
+    ]

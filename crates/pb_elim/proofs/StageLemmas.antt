@@ -1,11 +1,14 @@
 -- What a stage is collected from.
-use Rattle.std.proofs.Common.{◌≡◌, ◌∙◌, ℕ, ◌+◌, ◌<◌, ◌≤◌, ◌^◌, ℤ, pos, Bool, List, [], ◌∷◌, ◌++◌, length, All, Option, Some, None, slice_get, get_or, map, refl, sym, ap, subst, inl, inr, arith}
-use Rattle.std.specs.Prelude.{IfSome}
+use Rattle.std.proofs.Common.{◌≡◌, ◌∙◌, ℕ, suc, ◌+◌, ◌<◌, ◌≤◌, ◌^◌, ℤ, pos, Bool, true, false, ◌==◌, List, [], ◌∷◌, ◌++◌, length, All, Option, Some, None, slice_get, get_or, map, refl, sym, ap, subst, inl, inr, arith}
+use Rattle.std.specs.Prelude.{is_some, IfSome, if◌then◌else◌}
+use Rattle.std.specs.List.{AllByRecursion}
+use Rattle.std.proofs.lemmas.List.Elements.{All-from_recursion, recursion_from_All}
 use Rattle.std.proofs.lemmas.Bool.{cases_eq, cases_lt}
 use Rattle.std.proofs.lemmas.List.{get_or_append_left, get_or_push, length-map, length_push}
 use Rattle.std.proofs.lemmas.Option.{get_or_from_slice_get, slice_get_within, slice_get-get_or}
 use Rattle.pb_integers.specs.Sums.{item}
 use Rattle.pb_limits.specs.Limits.{most_sweeps}
+use Rattle.pb_limits.specs.Ranges.{IsCriticalValue}
 use Rattle.pb_graph.specs.declared.records.Classified.{Classified}
 use Rattle.pb_graph.specs.declared.records.Witness.{Witness}
 use Rattle.pb_graph.specs.declared.records.Witness.TheVariants.{Cut, Cycle}
@@ -15,6 +18,8 @@ use Rattle.pb_graph.specs.declared.results.StreamResult.{StreamResult}
 use Rattle.pb_graph.specs.declared.results.Tests.{Tests}
 use Rattle.pb_graph.specs.declared.results.Stage.{Stage}
 use Rattle.pb_graph.specs.declared.results.Options.{Options}
+use Rattle.pb_graph.specs.declared.results.Critical.{Critical}
+use Rattle.pb_graph.specs.declared.results.CriticalRow.{CriticalRow}
 use Rattle.pb_graph.specs.ProcessGraph.{ProcessGraph}
 use Rattle.pb_graph.specs.Certificates.{IsCertified}
 use Rattle.pb_graph.proofs.WalkLemmas.{some_same}
@@ -24,10 +29,13 @@ use Rattle.pb_gap.specs.Gap.{gap_of}
 use Rattle.pb_gap.specs.StreamBounds.{stream_bounds}
 use Rattle.pb_gap.specs.Statistic.{low_of, high_of}
 use Rattle.pb_gap.specs.State.{State, IsState, price_in, gap_in}
-use Rattle.pb_gap.specs.Solution.{IsSolution}
+use Rattle.pb_gap.specs.Solution.{IsSolution, IsSolvedStatistic}
+use Rattle.pb_tests.specs.Verdicts.{critical_for, global_critical}
 use Rattle.pb_elim.specs.Options.{AreOptions}
+use Rattle.pb_elim.specs.Criticals.{AreCritical, IsCriticalRow}
 use Rattle.pb_elim.specs.Printed.{printed_price, printed_flows, printed_classes, printed_gap}
-use Rattle.pb_elim.specs.Stage.{IsStageOf}
+use Rattle.pb_elim.specs.StageTests.{AreTestsOf, is_redundant, redundant_from, redundant_streams}
+use Rattle.pb_elim.specs.Stage.{IsReconciliationOf, IsStageOf}
 use Rattle.pb_graph.specs.WellFormed.{sweeps_of, IsPrice, IsWide, IsResultWithin, IsWitnessWithin, AreTestsWithin, IsWellFormed}
 use Rattle.pb_elim.specs.Signs.{AreWitnessSigns}
 use Rattle.pb_elim.specs.Results.{IsResultOf, AreResultsOf}
@@ -106,7 +114,7 @@ flows_same s classes results are each =
     let (c, classed) = some_at classes k within in
     sym is ∙ some_same (sym (are.right k c r classed here).flow ∙ there))
 
-pub stage_is : (options : Options) (s : State) (classes : List Classified) (stage : Stage) → AreParts options s classes stage → IsStageOf s.graph options stage
+pub stage_is : (options : Options) (s : State) (classes : List Classified) (stage : Stage) → AreParts options s classes stage → IsReconciliationOf s.graph options stage
 stage_is options s classes stage parts =
     let ss = s.graph.streams in
     let each : length s.flows ≡ length classes = parts.state.rounded.balanced.each ∙ sym parts.classified.each in
@@ -172,3 +180,86 @@ stage_formed options s classes stage limits parts narrow = record {
   high = narrow.high;
   tests = subst (λ (o : Option Tests). IfSome o (AreTestsWithin stage.graph)) (sym narrow.untested) tt;
 }
+
+-- the reconciliation of a graph with other tests
+pub retested : (g : ProcessGraph) (options : Options) (stage : Stage) (tests : Option Tests) → IsReconciliationOf g options stage → IsReconciliationOf g options (record stage { tests = tests })
+retested g options stage tests is = record {
+  graph_is = is.graph_is;
+  classes = is.classes;
+  priced = is.priced;
+  solution = is.solution;
+  gap = is.gap;
+  bounds = is.bounds;
+  freedom = is.freedom;
+  low = is.low;
+  high = is.high;
+}
+
+-- its statistic is that of the graph, solved
+abbrev pub solved_statistic : (g : ProcessGraph) (options : Options) (stage : Stage) → IsReconciliationOf g options stage → IsSolvedStatistic g options.gap options.sweeps stage.low stage.high
+solved_statistic g options stage is = record {
+  solved = stage.solved;
+  price = printed_price stage;
+  flows = printed_flows stage;
+  solution = is.solution;
+  is_low = is.low ∙ ap (low_of g.streams (printed_flows stage)) is.gap;
+  is_high = is.high;
+}
+
+-- tests speak of the stage but for its tests
+same_tests : (g : ProcessGraph) (options : Options) (critical : Critical) (stage : Stage) (o tests : Option Tests) → IfSome tests (AreTestsOf g options critical stage)
+    → IfSome tests (AreTestsOf g options critical (record stage { tests = o }))
+same_tests g options critical stage o None are = tt
+same_tests g options critical stage o (Some tests) are = record { overall = are.overall; nodal = are.nodal; measure = are.measure }
+
+-- with the tests that are asked it is a stage
+pub stage_tested : (g : ProcessGraph) (options : Options) (critical : Critical) (stage : Stage) (tests : Option Tests) → IsReconciliationOf g options stage → is_some tests ≡ options.tests
+    → IfSome tests (AreTestsOf g options critical stage) → IsStageOf g options critical (record stage { tests = tests })
+stage_tested g options critical stage tests is asked are =
+    record { reconciled = retested g options stage tests is; asked = asked; tests = same_tests g options critical stage tests tests are }
+
+pub tested_formed : (g : ProcessGraph) (stage : Stage) (tests : Option Tests) → stage.graph ≡ g → IsWellFormed stage → IfSome tests (AreTestsWithin g) → IsWellFormed (record stage { tests = tests })
+tested_formed g stage tests graph_is formed within = record {
+  each_price = formed.each_price;
+  each_stream = formed.each_stream;
+  results = formed.results;
+  prices = formed.prices;
+  sweeps = formed.sweeps;
+  g = formed.g;
+  h = formed.h;
+  dof = formed.dof;
+  low = formed.low;
+  high = formed.high;
+  tests = subst (λ (h : ProcessGraph). IfSome tests (AreTestsWithin h)) (sym graph_is) within;
+}
+
+-- ---- redundant streams
+redundant_below : (b : Bool) (n j : ℕ) (streams : List ℕ) → j < n → AllByRecursion (λ (k : ℕ). k < n) streams → AllByRecursion (λ (k : ℕ). k < n) (if b then j ∷ streams else streams)
+redundant_below true n j streams less all = (less, all)
+redundant_below false n j streams less all = all
+
+redundant_all : (n j : ℕ) (results : List StreamResult) → length results + j ≤ n → AllByRecursion (λ (k : ℕ). k < n) (redundant_from j results)
+redundant_all n j [] few = tt
+redundant_all n j (r ∷ results) few =
+    redundant_below (is_redundant r.classified.class) n j (redundant_from (suc j) results) (omega (arith, few)) (redundant_all n (suc j) results (omega (arith, few)))
+
+pub redundant_within : (results : List StreamResult) (n : ℕ) → length results ≡ n → All (λ (k : ℕ). k < n) (redundant_streams results)
+redundant_within results n each = All-from_recursion (λ (k : ℕ). k < n) (redundant_streams results) (redundant_all n 0 results (omega (arith, each)))
+
+-- ---- the critical value of the global test
+value_within : (dof : ℕ) (rows : List CriticalRow) → AllByRecursion IsCriticalRow rows → IfSome (critical_for dof rows) IsCriticalValue
+value_within dof [] all = tt
+value_within dof (row ∷ rows) (here, all) = this_or (row.dof == dof) row.value (critical_for dof rows) here (value_within dof rows all)
+  where
+    this_or : (b : Bool) (value : ℤ) (o : Option ℤ) → IsCriticalValue value → IfSome o IsCriticalValue → IfSome (if b then Some value else o) IsCriticalValue
+    this_or true value o here rest = here
+    this_or false value o here rest = rest
+
+none_or : (b : Bool) (o : Option ℤ) → IfSome o IsCriticalValue → IfSome (if b then None else o) IsCriticalValue
+none_or true o is = tt
+none_or false o is = is
+
+pub global_within : (critical : Critical) (dof : ℕ) (o : Option ℤ) → AreCritical critical → o ≡ global_critical dof critical.global → IfSome o IsCriticalValue
+global_within critical dof o limits is =
+    subst (λ (o : Option ℤ). IfSome o IsCriticalValue) (sym is)
+    (none_or (dof == 0) (critical_for dof critical.global) (value_within dof critical.global (recursion_from_All IsCriticalRow critical.global limits.rows)))

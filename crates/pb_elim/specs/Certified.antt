@@ -1,7 +1,13 @@
 -- Statement. A shown stage, which an auditor can check, and a certified stage: what a shown one promises to whoever reads it.
-use Rattle.std.specs.Prelude.{◌≡◌, ℕ, length, IfSome, MatchOption}
+use Rattle.std.specs.Prelude.{◌≡◌, ℕ, ℤ, length, map, None, All, IfSome, MatchOption}
 use Rattle.pb_graph.specs.declared.records.Class.TheVariants.{Unobservable}
 use Rattle.pb_graph.specs.declared.results.StreamResult.{StreamResult}
+use Rattle.pb_graph.specs.declared.results.Verdict.{Verdict}
+use Rattle.pb_graph.specs.declared.results.Verdict.TheVariants.{Reject, Accept, NoCritical}
+use Rattle.pb_graph.specs.declared.results.GlobalTest.{GlobalTest}
+use Rattle.pb_graph.specs.declared.results.NodalTest.{NodalTest}
+use Rattle.pb_graph.specs.declared.results.MeasureTest.{MeasureTest}
+use Rattle.pb_graph.specs.declared.results.Tests.{Tests}
 use Rattle.pb_graph.specs.declared.results.Stage.{Stage}
 use Rattle.pb_graph.specs.ProcessGraph.{IsProcessGraph}
 use Rattle.pb_graph.specs.Balance.{IsBalanced}
@@ -13,6 +19,10 @@ use Rattle.pb_gap.specs.Gap.{IsGap, deviations_of}
 use Rattle.pb_gap.specs.StreamBounds.{IsStreamWithin, stream_bounds}
 use Rattle.pb_gap.specs.Statistic.{low_of, high_of}
 use Rattle.pb_gap.specs.Least.{AreWithinGap}
+use Rattle.pb_tests.specs.Verdicts.{global_verdict, measure_verdict, nodal_verdict}
+use Rattle.pb_tests.specs.Nodal.{AreNodalTests}
+use Rattle.pb_tests.specs.Decided.{AreSquaresAbove}
+use Rattle.pb_elim.specs.StageTests.{redundant_streams}
 use Rattle.pb_elim.specs.Stage.{HasFreedom}
 use Rattle.pb_elim.specs.Printed.{printed_price, printed_flows, printed_gap, EachStream}
 
@@ -29,6 +39,27 @@ pub record AreNumbersOf (stage : Stage) : Type 0 where
   pub from_below : stage.low ≡ low_of stage.graph.streams (printed_flows stage) (printed_gap stage)
   pub from_above : stage.high ≡ high_of stage.graph.streams (printed_flows stage)
 
+-- the verdict of the test of a measurement follows from its printed numbers
+abbrev pub IsMeasureVerdict : MeasureTest → Type 0
+IsMeasureVerdict test = test.verdict ≡ measure_verdict test.low test.high test.critical
+
+-- and so does that of a nodal test
+abbrev pub IsNodalVerdict : NodalTest → Type 0
+IsNodalVerdict test = test.verdict ≡ nodal_verdict test.net test.variance test.critical
+
+-- a nodal test before it is held against a critical value
+abbrev pub unjudged : NodalTest → NodalTest
+unjudged test = record test { critical = None; verdict = NoCritical }
+
+-- The nodal tests are those of the graph, there is one test of a measurement for each redundant stream, in order, and each verdict
+-- follows from the printed numbers.
+pub record AreShownTests (stage : Stage) (tests : Tests) : Type 0 where
+  pub overall : tests.global.verdict ≡ global_verdict stage.low stage.high stage.dof tests.global.critical
+  pub groups : AreNodalTests stage.graph None (map unjudged tests.nodal)
+  pub nodal : All IsNodalVerdict tests.nodal
+  pub streams : map (λ (test : MeasureTest). test.stream) tests.measure ≡ redundant_streams stage.streams
+  pub measure : All IsMeasureVerdict tests.measure
+
 -- A stage is shown where all of this holds, which its printed numbers alone decide:
 pub record IsShownStage (stage : Stage) : Type 0 where
   -- the graph keeps its limits
@@ -41,8 +72,9 @@ pub record IsShownStage (stage : Stage) : Type 0 where
   -- each node has its price, and the prices fit
   pub priced : length stage.prices ≡ stage.graph.nodes
   pub fit : PricesFit stage.graph (printed_price stage)
-  -- the other numbers follow from these
+  -- the other numbers follow from these, and so do the tests, where there are tests
   pub numbers : AreNumbersOf stage
+  pub tests : IfSome stage.tests (AreShownTests stage)
 
 -- x keeps a stream within its printed bounds; only an unobservable stream has none
 abbrev pub IsEnclosed : Fractional → ℕ → StreamResult → Type 0
@@ -52,6 +84,26 @@ IsEnclosed x j r = MatchOption r.bounds (r.classified.class ≡ Unobservable) (I
 pub record IsAsGood (stage : Stage) (x : Fractional) : Type 0 where
   pub balanced : IsBalancedFractional stage.graph x
   pub no_worse : IsNoWorse stage.graph x (whole_flows (printed_flows stage))
+
+-- a verdict that doesn't decide
+abbrev pub IsUndecided : Verdict → Type 0
+IsUndecided Reject = ⊥
+IsUndecided Accept = ⊥
+IsUndecided verdict = Unit {0}
+
+-- what a verdict of the global test says by a critical value: where it rejects, all balanced flows have weighted squares above the
+-- value, and where it accepts, the printed flows have not
+abbrev pub IsVerdictRight : Stage → ℤ → Verdict → Type 0
+IsVerdictRight stage critical Reject =
+    (x : Fractional) → IsBalancedFractional stage.graph x → AreSquaresAbove stage.graph x critical
+IsVerdictRight stage critical Accept =
+    AreSquaresAtMost stage.graph (whole_flows (printed_flows stage)) critical
+IsVerdictRight stage critical verdict = Unit {0}
+
+-- the global test decides only where there is a critical value, and is right
+abbrev pub IsGlobalRight : Stage → GlobalTest → Type 0
+IsGlobalRight stage test =
+    MatchOption test.critical (IsUndecided test.verdict) (λ critical. IsVerdictRight stage critical test.verdict)
 
 -- A stage is certified where it is shown, and all of this holds, which follows:
 pub record IsCertifiedStage (stage : Stage) : Type 0 where
@@ -68,3 +120,5 @@ pub record IsCertifiedStage (stage : Stage) : Type 0 where
       → AreSquaresAtLeast stage.graph x stage.low
   -- the printed flows have weighted squares not above its high end, where there is one
   pub most : IfSome stage.high (AreSquaresAtMost stage.graph (whole_flows (printed_flows stage)))
+  -- the global test, where it decides, is right
+  pub decided : IfSome stage.tests (λ tests. IsGlobalRight stage tests.global)

@@ -1,40 +1,33 @@
 -- Statement. What is proved of stages and studies.
-use Rattle.std.specs.Prelude.{◌≡◌, ◌↔◌, [], ◌∷◌, None, All}
+use Rattle.std.specs.Prelude.{◌≡◌, All}
 use Rattle.pb_graph.specs.declared.results.Stage.{Stage}
 use Rattle.pb_graph.specs.declared.results.Study.{Study}
 use Rattle.pb_graph.specs.declared.results.Options.{Options}
 use Rattle.pb_graph.specs.declared.results.Critical.{Critical}
 use Rattle.pb_graph.specs.ProcessGraph.{ProcessGraph, IsProcessGraph}
 use Rattle.pb_gap.specs.Solution.{IsSolution}
-use Rattle.pb_elim.specs.Options.{AsksOneStage}
+use Rattle.pb_elim.specs.Options.{AreOptions}
+use Rattle.pb_elim.specs.Criticals.{AreCritical}
 use Rattle.pb_elim.specs.Printed.{printed_price, printed_flows}
-use Rattle.pb_elim.specs.Stage.{IsStageOf, IsStudyOf}
+use Rattle.pb_elim.specs.Study.{IsStudyOf}
 use Rattle.pb_elim.specs.Certified.{IsShownStage, IsCertifiedStage}
+use Rattle.pb_elim.specs.Decided.{AreMeasuresRight}
 
 -- a stage that is shown is certified, whatever made it
 abbrev pub ShownLaw : Type 0
 ShownLaw = (stage : Stage) → IsShownStage stage → IsCertifiedStage stage
-
--- one stage of the graph, without tests; nothing is taken, and there is no stop
-pub record HasOneStage (graph : ProcessGraph) (options : Options) (study : Study) : Type 0 where
-  pub stage : Stage
-  pub one : study.stages ≡ stage ∷ []
-  pub is : IsStageOf graph options stage
-  pub untested : stage.tests ≡ None
-  pub taken : study.taken ≡ []
-  pub stop : study.stop ≡ None
-
--- where neither tests nor elimination are asked, a study is one stage
-abbrev pub OneStageLaw : Type 0
-OneStageLaw = (graph : ProcessGraph) (options : Options) (critical : Critical) (study : Study)
-    → AsksOneStage options
-    → (IsStudyOf graph options critical study ↔ HasOneStage graph options study)
 
 -- each stage of a study is certified
 abbrev pub CertifiedLaw : Type 0
 CertifiedLaw = (graph : ProcessGraph) (options : Options) (critical : Critical) (study : Study)
     → IsProcessGraph graph → IsStudyOf graph options critical study
     → All IsCertifiedStage study.stages
+
+-- and the decided tests of its measurements are right
+abbrev pub DecidedLaw : Type 0
+DecidedLaw = (graph : ProcessGraph) (options : Options) (critical : Critical) (study : Study)
+    → IsProcessGraph graph → AreCritical critical → IsStudyOf graph options critical study
+    → All AreMeasuresRight study.stages
 
 -- prices, flows and sweeps of a stage are the solution of its graph
 abbrev pub IsSolved : Options → Stage → Type 0
@@ -46,10 +39,10 @@ abbrev pub SolutionLaw : Type 0
 SolutionLaw = (graph : ProcessGraph) (options : Options) (critical : Critical) (study : Study)
     → IsStudyOf graph options critical study → All (IsSolved options) study.stages
 
--- a process graph has a study, at all options that ask for one stage
+-- a process graph has a study, at all options within their limits and all critical values
 abbrev pub SomeStudyLaw : Type 0
 SomeStudyLaw = (graph : ProcessGraph) (options : Options) (critical : Critical)
-    → IsProcessGraph graph → AsksOneStage options
+    → IsProcessGraph graph → AreOptions options
     → (study : Study) × IsStudyOf graph options critical study
 
 -- a graph has at most one study, so a text made of it is determined by the graph, the options and the critical values

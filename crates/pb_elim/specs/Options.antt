@@ -1,5 +1,5 @@
 -- Statement. What is asked of a study.
-use Rattle.std.specs.Prelude.{◌≡◌, ◌≢◌, ◌≤◌, ℕ, true, false}
+use Rattle.std.specs.Prelude.{◌≡◌, ◌≢◌, ◌≤◌, ℕ, true}
 use Rattle.pb_limits.specs.Limits.{most_gap, most_sweeps}
 use Rattle.pb_graph.specs.declared.results.Options.{Options}
 
@@ -15,8 +15,3 @@ pub record AreOptions (options : Options) : Type 0 where
   pub greatest_sweeps : options.sweeps ≤ most_sweeps
   pub greatest_rounds : options.eliminate ≤ most_rounds
   pub rounds_by_tests : options.eliminate ≢ 0 → options.tests ≡ true
-
--- neither tests nor elimination are asked: the study is that of the graph as it stands
-pub record AsksOneStage (options : Options) : Type 0 where
-  pub no_tests : options.tests ≡ false
-  pub no_rounds : options.eliminate ≡ 0

@@ -1,6 +1,6 @@
 // What is proved of the definitions alone. The contract of each function is a law; it calls those that the proof stands on.
 
-ghost use Rattle.pb_elim.specs.Laws.{ShownLaw, OneStageLaw, CertifiedLaw, SolutionLaw, SomeStudyLaw, OneStudyLaw};
+ghost use Rattle.pb_elim.specs.Laws.{ShownLaw, CertifiedLaw, DecidedLaw, SolutionLaw, SomeStudyLaw, OneStudyLaw};
 
 use pb_balance::certificate_law;
 use pb_classify::{one_classification_law, some_classification_law};
@@ -9,6 +9,7 @@ use pb_forest::one_forest_law;
 use pb_gap::{
     gap_law, least_law, one_solution_law, outside_law, some_solution_law, statistic_law, stream_law,
 };
+use pb_tests::{decided_global_law, decided_measure_law, measure_tests_law, nodal_tests_law};
 
 /// A stage that is shown is certified, whatever made it.
 pub fn shown_law()
@@ -19,12 +20,8 @@ pub fn shown_law()
     stream_law();
     least_law();
     statistic_law();
+    decided_global_law();
 }
-
-/// Where neither tests nor elimination are asked, a study is one stage of its graph.
-pub fn one_stage_law()
-    ensures { OneStageLaw }
-{}
 
 /// Each stage of a study is certified, for every graph, options and critical values.
 pub fn certified_law()
@@ -35,18 +32,27 @@ pub fn certified_law()
     shown_law();
 }
 
+/// The decided tests of measurements of each stage of a study are right.
+pub fn decided_law()
+    ensures { DecidedLaw }
+{
+    decided_measure_law();
+}
+
 /// The prices, flows and sweeps of each stage are the solution of its graph.
 pub fn solution_law()
     ensures { SolutionLaw }
 {}
 
-/// A process graph has a study, at all options that ask for one stage.
+/// A process graph has a study, at all options within their limits and all critical values.
 pub fn some_study_law()
     ensures { SomeStudyLaw }
 {
     some_classification_law();
     some_solution_law();
     outside_law();
+    nodal_tests_law();
+    measure_tests_law();
 }
 
 /// A graph has at most one study with the same options and critical values, so a text made of it is one text.
@@ -56,4 +62,6 @@ pub fn one_study_law()
     one_forest_law();
     one_classification_law();
     one_solution_law();
+    nodal_tests_law();
+    measure_tests_law();
 }

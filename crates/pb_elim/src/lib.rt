@@ -1,16 +1,20 @@
-//! The whole study of a process graph: classes with their certificates, reconciled flows, bounds, prices and the statistic.
+//! The whole study of a process graph: classes with their certificates, reconciled flows, bounds, prices, the statistic and tests; and
+//! serial elimination, which takes suspects out one after the other.
 //!
 //! Each stage of a study is certified: what it prints promises by itself what an auditor may rely on, whatever made it.
 #![tactic(auto)]
 
+mod elimination;
 mod laws;
 mod members;
-mod stage;
+mod stages;
 mod studies;
+mod testing;
 #[cfg(test)]
 mod tests;
 
 pub use laws::{
-    certified_law, one_stage_law, one_study_law, shown_law, solution_law, some_study_law,
+    certified_law, decided_law, one_study_law, shown_law, solution_law, some_study_law,
 };
+pub use stages::stage;
 pub use studies::study;

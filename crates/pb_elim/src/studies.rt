@@ -1,19 +1,79 @@
-// The whole study.
+// The whole study: rounds until the rule says to stop.
 
-ghost use Rattle.std.specs.Prelude.{All, IfOk};
-ghost use Rattle.pb_graph.specs.WellFormed.{IsWellFormedStudy};
-ghost use Rattle.pb_elim.specs.Options.{AreOptions, AsksOneStage};
-ghost use Rattle.pb_elim.specs.Stage.{IsStudyOf};
+ghost use Rattle.std.specs.Prelude.{◌<◌, None, All, length, IfOk};
+ghost use Rattle.pb_graph.specs.ProcessGraph.{unmeasured_at};
+ghost use Rattle.pb_graph.specs.WellFormed.{IsWellFormed, IsWellFormedStudy};
+ghost use Rattle.pb_elim.specs.Options.{AreOptions};
+ghost use Rattle.pb_elim.specs.Criticals.{AreCritical};
+ghost use Rattle.pb_elim.specs.Stage.{IsStageOf};
+ghost use Rattle.pb_elim.specs.Study.{IsStudyOf};
 ghost use Rattle.pb_elim.specs.Certified.{IsCertifiedStage};
+ghost use Rattle.pb_elim.specs.Decided.{AreMeasuresRight};
+ghost use Rattle.pb_elim.specs.Rounds.{AreAllRoundsOf};
 
-use crate::laws::certified_law;
-use crate::stage::stage;
-use pb_graph::{Critical, Graph, List, Options, Study};
+use crate::elimination::{next_at, stop_at};
+use crate::laws::{certified_law, decided_law};
+use crate::stages::stage;
+use pb_graph::{Critical, Graph, List, Options, Stage, Study};
 use std::alloc::{AllocError, Global};
 
-/// The study of a graph: one stage, with the class of each stream, reconciled flows, bounds, prices and the statistic.
-///
-/// Neither tests nor elimination may be asked, so the critical values count for nothing.
+// The stage of a graph without the measurement of a stream.
+fn stage_without(
+    alloc: Global,
+    graph: &Graph,
+    stream: u32,
+    options: &Options,
+    critical: &Critical,
+) -> Result<Stage, AllocError>
+    requires limits { AreOptions options.now }
+    requires critical { AreCritical critical.now }
+    requires stream { stream < length graph.now.streams }
+    ensures stage { IfOk result (IsStageOf
+        (record graph.now { streams = unmeasured_at stream graph.now.streams })
+        options.now critical.now) }
+    ensures formed { IfOk result IsWellFormed }
+{
+    let without = graph.unmeasure(alloc, stream)?;
+    stage(alloc, &without, options, critical)
+}
+
+// All rounds of a study, with no reason to stop noted yet: each time the stage without what was taken.
+fn rounds(
+    alloc: Global,
+    graph: &Graph,
+    options: &Options,
+    critical: &Critical,
+) -> Result<Study, AllocError>
+    requires limits { AreOptions options.now }
+    requires critical { AreCritical critical.now }
+    ensures { IfOk result (AreAllRoundsOf graph.now options.now critical.now) }
+{
+    let mut stages = List::new(alloc);
+    let mut taken = List::new(alloc);
+    stages.push(stage(alloc, graph, options, critical)?)?;
+    for count in 0..options.eliminate {
+        let last = stages.at(count as usize);
+        let Some(suspect) = next_at(options, critical, count, &last.tests) else {
+            return Ok(Study {
+                stages,
+                taken,
+                stop: None,
+            });
+        };
+        let next = stage_without(alloc, &last.graph, suspect.stream, options, critical)?;
+        stages.push(next)?;
+        taken.push(suspect)?;
+    }
+    Ok(Study {
+        stages,
+        taken,
+        stop: None,
+    })
+}
+
+/// The study of a graph: its stage, with the class of each stream, reconciled flows, bounds, prices, the statistic, and tests
+/// where they are asked; and where elimination is asked, the stages of the graph without the streams that are taken one by one,
+/// each time the worst suspect, with the reason why it stopped (Narasimhan and Jordache, serial elimination).
 pub fn study(
     alloc: Global,
     graph: &Graph,
@@ -21,17 +81,17 @@ pub fn study(
     critical: &Critical,
 ) -> Result<Study, AllocError>
     requires limits { AreOptions options.now }
-    requires asked { AsksOneStage options.now }
+    requires critical { AreCritical critical.now }
     ensures study { IfOk result (IsStudyOf graph.now options.now critical.now) }
     ensures certified { IfOk result (λ study. All IsCertifiedStage study.stages) }
+    ensures decided { IfOk result (λ study. All AreMeasuresRight study.stages) }
     ensures formed { IfOk result (IsWellFormedStudy graph.now) }
 {
-    let mut stages = List::new(alloc);
-    stages.push(stage(alloc, graph, options)?)?;
+    let mut study = rounds(alloc, graph, options, critical)?;
+    let count = study.taken.len();
+    let last = study.stages.at(count);
+    study.stop = stop_at(options, critical, count as u32, &last.tests);
     certified_law();
-    Ok(Study {
-        stages,
-        taken: List::new(alloc),
-        stop: None,
-    })
+    decided_law();
+    Ok(study)
 }

@@ -2,8 +2,8 @@ ghost use Rattle.std.specs.Prelude.{◌<◌, ◌≤◌, length};
 
 use crate::study;
 use pb_graph::{
-    Class, Critical, Graph, List, Meas, Member, Options, Solved, Stage, Step, Stream, Study,
-    Witness,
+    Class, Critical, CriticalRow, Graph, List, Meas, Member, Options, Solved, Stage, Step, Stop,
+    Stream, Study, Verdict, Witness,
 };
 use std::alloc::{AllocError, Global};
 use std::process::Abort;
@@ -405,5 +405,65 @@ fn many_parallel_streams(rt: HostRuntime) -> Result<(), AllocError> {
         total = total.wrapping_add(result.flow);
     }
     assert_eq!(rt; total, 0);
+    Ok(())
+}
+
+// Three meters in a row, of which the last one reads 3 t too much, by two rounds of elimination at the most.
+#[test]
+fn takes_a_bad_meter(rt: HostRuntime) -> Result<(), AllocError> {
+    let alloc = rt.alloc();
+    let mut g = Graph::new(alloc, 3);
+    for s in [
+        metered(0, 1, 100_000_000, 10_000_000_000),
+        metered(1, 2, 100_000_000, 10_000_000_000),
+        metered(2, 0, 103_000_000, 10_000_000_000),
+    ] {
+        assert!(&rt; g.fits(&s), "{s:?}");
+        g.push(s)?;
+    }
+    let options = Options {
+        gap: 10,
+        sweeps: 5_000,
+        tests: true,
+        eliminate: 2,
+    };
+    let mut global = List::new(alloc);
+    global.push(CriticalRow {
+        dof: 1,
+        value: 3_841,
+    })?;
+    global.push(CriticalRow {
+        dof: 2,
+        value: 5_991,
+    })?;
+    let critical = Critical {
+        global,
+        nodal: None,
+        measure: Some(10_828),
+    };
+    let s = study(alloc, &g, &options, &critical)?;
+    assert_eq!(&rt; s.stages.len(), 2);
+    assert_eq!(&rt; s.taken.len(), 1);
+    assert_eq!(&rt; s.taken.at(0).stream, 2);
+    assert_eq!(&rt; s.taken.at(0).low, 599_999);
+    assert_eq!(&rt; s.stop, Some(Stop::Accepted));
+    assert_numbers(
+        &rt,
+        s.stages.at(0),
+        (7, true),
+        3_841,
+        2,
+        599_999,
+        Some(600_001),
+    );
+    assert_numbers(&rt, s.stages.at(1), (0, true), 0, 1, 0, Some(0));
+    match &s.stages.at(0).tests {
+        None => assert!(&rt; false, "no tests"),
+        Some(tests) => {
+            assert_eq!(&rt; tests.global.verdict, Verdict::Reject);
+            assert_eq!(&rt; tests.nodal.len(), 2);
+            assert_eq!(&rt; tests.measure.len(), 3);
+        }
+    }
     Ok(())
 }

@@ -9,4 +9,5 @@ returns c = shown_by (record {
   distance = c.least_law.ensures.distance;
   low = c.statistic_law.ensures.low;
   high = c.statistic_law.ensures.high;
+  decides = record { rejects = c.decided_global_law.ensures.reject; accepts = c.decided_global_law.ensures.accept };
 })

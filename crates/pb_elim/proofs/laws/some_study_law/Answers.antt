@@ -6,4 +6,6 @@ returns c = some_study_by (record {
   classification = c.some_classification_law.ensures;
   solution = c.some_solution_law.ensures;
   outside = c.outside_law.ensures;
+  nodal = c.nodal_tests_law.ensures.some;
+  measure = c.measure_tests_law.ensures.some;
 })

@@ -9,7 +9,7 @@ use Rattle.pb_integers.specs.Sums.{item}
 use Rattle.pb_graph.specs.WellFormed.{IsPrice}
 use Rattle.pb_gap.specs.State.{price_in}
 use Rattle.pb_elim.proofs.StageLemmas.{price_more}
-use Rattle.pb_elim.proofs.stage.node_prices.Goals as goal
+use Rattle.pb_elim.proofs.stages.node_prices.Goals as goal
 
 -- one node more has its price
 pub loop-node-preserved : goal.loop-node-preserved

@@ -2,7 +2,7 @@ use Rattle.std.proofs.Common.{◌≡◌, ℕ, ◌<◌, ◌≤◌, pos, All, leng
 use Rattle.pb_integers.specs.Sums.{item}
 use Rattle.pb_graph.specs.WellFormed.{IsPrice}
 use Rattle.pb_gap.specs.State.{price_in}
-use Rattle.pb_elim.proofs.stage.node_prices.Given as goal
+use Rattle.pb_elim.proofs.stages.node_prices.Given as goal
 
 -- the nodes so far have their prices
 abbrev pub invariant-loop-node : goal.invariant-loop-node

@@ -1,7 +1,7 @@
 use Rattle.std.proofs.Common.{◌≡◌, ◌++◌, length}
 use Rattle.std.specs.Vec.Iter.{into_iter_items, into_iter_len}
 use Rattle.pb_elim.specs.Results.{AreResultsOf}
-use Rattle.pb_elim.proofs.stage.stream_results.Given as goal
+use Rattle.pb_elim.proofs.stages.stream_results.Given as goal
 
 -- the streams so far have their results
 abbrev pub invariant-loop-classified : goal.invariant-loop-classified

@@ -1,6 +1,6 @@
 // The stage of a graph.
 
-ghost use Rattle.std.specs.Prelude.{◌≡◌, ℕ, ◌<◌, ◌≤◌, ◌^◌, None, All, length, unsigned_abs, IfOk, IfSome};
+ghost use Rattle.std.specs.Prelude.{◌≡◌, ℕ, ◌<◌, ◌≤◌, None, All, length, IfOk, IfSome};
 ghost use Rattle.pb_integers.specs.Sums.{item};
 ghost use Rattle.pb_graph.specs.ProcessGraph.{IsProcessGraph};
 ghost use Rattle.pb_graph.specs.WellFormed.{AreBoundsWithin, IsPrice, IsWellFormed};
@@ -10,12 +10,14 @@ ghost use Rattle.pb_gap.specs.StreamBounds.{stream_bounds};
 ghost use Rattle.pb_gap.specs.Solution.{IsSolution};
 ghost use Rattle.pb_elim.specs.Options.{AreOptions};
 ghost use Rattle.pb_elim.specs.Results.{IsResultOf, AreResultsOf};
-ghost use Rattle.pb_elim.specs.Stage.{IsStageOf};
+ghost use Rattle.pb_elim.specs.Criticals.{AreCritical};
+ghost use Rattle.pb_elim.specs.Stage.{IsReconciliationOf, IsStageOf};
 
 use crate::members::sum_for;
+use crate::testing::asked_tests;
 use pb_classify::classify;
 use pb_gap::{Solver, stream_law};
-use pb_graph::{Bounds, Classified, Graph, List, Options, Solved, Stage, StreamResult};
+use pb_graph::{Bounds, Classified, Critical, Graph, List, Options, Solved, Stage, StreamResult};
 use std::alloc::{AllocError, Global};
 
 /// The bounds of the flow of a stream by its class and its certificate, none where it is unobservable.
@@ -107,7 +109,7 @@ fn collected(
     requires state { IsState solver.now }
     requires solution { IsSolution graph.now options.now.gap options.now.sweeps solved
         (price_in solver.now) solver.now.flows }
-    ensures stage { IfOk result (IsStageOf graph.now options.now) }
+    ensures stage { IfOk result (IsReconciliationOf graph.now options.now) }
     ensures graph { IfOk result (λ stage. IsProcessGraph stage.graph) }
     ensures untested { IfOk result (λ stage. stage.tests ≡ None) }
     ensures formed { IfOk result IsWellFormed }
@@ -127,10 +129,10 @@ fn collected(
     })
 }
 
-/// The stage of a graph, without tests.
-pub fn stage(alloc: Global, graph: &Graph, options: &Options) -> Result<Stage, AllocError>
+/// The reconciliation of a graph: its stage without tests.
+fn reconciled(alloc: Global, graph: &Graph, options: &Options) -> Result<Stage, AllocError>
     requires { AreOptions options.now }
-    ensures stage { IfOk result (IsStageOf graph.now options.now) }
+    ensures stage { IfOk result (IsReconciliationOf graph.now options.now) }
     ensures graph { IfOk result (λ stage. IsProcessGraph stage.graph) }
     ensures untested { IfOk result (λ stage. stage.tests ≡ None) }
     ensures formed { IfOk result IsWellFormed }
@@ -139,4 +141,23 @@ pub fn stage(alloc: Global, graph: &Graph, options: &Options) -> Result<Stage, A
     let mut solver = Solver::new(alloc, graph)?;
     let solved = solver.solve(options.gap, options.sweeps);
     collected(alloc, graph, options, classes, &solver, solved)
+}
+
+/// The stage of a graph: classes, flows, bounds, prices, the statistic, and tests where they are asked.
+pub fn stage(
+    alloc: Global,
+    graph: &Graph,
+    options: &Options,
+    critical: &Critical,
+) -> Result<Stage, AllocError>
+    requires limits { AreOptions options.now }
+    requires critical { AreCritical critical.now }
+    ensures stage { IfOk result (IsStageOf graph.now options.now critical.now) }
+    ensures graph { IfOk result (λ stage. IsProcessGraph stage.graph) }
+    ensures formed { IfOk result IsWellFormed }
+{
+    let mut stage = reconciled(alloc, graph, options)?;
+    let tests = asked_tests(alloc, graph, options, critical, &stage)?;
+    stage.tests = tests;
+    Ok(stage)
 }

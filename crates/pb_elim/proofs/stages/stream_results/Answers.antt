@@ -5,7 +5,7 @@ use Rattle.pb_graph.specs.ProcessGraph.{ProcessGraph}
 use Rattle.pb_classify.specs.Classification.{IsClassified, IsClassification}
 use Rattle.pb_elim.specs.Results.{IsResultOf, AreResultsOf}
 use Rattle.pb_elim.proofs.StageLemmas.{at_end, results_more}
-use Rattle.pb_elim.proofs.stage.stream_results.Goals as goal
+use Rattle.pb_elim.proofs.stages.stream_results.Goals as goal
 
 class_at : (g : ProcessGraph) (classes before rest : List Classified) (x : Classified) (k : ℕ) → IsClassification g classes → before ++ x ∷ rest ≡ classes → length before ≡ k → IsClassified g k x
 class_at g classes before rest x k is whole end =

@@ -1,0 +1,40 @@
+-- Statement. The study of a graph: its stages, and the streams whose measurements were taken between them.
+use Rattle.std.specs.Prelude.{◌≡◌, ℕ, ◌+◌, ◌≤◌, List, [], ◌∷◌, length, take, Some, slice_get, IsSomeAnd}
+use Rattle.pb_graph.specs.declared.results.Stage.{Stage}
+use Rattle.pb_graph.specs.declared.results.Taken.{Taken}
+use Rattle.pb_graph.specs.declared.results.Study.{Study}
+use Rattle.pb_graph.specs.declared.results.Options.{Options}
+use Rattle.pb_graph.specs.declared.results.Critical.{Critical}
+use Rattle.pb_graph.specs.ProcessGraph.{ProcessGraph, unmeasured_at}
+use Rattle.pb_elim.specs.Stage.{IsStageOf}
+use Rattle.pb_elim.specs.Elimination.{IsStop, IsTakenAfter}
+
+-- the graph without the measurements of the streams that were taken
+abbrev pub without_taken : ProcessGraph → List Taken → ProcessGraph
+without_taken graph [] = graph
+without_taken graph (t ∷ taken) =
+    without_taken (record graph { streams = unmeasured_at t.stream graph.streams }) taken
+
+-- Stages of a graph, and the streams taken between them:
+pub record AreRounds (graph : ProcessGraph) (options : Options) (critical : Critical)
+    (stages : List Stage) (taken : List Taken) : Type 0 where
+  -- the stage at a place is that of the graph without the measurements that were taken before it
+  pub each :
+      (i : ℕ) (stage : Stage) → slice_get stages i ≡ Some stage
+      → IsStageOf (without_taken graph (take i taken)) options critical stage
+  -- one stream is taken between each stage and the next, in at most as many rounds as are asked
+  pub between : length stages ≡ length taken + 1
+  pub rounds : length taken ≤ options.eliminate
+  -- it is the suspect of the stage before it, after which the rule doesn't stop
+  pub suspects :
+      (i : ℕ) (stage : Stage) (t : Taken) → slice_get stages i ≡ Some stage → slice_get taken i ≡ Some t
+      → IsSomeAnd stage.tests (IsTakenAfter options critical i t)
+
+-- The study of a graph: the stages of the graph and the streams taken between them, until the rule of elimination says to stop; one
+-- stage where no elimination is asked.
+pub record IsStudyOf (graph : ProcessGraph) (options : Options) (critical : Critical)
+    (study : Study) : Type 0 where
+  pub rounds : AreRounds graph options critical study.stages study.taken
+  pub stop :
+      (last : Stage) → slice_get study.stages (length study.taken) ≡ Some last
+      → IsStop options critical (length study.taken) last study.stop
