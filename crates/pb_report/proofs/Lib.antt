@@ -1,4 +1,6 @@
 mod RowLemmas
+mod TextLemmas
+mod JsonLemmas
 mod OutputLemmas
 mod PieceLemmas
 mod StudyLemmas

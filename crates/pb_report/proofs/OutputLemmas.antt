@@ -1,11 +1,11 @@
 -- Rows written one after the other: what is written joined to what is left is the whole.
-use Rattle.std.proofs.Common.{◌≡◌, ◌∙◌, ℕ, ◌+◌, ◌<◌, List, [], ◌∷◌, ◌++◌, length, get_or, drop, slice_get, Some, refl, sym, subst, ap, append_assoc, append-nil}
+use Rattle.std.proofs.Common.{◌≡◌, ◌∙◌, ℕ, ◌+◌, ◌<◌, List, [], ◌∷◌, ◌++◌, length, get_or, drop, slice_get, Some, refl, sym, subst, ap, append_assoc, append-nil, OnOk, Result, Ok, Err}
 use Rattle.std.proofs.lemmas.Grind.{flat_map-append}
 use Rattle.std.proofs.lemmas.Option.{slice_get_within, get_or_from_slice_get}
 use Rattle.pb_integers.proofs.Lists.{drop_next}
 use Rattle.pb_report.specs.declared.form.Form.{Form}
 use Rattle.pb_report.specs.Row.{Columns}
-use Rattle.pb_report.specs.Form.{row_text, text_in}
+use Rattle.pb_report.specs.Form.{AppendsRows, row_text, text_in}
 use Rattle.pb_report.specs.Output.{AddsRows, IsUnderWay, OutputText}
 use Rattle.pb_report.specs.Rows.{rows_with}
 
@@ -48,3 +48,10 @@ one_row {A = A} row start old new rows items xs ys i d y written same lt at way 
     more_rows start old new rows (row i (get_or xs i d) y ∷ []) (rows_with row (i + 1) (drop (i + 1) xs) (drop (i + 1) ys))
     (rw (rows_from row xs ys i d y lt at) at way)
     (subst (λ (one : Columns). AddsRows old new (one ∷ [])) (is ∙ ap (λ (zs : List A). row i (get_or zs i d) y) same) adds)
+
+-- one row in a form
+pub one_written : {V E : Type 0} (result : Result V E) (form : Form) (old new : List ℕ) (row wanted : Columns) → row ≡ wanted
+    → OnOk result (new ≡ old ++ row_text form row) → OnOk result (AppendsRows form old new (wanted ∷ []))
+one_written (Ok v) form old new row wanted same written =
+    written ∙ ap (λ (r : Columns). old ++ row_text form r) same ∙ ap (λ (t : List ℕ). old ++ t) (sym (append-nil (row_text form wanted)))
+one_written (Err e) form old new row wanted same written = tt

@@ -1,5 +1,6 @@
 -- Statement
 pub mod Row
+pub mod Json
 pub mod Form
 pub mod Names
 pub mod Rows
@@ -10,6 +11,8 @@ pub mod Design
 pub mod Tests
 pub mod Block
 pub mod Study
+pub mod History
+pub mod Summary
 -- Inside
 pub mod Columns
 pub mod Output

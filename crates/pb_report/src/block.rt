@@ -52,7 +52,7 @@ fn report_row(
     ensures { IfOk result (λ row. row ≡ report_row period.now round graph.now options.now) }
 {
     OutputRow::of(alloc, "report")?
-        .text("period", period.bytes())?
+        .text("period", period.as_str())?
         .number("round", round as i128)?
         .number("nodes", i128::from(graph.nodes()))?
         .number("streams", i128::from(graph.len()))?
@@ -65,7 +65,7 @@ fn end_row(alloc: Global, period: &Name, round: usize) -> Result<OutputRow, Allo
     ensures { IfOk result (λ row. row ≡ end_row period.now round) }
 {
     OutputRow::of(alloc, "end")?
-        .text("period", period.bytes())?
+        .text("period", period.as_str())?
         .number("round", round as i128)
 }
 
@@ -85,7 +85,7 @@ fn node_row(alloc: Global, name: &Name, price: &i128) -> Result<OutputRow, Alloc
     ensures { IfOk result (λ row. row ≡ node_row name.now price.now) }
 {
     OutputRow::of(alloc, "node")?
-        .text("name", name.bytes())?
+        .text("name", name.as_str())?
         .number("price", *price)
 }
 
@@ -192,7 +192,8 @@ fn solved_row(alloc: Global, stage: &Stage) -> Result<OutputRow, AllocError>
         .optional("high", stage.high)
 }
 
-fn sweeps_of(solved: Solved) -> u32
+/// The sweeps that were done.
+pub fn sweeps_of(solved: Solved) -> u32
     ensures { result ≡ sweeps_of solved }
 {
     match solved {
@@ -200,11 +201,12 @@ fn sweeps_of(solved: Solved) -> u32
     }
 }
 
-fn state_word(solved: Solved) -> &'static [u8]
+/// Whether the gap was met, as a word.
+pub fn state_word(solved: Solved) -> &'static str
     ensures { result.now ≡ state_word solved }
 {
     match solved {
-        Solved::Converged(_) => b"converged",
-        Solved::Unconverged(_) => b"unconverged",
+        Solved::Converged(_) => "converged",
+        Solved::Unconverged(_) => "unconverged",
     }
 }

@@ -1,6 +1,6 @@
 // The class of a stream and its certificate, as words and columns.
 
-ghost use Rattle.std.specs.Prelude.{◌≡◌, ◌++◌, IfOk};
+ghost use Rattle.std.specs.Prelude.{◌≡◌, ◌++◌, string_bytes, IfOk};
 ghost use Rattle.pb_graph.specs.WellFormed.{IsWitnessWithin};
 ghost use Rattle.pb_report.specs.Certificate.{certificate_columns, class_word, parts_text, shape_word, side_text};
 ghost use Rattle.pb_report.specs.Names.{IsNamed};
@@ -12,14 +12,14 @@ use pb_rows::Names;
 use std::alloc::{AllocError, Global};
 
 /// The word of a class.
-pub fn class_word(class: Class) -> &'static [u8]
+pub fn class_word(class: Class) -> &'static str
     ensures { result.now ≡ class_word class }
 {
     match class {
-        Class::Observable => b"observable",
-        Class::Unobservable => b"unobservable",
-        Class::Redundant => b"redundant",
-        Class::Nonredundant => b"nonredundant",
+        Class::Observable => "observable",
+        Class::Unobservable => "unobservable",
+        Class::Redundant => "redundant",
+        Class::Nonredundant => "nonredundant",
     }
 }
 
@@ -36,20 +36,17 @@ pub fn with_certificate(
     ensures { IfOk result (λ whole. whole ≡ row ++ certificate_columns names.now witness.now) }
 {
     row.text("shape", shape_word(witness))?
-        .text("side", side_text(alloc, names, graph, witness)?.as_slice())?
-        .text(
-            "parts",
-            parts_text(alloc, names, graph, witness)?.as_slice(),
-        )
+        .text("side", side_text(alloc, names, graph, witness)?.as_str())?
+        .text("parts", parts_text(alloc, names, graph, witness)?.as_str())
 }
 
 // The word of a certificate's shape.
-fn shape_word(witness: &Witness) -> &'static [u8]
+fn shape_word(witness: &Witness) -> &'static str
     ensures { result.now ≡ shape_word witness.now }
 {
     match witness {
-        Witness::Cut { .. } => b"cut",
-        Witness::Cycle { .. } => b"cycle",
+        Witness::Cut { .. } => "cut",
+        Witness::Cycle { .. } => "cycle",
     }
 }
 
@@ -59,14 +56,14 @@ fn side_text(
     names: &Names,
     graph: &Graph,
     witness: &Witness,
-) -> Result<Vec<u8>, AllocError>
+) -> Result<String, AllocError>
     requires named { IsNamed names.now graph.now }
     requires within { IsWitnessWithin graph.now witness.now }
-    ensures { IfOk result (λ text. text.items ≡ side_text names.now.nodes witness.now) }
+    ensures { IfOk result (λ text. string_bytes text ≡ side_text names.now.nodes witness.now) }
 {
     match witness {
         Witness::Cut { side, .. } => parts::side_text(alloc, &names.nodes, side.as_slice()),
-        Witness::Cycle { .. } => Ok(Vec::new(alloc)),
+        Witness::Cycle { .. } => Ok(String::new(alloc)),
     }
 }
 
@@ -76,10 +73,10 @@ fn parts_text(
     names: &Names,
     graph: &Graph,
     witness: &Witness,
-) -> Result<Vec<u8>, AllocError>
+) -> Result<String, AllocError>
     requires named { IsNamed names.now graph.now }
     requires within { IsWitnessWithin graph.now witness.now }
-    ensures { IfOk result (λ text. text.items ≡ parts_text names.now.streams witness.now) }
+    ensures { IfOk result (λ text. string_bytes text ≡ parts_text names.now.streams witness.now) }
 {
     match witness {
         Witness::Cut { members, .. } => {

@@ -108,16 +108,16 @@ pub fn stream_row(
         (λ row. row ≡ row_of kind.now (stream_columns names.now id stream.now)) }
 {
     OutputRow::of(alloc, kind)?
-        .text("name", names.streams.at(id).bytes())?
-        .text("from", names.nodes.at(stream.from as usize).bytes())?
-        .text("to", names.nodes.at(stream.to as usize).bytes())
+        .text("name", names.streams.at(id).as_str())?
+        .text("from", names.nodes.at(stream.from as usize).as_str())?
+        .text("to", names.nodes.at(stream.to as usize).as_str())
 }
 
-fn measured_word(stream: &Stream) -> &'static [u8]
+fn measured_word(stream: &Stream) -> &'static str
     ensures { result.now ≡ measured_word (is_measured stream.now) }
 {
     match stream.meas {
-        Some(_) => b"yes",
-        None => b"no",
+        Some(_) => "yes",
+        None => "no",
     }
 }

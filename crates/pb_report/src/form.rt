@@ -11,6 +11,9 @@ use std::alloc::AllocError;
 pub enum Form {
     /// As `csv` writes them, each ended by a line feed.
     Csv,
+    /// Each an object of texts on one line, as `serde_json` writes it compactly, ended by a line feed. The keys are those of the
+    /// row's columns, in byte order; the key `row` has the row's kind.
+    Json,
 }
 
 /// Appends a row in a form. After an `Err`, want of memory, the text is as it was.
@@ -20,5 +23,6 @@ pub fn write_row(row: &OutputRow, form: Form, text: &mut Vec<u8>) -> Result<(), 
 {
     match form {
         Form::Csv => row.write_csv(text),
+        Form::Json => row.write_json(text),
     }
 }

@@ -1,4 +1,4 @@
-//! The rows of a session's output: refused records, the classes of a design, and reports.
+//! The rows of a session's output: refused records, the classes of a design, reports, histories of periods, and summaries.
 //!
 //! Each call appends whole rows to `out`, in a form. After want of memory `out` is as it was.
 //! A row is made as a value, its columns with their keys, and one function writes rows in a form.
@@ -8,18 +8,22 @@ mod block;
 mod certificate;
 mod design;
 mod form;
+mod history;
 mod output;
 mod over;
 mod parts;
 mod refused;
 mod row;
 mod study;
+mod summary;
 #[cfg(test)]
 mod tests;
 mod verdicts;
 
 pub use design::write_design;
 pub use form::Form;
+pub use history::{HistoryRow, HistoryWord, Period, write_history};
 pub use over::write_over;
 pub use refused::write_refused;
 pub use study::write_study;
+pub use summary::write_summary;

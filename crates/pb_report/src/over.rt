@@ -29,6 +29,6 @@ fn over_row(alloc: Global, period: &Name, stream: &Name) -> Result<OutputRow, Al
     ensures { IfOk result (λ row. row ≡ over_row period.now stream.now) }
 {
     OutputRow::of(alloc, "over")?
-        .text("period", period.bytes())?
-        .text("stream", stream.bytes())
+        .text("period", period.as_str())?
+        .text("stream", stream.as_str())
 }

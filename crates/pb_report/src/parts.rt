@@ -1,6 +1,6 @@
 // The side and the parts of a certificate, as texts.
 
-ghost use Rattle.std.specs.Prelude.{◌≡◌, ◌<◌, ◌++◌, [], length, All, IfOk, OnOk};
+ghost use Rattle.std.specs.Prelude.{◌≡◌, ◌<◌, ◌++◌, [], length, string_bytes, All, IfOk, OnOk};
 ghost use Rattle.pb_graph.specs.declared.records.Member.{Member};
 ghost use Rattle.pb_graph.specs.declared.records.Step.{Step};
 ghost use Rattle.pb_report.specs.Pieces.{gap_before};
@@ -11,16 +11,16 @@ use pb_rows::{Name, NameList};
 use std::alloc::{AllocError, Global};
 
 /// The names of the nodes in a side, in order, with one space between.
-pub fn side_text(alloc: Global, nodes: &NameList, side: &[bool]) -> Result<Vec<u8>, AllocError>
+pub fn side_text(alloc: Global, nodes: &NameList, side: &[bool]) -> Result<String, AllocError>
     requires { length side.now ≡ length nodes.now }
     ensures { IfOk result
-        (λ text. text.items ≡ spaced (λ name. name) (names_in side.now nodes.now)) }
+        (λ text. string_bytes text ≡ spaced (λ name. name) (names_in side.now nodes.now)) }
 {
-    let mut text = Vec::new(alloc);
+    let mut text = String::new(alloc);
     let mut first = true;
     for (node, inside) in side.iter().enumerate() {
         if *inside {
-            add_piece(&mut text, first, b"", nodes.at(node))?;
+            add_piece(&mut text, first, "", nodes.at(node))?;
             first = false;
         }
     }
@@ -32,26 +32,26 @@ pub fn members_text(
     alloc: Global,
     streams: &NameList,
     members: &[Member],
-) -> Result<Vec<u8>, AllocError>
+) -> Result<String, AllocError>
     requires { All (λ (member : Member). member.stream < length streams.now) members.now }
-    ensures { IfOk result (λ text. text.items ≡ spaced (member_text streams.now) members.now) }
+    ensures { IfOk result (λ text. string_bytes text ≡ spaced (member_text streams.now) members.now) }
 {
-    let mut text = Vec::new(alloc);
+    let mut text = String::new(alloc);
     for (i, member) in members.iter().enumerate() {
-        let sign = if member.sign < 0 { b"-" } else { b"+" };
+        let sign = if member.sign < 0 { "-" } else { "+" };
         add_piece(&mut text, i == 0, sign, streams.at(member.stream as usize))?;
     }
     Ok(text)
 }
 
 /// The steps of a cycle in order, each with its direction before its name, with one space between.
-pub fn steps_text(alloc: Global, streams: &NameList, steps: &[Step]) -> Result<Vec<u8>, AllocError>
+pub fn steps_text(alloc: Global, streams: &NameList, steps: &[Step]) -> Result<String, AllocError>
     requires { All (λ (step : Step). step.stream < length streams.now) steps.now }
-    ensures { IfOk result (λ text. text.items ≡ spaced (step_text streams.now) steps.now) }
+    ensures { IfOk result (λ text. string_bytes text ≡ spaced (step_text streams.now) steps.now) }
 {
-    let mut text = Vec::new(alloc);
+    let mut text = String::new(alloc);
     for (i, step) in steps.iter().enumerate() {
-        let direction = if step.forward { b"+" } else { b"-" };
+        let direction = if step.forward { "+" } else { "-" };
         add_piece(
             &mut text,
             i == 0,
@@ -63,14 +63,14 @@ pub fn steps_text(alloc: Global, streams: &NameList, steps: &[Step]) -> Result<V
 }
 
 // Appends a piece of a list: a mark and a name, behind a space unless it is the first.
-fn add_piece(text: &mut Vec<u8>, first: bool, mark: &[u8], name: &Name) -> Result<(), AllocError>
+fn add_piece(text: &mut String, first: bool, mark: &str, name: &Name) -> Result<(), AllocError>
     ensures { OnOk result
-        (text.new.items ≡ text.old.items ++ (gap_before first ++ (mark.now ++ name.now))) }
+        (string_bytes text.new ≡ string_bytes text.old ++ (gap_before first ++ (mark.now ++ name.now))) }
 {
     if !first {
-        text.push(b' ')?;
+        text.push_str(" ")?;
     }
-    text.extend_from_slice(mark)?;
-    text.extend_from_slice(name.bytes())?;
+    text.push_str(mark)?;
+    text.push_str(name.as_str())?;
     Ok(())
 }

@@ -36,24 +36,24 @@ fn refused_row(alloc: Global, at: u32, code: u32) -> Result<OutputRow, AllocErro
         .text("word", refusal_word(code))
 }
 
-fn refusal_word(code: u32) -> &'static [u8]
+fn refusal_word(code: u32) -> &'static str
     requires least { 1 ≤ code }
     requires most { code ≤ 13 }
     ensures { result.now ≡ refusal_word code }
 {
     match code {
-        1 => b"kind",
-        2 => b"fields",
-        3 => b"name",
-        4 => b"number",
-        5 => b"date",
-        6 => b"unknown",
-        7 => b"duplicate",
-        8 => b"order",
-        9 => b"mismatch",
-        10 => b"sealed",
-        11 => b"closed",
-        12 => b"range",
-        _ => b"full",
+        1 => "kind",
+        2 => "fields",
+        3 => "name",
+        4 => "number",
+        5 => "date",
+        6 => "unknown",
+        7 => "duplicate",
+        8 => "order",
+        9 => "mismatch",
+        10 => "sealed",
+        11 => "closed",
+        12 => "range",
+        _ => "full",
     }
 }

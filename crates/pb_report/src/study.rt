@@ -77,9 +77,9 @@ fn taken_row(
     ensures { IfOk result (λ row. row ≡ taken_row names.now period.now round suspect.now) }
 {
     OutputRow::of(alloc, "taken")?
-        .text("period", period.bytes())?
+        .text("period", period.as_str())?
         .number("round", round as i128)?
-        .text("stream", names.streams.at(suspect.stream as usize).bytes())?
+        .text("stream", names.streams.at(suspect.stream as usize).as_str())?
         .number("low", suspect.low)
 }
 
@@ -107,20 +107,20 @@ fn stop_row(
     ensures { IfOk result (λ row. row ≡ stop_row period.now rounds reason) }
 {
     OutputRow::of(alloc, "stop")?
-        .text("period", period.bytes())?
+        .text("period", period.as_str())?
         .text("reason", stop_word(reason))?
         .number("rounds", rounds as i128)
 }
 
-fn stop_word(stop: Stop) -> &'static [u8]
+fn stop_word(stop: Stop) -> &'static str
     ensures { result.now ≡ stop_word stop }
 {
     match stop {
-        Stop::Accepted => b"accepted",
-        Stop::Undecided => b"undecided",
-        Stop::NoCritical => b"nocritical",
-        Stop::NoTest => b"notest",
-        Stop::NoSuspect => b"nosuspect",
-        Stop::Spent => b"spent",
+        Stop::Accepted => "accepted",
+        Stop::Undecided => "undecided",
+        Stop::NoCritical => "nocritical",
+        Stop::NoTest => "notest",
+        Stop::NoSuspect => "nosuspect",
+        Stop::Spent => "spent",
     }
 }

@@ -5,13 +5,16 @@ ghost use Rattle.pb_graph.specs.declared.records.Classified.{Classified};
 ghost use Rattle.pb_graph.specs.WellFormed.{IsWitnessWithin};
 ghost use Rattle.pb_report.specs.Names.{IsNamed};
 
-use crate::{Form, write_design, write_over, write_refused, write_study};
+use crate::{
+    Form, HistoryRow, HistoryWord, Period, write_design, write_history, write_over, write_refused,
+    write_study, write_summary,
+};
 use pb_graph::{
     Bounds, Class, Classified, GlobalTest, Graph, List, MOST_NODES, Meas, MeasureTest, Member,
     NodalTest, Options, Solved, Stage, Step, Stop, Stream, StreamResult, Study, Taken, Tests,
     Verdict, Witness,
 };
-use pb_rows::{Name, NameList, Names};
+use pb_rows::{Name, NameList, Names, Reason};
 use std::alloc::Global;
 use std::test::Fail;
 
@@ -172,6 +175,17 @@ fn report(
     options: &Options,
     study: &Study,
 ) -> Result<Vec<u8>, Fail> {
+    report_in(alloc, names, period, options, study, Form::Csv)
+}
+
+fn report_in(
+    alloc: Global,
+    names: &Names,
+    period: &[u8],
+    options: &Options,
+    study: &Study,
+    form: Form,
+) -> Result<Vec<u8>, Fail> {
     if study.stages.is_empty() {
         return Err(Fail::new("a study without a stage"));
     }
@@ -183,15 +197,7 @@ fn report(
         return Err(Fail::new("a study that isn't well formed"));
     }
     let mut out = Vec::new(alloc);
-    write_study(
-        alloc,
-        names,
-        &name(period)?,
-        options,
-        study,
-        Form::Csv,
-        &mut out,
-    )?;
+    write_study(alloc, names, &name(period)?, options, study, form, &mut out)?;
     Ok(out)
 }
 
@@ -203,14 +209,8 @@ fn writes_a_total_too_great(rt: HostRuntime) -> Result<(), Fail> {
     Ok(())
 }
 
-#[test]
-fn writes_a_design(rt: HostRuntime) -> Result<(), Fail> {
-    let alloc = rt.alloc();
-    let names = Names {
-        nodes: name_list(alloc, &[b"env", b"U", b"V"])?,
-        streams: name_list(alloc, &[b"P", b"M"])?,
-    };
-    let plant = graph(alloc, 3, &[plain(1, 2), metered(1, 2, 0, 1)])?;
+// The classes of an unmeasured stream and of a metered one beside it.
+fn two_classes(alloc: Global) -> Result<List<Classified>, Fail> {
     let mut classes = List::new(alloc);
     classes.push(cut(
         alloc,
@@ -219,6 +219,18 @@ fn writes_a_design(rt: HostRuntime) -> Result<(), Fail> {
         &[leaves(0), leaves(1)],
     )?)?;
     classes.push(cycle(alloc, Class::Nonredundant, &[forward(1), backward(0)])?)?;
+    Ok(classes)
+}
+
+#[test]
+fn writes_a_design(rt: HostRuntime) -> Result<(), Fail> {
+    let alloc = rt.alloc();
+    let names = Names {
+        nodes: name_list(alloc, &[b"env", b"U", b"V"])?,
+        streams: name_list(alloc, &[b"P", b"M"])?,
+    };
+    let plant = graph(alloc, 3, &[plain(1, 2), metered(1, 2, 0, 1)])?;
+    let classes = two_classes(alloc)?;
     assert!(rt; is_named(&names, &plant) && are_within(&plant, classes.as_slice()));
     assert!(rt; classes.len() == plant.len() as usize);
     let mut out = Vec::new(alloc);
@@ -741,6 +753,182 @@ global,,notest
 end,d1,0
 "
             .as_slice()
+    );
+    Ok(())
+}
+
+#[test]
+fn writes_a_refusal_as_json(rt: HostRuntime) -> Result<(), Fail> {
+    let mut out = Vec::from_slice(rt.alloc(), b"before\n")?;
+    write_refused(rt.alloc(), 1, 3, Form::Json, &mut out)?;
+    assert_eq!(rt;
+        out.as_slice(),
+        b"before
+{\"at\":\"1\",\"code\":\"3\",\"row\":\"refused\",\"word\":\"name\"}
+"
+            .as_slice()
+    );
+    Ok(())
+}
+
+#[test]
+fn writes_a_total_too_great_as_json(rt: HostRuntime) -> Result<(), Fail> {
+    let mut out = Vec::new(rt.alloc());
+    write_over(
+        rt.alloc(),
+        &name(b"d1")?,
+        &name(b"T")?,
+        Form::Json,
+        &mut out,
+    )?;
+    write_over(
+        rt.alloc(),
+        &name(b"Az_09.-")?,
+        &name(b"-._")?,
+        Form::Json,
+        &mut out,
+    )?;
+    assert_eq!(rt;
+        out.as_slice(),
+        b"{\"period\":\"d1\",\"row\":\"over\",\"stream\":\"T\"}
+{\"period\":\"Az_09.-\",\"row\":\"over\",\"stream\":\"-._\"}
+"
+            .as_slice()
+    );
+    Ok(())
+}
+
+#[test]
+fn writes_a_design_as_json(rt: HostRuntime) -> Result<(), Fail> {
+    let alloc = rt.alloc();
+    let names = Names {
+        nodes: name_list(alloc, &[b"env", b"U", b"V"])?,
+        streams: name_list(alloc, &[b"P", b"M"])?,
+    };
+    let plant = graph(alloc, 3, &[plain(1, 2), metered(1, 2, 0, 1)])?;
+    let classes = two_classes(alloc)?;
+    assert!(rt; is_named(&names, &plant) && are_within(&plant, classes.as_slice()));
+    assert!(rt; classes.len() == plant.len() as usize);
+    let mut out = Vec::new(alloc);
+    write_design(alloc, &names, &plant, &classes, Form::Json, &mut out)?;
+    assert_eq!(rt;
+        out.as_slice(),
+        b"{\"nodes\":\"3\",\"row\":\"design\",\"streams\":\"2\"}
+{\"class\":\"observable\",\"from\":\"U\",\"measured\":\"no\",\"name\":\"P\",\"parts\":\"-P -M\",\"row\":\"class\",\"shape\":\"cut\",\"side\":\"U\",\"to\":\"V\"}
+{\"class\":\"nonredundant\",\"from\":\"U\",\"measured\":\"yes\",\"name\":\"M\",\"parts\":\"+M -P\",\"row\":\"class\",\"shape\":\"cycle\",\"side\":\"\",\"to\":\"V\"}
+"
+            .as_slice()
+    );
+    Ok(())
+}
+
+#[test]
+fn two_meters_as_json(rt: HostRuntime) -> Result<(), Fail> {
+    let alloc = rt.alloc();
+    let names = names_of_meters(alloc)?;
+    let study = two_meters(alloc, None)?;
+    let options = options(false, 0);
+    assert_eq!(rt;
+        report_in(alloc, &names, b"d1", &options, &study, Form::Json)?.as_slice(),
+        b"{\"gap\":\"10\",\"nodes\":\"2\",\"period\":\"d1\",\"round\":\"0\",\"row\":\"report\",\"streams\":\"2\",\"sweeps\":\"5000\"}
+{\"name\":\"env\",\"price\":\"0\",\"row\":\"node\"}
+{\"name\":\"U\",\"price\":\"-72057594038\",\"row\":\"node\"}
+{\"class\":\"redundant\",\"flow\":\"101000000\",\"from\":\"env\",\"hi\":\"101000002\",\"lo\":\"100999997\",\"name\":\"A\",\"parts\":\"-A +B\",\"row\":\"stream\",\"shape\":\"cut\",\"side\":\"env\",\"to\":\"U\",\"value\":\"102000000\",\"variance\":\"1000000000000\"}
+{\"class\":\"redundant\",\"flow\":\"101000000\",\"from\":\"U\",\"hi\":\"101000003\",\"lo\":\"100999998\",\"name\":\"B\",\"parts\":\"+A -B\",\"row\":\"stream\",\"shape\":\"cut\",\"side\":\"U\",\"to\":\"env\",\"value\":\"100000000\",\"variance\":\"1000000000000\"}
+{\"dof\":\"1\",\"g\":\"2\",\"h\":\"0\",\"high\":\"2000\",\"k\":\"1\",\"low\":\"1999\",\"row\":\"solved\",\"state\":\"converged\"}
+{\"period\":\"d1\",\"round\":\"0\",\"row\":\"end\"}
+"
+            .as_slice()
+    );
+    Ok(())
+}
+
+fn reason(bytes: &[u8]) -> Result<Reason, Fail> {
+    Ok(Reason::read(bytes).ok_or("a reason")?)
+}
+
+// A closing and the edits after it. What isn't written of them is filled too.
+fn edits(alloc: Global) -> Result<List<HistoryRow>, Fail> {
+    let id = Some(name(b"r1")?);
+    let words = [
+        (5, HistoryWord::Close, reason(b"not written")?),
+        (7, HistoryWord::Late, reason(b"not written")?),
+        (
+            8,
+            HistoryWord::Amend,
+            reason(b"typed \"twice\", \\ not 'once' ~")?,
+        ),
+        (4294967295, HistoryWord::Strike, reason(b"wrong day")?),
+    ];
+    let mut edits = List::new(alloc);
+    for (at, word, why) in words {
+        edits.push(HistoryRow {
+            at,
+            word,
+            id,
+            reason: Some(why),
+        })?;
+    }
+    Ok(edits)
+}
+
+fn history(alloc: Global, form: Form) -> Result<Vec<u8>, Fail> {
+    let period = Period {
+        name: name(b"Day_1.a-Z")?,
+        closed: true,
+    };
+    let mut out = Vec::new(alloc);
+    write_history(alloc, &period, &edits(alloc)?, form, &mut out)?;
+    Ok(out)
+}
+
+#[test]
+fn writes_a_history(rt: HostRuntime) -> Result<(), Fail> {
+    assert_eq!(rt;
+        history(rt.alloc(), Form::Csv)?.as_slice(),
+        b"history,Day_1.a-Z,closed,4
+edit,5,close,,
+edit,7,late,r1,
+edit,8,amend,r1,\"typed \"\"twice\"\", \\ not 'once' ~\"
+edit,4294967295,strike,r1,wrong day
+"
+            .as_slice()
+    );
+    assert_eq!(rt;
+        history(rt.alloc(), Form::Json)?.as_slice(),
+        b"{\"count\":\"4\",\"period\":\"Day_1.a-Z\",\"row\":\"history\",\"state\":\"closed\"}
+{\"at\":\"5\",\"id\":\"\",\"reason\":\"\",\"row\":\"edit\",\"word\":\"close\"}
+{\"at\":\"7\",\"id\":\"r1\",\"reason\":\"\",\"row\":\"edit\",\"word\":\"late\"}
+{\"at\":\"8\",\"id\":\"r1\",\"reason\":\"typed \\\"twice\\\", \\\\ not 'once' ~\",\"row\":\"edit\",\"word\":\"amend\"}
+{\"at\":\"4294967295\",\"id\":\"r1\",\"reason\":\"wrong day\",\"row\":\"edit\",\"word\":\"strike\"}
+"
+            .as_slice()
+    );
+    Ok(())
+}
+
+#[test]
+fn writes_a_history_without_edits(rt: HostRuntime) -> Result<(), Fail> {
+    let alloc = rt.alloc();
+    let period = Period {
+        name: name(b"d1")?,
+        closed: false,
+    };
+    let mut out = Vec::from_slice(alloc, b"before\n")?;
+    write_history(alloc, &period, &List::new(alloc), Form::Csv, &mut out)?;
+    assert_eq!(rt; out.as_slice(), b"before\nhistory,d1,open,0\n".as_slice());
+    Ok(())
+}
+
+#[test]
+fn writes_a_summary(rt: HostRuntime) -> Result<(), Fail> {
+    let alloc = rt.alloc();
+    let stage = refinery_day_stage(alloc)?;
+    let mut out = Vec::from_slice(alloc, b"before\n")?;
+    write_summary(alloc, 4294967295, 5, 42, &stage, &mut out)?;
+    assert_eq!(rt;
+        out.as_slice(),
+        b"before\nsummary,4294967295,5,42,1,0,4,0,1,converged,0,0,0\n".as_slice()
     );
     Ok(())
 }

@@ -73,7 +73,7 @@ fn nodal_row(alloc: Global, names: &Names, test: &NodalTest) -> Result<OutputRow
     ensures { IfOk result (λ row. row ≡ nodal_row names.now test.now) }
 {
     OutputRow::of(alloc, "nodal")?
-        .text("node", names.nodes.at(test.node as usize).bytes())?
+        .text("node", names.nodes.at(test.node as usize).as_str())?
         .number("net", test.net)?
         .number("variance", test.variance)?
         .optional("critical", critical(test.critical))?
@@ -99,7 +99,7 @@ fn measure_row(alloc: Global, names: &Names, test: &MeasureTest) -> Result<Outpu
     ensures { IfOk result (λ row. row ≡ measure_row names.now test.now) }
 {
     OutputRow::of(alloc, "measure")?
-        .text("stream", names.streams.at(test.stream as usize).bytes())?
+        .text("stream", names.streams.at(test.stream as usize).as_str())?
         .number("low", test.low)?
         .optional("high", test.high)?
         .optional("critical", critical(test.critical))?
@@ -113,14 +113,14 @@ fn critical(value: Option<i64>) -> Option<i128>
     value.map(i128::from)
 }
 
-fn verdict_word(verdict: Verdict) -> &'static [u8]
+fn verdict_word(verdict: Verdict) -> &'static str
     ensures { result.now ≡ verdict_word verdict }
 {
     match verdict {
-        Verdict::Reject => b"reject",
-        Verdict::Accept => b"accept",
-        Verdict::Undecided => b"undecided",
-        Verdict::NoCritical => b"nocritical",
-        Verdict::NoTest => b"notest",
+        Verdict::Reject => "reject",
+        Verdict::Accept => "accept",
+        Verdict::Undecided => "undecided",
+        Verdict::NoCritical => "nocritical",
+        Verdict::NoTest => "notest",
     }
 }
