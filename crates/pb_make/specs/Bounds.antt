@@ -1,0 +1,24 @@
+-- Inside. The bounds that the streams of a made plant keep.
+use Rattle.std.specs.Prelude.{◌≢◌, ℕ, ◌≤◌, ◌≤ℤ◌, pos}
+use Rattle.pb_make.specs.declared.plant.MadeStream.{MadeStream}
+
+-- the greatest flow of a side stream, in grams a day
+abbrev pub most_side_grams : ℕ
+most_side_grams = 10000000
+
+-- a stream from a unit to another one of so many, or out of the plant, with a flow from 10^6 up to 10^7 grams a day
+pub record IsSide (units : ℕ) (side : MadeStream) : Type 0 where
+  pub begins : 1 ≤ side.from
+  pub within : side.from ≤ units
+  pub ends : side.to ≤ units
+  pub apart : side.from ≢ side.to
+  pub least : pos 1000000 ≤ℤ side.truth
+  pub most : side.truth ≤ℤ pos most_side_grams
+
+-- a stream from a node to another one of so many units, with a flow from 1 up to 10^11 grams a day
+pub record IsMade (units : ℕ) (stream : MadeStream) : Type 0 where
+  pub within : stream.from ≤ units
+  pub ends : stream.to ≤ units
+  pub apart : stream.from ≢ stream.to
+  pub least : pos 1 ≤ℤ stream.truth
+  pub most : stream.truth ≤ℤ pos 100000000000

@@ -1,0 +1,79 @@
+-- Statement. Each row of a made session is accepted, and its text reads back as its rows.
+use Rattle.std.specs.Prelude.{◌≡◌, ℕ, ◌+◌, ◌≤◌, ◌<◌, ◌==◌, ℤ, pos, ◌-ℤ◌, if◌then◌else◌, false, List, [], ◌∷◌, length}
+use Rattle.jiff_core.specs.Calendar.{days_from_civil}
+use Rattle.pb_limits.specs.Limits.{most_streams}
+use Rattle.pb_integers.specs.Sums.{sum_over}
+use Rattle.pb_rows.specs.Records.{records_of}
+use Rattle.pb_book.specs.Answer.{after, answer_of, is_refused}
+use Rattle.pb_book.specs.Rows.{StoredRow, periods_of}
+use Rattle.pb_make.specs.declared.plant.MadeStream.{MadeStream}
+use Rattle.pb_make.specs.Plant.{least_streams, made_streams, units_of}
+use Rattle.pb_make.specs.Readings.{is_plain, metered_at, metered_of, readings_of}
+use Rattle.pb_make.specs.Rows.{made_period, session_rows, session_text, stored_rows}
+
+-- none of these records, which are numbered from `at`, is refused behind these stored rows and the ones before it, and this holds
+-- of what is stored in the end
+abbrev pub AreTaken : (List StoredRow → Type 0) → List StoredRow → ℕ → List (List (List ℕ)) → Type 0
+AreTaken Holds rows at [] = Holds rows
+AreTaken Holds rows at (fields ∷ records) =
+    (is_refused (answer_of rows fields) ≡ false)
+    × AreTaken Holds (after rows at fields) (at + 1) records
+
+-- nothing is asked of it
+abbrev pub Anything : List StoredRow → Type 0
+Anything rows = Unit {0}
+
+-- the one period is that of the session, which nothing closed
+abbrev pub HasMadePeriod : List StoredRow → Type 0
+HasMadePeriod rows =
+    periods_of rows
+    ≡ record {
+      name = made_period;
+      first = days_from_civil (pos 2024) 1 1;
+      last = days_from_civil (pos 2024) 1 30;
+      closed = false;
+    }
+    ∷ []
+
+-- the rows of a session read back from its text
+abbrev pub ReadsBackLaw : Type 0
+ReadsBackLaw =
+    (number streams : ℕ) → records_of (session_text number streams) ≡ session_rows number streams
+
+-- The session that is made from a number: none of its records is refused.
+abbrev pub AcceptedLaw : Type 0
+AcceptedLaw =
+    (number streams : ℕ) → least_streams ≤ streams → streams ≤ most_streams
+    → AreTaken Anything [] 1 (records_of (session_text number streams))
+
+-- before its last record, which asks for the report, it has stored its one period
+abbrev pub PeriodLaw : Type 0
+PeriodLaw =
+    (number streams : ℕ) → least_streams ≤ streams → streams ≤ most_streams
+    → AreTaken HasMadePeriod [] 1 (stored_rows number streams)
+
+-- how many rows the session has: one for each unit, stream and reading, and those of the period, its critical values and the report
+abbrev pub CountLaw : Type 0
+CountLaw =
+    (number streams : ℕ) → least_streams ≤ streams → streams ≤ most_streams
+    → length (session_rows number streams) ≡ units_of streams + streams + readings_of streams + 4
+
+-- what a stream brings to a node: its true flow where it ends there, less its true flow where it begins there
+abbrev pub brought_to : ℕ → MadeStream → ℤ
+brought_to node stream =
+    (if stream.to == node then stream.truth else pos 0)
+    -ℤ (if stream.from == node then stream.truth else pos 0)
+
+-- the true flows balance at each unit of the plant
+abbrev pub BalanceLaw : Type 0
+BalanceLaw =
+    (number streams unit : ℕ) → least_streams ≤ streams → streams ≤ most_streams → 1 ≤ unit
+    → unit ≤ units_of streams → sum_over (brought_to unit) (made_streams number streams) ≡ pos 0
+
+-- the metered streams in order: each of the first ones is metered, they rise, and each metered one is there
+pub record AreMetered : Type 0 where
+  pub metered : (place : ℕ) → is_plain (metered_at place) ≡ false
+  pub rise : (place : ℕ) → metered_at place < metered_at (place + 1)
+  pub within : (streams place : ℕ) → place < metered_of streams → metered_at place ≤ streams
+  pub each : (streams i : ℕ) → 1 ≤ i → i ≤ streams → is_plain i ≡ false
+      → (place : ℕ) × (place < metered_of streams) × (metered_at place ≡ i)

@@ -1,0 +1,82 @@
+-- Statement. The plant of a made session: a line of units that streams run through, and side streams drawn by lot. The true
+-- flows of its streams balance at each unit.
+use Rattle.std.specs.Prelude.{ℕ, ◌+◌, ◌*◌, ◌-◌, ◌/◌, ◌%◌, ◌==◌, ◌&&◌, ◌||◌, not, nat_le, nat_lt, Bool, ℤ, pos, neg_ℤ, ◌+ℤ◌, List, ◌++◌, map, if◌then◌else◌}
+use Rattle.std.specs.List.{range_with_len}
+use Rattle.pb_integers.specs.Sums.{sum_over}
+use Rattle.pb_make.specs.declared.plant.MadeStream.{MadeStream}
+use Rattle.pb_make.specs.Draws.{draw_at}
+
+-- how many streams a made session has at the least
+abbrev pub least_streams : ℕ
+least_streams = 3
+
+-- how many units there are, of so many streams; they are numbered from 1, and 0 stands for the environment
+abbrev pub units_of : ℕ → ℕ
+units_of streams = streams / 3 + 1
+
+-- how many side streams there are: the line has a stream before each unit and one behind the last
+abbrev pub sides_of : ℕ → ℕ
+sides_of streams = streams - (units_of streams + 1)
+
+-- what the line carries before a side stream leaves or joins it, in grams a day
+abbrev pub line_grams : ℤ
+line_grams = pos 50000000000
+
+-- a side stream that would lead to where it begins leads out of the plant
+abbrev pub end_from : ℕ → ℕ → ℕ
+end_from from to = if to == from then 0 else to
+
+-- the side stream of three draws: where it begins, where it leads to, and its true flow in grams a day
+abbrev pub side_by : ℕ → ℕ → ℕ → ℕ → MadeStream
+side_by units first second third = record {
+  from = first % units + 1;
+  to = end_from (first % units + 1) (second % (units + 1));
+  truth = pos (1000000 + third % 9000000);
+}
+
+-- the side stream at a place, counted from 0: each takes the next three draws
+abbrev pub side_at : ℕ → ℕ → ℕ → MadeStream
+side_at number units place =
+    side_by units (draw_at number (3 * place)) (draw_at number (3 * place + 1))
+    (draw_at number (3 * place + 2))
+
+-- The side streams.
+abbrev pub side_streams : ℕ → ℕ → List MadeStream
+side_streams number streams =
+    map (side_at number (units_of streams)) (range_with_len 0 (sides_of streams))
+
+-- a side stream passes by a stream of the line, which carries so much less: it leads forward, or out of the plant
+abbrev pub passes_by : MadeStream → ℕ → Bool
+passes_by side i = nat_lt side.from i && ((side.to == 0) || nat_le i side.to)
+
+-- a side stream leads back over a stream of the line, which carries so much more
+abbrev pub leads_back : MadeStream → ℕ → Bool
+leads_back side i = not (side.to == 0) && nat_lt side.to i && nat_le i side.from
+
+-- what a side stream adds to the true flow of the stream of the line with this number, counted from 1
+abbrev pub change_of : ℕ → MadeStream → ℤ
+change_of i side =
+    if passes_by side i then neg_ℤ side.truth
+    else if leads_back side i then side.truth
+    else pos 0
+
+-- the true flow of the stream of the line with this number, in grams a day
+abbrev pub line_truth : List MadeStream → ℕ → ℤ
+line_truth sides i = line_grams +ℤ sum_over (change_of i) sides
+
+-- the stream of the line with this number: from the unit before to that of its number; the last one leads out of the plant
+abbrev pub line_stream : ℕ → List MadeStream → ℕ → MadeStream
+line_stream units sides i = record {
+  from = i - 1;
+  to = if i == units + 1 then 0 else i;
+  truth = line_truth sides i;
+}
+
+-- the streams of the line, in order
+abbrev pub line_streams : ℕ → List MadeStream → List MadeStream
+line_streams units sides = map (line_stream units sides) (range_with_len 1 (units + 1))
+
+-- The streams: those of the line come first, the side streams behind them.
+abbrev pub made_streams : ℕ → ℕ → List MadeStream
+made_streams number streams =
+    line_streams (units_of streams) (side_streams number streams) ++ side_streams number streams

@@ -1,0 +1,44 @@
+// Laws of made sessions.
+
+ghost use Rattle.pb_make.specs.Laws.{AcceptedLaw, AreMetered, BalanceLaw, CountLaw, PeriodLaw, ReadsBackLaw};
+
+use pb_rows::{date_text_law, number_text_law, written_rows_law};
+
+/// The law that the rows of a made session read back from its text.
+pub fn reads_back_law()
+    ensures { ReadsBackLaw }
+{
+    written_rows_law();
+}
+
+/// The law that the metered streams, by place, are those that aren't each seventh one, in order.
+pub fn metered_law()
+    ensures { AreMetered }
+{}
+
+/// The law that the book accepts each record of a made session, behind those before it.
+pub fn accepted_law()
+    ensures { AcceptedLaw }
+{
+    reads_back_law();
+    number_text_law();
+    date_text_law();
+}
+
+/// The law that a made session has stored its one period before the record that asks for the report.
+pub fn period_law()
+    ensures { PeriodLaw }
+{
+    number_text_law();
+    date_text_law();
+}
+
+/// The law on how many rows a made session has.
+pub fn count_law()
+    ensures { CountLaw }
+{}
+
+/// The law that the true flows of a made plant balance at each unit.
+pub fn balance_law()
+    ensures { BalanceLaw }
+{}

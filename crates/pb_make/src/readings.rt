@@ -1,0 +1,72 @@
+// The readings of a made session, as numbers.
+
+ghost use Rattle.std.specs.Prelude.{◌≡◌, ◌<◌, ◌≤◌, ◌≤ℤ◌, ◌*◌, pos};
+ghost use Rattle.pb_limits.specs.Limits.{most_streams};
+ghost use Rattle.pb_make.specs.Readings.{day_read, error_of, is_plain, made_days, metered_at, readings_of, shown_grams, stream_read, variance_of};
+
+/// How many days there are.
+pub const MADE_DAYS: u32 = 30;
+
+/// Whether the stream of this number is plain: each seventh is.
+pub fn is_plain(i: u32) -> bool
+    ensures { result ≡ is_plain i }
+{
+    i % 7 == 0
+}
+
+/// How many readings there are, of so many streams.
+pub fn readings_of(streams: u32) -> u32
+    requires { streams ≤ most_streams }
+    ensures value { result ≡ readings_of streams }
+{
+    MADE_DAYS * (streams - streams / 7)
+}
+
+/// The number of the stream that the reading at a place is of.
+pub fn stream_read(place: u32) -> u32
+    requires { place ≤ made_days * most_streams }
+    ensures value { result ≡ stream_read place }
+{
+    metered_at(place / MADE_DAYS)
+}
+
+// The number of the metered stream at a place.
+fn metered_at(place: u32) -> u32
+    requires { place ≤ most_streams }
+    ensures { result ≡ metered_at place }
+{
+    place + place / 6 + 1
+}
+
+/// The day of the month of the reading at a place.
+pub fn day_read(place: u32) -> u8
+    ensures value { result ≡ day_read place }
+{
+    (place % MADE_DAYS) as u8 + 1
+}
+
+// The error of a draw, in hundred-thousandths.
+fn error_of(draw: u32) -> i128
+    ensures { result ≡ error_of draw }
+{
+    i128::from(draw % 2_001) - 1_000
+}
+
+/// What a meter shows at a true flow and a draw, in grams.
+pub fn shown_grams(truth: i128, draw: u32) -> i128
+    requires least { pos 1 ≤ℤ truth }
+    requires most { truth ≤ℤ pos 100000000000 }
+    ensures value { result ≡ shown_grams truth (error_of draw) }
+{
+    truth + (truth * error_of(draw)).div_euclid(100_000)
+}
+
+/// The variance of a meter at a true flow, in squared grams.
+pub fn variance_of(truth: i128) -> i128
+    requires least { pos 1 ≤ℤ truth }
+    requires most { truth ≤ℤ pos 100000000000 }
+    ensures value { result ≡ variance_of truth }
+{
+    let deviation = truth.div_euclid(200);
+    deviation * deviation
+}
