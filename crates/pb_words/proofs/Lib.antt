@@ -1,0 +1,6 @@
+mod RowLemmas
+mod StepLemmas
+mod WalkLemmas
+mod PartLemmas
+mod EndLemmas
+mod CommandLemmas

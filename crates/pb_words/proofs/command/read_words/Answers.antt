@@ -1,0 +1,49 @@
+use Rattle.std.proofs.Common.{rules, ◌≡◌, ◌∙◌, IsTrue, true, false, true≢false, refl, sym, subst, string_bytes, List, ℕ}
+use Rattle.std.specs.List.{list_all}
+use Rattle.clap.specs.Matches.{found_of, first_value}
+use Rattle.pb_words.specs.Given.{given_of}
+use Rattle.pb_words.specs.Line.{IsGivenByClap, is_plain_or_named}
+use Rattle.pb_words.proofs.CommandLemmas.{asked_here, command_here, in_range}
+use Rattle.pb_words.proofs.EndLemmas.{all_formed, each_formed, found_given, taken_of_parts}
+use Rattle.pb_words.proofs.command.read_words.Goals as goal
+
+-- a word of another form is of no known part
+pub returns-then-not-are_plain_or_named-clause-usage : goal.returns-then-not-are_plain_or_named-clause-usage
+returns-then-not-are_plain_or_named-clause-usage c = λ e command of.
+    let words = c.args.words.now in
+    let formed = (taken_of_parts of.parts words of.read).formed in
+    let each = each_formed string_bytes c.as_slice.result.now (subst (λ (ws : List (List ℕ)). IsTrue (list_all is_plain_or_named ws)) (sym c.as_slice.ensures) formed) in
+    let yes : c.are_plain_or_named.result ≡ true = c.are_plain_or_named.ensures.1 each in
+    let no : c.are_plain_or_named.result ≡ false = search rules in
+    true≢false (sym yes ∙ no)
+
+-- what the matches ask for is the command of the words
+pub returns-in-Some-clause-ok : goal.returns-in-Some-clause-ok
+returns-in-Some-clause-ok c =
+    let words = c.args.words.now in
+    let yes : c.are_plain_or_named.result ≡ true = search rules in
+    let formed = subst (λ (ws : List (List ℕ)). IsTrue (list_all is_plain_or_named ws)) c.as_slice.ensures
+    (all_formed string_bytes c.as_slice.result.now (c.are_plain_or_named.ensures.0 yes)) in
+    let given = given_of (first_value (found_of c.in-Ok.matches)) in
+    let taken : IsGivenByClap words given =
+    record { formed = formed; taken = c.in-Ok.ensures.taken; is = found_given (found_of c.in-Ok.matches) words c.in-Ok.ensures.rows } in
+    command_here words given c.in-Some.command taken c.in-Some.ensures.some
+
+-- and where they ask for none there is none
+pub returns-in-Ok-clause-usage : goal.returns-in-Ok-clause-usage
+returns-in-Ok-clause-usage c = λ e command of.
+    let words = c.args.words.now in
+    let yes : c.are_plain_or_named.result ≡ true = search rules in
+    let formed = subst (λ (ws : List (List ℕ)). IsTrue (list_all is_plain_or_named ws)) c.as_slice.ensures
+    (all_formed string_bytes c.as_slice.result.now (c.are_plain_or_named.ensures.0 yes)) in
+    let given = given_of (first_value (found_of c.in-Ok.matches)) in
+    let taken : IsGivenByClap words given =
+    record { formed = formed; taken = c.in-Ok.ensures.taken; is = found_given (found_of c.in-Ok.matches) words c.in-Ok.ensures.rows } in
+    c.in-None.ensures.none refl command (asked_here words given command taken of)
+
+-- words that clap refuses are of no known parts
+pub returns-clause-usage : goal.returns-clause-usage
+returns-clause-usage c = λ e command of. c.in-Err.ensures.refused e (taken_of_parts of.parts c.args.words.now of.read).taken
+
+pub returns-in-Some-clause-within : goal.returns-in-Some-clause-within
+returns-in-Some-clause-within c = in_range (given_of (first_value (found_of c.in-Ok.matches))) c.in-Some.command c.in-Some.ensures.some

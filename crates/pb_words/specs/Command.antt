@@ -1,0 +1,93 @@
+-- Statement. The commands, and the words that give each.
+use Rattle.std.specs.Prelude.{◌≡◌, ◌≤◌, ◌⊎◌, ℕ, ℤ, pos, negsuc, Bool, true, false, ◌||◌, List, Option, Some, None, is_some, codes}
+use Rattle.pb_rows.specs.Number.{number, within}
+use Rattle.pb_limits.specs.Limits.{most_gap, most_streams, most_sweeps}
+use Rattle.pb_graph.specs.declared.results.Options.{Options}
+use Rattle.pb_elim.specs.Options.{AreOptions, most_rounds}
+use Rattle.pb_report.specs.declared.form.Form.{Form}
+use Rattle.pb_report.specs.declared.form.Form.TheVariants.{Csv, Json}
+use Rattle.pb_make.specs.Plant.{least_streams}
+use Rattle.pb_words.specs.Parts.{Part, ArePartsOf}
+use Rattle.pb_words.specs.Given.{Given, given_by}
+use Rattle.pb_words.specs.declared.command.Command.{Command}
+use Rattle.pb_words.specs.declared.command.Command.TheVariants.{Run, Make}
+
+-- the greatest number that a session is made from: every number of 32 bits is one
+abbrev pub greatest_number : ℕ
+greatest_number = 4294967295
+
+-- the natural number among the whole ones
+abbrev pub natural : Option ℤ → Option ℕ
+natural None = None
+natural (Some (pos n)) = Some n
+natural (Some (negsuc n)) = None
+
+-- the number that a text gives within a range, in the form that `read_whole` reads; another number where no text was given
+abbrev pub number_or : ℕ → ℕ → ℕ → Option (List ℕ) → Option ℕ
+number_or least most usual None = Some usual
+number_or least most usual (Some text) = natural (within (pos least) (pos most) (number text))
+
+-- the form that a text names; csv where none was given
+abbrev pub IsFormOf : Option (List ℕ) → Form → Type 0
+IsFormOf None form = form ≡ Csv
+IsFormOf (Some text) form = ((text ≡ codes "csv") × (form ≡ Csv)) ⊎ ((text ≡ codes "json") × (form ≡ Json))
+
+-- What was given asks for a run with these options in this form. Rounds of elimination ask for tests too.
+pub record AsksRun (given : Given) (options : Options) (asked : Form) : Type 0 where
+  pub mode : given.mode ≡ Some (codes "run")
+  pub gap : number_or 1 most_gap 10 given.gap ≡ Some options.gap
+  pub sweeps : number_or 0 most_sweeps 5000 given.sweeps ≡ Some options.sweeps
+  pub eliminate : number_or 1 most_rounds 0 given.eliminate ≡ Some options.eliminate
+  pub tests : options.tests ≡ (given.tests || is_some given.eliminate)
+  pub form : IsFormOf given.format asked
+  pub no_number : given.number ≡ None
+  pub no_streams : given.streams ≡ None
+  pub no_summary : given.summary ≡ false
+
+-- What was given asks for a session made from this number with so many streams, or for its summary with this gap and so many
+-- sweeps.
+pub record AsksMake (given : Given) (from count : ℕ) (summed : Bool) (within_gap within_sweeps : ℕ) : Type 0 where
+  pub mode : given.mode ≡ Some (codes "make")
+  pub number : number_or 0 greatest_number 1 given.number ≡ Some from
+  pub streams : number_or least_streams most_streams 300 given.streams ≡ Some count
+  pub summary : summed ≡ given.summary
+  pub gap : number_or 1 most_gap 10 given.gap ≡ Some within_gap
+  pub sweeps : number_or 0 most_sweeps 5000 given.sweeps ≡ Some within_sweeps
+  pub no_eliminate : given.eliminate ≡ None
+  pub no_format : given.format ≡ None
+  pub no_tests : given.tests ≡ false
+
+-- the command is a run, and what was given asks for it
+abbrev pub AsksRunOf : Given → Command → Type 0
+AsksRunOf given (Run options form) = AsksRun given options form
+AsksRunOf given (Make number streams summary gap sweeps) = ⊥
+
+-- the command is a session to be made, and what was given asks for it
+abbrev pub AsksMakeOf : Given → Command → Type 0
+AsksMakeOf given (Run options form) = ⊥
+AsksMakeOf given (Make number streams summary gap sweeps) = AsksMake given number streams summary gap sweeps
+
+-- what was given asks for the command
+abbrev pub Asks : Given → Command → Type 0
+Asks given (Run options form) = AsksRun given options form
+Asks given (Make number streams summary gap sweeps) = AsksMake given number streams summary gap sweeps
+
+-- The words give the command: they are the words of parts, each option at most once, and what the parts give asks for it.
+pub record IsCommandOf (words : List (List ℕ)) (command : Command) : Type 0 where
+  pub parts : List Part
+  pub read : ArePartsOf parts words
+  pub asks : Asks (given_by parts) command
+
+-- A session to be made within the limits: a number of 32 bits, so many streams, and for its summary a gap and so many sweeps.
+pub record IsMakeInRange (from count within_gap within_sweeps : ℕ) : Type 0 where
+  pub number : from ≤ greatest_number
+  pub least : least_streams ≤ count
+  pub most : count ≤ most_streams
+  pub some_gap : 1 ≤ within_gap
+  pub greatest_gap : within_gap ≤ most_gap
+  pub greatest_sweeps : within_sweeps ≤ most_sweeps
+
+-- a command within the limits
+abbrev pub IsInRange : Command → Type 0
+IsInRange (Run options form) = AreOptions options
+IsInRange (Make number streams summary gap sweeps) = IsMakeInRange number streams gap sweeps

@@ -1,0 +1,84 @@
+-- Statement. The parts of a command line: the word of a mode, flags, and options with their values.
+use Rattle.std.specs.Prelude.{◌≡◌, ℕ, ◌==◌, Bool, false, IsTrue, List, [], ◌∷◌, ◌++◌, codes}
+use Rattle.std.specs.List.{list_any, All}
+use Rattle.std.specs.Str.{bytes_eq}
+
+-- the options that take a value, without their hyphens
+abbrev pub option_names : List (List ℕ)
+option_names = codes "gap" ∷ codes "sweeps" ∷ codes "eliminate" ∷ codes "format" ∷ codes "number" ∷ codes "streams" ∷ []
+
+-- the options that stand alone
+abbrev pub flag_names : List (List ℕ)
+flag_names = codes "tests" ∷ codes "summary" ∷ []
+
+-- A part of a command line: a mode; a flag; an option and its value as two words, or as one word with an equals sign.
+pub data Part : Type 0 where
+  mode : List ℕ → Part
+  flag : List ℕ → Part
+  apart : List ℕ → List ℕ → Part
+  joined : List ℕ → List ℕ → Part
+
+-- the byte `-`, which an option begins with twice
+abbrev pub hyphen : ℕ
+hyphen = 45
+
+-- the byte `=`, which joins an option and its value
+abbrev pub equals_sign : ℕ
+equals_sign = 61
+
+-- the words of a part
+abbrev pub words_of : Part → List (List ℕ)
+words_of (mode word) = word ∷ []
+words_of (flag name) = (codes "--" ++ name) ∷ []
+words_of (apart name value) = (codes "--" ++ name) ∷ value ∷ []
+words_of (joined name value) = (codes "--" ++ (name ++ equals_sign ∷ value)) ∷ []
+
+-- the words of the parts, in order
+abbrev pub line_of : List Part → List (List ℕ)
+line_of [] = []
+line_of (part ∷ rest) = words_of part ++ line_of rest
+
+-- what a part says something of: the mode, or the option by its name
+abbrev pub name_of : Part → List ℕ
+name_of (mode word) = codes "mode"
+name_of (flag name) = name
+name_of (apart name value) = name
+name_of (joined name value) = name
+
+-- what it says: the mode's word, an option's value, and of a flag that it is there
+abbrev pub text_of : Part → List ℕ
+text_of (mode word) = word
+text_of (flag name) = codes "true"
+text_of (apart name value) = value
+text_of (joined name value) = value
+
+-- whether a word begins with a hyphen
+abbrev pub has_hyphen : List ℕ → Bool
+has_hyphen [] = false
+has_hyphen (first ∷ rest) = first == hyphen
+
+-- whether a name is one of these
+abbrev pub is_among : List ℕ → List (List ℕ) → Bool
+is_among name names = list_any (λ known. bytes_eq known name) names
+
+-- A part of a known form: a word without a hyphen at its head for the mode, the whole name of a flag, and the whole name of an
+-- option with its value; a value that is a word of its own has no hyphen at its head.
+abbrev pub IsKnownPart : Part → Type 0
+IsKnownPart (mode word) = has_hyphen word ≡ false
+IsKnownPart (flag name) = IsTrue (is_among name flag_names)
+IsKnownPart (apart name value) = IsTrue (is_among name option_names) × (has_hyphen value ≡ false)
+IsKnownPart (joined name value) = IsTrue (is_among name option_names)
+
+-- whether one of the parts says something of this name
+abbrev pub is_named : List ℕ → List Part → Bool
+is_named name parts = list_any (λ part. bytes_eq (name_of part) name) parts
+
+-- no part says something of what a part before it has said
+abbrev pub EachOnce : List Part → Type 0
+EachOnce parts = (before after : List Part) (part : Part) → parts ≡ before ++ part ∷ after → is_named (name_of part) before ≡ false
+
+-- The words are those of known parts, with at most one mode and each option at most once.
+pub record ArePartsOf (parts : List Part) (words : List (List ℕ)) : Type 0 where
+  pub are : words ≡ line_of parts
+  pub known : All IsKnownPart parts
+  pub once : EachOnce parts
