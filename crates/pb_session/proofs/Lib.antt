@@ -1,4 +1,8 @@
 mod AppendingLemmas
+mod FirstStageLemmas
+mod CriticalLemmas
+mod EditedLemmas
+mod HistoryLemmas
 mod NamedLemmas
 mod ReportLemmas
 mod RowLemmas

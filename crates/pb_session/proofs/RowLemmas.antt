@@ -11,12 +11,12 @@ use Rattle.pb_book.specs.declared.answer.NotAccepted.TheVariants.{Refused as Not
 use Rattle.pb_book.specs.declared.answer.Accepted.{Accepted}
 use Rattle.pb_book.specs.declared.answer.Accepted.TheVariants.{Stored as StoredAccepted}
 use Rattle.pb_book.specs.declared.requests.Request.{Request}
-use Rattle.pb_book.specs.declared.requests.Request.TheVariants.{Blank as BlankAsked, Store, Design as DesignAsked, Report as ReportAsked}
+use Rattle.pb_book.specs.declared.requests.Request.TheVariants.{Blank as BlankAsked, Store, Design as DesignAsked, Report as ReportAsked, History as HistoryAsked}
 use Rattle.pb_book.specs.Apart.{is_named}
 use Rattle.pb_book.specs.Rows.{StoredRow, period_place, periods_of, version_of}
 use Rattle.pb_book.specs.Requests.{request_in}
 use Rattle.pb_book.specs.Refusals.{refusal_of}
-use Rattle.pb_book.specs.Answer.{Answer, Refused, Says, Stored, after_answer, answer_if, answer_of, answer_to, is_refused, report_or_refused, said_of, stored_or_refused}
+use Rattle.pb_book.specs.Answer.{Answer, Refused, Says, Stored, after_answer, answer_if, answer_of, answer_to, history_or_refused, is_refused, report_or_refused, said_of, stored_or_refused}
 use Rattle.pb_session.specs.Session.{AddsAccepted, AddsBy, SessionState}
 use Rattle.pb_session.specs.Accepted.{IsOfPeriods}
 
@@ -44,12 +44,12 @@ accepted_adds state new at (Stored row) accepted text is new_is adds = subst (λ
 accepted_adds state new at (Says said) accepted text is new_is adds =
     subst (λ (s : SessionState). AddsAccepted s said text) new_is (subst (λ (a : Accepted). AddsAccepted new a text) (same_accepted accepted said is) adds)
 
--- the answer to a record asks for a report of a period that there is
+-- the answer to a record asks for a report or a history of a period that there is
 abbrev pub AnswersOf : List StoredRow → Answer → Type 0
 AnswersOf rows (Says accepted) = IsOfPeriods rows accepted
 AnswersOf rows answer = Unit {0}
 
--- a report is of a period that there is
+-- a report, or a history, is of a period that there is
 pub of_periods : (rows new : List StoredRow) (at : ℕ) (answer : Answer) (accepted : Accepted) → said_ok accepted ≡ said_of answer → AnswersOf rows answer
     → new ≡ after_answer rows at answer → IsOfPeriods new accepted
 of_periods rows new at (Refused cause) accepted is of is_new = cc is
@@ -70,6 +70,10 @@ reports_of : (rows : List StoredRow) (found : Option ℕ) → IfSome found (λ i
 reports_of rows (Some i) lt = lt
 reports_of rows None lt = tt
 
+histories_of : (rows : List StoredRow) (found : Option ℕ) → IfSome found (λ i. i < length (periods_of rows)) → AnswersOf rows (history_or_refused found)
+histories_of rows (Some i) lt = lt
+histories_of rows None lt = tt
+
 stores_of : (rows : List StoredRow) (row : BookRow) (cause : Option Refusal) → AnswersOf rows (stored_or_refused row cause)
 stores_of rows row (Some cause) = tt
 stores_of rows row None = tt
@@ -79,6 +83,7 @@ answers_to rows BlankAsked = tt
 answers_to rows (Store row) = stores_of rows row (refusal_of rows row)
 answers_to rows DesignAsked = tt
 answers_to rows (ReportAsked name) = reports_of rows (period_place rows name) (found_within name (periods_of rows) (period_place rows name) refl)
+answers_to rows (HistoryAsked name) = histories_of rows (period_place rows name) (found_within name (periods_of rows) (period_place rows name) refl)
 
 answers_if : (rows : List StoredRow) (request : Result Request Refusal) → AnswersOf rows (answer_if rows request)
 answers_if rows (Err cause) = tt

@@ -4,9 +4,9 @@ use Rattle.std.proofs.lemmas.Option.{slice_get-get_or}
 use Rattle.pb_graph.specs.ProcessGraph.{ProcessGraph, IsProcessGraph}
 use Rattle.pb_classify.specs.Laws.{SomeClassificationLaw}
 use Rattle.pb_elim.specs.Laws.{CertifiedLaw, SomeStudyLaw}
-use Rattle.pb_elim.specs.Options.{AsksOneStage}
+use Rattle.pb_elim.specs.Options.{AreOptions}
 use Rattle.pb_book.specs.declared.answer.Accepted.{Accepted}
-use Rattle.pb_book.specs.declared.answer.Accepted.TheVariants.{Blank, Stored as StoredAccepted, Design, Report}
+use Rattle.pb_book.specs.declared.answer.Accepted.TheVariants.{Blank, Stored as StoredAccepted, Design, Report, History}
 use Rattle.pb_book.specs.declared.rows.Period.{Period}
 use Rattle.pb_book.specs.Rows.{periods_of}
 use Rattle.pb_book.specs.Answer.{Answer, Refused, Says, Stored, answer_of}
@@ -16,7 +16,10 @@ use Rattle.pb_period.specs.Days.{days_of}
 use Rattle.pb_period.specs.declared.graph.Assembly.{Assembly}
 use Rattle.pb_period.specs.declared.graph.Assembly.TheVariants.{Over, NoMemory}
 use Rattle.pb_period.specs.PeriodGraph.{assembly_of, base_of, design_graph, period_graph, period_names, unless_over}
-use Rattle.pb_session.specs.Session.{AddsAccepted, AddsBy, AreNamesOf, SessionState, no_critical, Reports, ReportsBy, state_after}
+use Rattle.pb_report.specs.Form.{text_in}
+use Rattle.pb_session.specs.Criticals.{critical_of}
+use Rattle.pb_session.specs.History.{told_history}
+use Rattle.pb_session.specs.Session.{AddsAccepted, AddsBy, AreNamesOf, SessionState, Reports, ReportsBy, Tells, state_after}
 use Rattle.pb_session.specs.Laws.{SomeTextLaw, SomeSessionTextLaw}
 use Rattle.pb_session.proofs.NamedLemmas.{names_are, period_names_are}
 use Rattle.pb_session.proofs.RowLemmas.{AnswersOf, answers, some_period}
@@ -26,17 +29,17 @@ never_memory : (graph : ProcessGraph) (found : Option ℕ) → unless_over graph
 never_memory graph (Some stream) = λ is. cc is
 never_memory graph None = λ is. cc is
 
-some_report : SomeStudyLaw → CertifiedLaw → (state : SessionState) (period : Period) (assembly : Result ProcessGraph Assembly) → AsksOneStage state.options
+some_report : SomeStudyLaw → CertifiedLaw → (state : SessionState) (period : Period) (assembly : Result ProcessGraph Assembly) → AreOptions state.options
     → HaveGraphs state.rows → IfOk assembly IsProcessGraph → assembly ≡ assembly_of state.rows (days_of period) → assembly ≢ Err NoMemory
     → (text : List ℕ) × ReportsBy state period assembly text
 some_report studies certified state period (Ok graph) asked graphs within is sure =
-    let (study, is_study) = studies graph state.options no_critical within asked in
+    let (study, is_study) = studies graph state.options (critical_of state.rows) within asked in
     let named = period_names_are state.rows (days_of period) graph graphs.names is in
-    (_, record { limits = within; named = named; study = study; is_study = is_study; certified = certified graph state.options no_critical study within is_study; rows = refl })
+    (_, record { limits = within; named = named; study = study; is_study = is_study; certified = certified graph state.options (critical_of state.rows) study within is_study; rows = refl })
 some_report studies certified state period (Err (Over j)) asked graphs within is sure = (_, refl)
 some_report studies certified state period (Err NoMemory) asked graphs within is sure = absurd (sure refl)
 
-some_reports : SomeStudyLaw → CertifiedLaw → (state : SessionState) (i : ℕ) → AsksOneStage state.options → HaveGraphs state.rows
+some_reports : SomeStudyLaw → CertifiedLaw → (state : SessionState) (i : ℕ) → AreOptions state.options → HaveGraphs state.rows
     → i < length (periods_of state.rows) → (text : List ℕ) × Reports state (slice_get (periods_of state.rows) i) text
 some_reports studies certified state i asked graphs there =
     let period = get_or (periods_of state.rows) i some_period in
@@ -45,7 +48,13 @@ some_reports studies certified state i asked graphs there =
     let (text, reports) = some_report studies certified state period (assembly_of state.rows (days_of period)) asked graphs within refl (never_memory graph _) in
     (text, subst (λ (found : Option Period). Reports state found text) (sym (slice_get-get_or (periods_of state.rows) i some_period there)) reports)
 
-some_answer : SomeClassificationLaw → SomeStudyLaw → CertifiedLaw → (state : SessionState) (at : ℕ) (answer : Answer) → AsksOneStage state.options
+some_history : (state : SessionState) (i : ℕ) → i < length (periods_of state.rows) → (text : List ℕ) × Tells state (slice_get (periods_of state.rows) i) text
+some_history state i there =
+    let period = get_or (periods_of state.rows) i some_period in
+    let text = text_in state.form (told_history state.rows period) in
+    (text, subst (λ (found : Option Period). Tells state found text) (sym (slice_get-get_or (periods_of state.rows) i some_period there)) refl)
+
+some_answer : SomeClassificationLaw → SomeStudyLaw → CertifiedLaw → (state : SessionState) (at : ℕ) (answer : Answer) → AreOptions state.options
     → HaveGraphs state.rows → AnswersOf state.rows answer → (text : List ℕ) × AddsBy state at answer text
 some_answer classifications studies certified state at (Refused cause) asked graphs of = (_, refl)
 some_answer classifications studies certified state at (Stored row) asked graphs of = ([], refl)
@@ -55,6 +64,7 @@ some_answer classifications studies certified state at (Says Design) asked graph
     let (classes, are) = classifications (design_graph state.rows) graphs.design in
     (_, record { limits = graphs.design; named = names_are base_of state.rows graphs.names; classes = classes; are = are; rows = refl })
 some_answer classifications studies certified state at (Says (Report i)) asked graphs of = some_reports studies certified state i asked graphs of
+some_answer classifications studies certified state at (Says (History i)) asked graphs of = some_history state i of
 
 pub some_text : SomeClassificationLaw → SomeStudyLaw → CertifiedLaw → GraphsLaw → SomeTextLaw
 some_text classifications studies certified graphs state at fields asked accepted =

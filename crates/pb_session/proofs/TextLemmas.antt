@@ -7,7 +7,7 @@ use Rattle.pb_graph.specs.declared.results.Study.{Study}
 use Rattle.pb_elim.specs.Laws.{OneStudyLaw}
 use Rattle.pb_site.specs.Site.{names_of}
 use Rattle.pb_book.specs.declared.answer.Accepted.{Accepted}
-use Rattle.pb_book.specs.declared.answer.Accepted.TheVariants.{Blank, Stored as StoredAccepted, Design, Report}
+use Rattle.pb_book.specs.declared.answer.Accepted.TheVariants.{Blank, Stored as StoredAccepted, Design, Report, History}
 use Rattle.pb_book.specs.declared.rows.Period.{Period}
 use Rattle.pb_book.specs.Rows.{declared_of, periods_of}
 use Rattle.pb_book.specs.Answer.{Answer, Refused, Says, Stored, answer_of}
@@ -18,20 +18,25 @@ use Rattle.pb_period.specs.PeriodGraph.{assembly_of, design_graph, period_names}
 use Rattle.pb_report.specs.Form.{text_in}
 use Rattle.pb_report.specs.Design.{design_rows}
 use Rattle.pb_report.specs.Study.{study_rows}
-use Rattle.pb_session.specs.Session.{AddsAccepted, AddsBy, SessionState, no_critical, Reports, ReportsBy, state_after}
+use Rattle.pb_session.specs.Criticals.{critical_of}
+use Rattle.pb_session.specs.Session.{AddsAccepted, AddsBy, SessionState, Reports, ReportsBy, Tells, state_after}
 use Rattle.pb_session.specs.Laws.{OneTextLaw, OneSessionTextLaw}
 
 reports_by_text : OneStudyLaw → (state : SessionState) (period : Period) (assembly : Result ProcessGraph Assembly) (one other : List ℕ)
     → ReportsBy state period assembly one → ReportsBy state period assembly other → one ≡ other
 reports_by_text law state period (Ok graph) one other a b =
     let text : Study → List ℕ = λ study. text_in state.form (study_rows (period_names state.rows (days_of period)) period.name state.options study) in
-    a.rows ∙ ap text (law graph state.options no_critical a.study b.study a.limits a.is_study b.is_study) ∙ sym b.rows
+    a.rows ∙ ap text (law graph state.options (critical_of state.rows) a.study b.study a.limits a.is_study b.is_study) ∙ sym b.rows
 reports_by_text law state period (Err (Over j)) one other a b = a ∙ sym b
 reports_by_text law state period (Err NoMemory) one other a b = absurd a
 
 report_text : OneStudyLaw → (state : SessionState) (period : Option Period) (one other : List ℕ) → Reports state period one → Reports state period other → one ≡ other
 report_text law state (Some period) one other a b = reports_by_text law state period (assembly_of state.rows (days_of period)) one other a b
 report_text law state None one other a b = absurd a
+
+history_text : (state : SessionState) (period : Option Period) (one other : List ℕ) → Tells state period one → Tells state period other → one ≡ other
+history_text state (Some period) one other a b = a ∙ sym b
+history_text state None one other a b = absurd a
 
 accepted_text : OneClassificationLaw → OneStudyLaw → (state : SessionState) (accepted : Accepted) (one other : List ℕ)
     → AddsAccepted state accepted one → AddsAccepted state accepted other → one ≡ other
@@ -41,6 +46,7 @@ accepted_text law studies state Design one other a b =
     let text : List Classified → List ℕ = λ classes. text_in state.form (design_rows (names_of (declared_of state.rows)) (design_graph state.rows) classes) in
     a.rows ∙ ap text (law (design_graph state.rows) a.classes b.classes a.are b.are) ∙ sym b.rows
 accepted_text law studies state (Report i) one other a b = report_text studies state (slice_get (periods_of state.rows) i) one other a b
+accepted_text law studies state (History i) one other a b = history_text state (slice_get (periods_of state.rows) i) one other a b
 
 answer_text : OneClassificationLaw → OneStudyLaw → (state : SessionState) (at : ℕ) (answer : Answer) (one other : List ℕ) → AddsBy state at answer one → AddsBy state at answer other → one ≡ other
 answer_text law studies state at (Refused cause) one other a b = a ∙ sym b

@@ -1,6 +1,6 @@
 -- Statement. Each record adds one text to the output, and each session has one.
 use Rattle.std.specs.Prelude.{◌≡◌, ℕ, List}
-use Rattle.pb_elim.specs.Options.{AsksOneStage}
+use Rattle.pb_elim.specs.Options.{AreOptions}
 use Rattle.pb_book.specs.Accepted.{AreAccepted}
 use Rattle.pb_session.specs.Session.{Adds, IsSessionText, SessionState}
 
@@ -19,11 +19,11 @@ OneSessionTextLaw =
 -- a record adds a text, whatever rows were accepted before it
 abbrev pub SomeTextLaw : Type 0
 SomeTextLaw =
-    (state : SessionState) (at : ℕ) (fields : List (List ℕ)) → AsksOneStage state.options → AreAccepted state.rows
+    (state : SessionState) (at : ℕ) (fields : List (List ℕ)) → AreOptions state.options → AreAccepted state.rows
     → (text : List ℕ) × Adds state at fields text
 
 -- a session has a text
 abbrev pub SomeSessionTextLaw : Type 0
 SomeSessionTextLaw =
-    (state : SessionState) (at : ℕ) (records : List (List (List ℕ))) → AsksOneStage state.options → AreAccepted state.rows
+    (state : SessionState) (at : ℕ) (records : List (List (List ℕ))) → AreOptions state.options → AreAccepted state.rows
     → (text : List ℕ) × IsSessionText state at records text

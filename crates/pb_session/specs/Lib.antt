@@ -1,6 +1,10 @@
 -- Statement
 pub mod Appending
+pub mod Criticals
+pub mod History
 pub mod Session
+pub mod FirstStage
 pub mod Laws
+pub mod Edited
 -- Inside
 pub mod Accepted

@@ -3,15 +3,14 @@ use Rattle.std.specs.Prelude.{◌≡◌, ℕ, ◌+◌, Bool, ◌||◌, false, Li
 use Rattle.pb_rows.specs.declared.name.Names.{Names}
 use Rattle.pb_graph.specs.declared.records.Classified.{Classified}
 use Rattle.pb_graph.specs.declared.results.Options.{Options}
-use Rattle.pb_graph.specs.declared.results.Critical.{Critical}
 use Rattle.pb_graph.specs.declared.results.Study.{Study}
 use Rattle.pb_graph.specs.ProcessGraph.{ProcessGraph, IsProcessGraph}
 use Rattle.pb_classify.specs.Classification.{IsClassification}
-use Rattle.pb_elim.specs.Stage.{IsStudyOf}
+use Rattle.pb_elim.specs.Study.{IsStudyOf}
 use Rattle.pb_elim.specs.Certified.{IsCertifiedStage}
 use Rattle.pb_site.specs.Site.{AreDistinct, names_of}
 use Rattle.pb_book.specs.declared.answer.Accepted.{Accepted}
-use Rattle.pb_book.specs.declared.answer.Accepted.TheVariants.{Blank, Stored as StoredAccepted, Design, Report}
+use Rattle.pb_book.specs.declared.answer.Accepted.TheVariants.{Blank, Stored as StoredAccepted, Design, Report, History}
 use Rattle.pb_book.specs.declared.rows.Period.{Period}
 use Rattle.pb_book.specs.Rows.{StoredRow, declared_of, periods_of}
 use Rattle.pb_book.specs.Answer.{Answer, Refused, Says, Stored, after, answer_of, code_of, is_refused}
@@ -19,6 +18,8 @@ use Rattle.pb_period.specs.Days.{days_of}
 use Rattle.pb_period.specs.declared.graph.Assembly.{Assembly}
 use Rattle.pb_period.specs.declared.graph.Assembly.TheVariants.{Over, NoMemory}
 use Rattle.pb_period.specs.PeriodGraph.{assembly_of, design_graph, period_names}
+use Rattle.pb_session.specs.Criticals.{critical_of}
+use Rattle.pb_session.specs.History.{told_history}
 use Rattle.pb_report.specs.declared.form.Form.{Form}
 use Rattle.pb_report.specs.Form.{text_in}
 use Rattle.pb_report.specs.Row.{Columns}
@@ -53,17 +54,13 @@ pub record IsDesign (state : SessionState) (names : Names) (graph : ProcessGraph
   pub are : IsClassification graph classes
   pub rows : IsTextOf state (design_rows names graph classes) text
 
--- no critical values: without tests none is asked for
-abbrev pub no_critical : Critical
-no_critical = record { global = []; nodal = None; measure = None }
-
--- A text is the report of a period of this name, of which this is the graph: the rows of the study of the graph, each stage of which
--- is certified, by the names of its nodes and streams.
+-- A text is the report of a period of this name, of which this is the graph: the rows of the study of the graph by the critical values
+-- of the stored rows, each stage of which is certified, by the names of its nodes and streams.
 pub record IsReport (state : SessionState) (names : Names) (period : List ℕ) (graph : ProcessGraph) (text : List ℕ) : Type 0 where
   pub limits : IsProcessGraph graph
   pub named : AreNamesOf names graph
   pub study : Study
-  pub is_study : IsStudyOf graph state.options no_critical study
+  pub is_study : IsStudyOf graph state.options (critical_of state.rows) study
   pub certified : All IsCertifiedStage study.stages
   pub rows : IsTextOf state (study_rows names period state.options study) text
 
@@ -79,12 +76,18 @@ abbrev pub Reports : SessionState → Option Period → List ℕ → Type 0
 Reports state (Some period) text = ReportsBy state period (assembly_of state.rows (days_of period)) text
 Reports state None text = ⊥
 
+-- the text of the history of the period at a place
+abbrev pub Tells : SessionState → Option Period → List ℕ → Type 0
+Tells state (Some period) text = IsTextOf state (told_history state.rows period) text
+Tells state None text = ⊥
+
 -- the text that an accepted record adds
 abbrev pub AddsAccepted : SessionState → Accepted → List ℕ → Type 0
 AddsAccepted state Blank text = text ≡ []
 AddsAccepted state StoredAccepted text = text ≡ []
 AddsAccepted state Design text = IsDesign state (names_of (declared_of state.rows)) (design_graph state.rows) text
 AddsAccepted state (Report i) text = Reports state (slice_get (periods_of state.rows) i) text
+AddsAccepted state (History i) text = Tells state (slice_get (periods_of state.rows) i) text
 
 -- the text that an answer to the record with this number adds
 abbrev pub AddsBy : SessionState → ℕ → Answer → List ℕ → Type 0
@@ -92,7 +95,8 @@ AddsBy state at (Refused cause) text = IsTextOf state (refused_row at (code_of c
 AddsBy state at (Stored row) text = text ≡ []
 AddsBy state at (Says accepted) text = AddsAccepted state accepted text
 
--- The text that a record adds to the output: a refused one its row, `design` the rows of the design, `report` those of the report.
+-- The text that a record adds to the output: a refused one its row, `design` the rows of the design, `report` those of the report,
+-- `history` those of the history.
 abbrev pub Adds : SessionState → ℕ → List (List ℕ) → List ℕ → Type 0
 Adds state at fields text = AddsBy state at (answer_of state.rows fields) text
 

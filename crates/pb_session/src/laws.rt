@@ -1,11 +1,12 @@
 // Each record adds one text to the output, and each session has one.
 
+ghost use Rattle.pb_session.specs.Edited.{EditedFileLaw};
 ghost use Rattle.pb_session.specs.Laws.{OneTextLaw, OneSessionTextLaw, SomeTextLaw, SomeSessionTextLaw};
 
-use pb_book::accepted_law;
+use pb_book::{accepted_law, plain_law};
 use pb_classify::{one_classification_law, some_classification_law};
 use pb_elim::{certified_law, one_study_law, some_study_law};
-use pb_period::graphs_law;
+use pb_period::{graphs_law, plain_graphs_law};
 
 /// The law that what a record adds to the output is one text, and so is the output of a session: the classes of a design and
 /// their certificates leave no choice, and neither does the study of a graph.
@@ -28,4 +29,14 @@ pub fn some_text_law()
     certified_law();
     graphs_law();
     accepted_law();
+}
+
+/// The law that a report after edits is that of the edited file. An edited file has one record for each plain row: the declarations,
+/// periods and critical values, and then the live facts with their last values. None of its records is refused, and a report behind
+/// them has the text that it has behind the rows of the session, with whatever options and in either form.
+pub fn edited_file_law()
+    ensures { EditedFileLaw }
+{
+    plain_law();
+    plain_graphs_law();
 }

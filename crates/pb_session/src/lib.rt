@@ -1,13 +1,16 @@
 //! A session: records in, one at a time, and the rows that each of them adds to the output.
 //!
 //! The book takes or refuses each record. A `design` row writes the class of each stream of the declared plant, a `report` row the
-//! report of a period as it stands, and a refused record its cause; the session goes on behind it.
+//! report of a period as it stands, a `history` row the edits that touch a period, and a refused record its cause; the session goes on
+//! behind it.
 #![tactic(auto)]
 
+mod criticals;
+mod history;
 mod laws;
 mod session;
 #[cfg(test)]
 mod tests;
 
-pub use laws::{one_text_law, some_text_law};
+pub use laws::{edited_file_law, one_text_law, some_text_law};
 pub use session::Session;

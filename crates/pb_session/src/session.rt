@@ -1,17 +1,19 @@
 // The state of a session.
 
-ghost use Rattle.std.specs.Prelude.{◌≡◌, ◌≢◌, ◌<◌, ◌∷◌, [], length, slice_get, OnOk, OnErr, IfOk};
+ghost use Rattle.std.specs.Prelude.{◌≡◌, ◌≢◌, ◌<◌, ◌∷◌, [], length, slice_get, OnOk, OnErr, IfErr, IfOk, Err};
 ghost use Rattle.pb_book.specs.declared.answer.Accepted.TheVariants.{Design, Stored};
 ghost use Rattle.pb_book.specs.Answer.{code_of};
 ghost use Rattle.pb_report.specs.Refusal.{refused_row};
 ghost use Rattle.pb_book.specs.Rows.{periods_of};
 
+use crate::criticals::declared_critical;
+use crate::history::{told_edits, told_period};
 use pb_book::{Accepted, Book, NotAccepted, Refused};
 use pb_classify::classify;
-use pb_elim::study;
-use pb_graph::{Critical, Graph, List, Options};
+use pb_elim::{stage, study};
+use pb_graph::{Graph, Options, Stage};
 use pb_period::{Assembly, assemble, design, period_names};
-use pb_report::{Form, write_design, write_over, write_refused, write_study};
+use pb_report::{Form, write_design, write_history, write_over, write_refused, write_study};
 use pb_rows::{Name, Names, Row};
 use std::alloc::{AllocError, Global};
 use std::marker::Model;
@@ -30,25 +32,25 @@ impl Model for Session {
 
     ghost Value = { SessionState };
 
-    ghost use Rattle.pb_session.specs.Accepted.{CanAsk};
+    ghost use Rattle.pb_elim.specs.Options.{AreOptions};
 
     ghost view = { λ a. record { options = a.options; form = a.form; rows = a.book } };
 
-    ghost invariant = { λ a. CanAsk a.options };
+    ghost invariant = { λ a. AreOptions a.options };
 }
 
 impl Session {
     ghost use Rattle.pb_book.specs.Answer.{answer_of, is_refused};
-    ghost use Rattle.pb_elim.specs.Options.{AreOptions, AsksOneStage};
+    ghost use Rattle.pb_elim.specs.Options.{AreOptions};
     ghost use Rattle.pb_graph.specs.ProcessGraph.{IsProcessGraph};
     ghost use Rattle.pb_session.specs.Accepted.{IsOfPeriods};
     ghost use Rattle.pb_session.specs.Appending.{AppendsText, KeepsText};
-    ghost use Rattle.pb_session.specs.Session.{Adds, AddsAccepted, AreNamesOf, IsDesign, IsReport, IsTextOf, Reports, state_after};
+    ghost use Rattle.pb_session.specs.FirstStage.{Begins, IsFirstStage, TellsAStream};
+    ghost use Rattle.pb_session.specs.Session.{Adds, AddsAccepted, AreNamesOf, IsDesign, IsReport, IsTextOf, Reports, Tells, state_after};
 
-    /// A session that has stored nothing. So far neither tests nor elimination may be asked of its studies.
+    /// A session that has stored nothing.
     pub fn new(alloc: Global, options: Options, form: Form) -> Session
-        requires limits { AreOptions options }
-        requires asked { AsksOneStage options }
+        requires { AreOptions options }
         ensures options { result.options ≡ options }
         ensures form { result.form ≡ form }
         ensures rows { result.rows ≡ [] }
@@ -91,6 +93,31 @@ impl Session {
         }
     }
 
+    /// The first stage of the study of a period as it stands, with what the session asks of its studies. `Over` tells the first
+    /// stream whose value or variance is above the limits of a graph.
+    pub fn first_stage(&self, period: u32) -> Result<Stage, Assembly>
+        requires { period < length (periods_of self.now.rows) }
+        ensures answer { result ≢ Err Assembly.NoMemory
+            → Begins self.now (slice_get (periods_of self.now.rows) period) result }
+        ensures over { TellsAStream self.now (slice_get (periods_of self.now.rows) period) result }
+    {
+        match assemble(self.alloc, &self.book, period) {
+            Ok(graph) => self.stage_of(&graph),
+            Err(why) => Err(why),
+        }
+    }
+
+    // The first stage of the study of a graph.
+    fn stage_of(&self, graph: &Graph) -> Result<Stage, Assembly>
+        requires { IsProcessGraph graph.now }
+        ensures stage { IfOk result (IsFirstStage self.now graph.now) }
+        ensures err { IfErr result (λ e. e ≡ Assembly.NoMemory) }
+    {
+        let critical = declared_critical(self.alloc, self.book.site())?;
+        let stage = stage(self.alloc, graph, &self.options, &critical)?;
+        Ok(stage)
+    }
+
     // Appends the row of a refusal.
     fn refuse(&self, at: u32, cause: Refused, out: &mut Vec<u8>) -> Result<(), AllocError>
         ensures ok { OnOk result (AppendsText
@@ -112,6 +139,7 @@ impl Session {
             Accepted::Stored => Ok(()),
             Accepted::Design => self.write_design(out),
             Accepted::Report(i) => self.write_report(i, out),
+            Accepted::History(i) => self.write_history(i, out),
         }
     }
 
@@ -164,6 +192,18 @@ impl Session {
         }
     }
 
+    // Appends the history of a period.
+    fn write_history(&self, i: u32, out: &mut Vec<u8>) -> Result<(), AllocError>
+        requires { i < length (periods_of self.now.rows) }
+        ensures ok { OnOk result (AppendsText
+            (Tells self.now (slice_get (periods_of self.now.rows) i)) out.old out.new) }
+        ensures err { OnErr result (KeepsText out.old out.new) }
+    {
+        let period = self.book.period(i);
+        let edits = told_edits(self.alloc, &self.book, i)?;
+        write_history(self.alloc, &told_period(&period), &edits, self.form, out)
+    }
+
     // Appends the report of a period of this name, whose graph this is, with the names of its nodes and streams.
     fn write_graph(
         &self,
@@ -178,11 +218,7 @@ impl Session {
             (IsReport self.now names.now period.now graph.now) out.old out.new) }
         ensures err { OnErr result (KeepsText out.old out.new) }
     {
-        let critical = Critical {
-            global: List::new(self.alloc),
-            nodal: None,
-            measure: None,
-        };
+        let critical = declared_critical(self.alloc, self.book.site())?;
         let study = study(self.alloc, graph, &self.options, &critical)?;
         write_study(
             self.alloc,

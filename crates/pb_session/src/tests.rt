@@ -1,6 +1,7 @@
 // What no clause says: that records are answered where memory is ample, and outputs from outside.
 
-ghost use Rattle.std.specs.Prelude.{◌≡◌, ◌≤◌, false};
+ghost use Rattle.std.specs.Prelude.{◌≡◌, ◌≤◌, ◌<◌, false, true, length, IfSome};
+ghost use Rattle.pb_elim.specs.Options.{AreOptions};
 
 use crate::Session;
 use pb_graph::Options;
@@ -21,13 +22,32 @@ fn asked(gap: u32) -> Options
     }
 }
 
+// The same with tests, at a gap of 10 thousandths, and with so many rounds of elimination.
+fn tested(eliminate: u32) -> Options
+    ensures { result ≡ record { gap = 10; sweeps = 5000; tests = true; eliminate = eliminate } }
+{
+    Options {
+        gap: 10,
+        sweeps: 5_000,
+        tests: true,
+        eliminate,
+    }
+}
+
 // The output of a session, and how many of its records were refused.
 fn output(alloc: Global, gap: u32, text: &[u8]) -> Result<(Vec<u8>, u32), Fail>
     requires gap_from { 1 ≤ gap }
     requires gap_to { gap ≤ 1000000 }
 {
+    output_by(alloc, asked(gap), text)
+}
+
+// The same by any options.
+fn output_by(alloc: Global, options: Options, text: &[u8]) -> Result<(Vec<u8>, u32), Fail>
+    requires { AreOptions options }
+{
     let rows = Rows::of(alloc, text)?;
-    let mut session = Session::new(alloc, asked(gap), Form::Csv);
+    let mut session = Session::new(alloc, options, Form::Csv);
     let mut out = Vec::new(alloc);
     let mut at = 0u32;
     let mut refused = 0u32;
@@ -162,11 +182,7 @@ fn answers_records(rt: HostRuntime) -> Result<(), Fail> {
         (b"unit,W,,,\n", b"", 0),
         (b",,,\n", b"", 0),
         (b"unti,W\n", b"refused,7,1,kind\n", 1),
-        (
-            b"late,reading,r2,A,2024-03-01,1,0\n",
-            b"refused,7,1,kind\n",
-            1,
-        ),
+        (b"late,unit,U\n", b"refused,7,1,kind\n", 1),
         (b"unit\n", b"refused,7,2,fields\n", 1),
         (b"design,x\n", b"refused,7,2,fields\n", 1),
         (b"unit,a b\n", b"refused,7,3,name\n", 1),
@@ -241,5 +257,217 @@ fn keeps_the_book(rt: HostRuntime) -> Result<(), Fail> {
     }
     assert_eq!(rt; session.book().site().nodes(), 2);
     assert_eq!(rt; session.book().periods(), 1);
+    Ok(())
+}
+
+// Where the next line begins that has this beginning, from a place on.
+fn next_line(out: &[u8], from: usize, begins: &[u8]) -> Option<usize>
+    ensures { IfSome result (λ at. at < length out.now) }
+{
+    for at in from..out.len() {
+        if (at == 0 || out[at - 1] == b'\n') && out[at..].starts_with(begins) {
+            return Some(at);
+        }
+    }
+    None
+}
+
+// Whether lines with these beginnings come in this order.
+fn has_lines(out: &[u8], lines: &[&[u8]]) -> bool {
+    let mut from = 0usize;
+    for begins in lines {
+        match next_line(out, from, begins) {
+            None => return false,
+            Some(at) => from = at + 1,
+        }
+    }
+    true
+}
+
+#[test]
+fn tests_two_meters(rt: HostRuntime) -> Result<(), Fail> {
+    let text =
+        b"unit,U\nstream,A,env,U,metered,1\nstream,B,U,env,metered,1\nperiod,d1,2024-03-01,2024-03-01\ncritical,global,1,3841\nreading,r1,A,2024-03-01,102000000,999999999999\nreading,r2,B,2024-03-01,100000000,999999999999\nreport,d1\n";
+    let want: &[u8] =
+        b"report,d1,0,2,2,10,5000\nnode,env,0\nnode,U,-72057594038\nstream,A,env,U,102000000,1000000000000,redundant,101000000,100999997,101000002,cut,env,-A +B\nstream,B,U,env,100000000,1000000000000,redundant,101000000,100999998,101000003,cut,U,+A -B\nsolved,1,converged,2,0,1,1999,2000\nglobal,3841,accept\nnodal,U,2000000,2000000000000,,nocritical\nmeasure,A,1999,2000,,nocritical\nmeasure,B,1999,2000,,nocritical\nend,d1,0\n";
+    let (out, refused) = output_by(rt.alloc(), tested(0), text)?;
+    assert!(rt; out.as_slice() == want);
+    assert_eq!(rt; refused, 0);
+    Ok(())
+}
+
+#[test]
+fn decides_tests(rt: HostRuntime) -> Result<(), Fail> {
+    let gram: &[u8] = b"reading,r1,A,2024-03-01,1,0\nreading,r2,B,2024-03-01,0,0\nreport,d1\n";
+    let tonnes: &[u8] =
+        b"reading,r1,A,2024-03-01,102000000,999999999999\nreading,r2,B,2024-03-01,100000000,999999999999\nreport,d1\n";
+    let table: [(&[u8], &[u8], &[u8]); 7] = [
+        (b"critical,global,1,498\n", gram, b"global,498,reject\n"),
+        (b"critical,global,1,499\n", gram, b"global,499,undecided\n"),
+        (b"critical,global,1,999\n", gram, b"global,999,undecided\n"),
+        (b"critical,global,1,1000\n", gram, b"global,1000,accept\n"),
+        (b"critical,global,2,1000\n", gram, b"global,,nocritical\n"),
+        (
+            b"critical,nodal,1999\n",
+            tonnes,
+            b"nodal,U,2000000,2000000000000,1999,reject\n",
+        ),
+        (
+            b"critical,nodal,2000\n",
+            tonnes,
+            b"nodal,U,2000000,2000000000000,2000,accept\n",
+        ),
+    ];
+    for (critical, readings, line) in table {
+        let mut text = Vec::from_slice(
+            rt.alloc(),
+            b"unit,U\nstream,A,env,U,metered,1\nstream,B,U,env,metered,1\nperiod,d1,2024-03-01,2024-03-01\n",
+        )?;
+        text.extend_from_slice(critical)?;
+        text.extend_from_slice(readings)?;
+        let (out, _) = output_by(rt.alloc(), tested(0), text.as_slice())?;
+        assert!(rt; has_lines(out.as_slice(), &[line]), "{line:?}");
+    }
+    Ok(())
+}
+
+#[test]
+fn tests_contradictions_and_nothing(rt: HostRuntime) -> Result<(), Fail> {
+    let (out, _) = output_by(
+        rt.alloc(),
+        tested(0),
+        b"unit,U\nstream,A,env,U,metered,1\nstream,B,U,env,metered,1\nperiod,d1,2024-03-01,2024-03-01\ncritical,global,1,3841\nreading,r1,A,2024-03-01,10000000000000,0\nreading,r2,B,2024-03-01,-10000000000000,0\nreport,d1\n",
+    )?;
+    assert!(rt;
+        has_lines(
+            out.as_slice(),
+            &[
+                b"solved,1,converged,0,0,1,36893488147419103232000,\n",
+                b"global,3841,reject\n"
+            ]
+        )
+    );
+    let (out, _) = output_by(
+        rt.alloc(),
+        tested(0),
+        b"unit,U\nunit,V\nstream,P,U,V,plain,0\nstream,M,U,V,metered,1\nperiod,d1,2024-03-01,2024-03-01\nreading,r1,M,2024-03-01,500,0\nreport,d1\n",
+    )?;
+    assert!(rt; has_lines(out.as_slice(), &[b"global,,notest\n"]));
+    Ok(())
+}
+
+// Three meters in a row, the last of which reads 3 t too much, with a critical value of the measurements.
+fn three_meters(alloc: Global, measure: &[u8]) -> Result<Vec<u8>, Fail> {
+    let mut text = Vec::from_slice(
+        alloc,
+        b"unit,U\nunit,V\nstream,A,env,U,metered,1\nstream,B,U,V,metered,1\nstream,C,V,env,metered,1\nperiod,d1,2024-03-01,2024-03-01\ncritical,global,1,3841\ncritical,global,2,5991\n",
+    )?;
+    text.extend_from_slice(measure)?;
+    text.extend_from_slice(
+        b"reading,r1,A,2024-03-01,100000000,9999999999\nreading,r2,B,2024-03-01,100000000,9999999999\nreading,r3,C,2024-03-01,103000000,9999999999\nreport,d1\n",
+    )?;
+    Ok(text)
+}
+
+#[test]
+fn takes_a_bad_meter(rt: HostRuntime) -> Result<(), Fail> {
+    let text = three_meters(rt.alloc(), b"critical,measure,10828\n")?;
+    let (out, _) = output_by(rt.alloc(), tested(3), text.as_slice())?;
+    let before: [&[u8]; 10] = [
+        b"report,d1,0,",
+        b"stream,A,env,U,100000000,10000000000,redundant,101000122,100999388,101000123,",
+        b"stream,B,U,V,100000000,10000000000,redundant,101000122,100999755,101000490,",
+        b"stream,C,V,env,103000000,10000000000,redundant,101000122,100999755,101000490,",
+        b"solved,7,converged,3841,0,2,599999,600001\nglobal,5991,reject\n",
+        b"nodal,U,0,20000000000,,nocritical\nnodal,V,-3000000,20000000000,,nocritical\n",
+        b"measure,A,149999,150002,10828,reject\nmeasure,B,149999,150002,10828,reject\n",
+        b"measure,C,599999,600001,10828,reject\nend,d1,0\n",
+        b"taken,d1,1,C,599999\n",
+        b"report,d1,1,",
+    ];
+    assert!(rt; has_lines(out.as_slice(), &before));
+    let behind: [&[u8]; 7] = [
+        b"report,d1,1,",
+        b"stream,A,env,U,100000000,10000000000,redundant,100000000,",
+        b"stream,B,U,V,100000000,10000000000,redundant,100000000,",
+        b"stream,C,V,env,,,observable,100000000,",
+        b"solved,0,converged,0,0,1,0,0\nglobal,3841,accept\n",
+        b"nodal,U,0,20000000000,,nocritical\nmeasure,A,0,0,10828,accept\nmeasure,B,0,0,10828,accept\n",
+        b"end,d1,1\nstop,d1,accepted,1\n",
+    ];
+    assert!(rt; has_lines(out.as_slice(), &behind));
+    let text = three_meters(rt.alloc(), b"critical,measure,1000000\n")?;
+    let (out, _) = output_by(rt.alloc(), tested(3), text.as_slice())?;
+    assert!(rt; has_lines(out.as_slice(), &[b"end,d1,0\nstop,d1,nosuspect,0\n"]));
+    let text = three_meters(rt.alloc(), b"")?;
+    let (out, _) = output_by(rt.alloc(), tested(3), text.as_slice())?;
+    assert!(rt; has_lines(out.as_slice(), &[b"end,d1,0\nstop,d1,nocritical,0\n"]));
+    Ok(())
+}
+
+#[test]
+fn takes_the_first_of_equal_suspects(rt: HostRuntime) -> Result<(), Fail> {
+    let (out, _) = output_by(
+        rt.alloc(),
+        tested(1),
+        b"unit,U\nstream,A,env,U,metered,1\nstream,B,U,env,metered,1\nperiod,d1,2024-03-01,2024-03-01\ncritical,global,1,3841\ncritical,measure,10828\nreading,r1,A,2024-03-01,102000000,9999999999\nreading,r2,B,2024-03-01,100000000,9999999999\nreport,d1\n",
+    )?;
+    let lines: [&[u8]; 6] = [
+        b"report,d1,0,",
+        b"stream,A,env,U,102000000,10000000000,redundant,101000000,100999998,101000001,",
+        b"stream,B,U,env,100000000,10000000000,redundant,101000000,100999999,101000002,",
+        b"solved,1,converged,2,0,1,199999,200000\n",
+        b"taken,d1,1,A,199999\nreport,d1,1,",
+        b"end,d1,1\nstop,d1,notest,1\n",
+    ];
+    assert!(rt; has_lines(out.as_slice(), &lines));
+    Ok(())
+}
+
+// A plant whose one meter is read on a day, which is a period.
+const ONE_METER: &[u8] =
+    b"unit,U\nstream,A,env,U,metered,1\nstream,B,U,env,plain,0\nperiod,d1,2024-03-01,2024-03-01\n";
+
+// Such a session with these rows behind it.
+fn behind(alloc: Global, rows: &[u8]) -> Result<Vec<u8>, Fail> {
+    let mut text = Vec::new(alloc);
+    text.extend_from_slice(ONE_METER)?;
+    text.extend_from_slice(rows)?;
+    Ok(text)
+}
+
+#[test]
+fn tells_histories(rt: HostRuntime) -> Result<(), Fail> {
+    let table: [(&[u8], &[u8]); 3] = [
+        (b"history,d1\n", b"history,d1,open,0\n"),
+        (
+            b"close,d1\nreading,r1,A,2024-03-01,100,0\nlate,reading,r1,A,2024-03-01,100,0\namend,r1,110,0,meter drift\namend,r1,120,0,\"typed, twice\"\nstrike,r1,wrong day\nlate,reading,r2,A,2024-03-01,130,0\nunit,W\nhistory,d1\n",
+            b"refused,6,11,closed\nrefused,12,10,sealed\nhistory,d1,closed,6\nedit,5,close,,\nedit,7,late,r1,\nedit,8,amend,r1,meter drift\nedit,9,amend,r1,\"typed, twice\"\nedit,10,strike,r1,wrong day\nedit,11,late,r2,\n",
+        ),
+        (
+            b"period,d2,2024-03-02,2024-03-02\nlate,reading,r1,A,2024-03-02,1,0\nclose,d2\nclose,d1\nhistory,d1\nhistory,d3\n",
+            b"history,d1,closed,1\nedit,8,close,,\nrefused,10,6,unknown\n",
+        ),
+    ];
+    for (rows, want) in table {
+        let text = behind(rt.alloc(), rows)?;
+        let (out, _) = output(rt.alloc(), 10, text.as_slice())?;
+        assert!(rt; out.as_slice() == want, "the output of {rows:?}");
+    }
+    Ok(())
+}
+
+#[test]
+fn reports_as_the_edited_file(rt: HostRuntime) -> Result<(), Fail> {
+    let edited = behind(
+        rt.alloc(),
+        b"reading,r1,A,2024-03-01,100,0\nclose,d1\namend,r1,110,4,meter drift\nstrike,r1,wrong day\nlate,reading,r2,A,2024-03-01,130,0\namend,r2,131,7,typed wrong\nreport,d1\n",
+    )?;
+    let plain = behind(rt.alloc(), b"reading,r2,A,2024-03-01,131,7\nreport,d1\n")?;
+    let (one, refused) = output(rt.alloc(), 10, edited.as_slice())?;
+    let (other, _) = output(rt.alloc(), 10, plain.as_slice())?;
+    assert_eq!(rt; refused, 0);
+    assert!(rt; !one.is_empty());
+    assert!(rt; one == other);
     Ok(())
 }

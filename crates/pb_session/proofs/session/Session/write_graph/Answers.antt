@@ -1,10 +1,10 @@
-use Rattle.std.proofs.Common.{◌≡◌, refl, subst, None, List, ap}
+use Rattle.std.proofs.Common.{◌≡◌, ◌∙◌, refl, subst, ap}
 use Rattle.pb_graph.specs.declared.results.Critical.{Critical}
-use Rattle.pb_graph.specs.declared.results.CriticalRow.{CriticalRow}
-use Rattle.pb_elim.specs.Stage.{IsStudyOf}
+use Rattle.pb_elim.specs.Study.{IsStudyOf}
 use Rattle.pb_report.specs.Form.{text_in}
 use Rattle.pb_report.specs.Study.{study_rows}
-use Rattle.pb_session.specs.Session.{SessionState, IsReport, no_critical}
+use Rattle.pb_session.specs.Criticals.{critical_of, declared_critical}
+use Rattle.pb_session.specs.Session.{SessionState, IsReport}
 use Rattle.pb_session.proofs.AppendingLemmas.{appends_such}
 use Rattle.pb_session.proofs.session.Session.write_graph.Goals as goal
 
@@ -18,8 +18,8 @@ returns-clause-ok c =
     let state : SessionState = record { options = c.self.inside.options; form = c.self.inside.form; rows = c.self.inside.book } in
     let names = c.args.names.now in
     let graph = c.args.graph.now in
-    let critical : Critical = record { global = c.new.result; nodal = None; measure = None } in
-    let none : critical ≡ no_critical = ap (λ (rows : List CriticalRow). record { global = rows; nodal = None; measure = None }) c.new.ensures in
+    let critical : Critical = c.in_ok-critical.critical in
+    let same : critical ≡ critical_of state.rows = c.in_ok-critical.ensures.value ∙ ap declared_critical c.site.ensures in
     let study = c.in_ok-study.study in
     let is : IsStudyOf graph state.options critical study = c.in_ok-study.ensures.study in
     let text = text_in state.form (study_rows names c.args.period.now state.options study) in
@@ -27,7 +27,7 @@ returns-clause-ok c =
       limits = c.requires.limits;
       named = c.requires.names;
       study = study;
-      is_study = subst (λ (c : Critical). IsStudyOf graph state.options c study) none is;
+      is_study = subst (λ (c : Critical). IsStudyOf graph state.options c study) same is;
       certified = c.in_ok-study.ensures.certified;
       rows = refl;
     } in

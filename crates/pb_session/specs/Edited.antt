@@ -1,0 +1,34 @@
+-- Statement. A report after edits is that of the edited file.
+use Rattle.std.specs.Prelude.{◌≡◌, ◌↔◌, ℕ, false, List, [], ◌∷◌, ◌++◌}
+use Rattle.pb_book.specs.declared.answer.Accepted.TheVariants.{Report}
+use Rattle.pb_book.specs.Accepted.{AreAccepted}
+use Rattle.pb_book.specs.Answer.{Says, answer_of}
+use Rattle.pb_book.specs.Plain.{plain_rows}
+use Rattle.pb_book.specs.Rows.{StoredRow}
+use Rattle.pb_book.specs.Written.{WriteRows}
+use Rattle.pb_session.specs.Session.{Adds, IsSessionText, SessionState, refuses_some}
+
+-- the session with the same options and form that has stored nothing
+abbrev pub begun : SessionState → SessionState
+begun state = record { options = state.options; form = state.form; rows = [] }
+
+-- Records of the edited file: they write the plain rows, one each, as if nothing had been closed, late, amended or struck.
+abbrev pub IsEditedFile : List StoredRow → List (List (List ℕ)) → Type 0
+IsEditedFile rows records = WriteRows records (plain_rows rows)
+
+-- a report behind these records has the text that it has after the rows of a session
+abbrev pub ReportsAsAfter : SessionState → List (List (List ℕ)) → Type 0
+ReportsAsAfter state records =
+    (at i : ℕ) (report : List (List ℕ)) (text : List ℕ) → answer_of state.rows report ≡ Says (Report i)
+    → Adds state at report text ↔ IsSessionText (begun state) 1 (records ++ report ∷ []) text
+
+-- no record of an edited file is refused, and each report behind it is the one after the edits
+pub record StandsForTheEdits (state : SessionState) (records : List (List (List ℕ))) : Type 0 where
+  pub accepted : refuses_some (begun state) 1 records ≡ false
+  pub reports : ReportsAsAfter state records
+
+-- so it is of all accepted rows, with whatever options and in either form
+abbrev pub EditedFileLaw : Type 0
+EditedFileLaw =
+    (state : SessionState) (records : List (List (List ℕ))) → AreAccepted state.rows
+    → IsEditedFile state.rows records → StandsForTheEdits state records
