@@ -1,0 +1,3 @@
+-- Statement
+pub mod Summary
+pub mod Laws
