@@ -95,9 +95,3 @@ pub all_answered : (start : SessionState) (rows : List Record) (i : ℕ) (state 
 all_answered start rows i state refused text le a =
     let whole = take_all i rows le in
     (a.refused_is ∙ ap (refuses_some start 1) whole, subst (λ (rs : List Record). IsSessionText start 1 rs text) whole a.texts)
-
--- a list of one word is its first word
-pub one_word : (words : List (List ℕ)) → length words ≡ 1 → words ≡ get_or words 0 [] ∷ []
-one_word [] one = absurd (omega (arith, one))
-one_word (w ∷ []) one = refl
-one_word (w ∷ v ∷ words) one = absurd (omega (arith, one))

@@ -3,6 +3,7 @@ ghost use Rattle.std.specs.Prelude.{◌≡◌, ◌≢◌, ◌⊎◌, ◌^◌, �
 ghost use Rattle.pb_io.specs.Counts.{Rose};
 ghost use Rattle.pb_io.specs.Sink.{PutsSuch};
 ghost use Rattle.pb_limits.specs.Limits.{most_bytes};
+ghost use Rattle.pb_elim.specs.Options.{AreOptions};
 ghost use Rattle.pb_book.specs.Answer.{answer_of, is_refused};
 ghost use Rattle.pb_session.specs.Session.{Adds, IsSessionText, refuses_some, state_after};
 ghost use Rattle.pb_cli.specs.declared.status.Status.TheVariants.{Done, DoneRefused, WriteFault, NoMemory};
@@ -17,14 +18,6 @@ use pb_report::Form;
 use pb_rows::{Row, Rows};
 use pb_session::Session;
 use std::alloc::{AllocError, Global};
-
-// What the word `run` asks of a study: a gap of 10 thousandths of a standard deviation and at most 5,000 sweeps.
-const USUAL: Options = Options {
-    gap: 10,
-    sweeps: 5_000,
-    tests: false,
-    eliminate: 0,
-};
 
 // Why the answer to a record was not written.
 #[derive(Clone, Copy)]
@@ -53,31 +46,38 @@ impl From<SinkFailed> for Stopped {
     }
 }
 
-/// Answers the records of these bytes in order, in a session that has stored nothing, and writes the output. (It writes what
-/// each record adds before it takes the next; no clause says when.)
-pub fn answer<W: Sink>(alloc: Global, input: &[u8], sink: &mut W) -> Status
-    requires { length input.now ≤ most_bytes }
+/// Answers the records of these bytes in order, in a session that has stored nothing, and writes the output in a form. (It writes
+/// what each record adds before it takes the next; no clause says when.)
+pub fn answer<W: Sink>(
+    alloc: Global,
+    options: Options,
+    form: Form,
+    input: &[u8],
+    sink: &mut W,
+) -> Status
+    requires options { AreOptions options }
+    requires bytes { length input.now ≤ most_bytes }
 
     // All of the output was written, and the status says whether some record was refused.
     ensures done { result ≡ Done →
-        PutsSuch (IsOutput false input.now) (W.seen sink.old) (W.seen sink.new) }
+        PutsSuch (IsOutput options form false input.now) (W.seen sink.old) (W.seen sink.new) }
     ensures done_refused { result ≡ DoneRefused →
-        PutsSuch (IsOutput true input.now) (W.seen sink.old) (W.seen sink.new) }
+        PutsSuch (IsOutput options form true input.now) (W.seen sink.old) (W.seen sink.new) }
 
     // A write fault is the answer exactly where the sink counted one. What was written is a proper beginning of the output.
     ensures write_fault { result ≡ WriteFault →
         Rose (W.seen sink.old).faults (W.seen sink.new).faults }
     ensures write_fault_cut { result ≡ WriteFault →
-        PutsSuch (IsCutShort input.now) (W.seen sink.old) (W.seen sink.new) }
+        PutsSuch (IsCutShort options form input.now) (W.seen sink.old) (W.seen sink.new) }
     ensures no_write_fault { result ≢ WriteFault →
         (W.seen sink.new).faults ≡ (W.seen sink.old).faults }
 
     // After want of memory the texts of the first records were written, whole.
     ensures no_memory { result ≡ NoMemory →
-        PutsSuch (IsPart input.now) (W.seen sink.old) (W.seen sink.new) }
+        PutsSuch (IsPart options form input.now) (W.seen sink.old) (W.seen sink.new) }
 
     // There is no other answer.
-    ensures answers { (result ≡ done_status (refuses input.now))
+    ensures answers { (result ≡ done_status (refuses options form input.now))
         ⊎ (result ≡ WriteFault) ⊎ (result ≡ NoMemory) }
 
     // No empty piece was put.
@@ -87,7 +87,7 @@ pub fn answer<W: Sink>(alloc: Global, input: &[u8], sink: &mut W) -> Status
     let Ok(rows) = Rows::of(alloc, input) else {
         return Status::NoMemory;
     };
-    match answer_records(alloc, &rows, sink) {
+    match answer_records(alloc, options, form, &rows, sink) {
         Ok(false) => Status::Done,
         Ok(true) => Status::DoneRefused,
         Err(Stopped::SinkFault) => Status::WriteFault,
@@ -96,15 +96,22 @@ pub fn answer<W: Sink>(alloc: Global, input: &[u8], sink: &mut W) -> Status
 }
 
 // Takes the records in order and writes what each adds before it takes the next. True exactly where some record was refused.
-fn answer_records<W: Sink>(alloc: Global, rows: &Rows, sink: &mut W) -> Result<bool, Stopped>
-    requires { length rows.now < 2 ^ 32 }
-    ensures refused { IfOk result (λ refused. refused ≡ refuses_some new_session 1 rows.now) }
+fn answer_records<W: Sink>(
+    alloc: Global,
+    options: Options,
+    form: Form,
+    rows: &Rows,
+    sink: &mut W,
+) -> Result<bool, Stopped>
+    requires options { AreOptions options }
+    requires rows { length rows.now < 2 ^ 32 }
+    ensures refused { IfOk result (λ refused. refused ≡ refuses_some (new_session options form) 1 rows.now) }
     ensures whole { OnOk result (PutsSuch
-        (IsSessionText new_session 1 rows.now) (W.seen sink.old) (W.seen sink.new)) }
+        (IsSessionText (new_session options form) 1 rows.now) (W.seen sink.old) (W.seen sink.new)) }
     ensures cut { IfErr result (λ e. e ≡ Stopped.SinkFault → PutsSuch
-        (AreTextsCutShort new_session rows.now) (W.seen sink.old) (W.seen sink.new)) }
+        (AreTextsCutShort (new_session options form) rows.now) (W.seen sink.old) (W.seen sink.new)) }
     ensures some { IfErr result (λ e. e ≡ Stopped.OutOfMemory → PutsSuch
-        (AreTextsOfSome new_session rows.now) (W.seen sink.old) (W.seen sink.new)) }
+        (AreTextsOfSome (new_session options form) rows.now) (W.seen sink.old) (W.seen sink.new)) }
     ensures cause { IfErr result (λ e. e ≡ Stopped.SinkFault →
         Rose (W.seen sink.old).faults (W.seen sink.new).faults) }
     ensures no_fault { OnOk result ((W.seen sink.new).faults ≡ (W.seen sink.old).faults) }
@@ -113,7 +120,7 @@ fn answer_records<W: Sink>(alloc: Global, rows: &Rows, sink: &mut W) -> Result<b
     ensures idle { (W.seen sink.new).idle ≡ (W.seen sink.old).idle }
     ensures faults_stay { (W.seen sink.old).faults ≤ (W.seen sink.new).faults }
 {
-    let mut session = Session::new(alloc, USUAL, Form::Csv);
+    let mut session = Session::new(alloc, options, form);
     let mut some_refused = false;
     for i in 0..rows.len() {
         some_refused |= answer_record(alloc, &mut session, i as u32 + 1, rows.at(i), sink)?;

@@ -1,19 +1,19 @@
 //! The top call: a session from bytes to bytes.
 //!
-//! [`run`] reads a source to its end, and [`answer`] takes the records of its bytes one by one and writes what each adds to the
-//! output before it takes the next. A run answers by one of seven statuses, and each has its cause.
+//! [`run`] reads the words of its command, then a source to its end, and [`answer`] takes the records of its bytes one by one and
+//! writes what each adds to the output before it takes the next. A run answers by one of seven statuses, and each has its cause.
 #![tactic(auto)]
 
 mod answers;
 mod laws;
+mod making;
 mod runs;
 mod status;
 #[cfg(test)]
 mod tests;
-mod words;
 
 pub use answers::answer;
 pub use laws::run_text_law;
+pub use pb_words::{Command, Words, WordsRefused, read_words};
 pub use runs::run;
 pub use status::Status;
-pub use words::Words;

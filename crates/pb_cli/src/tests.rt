@@ -38,7 +38,7 @@ fn outcome(alloc: Global, ends: Ends<'_>, input: Vec<u8>) -> Result<(Status, Vec
     let mut source = MemSource::new(input, ends.take.max(1), vec![in alloc; ends.failing_take]?);
     let mut sink = MemSink::new(
         alloc,
-        4_096,
+        65_536,
         ends.put.max(1),
         vec![in alloc; ends.failing_put]?,
     )?;
@@ -101,15 +101,102 @@ fn writes_worked_sessions(rt: HostRuntime) -> Result<(), AllocError> {
     Ok(())
 }
 
+/// The gap that is asked decides how many sweeps are made: half a gram between two meters.
+#[test]
+fn hands_options_on(rt: HostRuntime) -> Result<(), AllocError> {
+    let session =
+        "unit,U\nstream,A,env,U,metered,1\nstream,B,U,env,metered,1\nperiod,d1,2024-03-01,2024-03-01\nreading,r1,A,2024-03-01,1,0\nreading,r2,B,2024-03-01,0,0\nreport,d1\n";
+    let wide =
+        "report,d1,0,2,2,1000,5000\nnode,env,0\nnode,U,0\nstream,A,env,U,1,1,redundant,0,-1,3,cut,env,-A +B\nstream,B,U,env,0,1,redundant,0,-2,2,cut,U,+A -B\nsolved,0,converged,1048576,0,1,0,1000\nend,d1,0\n";
+    let narrow =
+        "report,d1,0,2,2,999,7\nnode,env,0\nnode,U,-36028797018963968\nstream,A,env,U,1,1,redundant,1,-1,2,cut,env,-A +B\nstream,B,U,env,0,1,redundant,1,-1,2,cut,U,+A -B\nsolved,1,converged,741456,0,1,499,1000\nend,d1,0\n";
+    let lists: [(&[&str], &str); 3] = [
+        (&["run", "--gap", "1000"], wide),
+        (&["--gap=1000", "run", "--format", "csv"], wide),
+        (&["run", "--sweeps=7", "--gap", "999"], narrow),
+    ];
+    for (words, output) in lists {
+        let (ended, written) = outcome(
+            rt.alloc(),
+            Ends { words, ..PLAIN },
+            Vec::from_slice(rt.alloc(), session.as_bytes())?,
+        )?;
+        assert_eq!(rt; ended, Status::Done, "at {words:?}");
+        assert_eq!(rt; written.as_slice(), output.as_bytes(), "at {words:?}");
+    }
+    Ok(())
+}
+
+#[test]
+fn writes_lines_of_objects(rt: HostRuntime) -> Result<(), AllocError> {
+    let (ended, written) = outcome(
+        rt.alloc(),
+        Ends {
+            words: &["--format=json", "run"],
+            ..PLAIN
+        },
+        Vec::from_slice(rt.alloc(), "unit,a b\n".as_bytes())?,
+    )?;
+    assert_eq!(rt; ended, Status::DoneRefused);
+    let line = "{\"at\":\"1\",\"code\":\"3\",\"row\":\"refused\",\"word\":\"name\"}\n";
+    assert_eq!(rt; written.as_slice(), line.as_bytes());
+    Ok(())
+}
+
+#[test]
+fn makes_a_summary(rt: HostRuntime) -> Result<(), AllocError> {
+    let words: &[&str] = &["--summary", "make", "--number=1", "--streams", "3"];
+    let (ended, made) = outcome(rt.alloc(), Ends { words, ..PLAIN }, Vec::new(rt.alloc()))?;
+    assert_eq!(rt; ended, Status::Done);
+    assert!(rt;
+        made.as_slice()
+            .starts_with("summary,1,3,99,0,0,3,0,2,".as_bytes())
+    );
+    Ok(())
+}
+
+/// A made session has the rows of its plant first, and the run of it refuses none. The sixth put of one byte fails.
+#[test]
+fn makes_a_session(rt: HostRuntime) -> Result<(), AllocError> {
+    let words: &[&str] = &["make", "--streams=3", "--number", "1"];
+    let (ended, made) = outcome(rt.alloc(), Ends { words, ..PLAIN }, Vec::new(rt.alloc()))?;
+    assert_eq!(rt; ended, Status::Done);
+    let head =
+        "unit,u1\nunit,u2\nstream,s1,env,u1,metered,1\nstream,s2,u1,u2,metered,1\nstream,s3,u2,env,metered,1\nperiod,m1,2024-01-01,2024-01-30\ncritical,nodal,3841\ncritical,measure,3841\nreading,r1,s1,2024-01-01,49792000000,62500000000000000\n";
+    assert!(rt; made.as_slice().starts_with(head.as_bytes()));
+    let mut rows = 0_u32;
+    for byte in made.as_slice() {
+        if *byte == b'\n' {
+            rows = rows.wrapping_add(1);
+        }
+    }
+    assert_eq!(rt; rows, 99);
+    let cut = Ends {
+        words,
+        put: 1,
+        failing_put: 6,
+        ..PLAIN
+    };
+    let (ended, written) = outcome(rt.alloc(), cut, Vec::new(rt.alloc()))?;
+    assert_eq!(rt; ended, Status::WriteFault);
+    assert_eq!(rt; written.as_slice(), "unit,".as_bytes());
+    let (ended, written) = outcome(rt.alloc(), PLAIN, made)?;
+    assert_eq!(rt; ended, Status::Done);
+    assert!(rt; written.as_slice().starts_with("report,m1,".as_bytes()));
+    Ok(())
+}
+
 #[test]
 fn refuses_other_words(rt: HostRuntime) -> Result<(), AllocError> {
-    let lists: [&[&str]; 6] = [
+    let lists: [&[&str]; 8] = [
         &[],
         &["check"],
-        &["make"],
+        &["check", "--gap", "5"],
         &["run", "run"],
-        &["run", "--tests"],
-        &["ru"],
+        &["run", "--tests=1"],
+        &["run", "--gap", "007"],
+        &["run", "--ga", "5"],
+        &["make", "--tests"],
     ];
     for words in lists {
         let (ended, written) = outcome(
@@ -117,8 +204,8 @@ fn refuses_other_words(rt: HostRuntime) -> Result<(), AllocError> {
             Ends { words, ..PLAIN },
             Vec::from_slice(rt.alloc(), LINE.as_bytes())?,
         )?;
-        assert_eq!(rt; ended, Status::Usage);
-        assert!(rt; written.is_empty());
+        assert_eq!(rt; ended, Status::Usage, "at {words:?}");
+        assert!(rt; written.is_empty(), "at {words:?}");
     }
     Ok(())
 }

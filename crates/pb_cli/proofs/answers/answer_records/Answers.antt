@@ -21,7 +21,7 @@ returns-in_err-some_refused-clause-cut g c =
     let here : IsBeginningOf (Adds c.loop-i.session (i + 1) (get_or rows i [])) piece =
     subst (λ (r : List (List ℕ)). IsBeginningOf (Adds c.loop-i.session (i + 1) r) piece) c.at.ensures begun in (
       text ++ piece,
-      cut_short new_session rows i c.loop-i.session c.loop-i.some_refused text piece lt a here,
+      cut_short (new_session c.args.options c.args.form) rows i c.loop-i.session c.loop-i.some_refused text piece lt a here,
       puts_more _ _ _ text piece puts more,
     ))
 
@@ -31,12 +31,18 @@ returns-in_err-some_refused-clause-some g c =
     let (text, a, puts) = c.loop-i.invariant.so_far in
     let p = err_from_is_err_and c.from_residual.result c.from_residual.ensures.1 in
     rw (p.1, p.2) (λ e.
-    (text, stopped new_session c.args.rows.now c.loop-i.i c.loop-i.session c.loop-i.some_refused text a, rw (c.in_err-some_refused.ensures.no_memory e) puts))
+    (text, stopped (new_session c.args.options c.args.form) c.args.rows.now c.loop-i.i c.loop-i.session c.loop-i.some_refused text a, rw (c.in_err-some_refused.ensures.no_memory e) puts))
 
 pub returns-in_err-some_refused-clause-cause : goal.returns-in_err-some_refused-clause-cause
 returns-in_err-some_refused-clause-cause g c =
     let p = err_from_is_err_and c.from_residual.result c.from_residual.ensures.1 in
     rw (p.1, p.2, ← c.loop-i.invariant.faults) c.in_err-some_refused.ensures.cause
+
+-- want of memory is no fault of the sink
+pub returns-in_err-some_refused-clause-memory_no_fault : goal.returns-in_err-some_refused-clause-memory_no_fault
+returns-in_err-some_refused-clause-memory_no_fault g c =
+    let p = err_from_is_err_and c.from_residual.result c.from_residual.ensures.1 in
+    rw (p.1, p.2) (λ e. rw (c.in_err-some_refused.ensures.no_memory e) c.loop-i.invariant.faults)
 
 -- one more record is answered
 pub loop-i-preserved : goal.loop-i-preserved
@@ -50,7 +56,7 @@ loop-i-preserved g c =
     let here : Adds c.loop-i.session (i + 1) (get_or rows i []) piece = subst (λ (r : List (List ℕ)). Adds c.loop-i.session (i + 1) r piece) at adds in
     let new_is = c.in_ok-some_refused.ensures.stored ∙ ap (state_after c.loop-i.session (i + 1)) at in
     let now_is = c.in_ok-some_refused.ensures.refused ∙ ap (λ (r : List (List ℕ)). is_refused (answer_of c.loop-i.session.rows r)) at in
-    let next = answered_more new_session rows i c.loop-i.session c.answer_record.new.session c.loop-i.some_refused _ text piece lt a here new_is now_is in
+    let next = answered_more (new_session c.args.options c.args.form) rows i c.loop-i.session c.answer_record.new.session c.loop-i.some_refused _ text piece lt a here new_is now_is in
     record {
       so_far = (text ++ piece, next, puts_more _ _ _ text piece puts more);
       faults = c.in_ok-some_refused.ensures.no_fault ∙ c.loop-i.invariant.faults;
