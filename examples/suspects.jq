@@ -1,0 +1,2 @@
+# Suspects by statistic, the greatest first, of each round: plantbal run --tests --format json < SESSION | jq -sr -f suspects.jq
+(reduce .[] as $r ([]; if $r.row == "report" then . + [[$r]] elif $r.row == "measure" then .[-1] += [$r] else . end)) | .[] | .[0] as $b | .[1:] | map(select(.verdict == "reject")) | sort_by(-(.low | tonumber))[] | [$b.period, $b.round, .stream, (.low | tonumber / 1000)] | @tsv
