@@ -30,7 +30,7 @@ placed_length shelves (place ∷ places) placed =
     by rest (Some stored) is some = rw is (omega (arith, rest))
 
 -- the row at a place of places
-placed_at : (shelves : Shelves) (places : List Place) (i : ℕ) (place : Place) → ArePlaced shelves places → slice_get places i ≡ Some place
+pub placed_at : (shelves : Shelves) (places : List Place) (i : ℕ) (place : Place) → ArePlaced shelves places → slice_get places i ≡ Some place
     → slice_get (rows_at shelves places) i ≡ row_at shelves place
 placed_at shelves [] i place placed is = cc is
 placed_at shelves (first ∷ places) i place placed is =
@@ -43,7 +43,7 @@ placed_at shelves (first ∷ places) i place placed is =
     by rest (Some stored) there some (suc k) at = rw there (rest k at)
 
 -- a place of places has a row
-placed_row : (shelves : Shelves) (places : List Place) (i : ℕ) (place : Place) → ArePlaced shelves places → slice_get places i ≡ Some place → IsSome (row_at shelves place)
+pub placed_row : (shelves : Shelves) (places : List Place) (i : ℕ) (place : Place) → ArePlaced shelves places → slice_get places i ≡ Some place → IsSome (row_at shelves place)
 placed_row shelves places i place placed is =
     subst (λ (q : Place). IsSome (row_at shelves q)) (get_or_from_slice_get places i place place is) (placed i place (slice_get_within places i place is))
 

@@ -7,7 +7,10 @@ mod FieldLemmas
 mod KeptLemmas
 mod LiveLemmas
 mod NameLemmas
+mod NamedLemmas
 mod PeriodLemmas
 mod PlainLemmas
 mod RequestLemmas
+mod RoomLemmas
+mod TakenOutLemmas
 mod WrittenLemmas

@@ -1,5 +1,5 @@
 -- The record of a row asks that the row be stored.
-use Rattle.std.specs.Prelude.{◌==◌, ◌&&◌, int_le, neg_ℤ, codes, filter_map, if◌then◌else◌, map, option_and_then, take}
+use Rattle.std.specs.Prelude.{Ok, ◌==◌, ◌&&◌, int_le, neg_ℤ, codes, filter_map, if◌then◌else◌, map, option_and_then, take}
 use Rattle.std.specs.List.{cons_option}
 use Rattle.std.specs.Option.{option_map}
 use Rattle.std.proofs.Common.{◌≡◌, ◌∙◌, ◌≤◌, ◌≤ℤ◌, ◌<◌, ℕ, suc, ℤ, pos, List, [], ◌∷◌, ◌++◌, get_or, length, slice_get, unsigned_abs, Bool, true, false, Option, Some, None, refl, sym, ap, ap₂, arith}
@@ -39,6 +39,7 @@ use Rattle.pb_book.specs.declared.rows.Place.{Place}
 use Rattle.pb_book.specs.Kept.{edited_row, row_at, row_in, rows_at, settled_at, settled_by, settled_in, shelves_of}
 use Rattle.pb_book.specs.Plain.{settled, settled_rows}
 use Rattle.pb_book.specs.Rows.{StoredRow}
+use Rattle.pb_book.specs.declared.requests.Request.TheVariants.{Store}
 use Rattle.pb_book.specs.declared.requests.Version.TheVariants.{One}
 use Rattle.pb_book.specs.Requests.{request_in}
 use Rattle.pb_book.specs.Written.{AddsRow, AddsSome, WriteRows, WritesRow, word_of}
@@ -111,56 +112,60 @@ text_date law date n range is = by (law.each n range)
 
 -- ---- declarations
 
+-- a record that ends with a field that isn't empty, and asks that a row be stored
+writes : (fields : List (List ℕ)) (row : BookRow) → without_trailing_empty fields ≡ fields → request_in One fields ≡ Ok (Store row) → WritesRow fields row
+writes fields row filled asks = record { asks = ap (request_in One) filled ∙ asks; filled = filled }
+
 pub unit_asks : (name : List ℕ) → is_name name ≡ true → WritesRow (codes "unit" ∷ name ∷ []) (Declaration (UnitDeclared name))
-unit_asks name good = ap (request_in One) (kept (codes "unit" ∷ []) name (full name good)) ∙ rw good refl
+unit_asks name good = writes _ _ (kept (codes "unit" ∷ []) name (full name good)) (rw good refl)
 
 pub tank_asks : HaveOneNumberText → (name : List ℕ) (base : ℤ) → is_name name ≡ true → IsBaseVariance base → WritesRow (codes "tank" ∷ name ∷ whole_text base ∷ []) (Declaration (Tank name base))
 tank_asks law name base good range =
-    ap (request_in One) (kept (codes "tank" ∷ name ∷ []) (whole_text base) (some_text law base))
-    ∙ rw (good, law.read base, passes (pos 1) (pos most_row_variance) base range.0 range.1) refl
+    writes _ _ (kept (codes "tank" ∷ name ∷ []) (whole_text base) (some_text law base))
+    (rw (good, law.read base, passes (pos 1) (pos most_row_variance) base range.0 range.1) refl)
 
 pub strap_asks : HaveOneNumberText → (tank : List ℕ) (mm ml : ℤ) → is_name tank ≡ true → IsLevel mm → IsVolume ml
     → WritesRow (codes "strap" ∷ tank ∷ whole_text mm ∷ whole_text ml ∷ []) (Declaration (Strap tank mm ml))
 strap_asks law tank mm ml good level volume =
-    ap (request_in One) (kept (codes "strap" ∷ tank ∷ whole_text mm ∷ []) (whole_text ml) (some_text law ml))
-    ∙ rw (good, law.read mm, law.read ml, passes (pos 0) (pos most_level) mm level.0 level.1, passes (pos 0) (pos most_volume) ml volume.0 volume.1) refl
+    writes _ _ (kept (codes "strap" ∷ tank ∷ whole_text mm ∷ []) (whole_text ml) (some_text law ml))
+    (rw (good, law.read mm, law.read ml, passes (pos 0) (pos most_level) mm level.0 level.1, passes (pos 0) (pos most_volume) ml volume.0 volume.1) refl)
 
 pub stream_asks : HaveOneNumberText → (name from to : List ℕ) (kind : Kind) (base : ℤ) → is_name name ≡ true → is_name from ≡ true → is_name to ≡ true → IsArcBase (arc_kind kind) base
     → WritesRow (codes "stream" ∷ name ∷ from ∷ to ∷ word_of kind ∷ whole_text base ∷ []) (Declaration (Stream name from to kind base))
 stream_asks law name from to Metered base name_is from_is to_is range =
-    ap (request_in One) (kept (codes "stream" ∷ name ∷ from ∷ to ∷ codes "metered" ∷ []) (whole_text base) (some_text law base))
-    ∙ rw (name_is, from_is, to_is, law.read base, passes (pos 1) (pos most_row_variance) base range.0 range.1) refl
+    writes _ _ (kept (codes "stream" ∷ name ∷ from ∷ to ∷ codes "metered" ∷ []) (whole_text base) (some_text law base))
+    (rw (name_is, from_is, to_is, law.read base, passes (pos 1) (pos most_row_variance) base range.0 range.1) refl)
 stream_asks law name from to Batch base name_is from_is to_is range =
-    ap (request_in One) (kept (codes "stream" ∷ name ∷ from ∷ to ∷ codes "batch" ∷ []) (whole_text base) (some_text law base))
-    ∙ rw (name_is, from_is, to_is, law.read base, passes (pos 1) (pos most_row_variance) base range.0 range.1) refl
+    writes _ _ (kept (codes "stream" ∷ name ∷ from ∷ to ∷ codes "batch" ∷ []) (whole_text base) (some_text law base))
+    (rw (name_is, from_is, to_is, law.read base, passes (pos 1) (pos most_row_variance) base range.0 range.1) refl)
 stream_asks law name from to Plain base name_is from_is to_is range =
     let least : pos 0 ≤ℤ base = omega (arith, ints, range) in
     let most : base ≤ℤ pos 0 = omega (arith, ints, range) in
-    ap (request_in One) (kept (codes "stream" ∷ name ∷ from ∷ to ∷ codes "plain" ∷ []) (whole_text base) (some_text law base))
-    ∙ rw (name_is, from_is, to_is, law.read base, passes (pos 0) (pos 0) base least most) refl
+    writes _ _ (kept (codes "stream" ∷ name ∷ from ∷ to ∷ codes "plain" ∷ []) (whole_text base) (some_text law base))
+    (rw (name_is, from_is, to_is, law.read base, passes (pos 0) (pos 0) base least most) refl)
 
 pub global_asks : HaveOneNumberText → (dof : ℕ) (value : ℤ) → 1 ≤ dof → dof ≤ most_freedom → IsCriticalValue value
     → WritesRow (codes "critical" ∷ codes "global" ∷ whole_text (pos dof) ∷ whole_text value ∷ []) (Declaration (CritGlobal dof value))
 global_asks law dof value some most range =
-    ap (request_in One) (kept (codes "critical" ∷ codes "global" ∷ whole_text (pos dof) ∷ []) (whole_text value) (some_text law value))
-    ∙ rw (law.read (pos dof), law.read value, passes (pos 1) (pos most_freedom) (pos dof) (omega (arith, ints, some)) (omega (arith, ints, most)), passes (pos 0) (pos most_critical) value range.0 range.1) refl
+    writes _ _ (kept (codes "critical" ∷ codes "global" ∷ whole_text (pos dof) ∷ []) (whole_text value) (some_text law value))
+    (rw (law.read (pos dof), law.read value, passes (pos 1) (pos most_freedom) (pos dof) (omega (arith, ints, some)) (omega (arith, ints, most)), passes (pos 0) (pos most_critical) value range.0 range.1) refl)
 
 pub nodal_asks : HaveOneNumberText → (value : ℤ) → IsCriticalValue value → WritesRow (codes "critical" ∷ codes "nodal" ∷ whole_text value ∷ []) (Declaration (CritNodal value))
 nodal_asks law value range =
-    ap (request_in One) (kept (codes "critical" ∷ codes "nodal" ∷ []) (whole_text value) (some_text law value))
-    ∙ rw (law.read value, passes (pos 0) (pos most_critical) value range.0 range.1) refl
+    writes _ _ (kept (codes "critical" ∷ codes "nodal" ∷ []) (whole_text value) (some_text law value))
+    (rw (law.read value, passes (pos 0) (pos most_critical) value range.0 range.1) refl)
 
 pub measure_asks : HaveOneNumberText → (value : ℤ) → IsCriticalValue value → WritesRow (codes "critical" ∷ codes "measure" ∷ whole_text value ∷ []) (Declaration (CritMeasure value))
 measure_asks law value range =
-    ap (request_in One) (kept (codes "critical" ∷ codes "measure" ∷ []) (whole_text value) (some_text law value))
-    ∙ rw (law.read value, passes (pos 0) (pos most_critical) value range.0 range.1) refl
+    writes _ _ (kept (codes "critical" ∷ codes "measure" ∷ []) (whole_text value) (some_text law value))
+    (rw (law.read value, passes (pos 0) (pos most_critical) value range.0 range.1) refl)
 
 -- ---- periods and facts
 
 pub period_asks : (name begins ends : List ℕ) (first last : ℤ) → is_name name ≡ true → day_of begins ≡ Some first → day_of ends ≡ Some last
     → WritesRow (codes "period" ∷ name ∷ begins ∷ ends ∷ []) (PeriodRow name first last)
 period_asks name begins ends first last good first_is last_is =
-    ap (request_in One) (kept (codes "period" ∷ name ∷ begins ∷ []) ends (some_day ends last last_is)) ∙ rw (good, first_is, last_is) refl
+    writes _ _ (kept (codes "period" ∷ name ∷ begins ∷ []) ends (some_day ends last last_is)) (rw (good, first_is, last_is) refl)
 
 grams_passes : (grams : ℤ) → IsGrams grams → within (neg_ℤ (pos most_grams)) (pos most_grams) (Some grams) ≡ Some grams
 grams_passes grams range = passes (neg_ℤ (pos most_grams)) (pos most_grams) grams (omega (arith, ints, range)) (omega (arith, ints, range))
@@ -168,21 +173,21 @@ grams_passes grams range = passes (neg_ℤ (pos most_grams)) (pos most_grams) gr
 pub reading_asks : HaveOneNumberText → (id stream date : List ℕ) (day grams variance : ℤ) → is_name id ≡ true → is_name stream ≡ true → day_of date ≡ Some day → IsGrams grams → IsVariance variance
     → WritesRow (codes "reading" ∷ id ∷ stream ∷ date ∷ whole_text grams ∷ whole_text variance ∷ []) (FactRow (Reading id stream day grams variance))
 reading_asks law id stream date day grams variance id_is stream_is day_is grams_in variance_in =
-    ap (request_in One) (kept (codes "reading" ∷ id ∷ stream ∷ date ∷ whole_text grams ∷ []) (whole_text variance) (some_text law variance))
-    ∙ rw (id_is, stream_is, day_is, law.read grams, law.read variance, grams_passes grams grams_in, passes (pos 0) (pos most_row_variance) variance variance_in.0 variance_in.1) refl
+    writes _ _ (kept (codes "reading" ∷ id ∷ stream ∷ date ∷ whole_text grams ∷ []) (whole_text variance) (some_text law variance))
+    (rw (id_is, stream_is, day_is, law.read grams, law.read variance, grams_passes grams grams_in, passes (pos 0) (pos most_row_variance) variance variance_in.0 variance_in.1) refl)
 
 pub transfer_asks : HaveOneNumberText → (id stream begins ends : List ℕ) (first last grams variance : ℤ) → is_name id ≡ true → is_name stream ≡ true → day_of begins ≡ Some first
     → day_of ends ≡ Some last → IsGrams grams → IsVariance variance
     → WritesRow (codes "transfer" ∷ id ∷ stream ∷ begins ∷ ends ∷ whole_text grams ∷ whole_text variance ∷ []) (FactRow (Transfer id stream first last grams variance))
 transfer_asks law id stream begins ends first last grams variance id_is stream_is first_is last_is grams_in variance_in =
-    ap (request_in One) (kept (codes "transfer" ∷ id ∷ stream ∷ begins ∷ ends ∷ whole_text grams ∷ []) (whole_text variance) (some_text law variance))
-    ∙ rw (id_is, stream_is, first_is, last_is, law.read grams, law.read variance, grams_passes grams grams_in, passes (pos 0) (pos most_row_variance) variance variance_in.0 variance_in.1) refl
+    writes _ _ (kept (codes "transfer" ∷ id ∷ stream ∷ begins ∷ ends ∷ whole_text grams ∷ []) (whole_text variance) (some_text law variance))
+    (rw (id_is, stream_is, first_is, last_is, law.read grams, law.read variance, grams_passes grams grams_in, passes (pos 0) (pos most_row_variance) variance variance_in.0 variance_in.1) refl)
 
 pub dip_asks : HaveOneNumberText → (id tank date : List ℕ) (day mm density variance : ℤ) → is_name id ≡ true → is_name tank ≡ true → day_of date ≡ Some day → IsLevel mm → IsDensity density → IsVariance variance
     → WritesRow (codes "dip" ∷ id ∷ tank ∷ date ∷ whole_text mm ∷ whole_text density ∷ whole_text variance ∷ []) (FactRow (Dip id tank day mm density variance))
 dip_asks law id tank date day mm density variance id_is tank_is day_is level density_in variance_in =
-    ap (request_in One) (kept (codes "dip" ∷ id ∷ tank ∷ date ∷ whole_text mm ∷ whole_text density ∷ []) (whole_text variance) (some_text law variance))
-    ∙ rw (id_is, tank_is, day_is, law.read mm, law.read density, law.read variance, passes (pos 0) (pos most_level) mm level.0 level.1, passes (pos 1) (pos most_density) density density_in.0 density_in.1, passes (pos 0) (pos most_row_variance) variance variance_in.0 variance_in.1) refl
+    writes _ _ (kept (codes "dip" ∷ id ∷ tank ∷ date ∷ whole_text mm ∷ whole_text density ∷ []) (whole_text variance) (some_text law variance))
+    (rw (id_is, tank_is, day_is, law.read mm, law.read density, law.read variance, passes (pos 0) (pos most_level) mm level.0 level.1, passes (pos 1) (pos most_density) density density_in.0 density_in.1, passes (pos 0) (pos most_row_variance) variance variance_in.0 variance_in.1) refl)
 
 -- ---- one more record
 

@@ -1,8 +1,8 @@
 -- Inside. What a book keeps beside its rows, so that no look-up walks them.
-use Rattle.std.specs.Prelude.{◌≡◌, ℕ, ◌<◌, ◌≤◌, ℤ, ◌≤ℤ◌, Bool, true, List, [], length, map, filter_map, slice_get, slice_index_or, All, Option, Some, None, if◌then◌else◌, IsSome}
+use Rattle.std.specs.Prelude.{◌≡◌, ℕ, ◌<◌, ◌≤◌, ℤ, ◌≤ℤ◌, Bool, true, false, List, [], length, map, filter_map, slice_get, slice_index_or, All, Option, Some, None, if◌then◌else◌, IsSome}
 use Rattle.std.specs.Ordering.{int_cmp, int_eq}
 use Rattle.std.specs.BTreeMap.{BTreeMap, get}
-use Rattle.std.specs.Option.{option_map}
+use Rattle.std.specs.Option.{option_map, option_map_or}
 use Rattle.pb_limits.specs.Limits.{most_periods}
 use Rattle.pb_site.specs.declared.declared.Declared.{Declared}
 use Rattle.pb_facts.specs.declared.fact.Fact.{Fact}
@@ -20,7 +20,8 @@ use Rattle.pb_book.specs.Apart.{AreApart}
 use Rattle.pb_book.specs.Edits.{edits_of}
 use Rattle.pb_book.specs.Ranges.{IsPeriod}
 use Rattle.pb_book.specs.Rows.{StoredRow, declared_of, facts_of, periods_of}
-use Rattle.pb_book.specs.Touching.{some_closed}
+use Rattle.pb_book.specs.TakenOut.{takes_out}
+use Rattle.pb_book.specs.Touching.{some_closed, touches}
 
 -- the places of the periods that pass a test, by the days on which these begin
 pub record AreBegun (chosen : Period → Bool) (periods : List Period) (begins : BTreeMap ℤ ℕ) : Type 0 where
@@ -132,3 +133,14 @@ settled_in declared periods place = settled_by declared periods place.part
 -- such rows at these places
 abbrev pub settled_at : List Declared → List Period → List Place → List BookRow
 settled_at declared periods places = filter_map (settled_in declared periods) places
+
+-- the row at a place of a part takes out a period; a declaration does wherever it lies
+abbrev pub part_takes_out : List KeptFact → List Fact → List Edited → Period → Part → Bool
+part_takes_out kept told edited period (InDeclarations i) = true
+part_takes_out kept told edited period (InPeriods i) = false
+part_takes_out kept told edited period (InFacts i) =
+    option_map_or (λ fact. touches fact period) (slice_get told i) false
+part_takes_out kept told edited period (InLate i) =
+    option_map_or (λ fact. touches fact period) (slice_get told i) false
+part_takes_out kept told edited period (InEdits i) =
+    option_map_or (λ (edit : Edited). takes_out kept (edited_row edit) period) (slice_get edited i) false

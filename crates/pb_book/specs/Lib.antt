@@ -6,10 +6,12 @@ pub mod Apart
 pub mod Rows
 pub mod Touching
 pub mod Edits
+pub mod TakenOut
 pub mod Ranges
 pub mod Refusals
 pub mod Answer
 pub mod Accepted
+pub mod Named
 pub mod Live
 pub mod Plain
 pub mod Written

@@ -9,9 +9,10 @@ use Rattle.pb_book.specs.declared.requests.Version.TheVariants.{One}
 use Rattle.pb_book.specs.declared.rows.BookRow.{BookRow}
 use Rattle.pb_book.specs.Requests.{request_in}
 
--- a record asks that this row be stored
-abbrev pub WritesRow : List (List ℕ) → BookRow → Type 0
-WritesRow fields row = request_in One (without_trailing_empty fields) ≡ Ok (Store row)
+-- a record asks that this row be stored, and no empty field stands at its end
+pub record WritesRow (fields : List (List ℕ)) (row : BookRow) : Type 0 where
+  pub asks : request_in One (without_trailing_empty fields) ≡ Ok (Store row)
+  pub filled : without_trailing_empty fields ≡ fields
 
 -- each record writes its row, and there are no others
 abbrev pub WriteRows : List (List (List ℕ)) → List BookRow → Type 0

@@ -8,11 +8,12 @@ ghost use Rattle.pb_book.specs.Accepted.{AreAccepted, AreInTables, IsAcceptable}
 ghost use Rattle.pb_book.specs.Answer.{after, after_answer, answer_of, answer_to, said_of, stored_or_refused};
 ghost use Rattle.pb_book.specs.Apart.{AreApart, is_named};
 ghost use Rattle.pb_book.specs.Edits.{edit_at, edit_by, edit_in, edit_touches, edits_of, row_touches, touches_at, touches_by_id};
-ghost use Rattle.pb_book.specs.Kept.{edited_row, edits_shelved, row_at};
+ghost use Rattle.pb_book.specs.Kept.{edited_row, edits_shelved, part_takes_out, row_at};
 ghost use Rattle.pb_book.specs.Plain.{plain_rows};
 ghost use Rattle.pb_book.specs.Ranges.{IsPeriod, IsRequestInRange, IsRowInRange};
 ghost use Rattle.pb_book.specs.Refusals.{refusal_of};
 ghost use Rattle.pb_book.specs.Rows.{declared_of, facts_of, period_place, periods_of, version_of, with_row};
+ghost use Rattle.pb_book.specs.TakenOut.{takes_out, touched_at};
 ghost use Rattle.pb_book.specs.Written.{WriteRows};
 
 use crate::answer::{Accepted, NotAccepted, Refused};
@@ -29,8 +30,6 @@ use pb_site::{Declared, Site};
 use std::alloc::{AllocError, Global};
 use std::marker::Model;
 
-#[cfg(test)]
-mod edit_tests;
 #[cfg(test)]
 mod tests;
 
@@ -166,6 +165,25 @@ impl Book {
         )
     }
 
+    /// Whether the row that was stored last takes the period at a place out of those whose studies are kept: a fact, an
+    /// amendment and a strike each that they touch, a declaration and a critical value every one. False where no row is
+    /// stored.
+    pub fn touched(&self, i: u32) -> bool
+        requires { i < length (periods_of self.now) }
+        ensures { result ≡ touched_at self.now i }
+    {
+        match self.places.last() {
+            Some(place) => takes_out(
+                &self.facts,
+                &self.told,
+                &self.edited,
+                place.part,
+                &self.periods.at(i),
+            ),
+            None => false,
+        }
+    }
+
     /// The plain rows as records: the declarations, periods and critical values in order, and then the live facts with
     /// their last values. None of them is refused, and a report behind them is the one behind the book's rows. Refused
     /// alone for want of memory.
@@ -224,7 +242,8 @@ impl Book {
         ensures answer { result ≢ Err NoMemory
             → result ≡ said_of (stored_or_refused row (refusal_of self.old row)) }
         ensures stored { result ≢ Err NoMemory
-            → self.new ≡ after_answer self.old at (stored_or_refused row (refusal_of self.old row)) }
+            → self.new
+            ≡ after_answer self.old at (stored_or_refused row (refusal_of self.old row)) }
         ensures unchanged { result ≡ Err NoMemory → self.new ≡ self.old }
     {
         if let Some(cause) = judge(&self.site, &self.facts, &self.periods, &row) {
@@ -427,6 +446,34 @@ fn kept_touches(
             None => false,
         },
         _ => false,
+    }
+}
+
+// Whether the row at a place of a part takes out a period.
+fn takes_out(facts: &Facts, told: &[Fact], edited: &[Edited], part: Part, period: &Period) -> bool
+    ensures { result ≡ part_takes_out facts.now told.now edited.now period.now part }
+{
+    match part {
+        Part::Declaration(_) => true,
+        Part::Period(_) => false,
+        Part::Fact(i) | Part::Late(i) => match told.get(i as usize) {
+            Some(fact) => touches(fact, period),
+            None => false,
+        },
+        Part::Edit(i) => match edited.get(i) {
+            Some(edited) => edit_takes_out(facts, edited, period),
+            None => false,
+        },
+    }
+}
+
+// Whether an edit takes out a period; a closing takes out none.
+fn edit_takes_out(facts: &Facts, edited: &Edited, period: &Period) -> bool
+    ensures { result ≡ takes_out facts.now (edited_row edited.now) period.now }
+{
+    match edited {
+        Edited::Close(_) => false,
+        _ => edit_touches(facts, edited, period),
     }
 }
 

@@ -81,7 +81,8 @@ fn judge_period(
     first: i32,
     last: i32,
 ) -> Option<Refused>
-    ensures { result ≡ refusal_behind _site.now _facts.now periods.now (PeriodRow name.now first last) }
+    ensures { result
+        ≡ refusal_behind _site.now _facts.now periods.now (PeriodRow name.now first last) }
 {
     if periods.has_name(name) {
         Some(Refused::Duplicate)

@@ -2,7 +2,9 @@
 
 ghost use Rattle.pb_book.specs.Laws.{AcceptedLaw, RequestsLaw};
 ghost use Rattle.pb_book.specs.Live.{LiveLaw};
+ghost use Rattle.pb_book.specs.Named.{NamedLaw, RangesLaw};
 ghost use Rattle.pb_book.specs.Plain.{PlainLaw};
+ghost use Rattle.pb_book.specs.TakenOut.{TouchedLaw};
 
 use pb_rows::date_text_law;
 
@@ -31,4 +33,19 @@ pub fn plain_law()
 /// of the last row that amends it, else its own.
 pub fn live_law()
     ensures { LiveLaw }
+{}
+
+/// The law that after one more row it is that row which takes out a period, over the facts and the periods behind it.
+pub fn touched_law()
+    ensures { TouchedLaw }
+{}
+
+/// The law that the names of units, tanks, streams and periods in the rows of a session are names, whatever its records.
+pub fn named_law()
+    ensures { NamedLaw }
+{}
+
+/// The law that the numbers that accepted rows declare lie in their ranges.
+pub fn ranges_law()
+    ensures { RangesLaw }
 {}

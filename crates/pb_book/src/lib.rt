@@ -18,6 +18,8 @@ mod written;
 
 pub use answer::{Accepted, NotAccepted, Refused};
 pub use book::Book;
-pub use laws::{accepted_law, live_law, plain_law, requests_law};
+pub use laws::{
+    accepted_law, live_law, named_law, plain_law, ranges_law, requests_law, touched_law,
+};
 pub use requests::{FactKind, Request, RowKind, Version, read_request};
 pub use rows::{BookRow, Edit, EditWord, Edited, Part, Period, Place};

@@ -28,7 +28,8 @@ pub(crate) fn plain_records(
 ) -> Result<Rows, AllocError>
     requires { All IsDeclaredInRange declared.now }
     ensures { IfOk result (λ records. WriteRows records
-        (settled_at declared.now periods.now places.now ++ map (λ fact. FactRow fact) (live_facts facts.now))) }
+        (settled_at declared.now periods.now places.now
+        ++ map (λ fact. FactRow fact) (live_facts facts.now))) }
 {
     let mut records = settled_records(alloc, declared, periods, places)?;
     for i in 0..facts.len() {
@@ -87,7 +88,8 @@ fn push_settled(
 fn push_live(alloc: Global, facts: &Facts, i: u32, records: &mut Rows) -> Result<(), AllocError>
     requires { i < length facts.now }
     ensures { OnOk result
-        (AddsSome records.old records.new (option_map (λ fact. FactRow fact) (live_at facts.now i))) }
+        (AddsSome records.old records.new
+        (option_map (λ fact. FactRow fact) (live_at facts.now i))) }
 {
     match facts.live(i) {
         Some(fact) => push_fact(alloc, &fact, records),

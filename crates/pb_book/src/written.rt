@@ -238,7 +238,8 @@ fn transfer_record(
     requires grams { IsGrams grams }
     requires variance { IsVariance variance }
     ensures { IfOk result
-        (λ fields. WritesRow fields (FactRow (Transfer id.now stream.now first last grams variance))) }
+        (λ fields. WritesRow fields
+        (FactRow (Transfer id.now stream.now first last grams variance))) }
 {
     number_text_law();
     let mut row = begun(alloc, b"transfer")?;

@@ -1,3 +1,4 @@
+mod AlikeLemmas
 mod UniqueLemmas
 mod RoundLemmas
 mod ChordLemmas

@@ -2,6 +2,7 @@
 use Rattle.std.specs.Prelude.{◌≡◌, List}
 use Rattle.pb_graph.specs.declared.records.Classified.{Classified}
 use Rattle.pb_graph.specs.ProcessGraph.{ProcessGraph, IsProcessGraph}
+use Rattle.pb_graph.specs.Alike.{AreAlike}
 use Rattle.pb_classify.specs.Classification.{IsClassification}
 
 -- each process graph has a classification
@@ -11,3 +12,9 @@ SomeClassificationLaw = (graph : ProcessGraph) → IsProcessGraph graph → (cla
 -- a graph has one classification, certificates and all
 abbrev pub OneClassificationLaw : Type 0
 OneClassificationLaw = (graph : ProcessGraph) (one other : List Classified) → IsClassification graph one → IsClassification graph other → one ≡ other
+
+-- graphs that differ in values and variances alone have the same classification
+abbrev pub AlikeLaw : Type 0
+AlikeLaw =
+    (one other : ProcessGraph) (classes : List Classified) → IsProcessGraph other → AreAlike one other
+    → IsClassification one classes → IsClassification other classes

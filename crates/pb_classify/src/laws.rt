@@ -1,6 +1,6 @@
 // What is proved of the definitions alone. The functions are empty: the contract of each is a law.
 
-ghost use Rattle.pb_classify.specs.Laws.{SomeClassificationLaw, OneClassificationLaw};
+ghost use Rattle.pb_classify.specs.Laws.{SomeClassificationLaw, OneClassificationLaw, AlikeLaw};
 
 /// Each process graph has a classification.
 pub fn some_classification_law()
@@ -10,4 +10,9 @@ pub fn some_classification_law()
 /// A graph has one classification, so a text made of it is determined by the graph.
 pub fn one_classification_law()
     ensures { OneClassificationLaw }
+{}
+
+/// Graphs that are alike, so that they differ in values and variances alone, have the same classification.
+pub fn alike_law()
+    ensures { AlikeLaw }
 {}

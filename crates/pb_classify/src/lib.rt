@@ -11,4 +11,4 @@ mod laws;
 mod tests;
 
 pub use classes::classify;
-pub use laws::{one_classification_law, some_classification_law};
+pub use laws::{alike_law, one_classification_law, some_classification_law};

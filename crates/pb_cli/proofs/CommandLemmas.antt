@@ -1,45 +1,42 @@
--- The command that the words give.
-use Rattle.std.proofs.Common.{◌≡◌, ◌⊎◌, ◌≤◌, Bool, true, false, true≢false, ap, subst, length, Option, Some, None, IfSome, ℕ, List}
-use Rattle.pb_limits.specs.Limits.{most_bytes}
-use Rattle.pb_graph.specs.declared.results.Options.{Options}
-use Rattle.pb_report.specs.declared.form.Form.{Form}
+-- The command that the words give, and how it ends.
+use Rattle.std.proofs.Common.{◌≡◌, ◌⊎◌, inl, inr, ℕ, true, List, sym, subst}
+use Rattle.pb_io.specs.Source.{SourceSeen}
 use Rattle.pb_words.specs.declared.command.Command.{Command}
-use Rattle.pb_words.specs.declared.command.Command.TheVariants.{Run, Make}
 use Rattle.pb_words.specs.Command.{IsCommandOf}
 use Rattle.pb_words.specs.Laws.{OneCommandLaw}
 use Rattle.pb_cli.specs.declared.status.Status.{Status}
 use Rattle.pb_cli.specs.declared.status.Status.TheVariants.{NoMemory}
-use Rattle.pb_cli.specs.Status.{done_status}
-use Rattle.pb_cli.specs.Run.{refuses}
+use Rattle.pb_cli.specs.Run.{AskToMake, EndsAs, IsGiven, is_making}
 
--- whether the run that a command asks for refuses some record of the input
-abbrev refuses_by : Command → List ℕ → Bool
-refuses_by (Run options form) input = refuses options form input
-refuses_by (Make number streams summary gap sweeps) input = false
+-- where the bytes decide and no fault was counted, a command ends as they say; want of memory alone is free
+abbrev pub Completes : List (List ℕ) → SourceSeen → SourceSeen → Type 0 → Status → Type 0
+Completes words source_old source_new WriteFailed status =
+    (command : Command) (input : List ℕ) → IsCommandOf words command → IsGiven command source_old source_new input → (WriteFailed → ⊥)
+    → EndsAs command input status ⊎ (status ≡ NoMemory)
 
-abbrev is_run : Command → Bool
-is_run (Run options form) = true
-is_run (Make number streams summary gap sweeps) = false
+-- the command that the words give is the one that was done, since they give one command
+pub completes : OneCommandLaw → (words : List (List ℕ)) (here : Command) (read : List ℕ) (source_old source_new : SourceSeen) (WriteFailed : Type 0) (status : Status)
+    → IsCommandOf words here → ((input : List ℕ) → IsGiven here source_old source_new input → read ≡ input)
+    → ((WriteFailed → ⊥) → EndsAs here read status ⊎ (status ≡ NoMemory)) → Completes words source_old source_new WriteFailed status
+completes law words here read source_old source_new WriteFailed status is given ends command input of told none =
+    let same : command ≡ here = law words command here of is in
+    let at : IsGiven here source_old source_new input = subst (λ (c : Command). IsGiven c source_old source_new input) same told in
+    subst (λ (c : Command). EndsAs c input status ⊎ (status ≡ NoMemory)) (sym same)
+    (subst (λ (bytes : List ℕ). EndsAs here bytes status ⊎ (status ≡ NoMemory)) (given input at) (ends none))
 
-pub run_or_make : (options : Options) (form : Form) (number streams : ℕ) (summary : Bool) (gap sweeps : ℕ) → Run options form ≡ Make number streams summary gap sweeps → ⊥
-run_or_make options form number streams summary gap sweeps e = true≢false (ap is_run e)
+-- it wasn't read
+pub completes_unread : OneCommandLaw → (words : List (List ℕ)) (here : Command) (source_old source_new : SourceSeen) (WriteFailed : Type 0) (status : Status) → IsCommandOf words here
+    → ((input : List ℕ) → IsGiven here source_old source_new input → status ≡ NoMemory) → Completes words source_old source_new WriteFailed status
+completes_unread law words here source_old source_new WriteFailed status is given command input of told none =
+    let same : command ≡ here = law words command here of is in
+    inr (given input (subst (λ (c : Command). IsGiven c source_old source_new input) same told))
 
--- where the words give a run and no fault was counted, the bytes decide
-abbrev pub Completes : List (List ℕ) → Type 0 → Type 0 → Status → Option (List ℕ) → Type 0
-Completes words ReadFailed WriteFailed result remaining = IfSome remaining (λ input.
-    (options : Options) (form : Form) → IsCommandOf words (Run options form) → length input ≤ most_bytes → (ReadFailed → ⊥) → (WriteFailed → ⊥)
-    → (result ≡ done_status (refuses options form input)) ⊎ (result ≡ NoMemory))
+-- of three ways to end, the second one with a fault that wasn't counted
+pub unless_failed : (Ends Failed Wants Fault : Type 0) → Ends ⊎ (Failed ⊎ Wants) → (Failed → Fault) → (Fault → ⊥) → Ends ⊎ Wants
+unless_failed Ends Failed Wants Fault (inl ends) cause none = inl ends
+unless_failed Ends Failed Wants Fault (inr (inl failed)) cause none = absurd (none (cause failed))
+unless_failed Ends Failed Wants Fault (inr (inr wants)) cause none = inr wants
 
--- the run that the words give is the one that was made, since they give one command
-pub completes_run : (words : List (List ℕ)) (options : Options) (form : Form) (ReadFailed WriteFailed : Type 0) (result : Status) (remaining : Option (List ℕ)) → OneCommandLaw
-    → IsCommandOf words (Run options form)
-    → IfSome remaining (λ input. length input ≤ most_bytes → (ReadFailed → ⊥) → (WriteFailed → ⊥) → (result ≡ done_status (refuses options form input)) ⊎ (result ≡ NoMemory))
-    → Completes words ReadFailed WriteFailed result remaining
-completes_run words options form ReadFailed WriteFailed result None law here done = done
-completes_run words options form ReadFailed WriteFailed result (Some input) law here done = λ o f of fits read written.
-    subst (λ (command : Command). (result ≡ done_status (refuses_by command input)) ⊎ (result ≡ NoMemory)) (law words (Run options form) (Run o f) here of) (done fits read written)
-
-pub completes_none : (words : List (List ℕ)) (ReadFailed WriteFailed : Type 0) (result : Status) (remaining : Option (List ℕ))
-    → ((options : Options) (form : Form) → IsCommandOf words (Run options form) → ⊥) → Completes words ReadFailed WriteFailed result remaining
-completes_none words ReadFailed WriteFailed result None none = tt
-completes_none words ReadFailed WriteFailed result (Some input) none = λ options form of fits read written. absurd (none options form of)
+-- the command that was read is one that makes a session, where the words give such a one
+pub making_here : OneCommandLaw → (words : List (List ℕ)) (here : Command) → IsCommandOf words here → AskToMake words → is_making here ≡ true
+making_here law words here is (command, of, making) = subst (λ (c : Command). is_making c ≡ true) (law words command here of is) making

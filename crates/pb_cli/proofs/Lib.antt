@@ -1,2 +1,4 @@
 mod TextLemmas
 mod CommandLemmas
+mod FindingLemmas
+mod OwnLemmas

@@ -1,6 +1,8 @@
 -- The output of some records and one more.
-use Rattle.std.proofs.Common.{◌≡◌, ◌∙◌, ℕ, ◌+◌, ◌<◌, ◌≤◌, Bool, true, false, ◌||◌, List, [], ◌∷◌, ◌++◌, length, take, drop, get_or, ap, ap₂, sym, refl, subst, arith, append_assoc, append-nil}
-use Rattle.std.proofs.lemmas.List.{take_more, take_all, take-append-drop, length-take-le}
+use Rattle.std.proofs.Common.{◌≡◌, ◌∙◌, ℕ, zero, suc, ◌+◌, ◌<◌, ◌≤◌, Bool, true, false, ◌||◌, Option, Some, None, Result, Ok, Err, List, [], ◌∷◌, ◌++◌, length, take, drop, get_or, ap, ap₂, sym, refl, subst, arith, append_assoc, append-nil}
+use Rattle.std.specs.Prelude.{IfErr}
+use Rattle.std.proofs.lemmas.List.{length-drop, take_more, take_all, take-append-drop, length-take-le}
+use Rattle.pb_rows.specs.RecordsLeft.{RecordsLeft, TakesNext}
 use Rattle.pb_book.specs.Answer.{answer_of, is_refused}
 use Rattle.pb_session.specs.Session.{Adds, SessionState, IsSessionText, state_after, state_after_all, refuses_some}
 use Rattle.pb_cli.specs.Prefix.{AreTextsOfSome, AreTextsCutShort, IsBeginningOf}
@@ -95,3 +97,47 @@ pub all_answered : (start : SessionState) (rows : List Record) (i : ℕ) (state 
 all_answered start rows i state refused text le a =
     let whole = take_all i rows le in
     (a.refused_is ∙ ap (refuses_some start 1) whole, subst (λ (rs : List Record). IsSessionText start 1 rs text) whole a.texts)
+
+-- the next record is the one at this place
+pub at_next : (rows : List Record) (i : ℕ) (next : Record) (rest : List Record) → drop i rows ≡ next ∷ rest → (i < length rows) × (get_or rows i [] ≡ next) × (drop (i + 1) rows ≡ rest)
+at_next [] zero next rest is =
+    let no : ⊥ = cc is in
+    absurd no
+at_next [] (suc i) next rest is =
+    let no : ⊥ = cc is in
+    absurd no
+at_next (x ∷ rows) zero next rest is = (omega arith, cc is, cc is)
+at_next (x ∷ rows) (suc i) next rest is =
+    let (within, here, behind) = at_next rows i next rest is in
+    let place : suc i + 1 ≡ suc (i + 1) = omega arith in
+    (omega (arith, within), here, ap (λ (k : ℕ). drop k (x ∷ rows)) place ∙ behind)
+
+-- before the first record
+pub answered_none : (start : SessionState) (rows : List Record) (i : ℕ) (state : SessionState) → i ≡ 0 → state ≡ start → Answered start rows i state false []
+answered_none start rows i state none same =
+    let begin : Answered start rows 0 state false [] = record { state_is = same; refused_is = refl; texts = refl } in
+    subst (λ (k : ℕ). Answered start rows k state false []) (sym none) begin
+
+-- what holds of each error holds of the one that there is
+pub any_err : {T E : Type 0} (r : Result T E) (P : E → Type 0) → ((e : E) → P e) → IfErr r P
+any_err (Ok x) P all = tt
+any_err (Err e) P all = all e
+
+-- the record that was taken is the one at the next place
+pub record IsNextAt (rows : List Record) (old new : RecordsLeft) (next : Record) : Type 0 where
+  pub within : old.taken < length rows
+  pub here : get_or rows old.taken [] ≡ next
+  pub place : new.taken ≡ old.taken + 1
+  pub behind : drop new.taken rows ≡ new.left
+
+pub next_at : (rows : List Record) (old new : RecordsLeft) (next : Record) → drop old.taken rows ≡ old.left → TakesNext old new (Some next) → IsNextAt rows old new next
+next_at rows old new next left (first, taken) =
+    let (within, here, behind) = at_next rows old.taken next new.left (left ∙ first) in
+    record { within = within; here = here; place = taken; behind = ap (λ (k : ℕ). drop k rows) taken ∙ behind }
+
+-- no record is left
+pub none_left : (rows : List Record) (old new : RecordsLeft) → drop old.taken rows ≡ old.left → TakesNext old new None → length rows ≤ old.taken
+none_left rows old new left (none, same) = past rows old.taken (left ∙ none)
+  where
+    past : (rows : List Record) (i : ℕ) → drop i rows ≡ [] → length rows ≤ i
+    past rows i is = omega (arith, ap (λ (l : List Record). length l) is, length-drop i rows)

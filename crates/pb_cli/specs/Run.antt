@@ -1,8 +1,10 @@
 -- Statement. What a run did: the command that its words give, the bytes it took, and the bytes it put.
-use Rattle.std.specs.Prelude.{◌≡◌, ℕ, Bool, true, false, List, []}
+use Rattle.std.specs.Prelude.{◌≡◌, ℕ, ◌≤◌, Bool, true, false, List, [], length, Some, ⊤}
 use Rattle.std.specs.Io.KnownBytes.{IsAtEnd}
+use Rattle.pb_io.specs.Counts.{Rose}
 use Rattle.pb_io.specs.Source.{SourceSeen, TakesInTurns}
 use Rattle.pb_io.specs.Sink.{SinkSeen, PutsSuch}
+use Rattle.pb_limits.specs.Limits.{most_bytes}
 use Rattle.pb_rows.specs.Records.{records_of}
 use Rattle.pb_graph.specs.declared.results.Options.{Options}
 use Rattle.pb_report.specs.declared.form.Form.{Form}
@@ -10,8 +12,12 @@ use Rattle.pb_session.specs.Session.{SessionState, IsSessionText, refuses_some}
 use Rattle.pb_make.specs.Rows.{session_text}
 use Rattle.pb_summary.specs.Summary.{IsSummaryText}
 use Rattle.pb_words.specs.declared.command.Command.{Command}
-use Rattle.pb_words.specs.declared.command.Command.TheVariants.{Run, Make}
+use Rattle.pb_words.specs.declared.command.Command.TheVariants.{Run, Check, Make}
 use Rattle.pb_words.specs.Command.{IsCommandOf}
+use Rattle.pb_audit.specs.Judgement.{IsJudgement, IsJudgementPart, IsJudgementText, Judges}
+use Rattle.pb_cli.specs.declared.status.Status.{Status}
+use Rattle.pb_cli.specs.declared.status.Status.TheVariants.{Done}
+use Rattle.pb_cli.specs.Status.{done_status}
 use Rattle.pb_cli.specs.Prefix.{AreTextsOfSome, AreTextsCutShort, IsBeginningOf}
 
 -- the accepted words: those that give a command
@@ -44,13 +50,6 @@ IsCutShort options form input bytes = AreTextsCutShort (new_session options form
 abbrev pub IsPart : Options → Form → List ℕ → List ℕ → Type 0
 IsPart options form input bytes = AreTextsOfSome (new_session options form) (records_of input) bytes
 
--- The source was read to its end, and bytes were put that stand in this relation to those that were taken.
-pub record Runs (Wrote : List ℕ → List ℕ → Type 0) (source_old source_new : SourceSeen) (sink_old sink_new : SinkSeen) : Type 0 where
-  pub input : List ℕ
-  pub taken_all : TakesInTurns source_old source_new input
-  pub end : IsAtEnd source_new.remaining
-  pub put : PutsSuch (Wrote input) sink_old sink_new
-
 -- The text of a session that is made: it is that of the session of this number with so many streams.
 pub record IsMadeSession (number streams : ℕ) (text : List ℕ) : Type 0 where
   pub is : text ≡ session_text number streams
@@ -60,48 +59,86 @@ abbrev pub IsMade : ℕ → ℕ → Bool → ℕ → ℕ → List ℕ → Type 0
 IsMade number streams false gap sweeps text = IsMadeSession number streams text
 IsMade number streams true gap sweeps text = IsSummaryText number streams gap sweeps text
 
--- The words give a run with some options in some form, of which this holds.
-pub record AsksRunSuch (Did : Options → Form → Type 0) (words : List (List ℕ)) : Type 0 where
-  pub options : Options
-  pub form : Form
-  pub asked : IsCommandOf words (Run options form)
-  pub did : Did options form
+-- whether a command makes a session or its summary
+abbrev pub is_making : Command → Bool
+is_making (Run options form) = false
+is_making Check = false
+is_making (Make number streams summary gap sweeps) = true
 
--- the words give a run, and all of its output was put
-abbrev pub RunsWhole : List (List ℕ) → SourceSeen → SourceSeen → SinkSeen → SinkSeen → Bool → Type 0
-RunsWhole words source_old source_new sink_old sink_new refused =
-    AsksRunSuch (λ options form. Runs (IsOutput options form refused) source_old source_new sink_old sink_new) words
-
--- the words give a run, of which the texts of the first records were put, and a beginning of the next one's
-abbrev pub RunsCutShort : List (List ℕ) → SourceSeen → SourceSeen → SinkSeen → SinkSeen → Type 0
-RunsCutShort words source_old source_new sink_old sink_new =
-    AsksRunSuch (λ options form. Runs (IsCutShort options form) source_old source_new sink_old sink_new) words
-
--- the words give a run, of which the texts of the first records were put
-abbrev pub RunsPart : List (List ℕ) → SourceSeen → SourceSeen → SinkSeen → SinkSeen → Type 0
-RunsPart words source_old source_new sink_old sink_new =
-    AsksRunSuch (λ options form. Runs (IsPart options form) source_old source_new sink_old sink_new) words
-
--- The words give the making of a session from a number with so many streams, or of its summary, and bytes were put of which this holds.
-pub record MakesSuch (Wrote : ℕ → ℕ → Bool → ℕ → ℕ → List ℕ → Type 0) (words : List (List ℕ)) (sink_old sink_new : SinkSeen) : Type 0 where
-  pub number : ℕ
-  pub streams : ℕ
-  pub summary : Bool
-  pub gap : ℕ
-  pub sweeps : ℕ
-  pub asked : IsCommandOf words (Make number streams summary gap sweeps)
-  pub put : PutsSuch (Wrote number streams summary gap sweeps) sink_old sink_new
-
--- the words give the making of a session or of its summary, and all of it was put
-abbrev pub MakesWhole : List (List ℕ) → SinkSeen → SinkSeen → Type 0
-MakesWhole words sink_old sink_new = MakesSuch IsMade words sink_old sink_new
-
--- the words give the making of a session or of its summary, of which a beginning was put
-abbrev pub MakesCutShort : List (List ℕ) → SinkSeen → SinkSeen → Type 0
-MakesCutShort words sink_old sink_new =
-    MakesSuch (λ number streams summary gap sweeps. IsBeginningOf (IsMade number streams summary gap sweeps)) words sink_old sink_new
-
--- the words give the making of a session or of its summary
+-- the words give such a command
 abbrev pub AskToMake : List (List ℕ) → Type 0
-AskToMake words =
-    (number : ℕ) × (streams : ℕ) × (summary : Bool) × (gap : ℕ) × (sweeps : ℕ) × IsCommandOf words (Make number streams summary gap sweeps)
+AskToMake words = (command : Command) × IsCommandOf words command × (is_making command ≡ true)
+
+-- The judgement of the records of these bytes, and whether it finds something wrong.
+abbrev pub IsCheck : Bool → List ℕ → List ℕ → Type 0
+IsCheck wrong input output = IsJudgement wrong (records_of input) output
+
+-- the judgement of these bytes, whatever it finds
+abbrev pub IsTextOfCheck : List ℕ → List ℕ → Type 0
+IsTextOfCheck input output = IsJudgementText (records_of input) output
+
+-- The whole output of a command for this input, and whether it tells that something is wrong: that a record of a run was refused, or
+-- that a block of a check fails, or one of its records can't be read.
+abbrev pub IsWhole : Bool → Command → List ℕ → List ℕ → Type 0
+IsWhole wrong (Run options form) input output = IsOutput options form wrong input output
+IsWhole wrong Check input output = IsCheck wrong input output
+IsWhole wrong (Make number streams summary gap sweeps) input output = (wrong ≡ false) × IsMade number streams summary gap sweeps output
+
+-- a proper beginning of the output; of a run, the texts of the first records and a beginning of the next one's
+abbrev pub IsCut : Command → List ℕ → List ℕ → Type 0
+IsCut (Run options form) input bytes = IsCutShort options form input bytes
+IsCut Check input bytes = IsBeginningOf (IsTextOfCheck input) bytes
+IsCut (Make number streams summary gap sweeps) input bytes = IsBeginningOf (IsMade number streams summary gap sweeps) bytes
+
+-- the texts of the first records of a run, or the first rows of a check, whole
+abbrev pub IsFront : Command → List ℕ → List ℕ → Type 0
+IsFront (Run options form) input bytes = IsPart options form input bytes
+IsFront Check input bytes = IsJudgementPart (records_of input) bytes
+IsFront (Make number streams summary gap sweeps) input bytes = ⊥
+
+-- A source was read to its end.
+pub record IsReadWhole (source_old source_new : SourceSeen) (input : List ℕ) : Type 0 where
+  pub taken_all : TakesInTurns source_old source_new input
+  pub end : IsAtEnd source_new.remaining
+
+-- nothing was read, or all of it
+abbrev pub ReadsIf : Bool → SourceSeen → SourceSeen → List ℕ → Type 0
+ReadsIf true source_old source_new input = (source_new ≡ source_old) × (input ≡ [])
+ReadsIf false source_old source_new input = IsReadWhole source_old source_new input
+
+-- a command reads its input to the end; for the making of a session it reads nothing
+abbrev pub Reads : Command → SourceSeen → SourceSeen → List ℕ → Type 0
+Reads command source_old source_new input = ReadsIf (is_making command) source_old source_new input
+
+-- The words give a command, its input was read, and bytes were put of which this holds.
+pub record Does (Wrote : Command → List ℕ → List ℕ → Type 0) (words : List (List ℕ)) (source_old source_new : SourceSeen) (sink_old sink_new : SinkSeen) : Type 0 where
+  pub command : Command
+  pub asked : IsCommandOf words command
+  pub input : List ℕ
+  pub read : Reads command source_old source_new input
+  pub put : PutsSuch (Wrote command input) sink_old sink_new
+
+-- The source tells an input within the limit, and counted no fault.
+pub record IsTold (source_old source_new : SourceSeen) (input : List ℕ) : Type 0 where
+  pub remaining : source_old.remaining ≡ Some input
+  pub within : length input ≤ most_bytes
+  pub no_fault : Rose source_old.faults source_new.faults → ⊥
+
+-- nothing is asked of the source, or that
+abbrev pub IsGivenIf : Bool → SourceSeen → SourceSeen → List ℕ → Type 0
+IsGivenIf true source_old source_new input = input ≡ []
+IsGivenIf false source_old source_new input = IsTold source_old source_new input
+
+-- what a command needs of its source to end: the making of a session needs nothing
+abbrev pub IsGiven : Command → SourceSeen → SourceSeen → List ℕ → Type 0
+IsGiven command source_old source_new input = IsGivenIf (is_making command) source_old source_new input
+
+-- a check ends by whether something wrong is found
+abbrev pub EndsAsChecked : List ℕ → Status → Type 0
+EndsAsChecked input status = (wrong : Bool) × Judges wrong (records_of input) × (status ≡ done_status wrong)
+
+-- how a command ends that reads and writes all
+abbrev pub EndsAs : Command → List ℕ → Status → Type 0
+EndsAs (Run options form) input status = status ≡ done_status (refuses options form input)
+EndsAs Check input status = EndsAsChecked input status
+EndsAs (Make number streams summary gap sweeps) input status = status ≡ Done

@@ -15,13 +15,13 @@ use crate::status::Status;
 use pb_graph::Options;
 use pb_io::{Sink, SinkFailed, write_all};
 use pb_report::Form;
-use pb_rows::{Row, Rows};
+use pb_rows::{Records, Row};
 use pb_session::Session;
 use std::alloc::{AllocError, Global};
 
 // Why the answer to a record was not written.
 #[derive(Clone, Copy)]
-enum Stopped {
+pub(crate) enum Stopped {
     OutOfMemory,
     SinkFault,
 }
@@ -84,10 +84,8 @@ pub fn answer<W: Sink>(
     ensures idle { (W.seen sink.new).idle ≡ (W.seen sink.old).idle }
     ensures faults_stay { (W.seen sink.old).faults ≤ (W.seen sink.new).faults }
 {
-    let Ok(rows) = Rows::of(alloc, input) else {
-        return Status::NoMemory;
-    };
-    match answer_records(alloc, options, form, &rows, sink) {
+    let mut records = Records::of(alloc, input);
+    match answer_records(alloc, options, form, &mut records, sink) {
         Ok(false) => Status::Done,
         Ok(true) => Status::DoneRefused,
         Err(Stopped::SinkFault) => Status::WriteFault,
@@ -95,23 +93,29 @@ pub fn answer<W: Sink>(
     }
 }
 
-// Takes the records in order and writes what each adds before it takes the next. True exactly where some record was refused.
+// Takes the records in order, one at a time, and writes what each adds before it takes the next. True exactly where some record was
+// refused.
 fn answer_records<W: Sink>(
     alloc: Global,
     options: Options,
     form: Form,
-    rows: &Rows,
+    records: &mut Records,
     sink: &mut W,
 ) -> Result<bool, Stopped>
     requires options { AreOptions options }
-    requires rows { length rows.now < 2 ^ 32 }
-    ensures refused { IfOk result (λ refused. refused ≡ refuses_some (new_session options form) 1 rows.now) }
+    requires none_taken { records.now.taken ≡ 0 }
+    requires few { length records.now.left < 2 ^ 32 }
+    ensures refused { IfOk result (λ refused.
+        refused ≡ refuses_some (new_session options form) 1 records.old.left) }
     ensures whole { OnOk result (PutsSuch
-        (IsSessionText (new_session options form) 1 rows.now) (W.seen sink.old) (W.seen sink.new)) }
+        (IsSessionText (new_session options form) 1 records.old.left)
+        (W.seen sink.old) (W.seen sink.new)) }
     ensures cut { IfErr result (λ e. e ≡ Stopped.SinkFault → PutsSuch
-        (AreTextsCutShort (new_session options form) rows.now) (W.seen sink.old) (W.seen sink.new)) }
+        (AreTextsCutShort (new_session options form) records.old.left)
+        (W.seen sink.old) (W.seen sink.new)) }
     ensures some { IfErr result (λ e. e ≡ Stopped.OutOfMemory → PutsSuch
-        (AreTextsOfSome (new_session options form) rows.now) (W.seen sink.old) (W.seen sink.new)) }
+        (AreTextsOfSome (new_session options form) records.old.left)
+        (W.seen sink.old) (W.seen sink.new)) }
     ensures cause { IfErr result (λ e. e ≡ Stopped.SinkFault →
         Rose (W.seen sink.old).faults (W.seen sink.new).faults) }
     ensures no_fault { OnOk result ((W.seen sink.new).faults ≡ (W.seen sink.old).faults) }
@@ -122,8 +126,9 @@ fn answer_records<W: Sink>(
 {
     let mut session = Session::new(alloc, options, form);
     let mut some_refused = false;
-    for i in 0..rows.len() {
-        some_refused |= answer_record(alloc, &mut session, i as u32 + 1, rows.at(i), sink)?;
+    'turns: while let Some(fields) = records.next()? {
+        let at = records.taken() as u32;
+        some_refused |= answer_record(alloc, &mut session, at, &fields, sink)?;
     }
     Ok(some_refused)
 }
@@ -136,14 +141,14 @@ fn answer_record<W: Sink>(
     fields: &Row,
     sink: &mut W,
 ) -> Result<bool, Stopped>
-    ensures stored { OnOk result (session.new ≡ state_after session.old at fields.now) }
+    ensures stored { OnOk result (session.new.state ≡ state_after session.old.state at fields.now) }
     ensures refused { IfOk result (λ refused.
-        refused ≡ is_refused (answer_of session.old.rows fields.now)) }
+        refused ≡ is_refused (answer_of session.old.state.rows fields.now)) }
     ensures whole { OnOk result (PutsSuch
-        (Adds session.old at fields.now) (W.seen sink.old) (W.seen sink.new)) }
+        (Adds session.old.state at fields.now) (W.seen sink.old) (W.seen sink.new)) }
     ensures no_memory { IfErr result (λ e. e ≡ Stopped.OutOfMemory → sink.new ≡ sink.old) }
     ensures cut { IfErr result (λ e. e ≡ Stopped.SinkFault → PutsSuch
-        (IsBeginningOf (Adds session.old at fields.now)) (W.seen sink.old) (W.seen sink.new)) }
+        (IsBeginningOf (Adds session.old.state at fields.now)) (W.seen sink.old) (W.seen sink.new)) }
     ensures cause { IfErr result (λ e. e ≡ Stopped.SinkFault →
         Rose (W.seen sink.old).faults (W.seen sink.new).faults) }
     ensures no_fault { OnOk result ((W.seen sink.new).faults ≡ (W.seen sink.old).faults) }

@@ -1,9 +1,13 @@
-// Each input has one text of its run, whatever is asked.
+// Each input has one text of its run and one of its check, and one's own reports pass.
 
-ghost use Rattle.pb_cli.specs.Laws.{OneRunTextLaw, SomeRunTextLaw};
+ghost use Rattle.pb_cli.specs.Laws.{OneCheckTextLaw, OneRunTextLaw, OwnReportsLaw, SomeCheckTextLaw, SomeRunTextLaw};
 
-use pb_book::accepted_law;
-use pb_session::{one_text_law, some_text_law};
+use pb_audit::{certified_law, findings_law, passed_law};
+use pb_book::{accepted_law, named_law};
+use pb_check::own_law;
+use pb_elim::formed_law;
+use pb_readback::{join_law, passed_rows_law, row_text_law, row_words_law, study_rows_law};
+use pb_session::{criticals_law, one_text_law, some_text_law};
 
 /// The law that each input has one text of its run, whatever options are asked and in each form, so that what a run writes of it
 /// is settled.
@@ -14,4 +18,31 @@ pub fn run_text_law()
     one_text_law();
     some_text_law();
     accepted_law();
+}
+
+/// The law that each input has one text of its check, so that what a check writes of it is settled.
+pub fn check_text_law()
+    ensures some { SomeCheckTextLaw }
+    ensures one { OneCheckTextLaw }
+{
+    findings_law();
+    certified_law();
+}
+
+/// The law that the check of a run's own output in CSV finds nothing wrong, whatever session was run.
+pub fn own_reports_law()
+    ensures { OwnReportsLaw }
+{
+    join_law();
+    study_rows_law();
+    passed_rows_law();
+    row_words_law();
+    row_text_law();
+    formed_law();
+    own_law();
+    criticals_law();
+    named_law();
+    accepted_law();
+    findings_law();
+    passed_law();
 }

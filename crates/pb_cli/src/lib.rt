@@ -1,10 +1,12 @@
 //! The top call: a session from bytes to bytes.
 //!
-//! [`run`] reads the words of its command, then a source to its end, and [`answer`] takes the records of its bytes one by one and
-//! writes what each adds to the output before it takes the next. A run answers by one of seven statuses, and each has its cause.
+//! [`run`] reads the words of its command, then a source to its end. [`answer`] takes the records of its bytes one by one and
+//! writes what each adds to the output before it takes the next; [`judge`] does so with the blocks of a report. A run answers by
+//! one of seven statuses, and each has its cause.
 #![tactic(auto)]
 
 mod answers;
+mod checks;
 mod laws;
 mod making;
 mod runs;
@@ -13,7 +15,8 @@ mod status;
 mod tests;
 
 pub use answers::answer;
-pub use laws::run_text_law;
+pub use checks::judge;
+pub use laws::{check_text_law, own_reports_law, run_text_law};
 pub use pb_words::{Command, Words, WordsRefused, read_words};
 pub use runs::run;
 pub use status::Status;

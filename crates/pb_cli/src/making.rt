@@ -27,7 +27,8 @@ pub(crate) fn make_session<W: Sink>(
     ensures write_fault { result ≡ WriteFault →
         Rose (W.seen sink.old).faults (W.seen sink.new).faults }
     ensures write_fault_cut { result ≡ WriteFault →
-        PutsSuch (IsBeginningOf (IsMade number streams summary gap sweeps)) (W.seen sink.old) (W.seen sink.new) }
+        PutsSuch (IsBeginningOf (IsMade number streams summary gap sweeps))
+        (W.seen sink.old) (W.seen sink.new) }
     ensures no_write_fault { result ≢ WriteFault →
         (W.seen sink.new).faults ≡ (W.seen sink.old).faults }
     ensures no_memory { result ≡ NoMemory → sink.new ≡ sink.old }

@@ -1,46 +1,41 @@
 // The call that main makes.
-ghost use Rattle.std.specs.Prelude.{◌≡◌, ◌≢◌, ◌⊎◌, ◌+◌, ◌≤◌, true, false, length, IfSome};
+ghost use Rattle.std.specs.Prelude.{◌≡◌, ◌≢◌, ◌⊎◌, ◌+◌, ◌≤◌, ℕ, List, Err, true, false, length, IfOk, IfErr, OnErr};
 ghost use Rattle.pb_io.specs.Counts.{Rose};
 ghost use Rattle.pb_io.specs.Source.{TakesExactly, TakesAtMost};
 ghost use Rattle.pb_limits.specs.Limits.{most_bytes};
 ghost use Rattle.pb_cli.specs.declared.status.Status.TheVariants.{Done, DoneRefused, Usage, ReadFault, WriteFault, TooLarge, NoMemory};
-ghost use Rattle.pb_cli.specs.Status.{done_status};
-ghost use Rattle.pb_graph.specs.declared.results.Options.{Options};
-ghost use Rattle.pb_elim.specs.Options.{AreOptions};
-ghost use Rattle.pb_report.specs.declared.form.Form.{Form};
-ghost use Rattle.pb_words.specs.declared.command.Command.TheVariants.{Run};
-ghost use Rattle.pb_words.specs.Command.{IsCommandOf};
-ghost use Rattle.pb_cli.specs.Run.{AreAccepted, AskToMake, IsCutShort, IsOutput, IsPart, MakesCutShort, MakesWhole, Runs, RunsCutShort, RunsPart, RunsWhole, refuses};
+ghost use Rattle.pb_words.specs.declared.command.Command.{Command};
+ghost use Rattle.pb_words.specs.Command.{IsCommandOf, IsInRange};
+ghost use Rattle.pb_cli.specs.Run.{AreAccepted, AskToMake, Does, EndsAs, IsCut, IsFront, IsGiven, IsWhole, Reads, is_making};
 
 use crate::answers::answer;
+use crate::checks::judge;
 use crate::making::make_session;
 use crate::status::Status;
-use pb_graph::Options;
 use pb_io::{ReadEnd, Sink, Source, read_all};
 use pb_limits::MOST_BYTES;
-use pb_report::Form;
 use pb_words::{Command, Words, WordsRefused, one_command_law, read_words};
 use std::alloc::Global;
 
-/// Does what the command of the words asks: reads a session from a source to its end and writes its output to a sink; or makes a
-/// session, for which it reads nothing, and writes it.
+/// Does what the command of the words asks: reads a session from a source to its end and writes its output to a sink; or reads a
+/// report and writes its judgement, block by block; or makes a session, for which it reads nothing, and writes it.
 ///
-/// The whole input is read before anything is written, and what each record adds is written before the next is taken: so the
-/// code does it, and no clause says when.
+/// The whole input is read before anything is written, and what each record adds, or each block, is written before the next is
+/// taken: so the code does it, and no clause says when.
 ///
 /// The clauses speak of the bytes that were taken and put. Where an end doesn't tell its bytes, as standard input and output
-/// don't, they speak of the numbers of bytes alone; [`answer`] says the same of bytes in hand.
+/// don't, they speak of the numbers of bytes alone; [`answer`] and [`judge`] say the same of bytes in hand.
 pub fn run<R: Source, W: Sink>(alloc: Global, words: &Words, source: &mut R, sink: &mut W) -> Status
     // Whatever rows come in, the bytes written are the texts of the rows in order: the row of each refusal, the classes of each
     // design, and the report of each period from the rows before it. In each report every stream's class stands with a true
     // cutset or cycle, the flows balance at every node, every balanced fractional vector whose weighted squares don't exceed
     // those of the printed flows lies within the printed bounds, and unconverged comes only where none of the allowed sweeps of
-    // best prices meets the gap: so says the text of a run.
-    ensures done { result ≡ Done → RunsWhole words.now
-        (R.seen source.old) (R.seen source.new) (W.seen sink.old) (W.seen sink.new) false
-        ⊎ MakesWhole words.now (W.seen sink.old) (W.seen sink.new) }
-    ensures done_refused { result ≡ DoneRefused → RunsWhole words.now
-        (R.seen source.old) (R.seen source.new) (W.seen sink.old) (W.seen sink.new) true }
+    // best prices meets the gap: so says the text of a run. In a check the bytes written are the judgement, and each block that
+    // gets a yes is certified in the same way, wherever it came from.
+    ensures done { result ≡ Done → Does (IsWhole false) words.now
+        (R.seen source.old) (R.seen source.new) (W.seen sink.old) (W.seen sink.new) }
+    ensures done_refused { result ≡ DoneRefused → Does (IsWhole true) words.now
+        (R.seen source.old) (R.seen source.new) (W.seen sink.old) (W.seen sink.new) }
 
     // Usage is the answer only where the words aren't accepted, and nothing else is then but want of memory. Nothing is read or
     // written where they aren't.
@@ -56,14 +51,13 @@ pub fn run<R: Source, W: Sink>(alloc: Global, words: &Words, source: &mut R, sin
         (R.seen source.new).faults ≡ (R.seen source.old).faults }
     ensures read_fault_unwritten { result ≡ ReadFault → sink.new ≡ sink.old }
 
-    // A write fault is the answer exactly where the sink counted one. What was written is a proper beginning of the text.
+    // A write fault is the answer exactly where the sink counted one. What was written is a proper beginning of the output.
     ensures write_fault { result ≡ WriteFault →
         Rose (W.seen sink.old).faults (W.seen sink.new).faults }
     ensures no_write_fault { result ≢ WriteFault →
         (W.seen sink.new).faults ≡ (W.seen sink.old).faults }
-    ensures write_fault_cut { result ≡ WriteFault → RunsCutShort words.now
-        (R.seen source.old) (R.seen source.new) (W.seen sink.old) (W.seen sink.new)
-        ⊎ MakesCutShort words.now (W.seen sink.old) (W.seen sink.new) }
+    ensures write_fault_cut { result ≡ WriteFault → Does IsCut words.now
+        (R.seen source.old) (R.seen source.new) (W.seen sink.old) (W.seen sink.new) }
 
     // Too large is the answer exactly where one byte more than the limit was taken. Nothing is written then.
     ensures too_large { result ≡ TooLarge →
@@ -72,25 +66,18 @@ pub fn run<R: Source, W: Sink>(alloc: Global, words: &Words, source: &mut R, sin
     ensures not_too_large { result ≢ TooLarge →
         TakesAtMost (R.seen source.old) (R.seen source.new) most_bytes }
 
-    // After want of memory the texts of the first rows were written, whole.
-    ensures no_memory { result ≡ NoMemory → (sink.new ≡ sink.old) ⊎ RunsPart words.now
+    // After want of memory the texts of the first rows, or of the first blocks, were written, whole.
+    ensures no_memory { result ≡ NoMemory → (sink.new ≡ sink.old) ⊎ Does IsFront words.now
         (R.seen source.old) (R.seen source.new) (W.seen sink.old) (W.seen sink.new) }
 
-    // Where the words give a run, the source tells its bytes and no fault was counted, the bytes decide. Want of memory alone is
-    // free.
-    ensures complete { IfSome (R.seen source.old).remaining (λ input.
-        (options : Options) (form : Form)
-        → IsCommandOf words.now (Run options form) → length input ≤ most_bytes →
-        ¬ Rose (R.seen source.old).faults (R.seen source.new).faults →
+    // Where the source tells its bytes and no fault was counted, the bytes decide how the command ends; where it makes a session
+    // they aren't asked, and nothing is read. Want of memory alone is free.
+    ensures complete { (command : Command) (input : List ℕ)
+        → IsCommandOf words.now command
+        → IsGiven command (R.seen source.old) (R.seen source.new) input →
         ¬ Rose (W.seen sink.old).faults (W.seen sink.new).faults →
-        (result ≡ done_status (refuses options form input)) ⊎ (result ≡ NoMemory)) }
-
-    // Where the words give the making of a session nothing is read, and where no fault was counted all of it is written. Want of
-    // memory alone is free.
+        EndsAs command input result ⊎ (result ≡ NoMemory) }
     ensures make_unread { AskToMake words.now → source.new ≡ source.old }
-    ensures make_complete { AskToMake words.now →
-        ¬ Rose (W.seen sink.old).faults (W.seen sink.new).faults →
-        (result ≡ Done) ⊎ (result ≡ NoMemory) }
 
     // No empty piece was put.
     ensures idle { (W.seen sink.new).idle ≡ (W.seen sink.old).idle }
@@ -98,68 +85,69 @@ pub fn run<R: Source, W: Sink>(alloc: Global, words: &Words, source: &mut R, sin
     ensures sink_faults_stay { (W.seen sink.old).faults ≤ (W.seen sink.new).faults }
 {
     one_command_law();
-    match read_words(alloc, words) {
-        Ok(Command::Run { options, form }) => run_session(alloc, options, form, source, sink),
-        Ok(
-            Command::Make {
-                number,
-                streams,
-                summary,
-                gap,
-                sweeps,
-            },
-        ) => make_session(alloc, number, streams, summary, gap, sweeps, sink),
-        Err(WordsRefused::Usage) => Status::Usage,
-        Err(WordsRefused::NoMemory) => Status::NoMemory,
+    let command = match read_words(alloc, words) {
+        Ok(command) => command,
+        Err(WordsRefused::Usage) => return Status::Usage,
+        Err(WordsRefused::NoMemory) => return Status::NoMemory,
+    };
+    let input = match read_input(alloc, command, source) {
+        Ok(input) => input,
+        Err(status) => return status,
+    };
+    match command {
+        Command::Run { options, form } => answer(alloc, options, form, input.as_slice(), sink),
+        Command::Check => judge(alloc, input.as_slice(), sink),
+        Command::Make {
+            number,
+            streams,
+            summary,
+            gap,
+            sweeps,
+        } => make_session(alloc, number, streams, summary, gap, sweeps, sink),
     }
 }
 
-// Reads a session from a source to its end, and writes its output in a form to a sink.
-fn run_session<R: Source, W: Sink>(
-    alloc: Global,
-    options: Options,
-    form: Form,
-    source: &mut R,
-    sink: &mut W,
-) -> Status
-    requires { AreOptions options }
-    ensures done { result ≡ Done → Runs (IsOutput options form false)
-        (R.seen source.old) (R.seen source.new) (W.seen sink.old) (W.seen sink.new) }
-    ensures done_refused { result ≡ DoneRefused → Runs (IsOutput options form true)
-        (R.seen source.old) (R.seen source.new) (W.seen sink.old) (W.seen sink.new) }
-    ensures no_usage { result ≢ Usage }
-    ensures read_fault { result ≡ ReadFault →
-        Rose (R.seen source.old).faults (R.seen source.new).faults }
-    ensures no_read_fault { result ≢ ReadFault →
+// Reads what a command reads: the source to its end, or nothing where a session is made. Else the status that says why not.
+fn read_input<R: Source>(alloc: Global, command: Command, source: &mut R) -> Result<Vec<u8>, Status>
+    ensures read { IfOk result (λ input.
+        Reads command (R.seen source.old) (R.seen source.new) input.items) }
+    ensures within { IfOk result (λ input. length input.items ≤ most_bytes) }
+    ensures given { (input : List ℕ)
+        → IsGiven command (R.seen source.old) (R.seen source.new) input →
+        IfOk result (λ read. read.items ≡ input) }
+    ensures complete { (input : List ℕ)
+        → IsGiven command (R.seen source.old) (R.seen source.new) input →
+        IfErr result (λ status. status ≡ NoMemory) }
+    ensures unread { is_making command ≡ true → source.new ≡ source.old }
+    ensures read_fault { IfErr result (λ status. status ≡ ReadFault →
+        Rose (R.seen source.old).faults (R.seen source.new).faults) }
+    ensures no_read_fault { result ≢ Err ReadFault →
         (R.seen source.new).faults ≡ (R.seen source.old).faults }
-    ensures read_fault_unwritten { result ≡ ReadFault → sink.new ≡ sink.old }
-    ensures write_fault { result ≡ WriteFault →
-        Rose (W.seen sink.old).faults (W.seen sink.new).faults }
-    ensures no_write_fault { result ≢ WriteFault →
-        (W.seen sink.new).faults ≡ (W.seen sink.old).faults }
-    ensures write_fault_cut { result ≡ WriteFault → Runs (IsCutShort options form)
-        (R.seen source.old) (R.seen source.new) (W.seen sink.old) (W.seen sink.new) }
-    ensures too_large { result ≡ TooLarge →
-        TakesExactly (R.seen source.old) (R.seen source.new) (most_bytes + 1) }
-    ensures too_large_unwritten { result ≡ TooLarge → sink.new ≡ sink.old }
-    ensures not_too_large { result ≢ TooLarge →
+    ensures too_large { IfErr result (λ status. status ≡ TooLarge →
+        TakesExactly (R.seen source.old) (R.seen source.new) (most_bytes + 1)) }
+    ensures not_too_large { result ≢ Err TooLarge →
         TakesAtMost (R.seen source.old) (R.seen source.new) most_bytes }
-    ensures no_memory { result ≡ NoMemory →
-        (sink.new ≡ sink.old) ⊎ Runs (IsPart options form)
-        (R.seen source.old) (R.seen source.new) (W.seen sink.old) (W.seen sink.new) }
-    ensures complete { IfSome (R.seen source.old).remaining (λ input. length input ≤ most_bytes →
-        ¬ Rose (R.seen source.old).faults (R.seen source.new).faults →
-        ¬ Rose (W.seen sink.old).faults (W.seen sink.new).faults →
-        (result ≡ done_status (refuses options form input)) ⊎ (result ≡ NoMemory)) }
-    ensures idle { (W.seen sink.new).idle ≡ (W.seen sink.old).idle }
-    ensures source_faults_stay { (R.seen source.old).faults ≤ (R.seen source.new).faults }
-    ensures sink_faults_stay { (W.seen sink.old).faults ≤ (W.seen sink.new).faults }
+    ensures answers { IfErr result (λ status.
+        (status ≡ ReadFault) ⊎ ((status ≡ TooLarge) ⊎ (status ≡ NoMemory))) }
+    ensures faults_stay { (R.seen source.old).faults ≤ (R.seen source.new).faults }
 {
-    let input = match read_all(alloc, source, MOST_BYTES) {
-        Ok(input) => input,
-        Err(ReadEnd::Fault) => return Status::ReadFault,
-        Err(ReadEnd::TooLarge) => return Status::TooLarge,
-        Err(ReadEnd::NoMemory) => return Status::NoMemory,
-    };
-    answer(alloc, options, form, input.as_slice(), sink)
+    if is_making(command) {
+        return Ok(Vec::new(alloc));
+    }
+    match read_all(alloc, source, MOST_BYTES) {
+        Ok(input) => Ok(input),
+        Err(ReadEnd::Fault) => Err(Status::ReadFault),
+        Err(ReadEnd::TooLarge) => Err(Status::TooLarge),
+        Err(ReadEnd::NoMemory) => Err(Status::NoMemory),
+    }
+}
+
+// Whether a command makes a session or its summary.
+fn is_making(command: Command) -> bool
+    ensures { result ≡ is_making command }
+{
+    match command {
+        Command::Make { .. } => true,
+        Command::Run { .. } | Command::Check => false,
+    }
 }

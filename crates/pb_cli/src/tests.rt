@@ -190,7 +190,7 @@ fn makes_a_session(rt: HostRuntime) -> Result<(), AllocError> {
 fn refuses_other_words(rt: HostRuntime) -> Result<(), AllocError> {
     let lists: [&[&str]; 8] = [
         &[],
-        &["check"],
+        &["check", "check"],
         &["check", "--gap", "5"],
         &["run", "run"],
         &["run", "--tests=1"],
@@ -284,5 +284,158 @@ fn refuses_one_byte_too_many(rt: HostRuntime) -> Result<(), AllocError> {
     let (ended, written) = outcome(rt.alloc(), ends, input)?;
     assert_eq!(rt; ended, Status::TooLarge);
     assert!(rt; written.is_empty());
+    Ok(())
+}
+
+/// The report of two meters that disagree, with tests.
+const REPORT: &str =
+    "report,d1,0,2,2,10,5000\nnode,env,0\nnode,U,-72057594038\nstream,A,env,U,102000000,1000000000000,redundant,101000000,100999997,101000002,cut,env,-A +B\nstream,B,U,env,100000000,1000000000000,redundant,101000000,100999998,101000003,cut,U,+A -B\nsolved,1,converged,2,0,1,1999,2000\nglobal,3841,accept\nnodal,U,2000000,2000000000000,,nocritical\nmeasure,A,1999,2000,,nocritical\nmeasure,B,1999,2000,,nocritical\nend,d1,0\n";
+
+const CHECK: Ends<'static> = Ends {
+    words: &["check"],
+    take: 4_096,
+    put: 4_096,
+    failing_take: 0,
+    failing_put: 0,
+};
+
+/// One field of the report is another, and the first test that fails is told, or the row that can't be read.
+#[test]
+fn judges_reports(rt: HostRuntime) -> Result<(), AllocError> {
+    let cases = [
+        ("", "", Status::Done, "yes,d1,0\n"),
+        (
+            "redundant,101000000,100999997",
+            "redundant,101000000,100999998",
+            Status::DoneRefused,
+            "no,d1,0,9,bounds,A,100999998,100999997\n",
+        ),
+        (
+            "end,d1,0\n",
+            "",
+            Status::DoneRefused,
+            "unreadable,11,11,ended\n",
+        ),
+        (
+            "node,U,-72057594038",
+            "node,U,x",
+            Status::DoneRefused,
+            "unreadable,3,4,number\n",
+        ),
+        (
+            "node,U,-72057594038",
+            "node,U,-72057594037",
+            Status::DoneRefused,
+            "no,d1,0,9,bounds,A,100999997,100999998\n",
+        ),
+        (
+            "converged,2,",
+            "converged,3,",
+            Status::DoneRefused,
+            "no,d1,0,7,gap,,3,2\n",
+        ),
+        (
+            "converged,2,",
+            "unconverged,2,",
+            Status::DoneRefused,
+            "no,d1,0,8,state,,1,5000\n",
+        ),
+        (
+            "converged,2,0,1,",
+            "converged,2,0,2,",
+            Status::DoneRefused,
+            "no,d1,0,6,dof,,2,1\n",
+        ),
+        (
+            "redundant,101000000,100999997",
+            "redundant,101000001,100999997",
+            Status::DoneRefused,
+            "no,d1,0,3,balance,env,0,-1\n",
+        ),
+        (
+            "3841,accept",
+            "3841,reject",
+            Status::DoneRefused,
+            "no,d1,0,12,verdict,,0,0\n",
+        ),
+    ];
+    for (from, to, status, output) in cases {
+        let input = if from.is_empty() {
+            String::from_str(rt.alloc(), REPORT)?
+        } else {
+            REPORT.replace(rt.alloc(), from, to)?
+        };
+        let (ended, written) = outcome(rt.alloc(), CHECK, input.into_bytes())?;
+        assert_eq!(rt; ended, status, "at {to}");
+        assert_eq!(rt; written.as_slice(), output.as_bytes(), "at {to}");
+    }
+    Ok(())
+}
+
+/// Blocks are judged one behind the other, also behind one that fails.
+#[test]
+fn judges_each_block(rt: HostRuntime) -> Result<(), AllocError> {
+    let wrong = REPORT.replace(rt.alloc(), "3841,accept", "3841,reject")?;
+    let mut input = wrong.into_bytes();
+    input.extend_from_slice(REPORT.as_bytes())?;
+    let (ended, written) = outcome(rt.alloc(), CHECK, input)?;
+    assert_eq!(rt; ended, Status::DoneRefused);
+    let rows = "no,d1,0,12,verdict,,0,0\nyes,d1,0\n";
+    assert_eq!(rt; written.as_slice(), rows.as_bytes());
+    Ok(())
+}
+
+/// None is judged behind a row that can't be read.
+#[test]
+fn judges_nothing_behind_an_unreadable_row(rt: HostRuntime) -> Result<(), AllocError> {
+    let mut input = Vec::from_slice(rt.alloc(), REPORT.as_bytes())?;
+    input.extend_from_slice(b"nodes,U,0\n")?;
+    input.extend_from_slice(REPORT.as_bytes())?;
+    let (ended, written) = outcome(rt.alloc(), CHECK, input)?;
+    assert_eq!(rt; ended, Status::DoneRefused);
+    let rows = "yes,d1,0\nunreadable,12,1,kind\n";
+    assert_eq!(rt; written.as_slice(), rows.as_bytes());
+    Ok(())
+}
+
+/// Empty input gives no row.
+#[test]
+fn judges_nothing(rt: HostRuntime) -> Result<(), AllocError> {
+    let (ended, written) = outcome(rt.alloc(), CHECK, Vec::new(rt.alloc()))?;
+    assert_eq!(rt; ended, Status::Done);
+    assert!(rt; written.is_empty());
+    Ok(())
+}
+
+/// The k-th put fails, one byte a put: the first k - 1 bytes of the judgement are written.
+#[test]
+fn stops_a_check_where_a_put_fails(rt: HostRuntime) -> Result<(), AllocError> {
+    let output = "yes,d1,0\nyes,d1,0\n";
+    for k in 1..output.len() as u32 + 1 {
+        let ends = Ends {
+            put: 1,
+            failing_put: k,
+            ..CHECK
+        };
+        let mut input = Vec::from_slice(rt.alloc(), REPORT.as_bytes())?;
+        input.extend_from_slice(REPORT.as_bytes())?;
+        let (ended, written) = outcome(rt.alloc(), ends, input)?;
+        assert_eq!(rt; ended, Status::WriteFault);
+        assert_eq!(rt; written.as_slice(), &output.as_bytes()[..k as usize - 1]);
+    }
+    Ok(())
+}
+
+/// A run's own reports pass its check, of several rounds too.
+#[test]
+fn own_reports_pass(rt: HostRuntime) -> Result<(), AllocError> {
+    let words: &[&str] = &["make", "--streams=20"];
+    let (_ended, session) = outcome(rt.alloc(), Ends { words, ..PLAIN }, Vec::new(rt.alloc()))?;
+    let words: &[&str] = &["run", "--eliminate", "3"];
+    let (ended, report) = outcome(rt.alloc(), Ends { words, ..PLAIN }, session)?;
+    assert_eq!(rt; ended, Status::Done);
+    let (ended, judgement) = outcome(rt.alloc(), CHECK, report)?;
+    assert_eq!(rt; ended, Status::Done);
+    assert!(rt; judgement.as_slice().starts_with("yes,m1,0\n".as_bytes()));
     Ok(())
 }

@@ -4,4 +4,6 @@ pub mod CandidateLaws
 pub mod FitLaws
 pub mod SweepLaws
 pub mod BorderLemmas
+pub mod FlowLemmas
+pub mod BoxLemmas
 pub mod DualLaws

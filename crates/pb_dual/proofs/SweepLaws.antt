@@ -1,5 +1,5 @@
 -- Sweeps keep the prices fitting and do not lower the dual value.
-use Rattle.std.proofs.Common.{◌^◌, ℕ, zero, suc, ◌≤◌, ℤ, pos, ◌-ℤ◌, ◌*ℤ◌, ◌≤ℤ◌, List, Option, Some, None, refl, inl, inr, arith, unsigned_abs}
+use Rattle.std.proofs.Common.{◌≡◌, ◌∙◌, ◌+◌, ◌^◌, ℕ, zero, suc, ◌≤◌, ℤ, pos, ◌-ℤ◌, ◌*ℤ◌, ◌≤ℤ◌, List, Option, Some, None, ap, refl, inl, inr, arith, unsigned_abs}
 use Rattle.std.specs.Prelude.{IfSome}
 use Rattle.std.proofs.lemmas.Bool.{cases_Bool}
 use Rattle.pb_integers.proofs.Order.{le_refl, le_trans}
@@ -9,8 +9,8 @@ use Rattle.pb_graph.specs.ProcessGraph.{ProcessGraph, IsProcessGraph}
 use Rattle.pb_graph.specs.Groups.{AreGroups, is_free_group, group_count}
 use Rattle.pb_graph.specs.Prices.{PricesFit}
 use Rattle.pb_dual.specs.DualValue.{dual_value}
-use Rattle.pb_dual.specs.Sweeps.{stepped, swept, prices_after}
-use Rattle.pb_dual.specs.Laws.{CanMove, AscentLaw}
+use Rattle.pb_dual.specs.Sweeps.{stepped, sweep_of, swept, prices_after}
+use Rattle.pb_dual.specs.Laws.{CanMove, AscentLaw, IdleLaw}
 use Rattle.pb_dual.proofs.FitLaws.{best_fits, best_up}
 
 -- new prices fit, and their dual value is at least that of the old ones
@@ -57,3 +57,7 @@ pub ascent_law : AscentLaw
 ascent_law g group k limits groups =
     let fit = prices_fit g group k limits groups in
     record { fit = fit; ascent = (sweep_improves g group (prices_after g group k) (group_count group) limits groups fit).up }
+
+pub idle_law : IdleLaw
+idle_law g group k zero same = let e : 0 + k ≡ k = omega arith in ap (prices_after g group) e
+idle_law g group k (suc n) same = let e : suc n + k ≡ suc (n + k) = omega arith in ap (prices_after g group) e ∙ ap (sweep_of g group) (idle_law g group k n same) ∙ same

@@ -1,5 +1,5 @@
 -- Statement. What is proved of candidates, best prices and sweeps.
-use Rattle.std.specs.Prelude.{◌≡◌, ◌↔◌, ℕ, suc, true, ℤ, ◌≤ℤ◌, List}
+use Rattle.std.specs.Prelude.{◌≡◌, ◌↔◌, ◌+◌, ℕ, suc, true, ℤ, ◌≤ℤ◌, List}
 use Rattle.pb_graph.specs.ProcessGraph.{ProcessGraph, IsProcessGraph}
 use Rattle.pb_graph.specs.Groups.{AreGroups, is_free_group}
 use Rattle.pb_graph.specs.Prices.{PricesFit}
@@ -33,3 +33,7 @@ pub record Ascends (g : ProcessGraph) (group : List ℕ) (k : ℕ) : Type 0 wher
 
 abbrev pub AscentLaw : Type 0
 AscentLaw = (g : ProcessGraph) (group : List ℕ) (k : ℕ) → IsProcessGraph g → AreGroups g group → Ascends g group k
+
+-- where a sweep of the prices after k sweeps gives the same prices, those after any number of sweeps more are the same
+abbrev pub IdleLaw : Type 0
+IdleLaw = (g : ProcessGraph) (group : List ℕ) (k n : ℕ) → prices_after g group (suc k) ≡ prices_after g group k → prices_after g group (n + k) ≡ prices_after g group k

@@ -1,6 +1,6 @@
 // The arithmetic of prices and dual flows.
 
-ghost use Rattle.std.specs.Prelude.{◌≡◌, ◌*◌, ◌^◌, ◌<◌, ◌≤◌, pos, neg_ℤ, ◌+ℤ◌, ◌-ℤ◌, ◌*ℤ◌, ◌<ℤ◌, unsigned_abs, if◌then◌else◌};
+ghost use Rattle.std.specs.Prelude.{◌≡◌, ◌*◌, ◌^◌, ◌<◌, ◌≤◌, pos, neg_ℤ, ◌+ℤ◌, ◌-ℤ◌, ◌*ℤ◌, ◌≤ℤ◌, ◌<ℤ◌, ◌↔◌, IsTrue, unsigned_abs, if◌then◌else◌};
 ghost use Rattle.std.specs.Int.{int_max, int_min};
 ghost use Rattle.pb_fixed.specs.Quotients.{nearest_div};
 ghost use Rattle.pb_limits.specs.Limits.{most_streams, most_value};
@@ -56,9 +56,28 @@ pub fn peak(price: i128, net: i128, variance: i128) -> i128
     requires net { unsigned_abs net < 2 ^ 125 }
     requires positive { pos 0 <ℤ variance }
     requires variance { variance <ℤ pos (2 ^ 125) }
-    ensures { result ≡ price -ℤ nearest_div net variance }
+    ensures value { result ≡ price -ℤ nearest_div net variance }
+    ensures within { unsigned_abs result < 2 ^ 126 }
 {
     price - div_nearest(net, variance)
+}
+
+/// Whether the size of a price and the greatest one together are within a room.
+pub fn is_within(price: i128, greatest: i128, room: i128) -> bool
+    requires price { unsigned_abs price < 2 ^ 126 }
+    requires greatest_from { pos 0 ≤ℤ greatest }
+    requires greatest_to { greatest ≤ℤ pos (2 ^ 120) }
+    ensures { IsTrue result ↔ ((pos (unsigned_abs price) +ℤ greatest) ≤ℤ room) }
+{
+    price.abs() + greatest <= room
+}
+
+/// The greater of a number and the size of a price.
+pub fn greater(greatest: i128, price: i128) -> i128
+    requires { unsigned_abs price ≤ 2 ^ 120 }
+    ensures { result ≡ int_max greatest (pos (unsigned_abs price)) }
+{
+    greatest.max(price.abs())
 }
 
 /// A price, or the end of an interval that is nearest to it.

@@ -1,13 +1,12 @@
-// The best price of one group, by passes over its border.
+// Passes over the border of one group.
 
-ghost use Rattle.std.specs.Prelude.{◌≡◌, ◌*◌, ◌^◌, ◌<◌, ◌≤◌, pos, neg_ℤ, ◌-ℤ◌, ◌≤ℤ◌, ◌<ℤ◌, length, get_or, All, unsigned_abs};
-ghost use Rattle.pb_limits.specs.Limits.{most_streams, most_variance};
-ghost use Rattle.pb_fixed.specs.Quotients.{nearest_div};
+ghost use Rattle.std.specs.Prelude.{◌≡◌, ◌*◌, ◌^◌, ◌<◌, ◌≤◌, ℤ, pos, neg_ℤ, List, length, All, unsigned_abs};
+ghost use Rattle.pb_limits.specs.Limits.{most_streams};
 ghost use Rattle.pb_dual.specs.DualValue.{most_dual_flow};
 ghost use Rattle.pb_dual.specs.Best.{clamped};
-ghost use Rattle.pb_dual.specs.Border.{IsBorderStream, AreBorder, border_rise, inflow_of, border_flow, border_variance, border_low, border_high};
+ghost use Rattle.pb_dual.specs.Border.{IsBorderStream, AreBorder, IsGreatest, HaveFlows, AreSameElsewhere, border_rise, border_stream_flow, inflow_of, border_flow, border_room, border_low, border_high};
 
-use crate::arithmetic::{flow, into_interval, lowered, peak, raised, rise};
+use crate::arithmetic::{flow, into_interval, is_within, lowered, raised, rise};
 use crate::border::BorderStream;
 
 // The greatest price.
@@ -29,46 +28,57 @@ fn rise_along(stream: &BorderStream, prices: &[i128], group: u32) -> i128
     }
 }
 
-// The dual flow that a stream at its border brings to a group.
-fn inflow(stream: &BorderStream, prices: &[i128], group: u32) -> i128
+// The dual flow of a stream at the border of a group.
+fn flow_along(stream: &BorderStream, prices: &[i128], group: u32) -> i128
     requires group { group < length prices.now }
     requires stream { IsBorderStream prices.now group stream.now }
     requires small { All (λ p. unsigned_abs p ≤ 2 ^ 120) prices.now }
-    ensures value { result ≡ inflow_of prices.now group stream.now }
-    ensures within { unsigned_abs result ≤ most_dual_flow }
+    ensures { result ≡ border_stream_flow prices.now group stream.now }
 {
-    let flow = flow(
+    flow(
         stream.value,
         stream.variance,
         rise_along(stream, prices, group),
-    );
-    if stream.enters { flow } else { -flow }
+    )
 }
 
-// The net dual flow of a group.
-fn net_flow(border: &[BorderStream], prices: &[i128], group: u32) -> i128
+/// Writes the dual flow of each stream at the border of a group.
+pub fn write_flows(border: &[BorderStream], prices: &[i128], group: u32, flows: &mut [i128])
     requires group { group < length prices.now }
     requires border { AreBorder prices.now group border.now }
     requires small { All (λ p. unsigned_abs p ≤ 2 ^ 120) prices.now }
-    ensures value { result ≡ border_flow prices.now group border.now }
+    requires there { All (λ a. a.stream < length flows.old) border.now }
+    ensures { (others : List ℤ) → length others ≡ length flows.old
+        → HaveFlows prices.now group border.now others → AreSameElsewhere border.now flows.old others
+        → flows.new ≡ others }
+{
+    for stream in border {
+        flows[stream.stream as usize] = flow_along(stream, prices, group);
+    }
+}
+
+// The dual flow that a stream at its border brings to a group.
+fn inflow(stream: &BorderStream, flows: &[i128]) -> i128
+    requires there { stream.now.stream < length flows.now }
+    requires small { All (λ u. unsigned_abs u ≤ most_dual_flow) flows.now }
+    ensures value { result ≡ inflow_of flows.now stream.now }
+    ensures within { unsigned_abs result ≤ most_dual_flow }
+{
+    let flow = flows[stream.stream as usize];
+    if stream.enters { flow } else { -flow }
+}
+
+/// The net dual flow of a group.
+pub fn net_flow(border: &[BorderStream], flows: &[i128]) -> i128
+    requires few { length border.now ≤ most_streams }
+    requires there { All (λ a. a.stream < length flows.now) border.now }
+    requires small { All (λ u. unsigned_abs u ≤ most_dual_flow) flows.now }
+    ensures value { result ≡ border_flow flows.now border.now }
     ensures within { unsigned_abs result ≤ length border.now * most_dual_flow }
 {
     let mut total = 0;
     for stream in border {
-        total += inflow(stream, prices, group);
-    }
-    total
-}
-
-// The sum of the variances of a group's border.
-fn variance(border: &[BorderStream], prices: &[i128], group: u32) -> i128
-    requires border { AreBorder prices.now group border.now }
-    ensures value { result ≡ border_variance border.now }
-    ensures within { unsigned_abs result ≤ length border.now * most_variance }
-{
-    let mut total = 0;
-    for stream in border {
-        total += stream.variance;
+        total += inflow(stream, flows);
     }
     total
 }
@@ -99,23 +109,26 @@ fn highest(border: &[BorderStream], prices: &[i128], group: u32) -> i128
     hi
 }
 
-/// The best price of a group: the present one less the nearest quotient of the net dual flow by the
-/// variance, moved into the interval that the border allows.
-pub fn best_price_by(border: &[BorderStream], prices: &[i128], group: u32) -> i128
-    requires group { group < length prices.now }
+/// A price, moved into the interval that the border of a group allows.
+///
+/// Where the price and the greatest one together are within the least room, the interval holds it.
+pub fn into_box(
+    price: i128,
+    border: &[BorderStream],
+    prices: &[i128],
+    group: u32,
+    room: i128,
+    greatest: i128,
+) -> i128
+    requires price { unsigned_abs price < 2 ^ 126 }
     requires border { AreBorder prices.now group border.now }
-    requires small { All (λ p. unsigned_abs p ≤ 2 ^ 120) prices.now }
-    requires positive { pos 0 <ℤ border_variance border.now }
-    ensures { let low = border_low prices.now (neg_ℤ (pos (2 ^ 120))) border.now in
-        let high = border_high prices.now (pos (2 ^ 120)) border.now in
-        let quotient = nearest_div (border_flow prices.now group border.now) (border_variance border.now) in
-        result ≡ clamped low high (get_or prices.now group (pos 0) -ℤ quotient) }
+    requires room { room ≡ border_room (pos (2 ^ 112)) border.now }
+    requires greatest { IsGreatest greatest prices.now }
+    ensures { result ≡ clamped (border_low prices.now (neg_ℤ (pos (2 ^ 120))) border.now) (border_high prices.now (pos (2 ^ 120)) border.now) price }
 {
-    let nearest = peak(
-        prices[group as usize],
-        net_flow(border, prices, group),
-        variance(border, prices, group),
-    );
+    if is_within(price, greatest, room) {
+        return price;
+    }
     let lowest = lowest(border, prices, group);
-    into_interval(nearest, lowest, highest(border, prices, group))
+    into_interval(price, lowest, highest(border, prices, group))
 }

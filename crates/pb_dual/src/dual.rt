@@ -1,21 +1,21 @@
 // Prices for the groups of a graph, and sweeps of best prices.
 
-ghost use Rattle.std.specs.Prelude.{◌≡◌, ◌≢◌, ℕ, suc, ◌+◌, ◌^◌, ◌<◌, ◌≤◌, Some, true, max, pos, ◌-ℤ◌, ◌*ℤ◌, ◌≤ℤ◌, length, get_or, slice_get, unsigned_abs, All, IfOk, IfSome};
-ghost use Rattle.pb_limits.specs.Limits.{most_nodes};
-ghost use Rattle.pb_graph.specs.ProcessGraph.{IsStream, IsWithinLimits};
-ghost use Rattle.pb_graph.specs.Groups.{AreGroups, group_at, group_count, is_free_group};
-ghost use Rattle.pb_graph.specs.Prices.{PricesFit, IsInBox};
-ghost use Rattle.pb_dual.specs.DualValue.{flow_at, dual_flow, dual_value, most_dual_flow};
-ghost use Rattle.pb_dual.specs.Moves.{with_price};
+ghost use Rattle.std.specs.Prelude.{◌≡◌, ◌≢◌, ℕ, suc, ◌*◌, ◌^◌, ◌<◌, ◌≤◌, Some, true, false, pos, ◌-ℤ◌, ◌*ℤ◌, ◌≤ℤ◌, length, get_or, slice_get, unsigned_abs, All, IfOk, IfSome, IsTrue};
+ghost use Rattle.pb_limits.specs.Limits.{most_nodes, most_streams};
+ghost use Rattle.pb_graph.specs.ProcessGraph.{IsWithinLimits};
+ghost use Rattle.pb_graph.specs.Groups.{AreGroups, group_count, is_free_group};
+ghost use Rattle.pb_graph.specs.Prices.{PricesFit};
+ghost use Rattle.pb_dual.specs.DualValue.{flow_at, dual_flow, dual_flows_of, dual_value, most_dual_flow};
+ghost use Rattle.pb_dual.specs.Moves.{with_price, group_flow};
 ghost use Rattle.pb_dual.specs.Candidates.{best_price};
 ghost use Rattle.pb_dual.specs.Sweeps.{stepped, sweep_of, prices_after};
 ghost use Rattle.pb_dual.specs.Priced.{price_of};
 ghost use Rattle.pb_dual.specs.Border.{IsPriced};
 ghost use Rattle.pb_graph.specs.declared.records.Stream.{Stream};
 
-use crate::arithmetic::{flow, rise};
-use crate::best::best_price_by;
-use crate::border::{BorderStream, all_borders};
+use crate::arithmetic::{flow, greater, peak, rise};
+use crate::best::{into_box, net_flow, write_flows};
+use crate::border::{BorderStream, all_borders, least_rooms, variances};
 use pb_graph::{Graph, List, Stream};
 use std::alloc::{AllocError, Global};
 use std::marker::Model;
@@ -25,22 +25,28 @@ use std::marker::Model;
 /// Prices are in units of 2^-56 per gram.
 #[derive(Debug, Drop)]
 pub struct Dual {
-    streams: Vec<Stream>,
+    graph: Graph,
     group: Vec<u32>,
     prices: Vec<i128>,
+    // The dual flow of each stream at these prices.
+    flows: Vec<i128>,
     borders: Vec<List<BorderStream>>,
+    // The sum of the variances at each border, and the least room.
+    variances: Vec<i128>,
+    rooms: Vec<i128>,
+    // No price exceeds it, either way.
+    greatest: i128,
 }
 
 impl Model for Dual {
-    ghost use Rattle.std.specs.Prelude.{length};
     ghost use Rattle.pb_dual.specs.Priced.{Priced};
-    ghost use Rattle.pb_dual.specs.Border.{HasBorders};
+    ghost use Rattle.pb_dual.specs.Border.{IsDual};
 
     ghost Value = { Priced };
 
-    ghost view = { λ a. record { graph = record { nodes = length a.group.items; streams = a.streams.items }; group = a.group.items; prices = a.prices.items } };
+    ghost view = { λ a. record { graph = a.graph; group = a.group.items; prices = a.prices.items } };
 
-    ghost invariant = { λ a. HasBorders (record { graph = record { nodes = length a.group.items; streams = a.streams.items }; group = a.group.items; prices = a.prices.items }) a.borders.items };
+    ghost invariant = { λ a. IsDual (record { graph = a.graph; group = a.group.items; prices = a.prices.items }) a.flows.items a.borders.items a.variances.items a.rooms.items a.greatest };
 }
 
 // The number of groups: one more than the greatest number of one.
@@ -71,19 +77,24 @@ pub fn dual_flow(stream: &Stream, from: i128, to: i128) -> i128
     }
 }
 
-// The dual flow of a stream, 0 where it is unmeasured.
-fn stream_flow(stream: &Stream, group: &[u32], prices: &[i128]) -> i128
-    requires ends { IsStream (length group.now) stream.now }
-    requires limits { IsWithinLimits stream.now }
-    requires groups { All (λ k. k < length prices.now) group.now }
-    requires small { All (λ p. unsigned_abs p ≤ 2 ^ 120) prices.now }
-    requires in_box { IsInBox (λ n. get_or prices.now (group_at group.now n) (pos 0)) stream.now }
-    ensures value { result ≡ dual_flow (λ n. get_or prices.now (group_at group.now n) (pos 0)) stream.now }
-    ensures within { unsigned_abs result ≤ most_dual_flow }
+// Writes 0 at each place.
+fn clear(prices: &mut [i128])
+    ensures { (k : ℕ) → get_or prices.new k (pos 0) ≡ pos 0 }
 {
-    let from = prices[group[stream.from as usize] as usize];
-    let to = prices[group[stream.to as usize] as usize];
-    dual_flow(stream, from, to)
+    for k in 0..prices.len() {
+        prices[k] = 0;
+    }
+}
+
+// Writes the dual flow of each stream at prices of 0.
+fn write_measured(streams: &[Stream], out: &mut [i128])
+    requires limits { All IsWithinLimits streams.now }
+    requires room { length out.old ≡ length streams.now }
+    ensures { out.new ≡ dual_flows_of (λ n. pos 0) streams.now }
+{
+    for (j, stream) in streams.iter().enumerate() {
+        out[j] = dual_flow(stream, 0, 0);
+    }
 }
 
 impl Dual {
@@ -99,19 +110,33 @@ impl Dual {
         let streams = graph.streams();
         let groups = count(group_of);
         let borders = all_borders(alloc, groups, group_of, streams)?;
+        let variances = variances(alloc, &borders)?;
+        let rooms = least_rooms(alloc, &borders)?;
         let prices = vec![in alloc; 0i128; groups as usize]?;
         let group = Vec::from_slice(alloc, group_of)?;
-        let streams = Vec::from_slice(alloc, streams)?;
+        let mut flows = vec![in alloc; 0i128; streams.len()]?;
+        write_measured(streams, &mut flows);
         Ok(Dual {
-            streams,
+            graph: graph.copy(alloc)?,
             group,
             prices,
+            flows,
             borders,
+            variances,
+            rooms,
+            greatest: 0,
         })
     }
 
-    // The number of groups.
-    fn groups(&self) -> u32
+    /// The graph.
+    pub fn graph(&self) -> &Graph
+        ensures { result.now ≡ self.now.graph }
+    {
+        &self.graph
+    }
+
+    /// The number of groups.
+    pub fn groups(&self) -> u32
         ensures value { result ≡ group_count self.now.group }
         ensures priced { IsPriced self.now }
     {
@@ -128,13 +153,39 @@ impl Dual {
         self.prices[group as usize]
     }
 
+    /// The price of a node, that of its group, at most 2^120 either way.
+    pub fn price_at(&self, node: u32) -> i128
+        requires { node < self.now.graph.nodes }
+        ensures value { result ≡ price_of self.now node }
+        ensures within { unsigned_abs result ≤ 2 ^ 120 }
+    {
+        self.price(self.group[node as usize])
+    }
+
     /// The dual flow of a stream, in units of 2^-56 gram; 0 where the stream is unmeasured.
     pub fn dual_flow(&self, stream: u32) -> i128
         requires { stream < length self.now.graph.streams }
         ensures value { (s : Stream) → slice_get self.now.graph.streams stream ≡ Some s → result ≡ dual_flow (price_of self.now) s }
         ensures within { unsigned_abs result ≤ most_dual_flow }
     {
-        stream_flow(&self.streams[stream as usize], &self.group, &self.prices)
+        self.flows[stream as usize]
+    }
+
+    /// The dual flow of each stream.
+    pub fn dual_flows(&self) -> &[i128]
+        ensures value { result.now ≡ dual_flows_of (price_of self.now) self.now.graph.streams }
+        ensures within { All (λ u. unsigned_abs u ≤ most_dual_flow) result.now }
+    {
+        self.flows.as_slice()
+    }
+
+    /// The net dual flow of a group: what enters it less what leaves it, in units of 2^-56 gram.
+    pub fn net_flow(&self, group: u32) -> i128
+        requires { group < group_count self.now.group }
+        ensures value { result ≡ group_flow self.now.group (price_of self.now) group self.now.graph.streams }
+        ensures within { unsigned_abs result ≤ most_streams * most_dual_flow }
+    {
+        net_flow(self.borders[group as usize].as_slice(), &self.flows)
     }
 
     // Whether a group is free.
@@ -146,21 +197,56 @@ impl Dual {
         group != 0 && self.borders[group as usize].len() > 0
     }
 
-    // Gives a free group its best price.
-    fn set_best(&mut self, group: u32)
-        requires group { group < group_count self.old.group }
-        requires free { is_free_group self.old.group self.old.graph.streams group ≡ true }
-        ensures price { price_of self.new ≡ with_price self.old.group (price_of self.old) group (best_price self.old.group (price_of self.old) group self.old.graph.streams) }
-        ensures graph { self.new.graph ≡ self.old.graph }
-        ensures groups { self.new.group ≡ self.old.group }
-        ensures others { (k : ℕ) → k ≢ group → get_or self.new.prices k (pos 0) ≡ get_or self.old.prices k (pos 0) }
+    // The best price of a free group: the present one less the nearest quotient of the net dual flow by
+    // the variance, moved into the interval that the border allows.
+    fn best_price(&self, group: u32) -> i128
+        requires group { group < group_count self.now.group }
+        requires free { is_free_group self.now.group self.now.graph.streams group ≡ true }
+        ensures value { result ≡ best_price self.now.group (price_of self.now) group self.now.graph.streams }
+        ensures within { unsigned_abs result ≤ 2 ^ 120 }
+        ensures fit { PricesFit self.now.graph (with_price self.now.group (price_of self.now) group result) }
+        ensures ascent { dual_value (price_of self.now) self.now.graph.streams ≤ℤ dual_value (with_price self.now.group (price_of self.now) group result) self.now.graph.streams }
     {
-        let price = best_price_by(self.borders[group as usize].as_slice(), &self.prices, group);
-        self.prices[group as usize] = price;
+        let k = group as usize;
+        let border = self.borders[k].as_slice();
+        let nearest = peak(
+            self.prices[k],
+            net_flow(border, &self.flows),
+            self.variances[k],
+        );
+        into_box(
+            nearest,
+            border,
+            &self.prices,
+            group,
+            self.rooms[k],
+            self.greatest,
+        )
     }
 
-    /// Gives a free group its best price, and leaves another group as it is.
-    pub fn step(&mut self, group: u32)
+    // Gives a group a price that fits.
+    fn set_price(&mut self, group: u32, price: i128)
+        requires group { group < group_count self.old.group }
+        requires within { unsigned_abs price ≤ 2 ^ 120 }
+        requires fit { PricesFit self.old.graph (with_price self.old.group (price_of self.old) group price) }
+        ensures price { price_of self.new ≡ with_price self.old.group (price_of self.old) group price }
+        ensures graph { self.new.graph ≡ self.old.graph }
+        ensures groups { self.new.group ≡ self.old.group }
+        ensures own { get_or self.new.prices group (pos 0) ≡ price }
+        ensures others { (k : ℕ) → k ≢ group → get_or self.new.prices k (pos 0) ≡ get_or self.old.prices k (pos 0) }
+    {
+        self.prices[group as usize] = price;
+        self.greatest = greater(self.greatest, price);
+        write_flows(
+            self.borders[group as usize].as_slice(),
+            &self.prices,
+            group,
+            &mut self.flows,
+        );
+    }
+
+    /// Gives a free group its best price, and leaves another group as it is. Whether its price changed.
+    pub fn step(&mut self, group: u32) -> bool
         requires { group < group_count self.old.group }
         ensures price { price_of self.new ≡ stepped self.old.group self.old.graph.streams (price_of self.old) group }
         ensures graph { self.new.graph ≡ self.old.graph }
@@ -168,24 +254,38 @@ impl Dual {
         ensures others { (k : ℕ) → k ≢ group → get_or self.new.prices k (pos 0) ≡ get_or self.old.prices k (pos 0) }
         ensures fit { PricesFit self.new.graph (price_of self.new) }
         ensures ascent { dual_value (price_of self.old) self.old.graph.streams ≤ℤ dual_value (price_of self.new) self.old.graph.streams }
+        ensures idle { result ≡ false → self.new ≡ self.old }
+        ensures moved { IsTrue result → get_or self.new.prices group (pos 0) ≢ get_or self.old.prices group (pos 0) }
     {
-        if self.is_free(group) {
-            self.set_best(group);
+        if !self.is_free(group) {
+            return false;
         }
+        let best = self.best_price(group);
+        if best == self.price(group) {
+            return false;
+        }
+        self.set_price(group, best);
+        true
     }
 
-    /// Gives each free group its best price, in order of groups.
-    pub fn sweep(&mut self)
+    /// Gives each free group its best price, in order of groups. Whether a price changed.
+    pub fn sweep(&mut self) -> bool
         ensures price { price_of self.new ≡ sweep_of self.old.graph self.old.group (price_of self.old) }
         ensures graph { self.new.graph ≡ self.old.graph }
         ensures groups { self.new.group ≡ self.old.group }
         ensures more { (k : ℕ) → price_of self.old ≡ prices_after self.old.graph self.old.group k → price_of self.new ≡ prices_after self.old.graph self.old.group (suc k) }
         ensures fit { PricesFit self.new.graph (price_of self.new) }
         ensures ascent { dual_value (price_of self.old) self.old.graph.streams ≤ℤ dual_value (price_of self.new) self.old.graph.streams }
+        ensures idle { result ≡ false → self.new ≡ self.old }
+        ensures moved { IsTrue result → price_of self.new ≢ price_of self.old }
     {
+        let mut moved = false;
         for group in 0..self.groups() {
-            self.step(group);
+            if self.step(group) {
+                moved = true;
+            }
         }
+        moved
     }
 
     /// Gives every group the price 0 again.
@@ -196,9 +296,9 @@ impl Dual {
         ensures each { (k : ℕ) → get_or self.new.prices k (pos 0) ≡ pos 0 }
         ensures fit { PricesFit self.new.graph (price_of self.new) }
     {
-        for k in 0..self.prices.len() {
-            self.prices[k] = 0;
-        }
+        clear(&mut self.prices);
+        write_measured(self.graph.streams(), &mut self.flows);
+        self.greatest = 0;
     }
 }
 

@@ -1,7 +1,7 @@
 // What is proved of the definitions alone. The functions are empty: the contract of each is a law.
 
 ghost use Rattle.pb_dual.specs.Moves.{MoveLaw};
-ghost use Rattle.pb_dual.specs.Laws.{CandidateLaw, BestLaw, AscentLaw};
+ghost use Rattle.pb_dual.specs.Laws.{CandidateLaw, BestLaw, AscentLaw, IdleLaw};
 
 /// Moving the price of a group by `t` changes the dual value by `-t * (2 * N + A * t)`, where `N` is the net dual flow of the
 /// group and `A` its variance.
@@ -22,4 +22,9 @@ pub fn best_law()
 /// After any number of sweeps the prices fit, and a sweep more doesn't lower the dual value.
 pub fn ascent_law()
     ensures { AscentLaw }
+{}
+
+/// Where a sweep changes no price, no later one does.
+pub fn idle_law()
+    ensures { IdleLaw }
 {}

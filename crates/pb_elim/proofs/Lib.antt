@@ -11,3 +11,4 @@ mod SolutionLemmas
 mod UniqueLemmas
 mod StageLemmas
 mod SomeStudyLemmas
+mod WithinLemmas

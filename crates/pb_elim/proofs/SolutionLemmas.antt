@@ -39,7 +39,7 @@ pub state_fits : AscentLaw → (g : ProcessGraph) (k : ℕ) (price : ℕ → ℤ
 state_fits ascent g k price flows limits is = subst (PricesFit g) (sym is.swept) (ascent g is.group k limits is.groups).fit
 
 -- the reconciliation of its own graph
-own_stage : (g : ProcessGraph) (options : Options) (stage : Stage) → IsReconciliationOf g options stage → IsReconciliationOf stage.graph options stage
+pub own_stage : (g : ProcessGraph) (options : Options) (stage : Stage) → IsReconciliationOf g options stage → IsReconciliationOf stage.graph options stage
 own_stage g options stage is = subst (λ (h : ProcessGraph). IsReconciliationOf h options stage) (sym is.graph_is) is
 
 -- tests, where there are tests

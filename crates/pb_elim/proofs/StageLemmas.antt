@@ -150,7 +150,7 @@ pub record AreNarrow (stage : Stage) : Type 0 where
   pub high : IfSome stage.high IsWide
   pub untested : stage.tests ≡ None
 
-sweeps_within : (g : ProcessGraph) (gap sweeps : ℕ) (solved : Solved) (price : ℕ → ℤ) (flows : List ℤ) → IsSolution g gap sweeps solved price flows → sweeps ≤ most_sweeps → sweeps_of solved ≤ most_sweeps
+pub sweeps_within : (g : ProcessGraph) (gap sweeps : ℕ) (solved : Solved) (price : ℕ → ℤ) (flows : List ℤ) → IsSolution g gap sweeps solved price flows → sweeps ≤ most_sweeps → sweeps_of solved ≤ most_sweeps
 sweeps_within g gap sweeps (Converged k) price flows is most = omega (arith, is.within, most)
 sweeps_within g gap sweeps (Unconverged k) price flows is most = omega (arith, is.done, most)
 

@@ -51,14 +51,18 @@ IsNodalVerdict test = test.verdict ≡ nodal_verdict test.net test.variance test
 abbrev pub unjudged : NodalTest → NodalTest
 unjudged test = record test { critical = None; verdict = NoCritical }
 
--- The nodal tests are those of the graph, there is one test of a measurement for each redundant stream, in order, and each verdict
--- follows from the printed numbers.
+-- The nodal tests are those of the graph, and each verdict follows from the printed numbers.
 pub record AreShownTests (stage : Stage) (tests : Tests) : Type 0 where
   pub overall : tests.global.verdict ≡ global_verdict stage.low stage.high stage.dof tests.global.critical
   pub groups : AreNodalTests stage.graph None (map unjudged tests.nodal)
   pub nodal : All IsNodalVerdict tests.nodal
-  pub streams : map (λ (test : MeasureTest). test.stream) tests.measure ≡ redundant_streams stage.streams
   pub measure : All IsMeasureVerdict tests.measure
+
+-- each redundant stream has the test of its measurement, in order, and no other stream has one, where there are tests
+abbrev pub TestsEachRedundant : Stage → Type 0
+TestsEachRedundant stage =
+    IfSome stage.tests (λ tests.
+    map (λ (test : MeasureTest). test.stream) tests.measure ≡ redundant_streams stage.streams)
 
 -- A stage is shown where all of this holds, which its printed numbers alone decide:
 pub record IsShownStage (stage : Stage) : Type 0 where

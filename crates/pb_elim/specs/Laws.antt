@@ -5,12 +5,13 @@ use Rattle.pb_graph.specs.declared.results.Study.{Study}
 use Rattle.pb_graph.specs.declared.results.Options.{Options}
 use Rattle.pb_graph.specs.declared.results.Critical.{Critical}
 use Rattle.pb_graph.specs.ProcessGraph.{ProcessGraph, IsProcessGraph}
+use Rattle.pb_graph.specs.WellFormed.{IsWellFormedStudy}
 use Rattle.pb_gap.specs.Solution.{IsSolution}
 use Rattle.pb_elim.specs.Options.{AreOptions}
 use Rattle.pb_elim.specs.Criticals.{AreCritical}
 use Rattle.pb_elim.specs.Printed.{printed_price, printed_flows}
 use Rattle.pb_elim.specs.Study.{IsStudyOf}
-use Rattle.pb_elim.specs.Certified.{IsShownStage, IsCertifiedStage}
+use Rattle.pb_elim.specs.Certified.{IsShownStage, IsCertifiedStage, TestsEachRedundant}
 use Rattle.pb_elim.specs.Decided.{AreMeasuresRight}
 
 -- a stage that is shown is certified, whatever made it
@@ -23,11 +24,22 @@ CertifiedLaw = (graph : ProcessGraph) (options : Options) (critical : Critical) 
     → IsProcessGraph graph → IsStudyOf graph options critical study
     → All IsCertifiedStage study.stages
 
+-- its tests are those of the redundant streams
+abbrev pub TestedLaw : Type 0
+TestedLaw = (graph : ProcessGraph) (options : Options) (critical : Critical) (study : Study)
+    → IsStudyOf graph options critical study → All TestsEachRedundant study.stages
+
 -- and the decided tests of its measurements are right
 abbrev pub DecidedLaw : Type 0
 DecidedLaw = (graph : ProcessGraph) (options : Options) (critical : Critical) (study : Study)
     → IsProcessGraph graph → AreCritical critical → IsStudyOf graph options critical study
     → All AreMeasuresRight study.stages
+
+-- a study is well formed: each of its numbers is within the range in which it is printed
+abbrev pub FormedLaw : Type 0
+FormedLaw = (graph : ProcessGraph) (options : Options) (critical : Critical) (study : Study)
+    → IsProcessGraph graph → AreOptions options → AreCritical critical
+    → IsStudyOf graph options critical study → IsWellFormedStudy graph study
 
 -- prices, flows and sweeps of a stage are the solution of its graph
 abbrev pub IsSolved : Options → Stage → Type 0

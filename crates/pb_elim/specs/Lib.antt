@@ -3,6 +3,7 @@ pub mod Options
 pub mod Criticals
 pub mod Printed
 pub mod StageTests
+pub mod Signs
 pub mod Stage
 pub mod Elimination
 pub mod Study
@@ -10,6 +11,5 @@ pub mod Certified
 pub mod Decided
 pub mod Laws
 -- Inside
-pub mod Signs
 pub mod Results
 pub mod Rounds

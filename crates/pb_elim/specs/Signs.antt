@@ -1,4 +1,4 @@
--- Inside. The signs of the members of a cut.
+-- Statement. The signs of the members of a cut.
 use Rattle.std.specs.Prelude.{All}
 use Rattle.pb_graph.specs.declared.records.Member.{Member}
 use Rattle.pb_graph.specs.declared.records.Witness.{Witness}

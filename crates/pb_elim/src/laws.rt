@@ -1,15 +1,19 @@
 // What is proved of the definitions alone. The contract of each function is a law; it calls those that the proof stands on.
 
-ghost use Rattle.pb_elim.specs.Laws.{ShownLaw, CertifiedLaw, DecidedLaw, SolutionLaw, SomeStudyLaw, OneStudyLaw};
+ghost use Rattle.pb_elim.specs.Laws.{ShownLaw, CertifiedLaw, TestedLaw, DecidedLaw, FormedLaw, SolutionLaw, SomeStudyLaw, OneStudyLaw};
 
 use pb_balance::certificate_law;
 use pb_classify::{one_classification_law, some_classification_law};
 use pb_dual::laws::ascent_law;
 use pb_forest::one_forest_law;
 use pb_gap::{
-    gap_law, least_law, one_solution_law, outside_law, some_solution_law, statistic_law, stream_law,
+    gap_law, least_law, one_solution_law, outside_law, range_law, some_solution_law, statistic_law,
+    stream_law,
 };
-use pb_tests::{decided_global_law, decided_measure_law, measure_tests_law, nodal_tests_law};
+use pb_tests::{
+    decided_global_law, decided_measure_law, free_groups_law, measure_tests_law, nodal_range_law,
+    nodal_tests_law,
+};
 
 /// A stage that is shown is certified, whatever made it.
 pub fn shown_law()
@@ -32,11 +36,27 @@ pub fn certified_law()
     shown_law();
 }
 
+/// Each redundant stream of each stage of a study has the test of its measurement, in order, where there are tests.
+pub fn tested_law()
+    ensures { TestedLaw }
+{}
+
 /// The decided tests of measurements of each stage of a study are right.
 pub fn decided_law()
     ensures { DecidedLaw }
 {
     decided_measure_law();
+}
+
+/// A study is well formed, whatever made it: each of its numbers is within the range in which it is printed.
+pub fn formed_law()
+    ensures { FormedLaw }
+{
+    ascent_law();
+    range_law();
+    stream_law();
+    free_groups_law();
+    nodal_range_law();
 }
 
 /// The prices, flows and sweeps of each stage are the solution of its graph.

@@ -14,7 +14,9 @@ mod testing;
 mod tests;
 
 pub use laws::{
-    certified_law, decided_law, one_study_law, shown_law, solution_law, some_study_law,
+    certified_law, decided_law, formed_law, one_study_law, shown_law, solution_law, some_study_law,
+    tested_law,
 };
+pub use members::sum_for;
 pub use stages::stage;
-pub use studies::study;
+pub use studies::{study, study_classed};

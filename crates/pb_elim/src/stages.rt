@@ -129,15 +129,20 @@ fn collected(
     })
 }
 
-/// The reconciliation of a graph: its stage without tests.
-fn reconciled(alloc: Global, graph: &Graph, options: &Options) -> Result<Stage, AllocError>
-    requires { AreOptions options.now }
+/// The reconciliation of a graph whose classes are known: its stage without tests.
+fn reconciled(
+    alloc: Global,
+    graph: &Graph,
+    classes: List<Classified>,
+    options: &Options,
+) -> Result<Stage, AllocError>
+    requires limits { AreOptions options.now }
+    requires classes { IsClassification graph.now classes }
     ensures stage { IfOk result (IsReconciliationOf graph.now options.now) }
     ensures graph { IfOk result (λ stage. IsProcessGraph stage.graph) }
     ensures untested { IfOk result (λ stage. stage.tests ≡ None) }
     ensures formed { IfOk result IsWellFormed }
 {
-    let classes = classify(alloc, graph)?;
     let mut solver = Solver::new(alloc, graph)?;
     let solved = solver.solve(options.gap, options.sweeps);
     collected(alloc, graph, options, classes, &solver, solved)
@@ -156,7 +161,26 @@ pub fn stage(
     ensures graph { IfOk result (λ stage. IsProcessGraph stage.graph) }
     ensures formed { IfOk result IsWellFormed }
 {
-    let mut stage = reconciled(alloc, graph, options)?;
+    let classes = classify(alloc, graph)?;
+    stage_classed(alloc, graph, classes, options, critical)
+}
+
+/// The stage of a graph whose classes are known.
+pub fn stage_classed(
+    alloc: Global,
+    graph: &Graph,
+    classes: List<Classified>,
+    options: &Options,
+    critical: &Critical,
+) -> Result<Stage, AllocError>
+    requires limits { AreOptions options.now }
+    requires critical { AreCritical critical.now }
+    requires classes { IsClassification graph.now classes }
+    ensures stage { IfOk result (IsStageOf graph.now options.now critical.now) }
+    ensures graph { IfOk result (λ stage. IsProcessGraph stage.graph) }
+    ensures formed { IfOk result IsWellFormed }
+{
+    let mut stage = reconciled(alloc, graph, classes, options)?;
     let tests = asked_tests(alloc, graph, options, critical, &stage)?;
     stage.tests = tests;
     Ok(stage)

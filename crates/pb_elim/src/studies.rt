@@ -1,20 +1,21 @@
 // The whole study: rounds until the rule says to stop.
 
 ghost use Rattle.std.specs.Prelude.{◌<◌, None, All, length, IfOk};
-ghost use Rattle.pb_graph.specs.ProcessGraph.{unmeasured_at};
+ghost use Rattle.pb_graph.specs.ProcessGraph.{IsProcessGraph, unmeasured_at};
 ghost use Rattle.pb_graph.specs.WellFormed.{IsWellFormed, IsWellFormedStudy};
+ghost use Rattle.pb_classify.specs.Classification.{IsClassification};
 ghost use Rattle.pb_elim.specs.Options.{AreOptions};
 ghost use Rattle.pb_elim.specs.Criticals.{AreCritical};
 ghost use Rattle.pb_elim.specs.Stage.{IsStageOf};
 ghost use Rattle.pb_elim.specs.Study.{IsStudyOf};
-ghost use Rattle.pb_elim.specs.Certified.{IsCertifiedStage};
+ghost use Rattle.pb_elim.specs.Certified.{IsCertifiedStage, TestsEachRedundant};
 ghost use Rattle.pb_elim.specs.Decided.{AreMeasuresRight};
 ghost use Rattle.pb_elim.specs.Rounds.{AreAllRoundsOf};
 
 use crate::elimination::{next_at, stop_at};
-use crate::laws::{certified_law, decided_law};
-use crate::stages::stage;
-use pb_graph::{Critical, Graph, List, Options, Stage, Study};
+use crate::laws::{certified_law, decided_law, tested_law};
+use crate::stages::{stage, stage_classed};
+use pb_graph::{Classified, Critical, Graph, List, Options, Stage, Study};
 use std::alloc::{AllocError, Global};
 
 // The stage of a graph without the measurement of a stream.
@@ -37,20 +38,24 @@ fn stage_without(
     stage(alloc, &without, options, critical)
 }
 
-// All rounds of a study, with no reason to stop noted yet: each time the stage without what was taken.
+// All rounds of a study from its first stage on, with no reason to stop noted yet: each time the stage without what was taken.
 fn rounds(
     alloc: Global,
     graph: &Graph,
+    first: Stage,
     options: &Options,
     critical: &Critical,
 ) -> Result<Study, AllocError>
     requires limits { AreOptions options.now }
     requires critical { AreCritical critical.now }
+    requires first { IsStageOf graph.now options.now critical.now first }
+    requires graph { IsProcessGraph first.graph }
+    requires formed { IsWellFormed first }
     ensures { IfOk result (AreAllRoundsOf graph.now options.now critical.now) }
 {
     let mut stages = List::new(alloc);
     let mut taken = List::new(alloc);
-    stages.push(stage(alloc, graph, options, critical)?)?;
+    stages.push(first)?;
     for count in 0..options.eliminate {
         let last = stages.at(count as usize);
         let Some(suspect) = next_at(options, critical, count, &last.tests) else {
@@ -84,14 +89,60 @@ pub fn study(
     requires critical { AreCritical critical.now }
     ensures study { IfOk result (IsStudyOf graph.now options.now critical.now) }
     ensures certified { IfOk result (λ study. All IsCertifiedStage study.stages) }
+    ensures tested { IfOk result (λ study. All TestsEachRedundant study.stages) }
     ensures decided { IfOk result (λ study. All AreMeasuresRight study.stages) }
     ensures formed { IfOk result (IsWellFormedStudy graph.now) }
 {
-    let mut study = rounds(alloc, graph, options, critical)?;
+    let first = stage(alloc, graph, options, critical)?;
+    study_from(alloc, graph, first, options, critical)
+}
+
+/// The study of a graph whose classes are known, with their certificates: that of `study`.
+pub fn study_classed(
+    alloc: Global,
+    graph: &Graph,
+    classes: List<Classified>,
+    options: &Options,
+    critical: &Critical,
+) -> Result<Study, AllocError>
+    requires limits { AreOptions options.now }
+    requires critical { AreCritical critical.now }
+    requires classes { IsClassification graph.now classes }
+    ensures study { IfOk result (IsStudyOf graph.now options.now critical.now) }
+    ensures certified { IfOk result (λ study. All IsCertifiedStage study.stages) }
+    ensures tested { IfOk result (λ study. All TestsEachRedundant study.stages) }
+    ensures decided { IfOk result (λ study. All AreMeasuresRight study.stages) }
+    ensures formed { IfOk result (IsWellFormedStudy graph.now) }
+{
+    let first = stage_classed(alloc, graph, classes, options, critical)?;
+    study_from(alloc, graph, first, options, critical)
+}
+
+// The study of a graph from its first stage on.
+fn study_from(
+    alloc: Global,
+    graph: &Graph,
+    first: Stage,
+    options: &Options,
+    critical: &Critical,
+) -> Result<Study, AllocError>
+    requires limits { AreOptions options.now }
+    requires critical { AreCritical critical.now }
+    requires first { IsStageOf graph.now options.now critical.now first }
+    requires graph { IsProcessGraph first.graph }
+    requires formed { IsWellFormed first }
+    ensures study { IfOk result (IsStudyOf graph.now options.now critical.now) }
+    ensures certified { IfOk result (λ study. All IsCertifiedStage study.stages) }
+    ensures tested { IfOk result (λ study. All TestsEachRedundant study.stages) }
+    ensures decided { IfOk result (λ study. All AreMeasuresRight study.stages) }
+    ensures formed { IfOk result (IsWellFormedStudy graph.now) }
+{
+    let mut study = rounds(alloc, graph, first, options, critical)?;
     let count = study.taken.len();
     let last = study.stages.at(count);
     study.stop = stop_at(options, critical, count as u32, &last.tests);
     certified_law();
+    tested_law();
     decided_law();
     Ok(study)
 }

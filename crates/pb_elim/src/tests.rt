@@ -1,6 +1,7 @@
 ghost use Rattle.std.specs.Prelude.{◌<◌, ◌≤◌, length};
 
-use crate::study;
+use crate::{study, study_classed};
+use pb_classify::classify;
 use pb_graph::{
     Class, Critical, CriticalRow, Graph, List, Meas, Member, Options, Solved, Stage, Step, Stop,
     Stream, Study, Verdict, Witness,
@@ -465,5 +466,41 @@ fn takes_a_bad_meter(rt: HostRuntime) -> Result<(), AllocError> {
             assert_eq!(&rt; tests.measure.len(), 3);
         }
     }
+    Ok(())
+}
+
+// Two meters at a unit, 2 t apart: from its classes the graph has the study that it has without them.
+#[test]
+fn studies_from_known_classes(rt: HostRuntime) -> Result<(), AllocError> {
+    let mut g = Graph::new(rt.alloc(), 2);
+    let streams = [
+        metered(0, 1, 102_000_000, 1_000_000_000_000),
+        metered(1, 0, 100_000_000, 1_000_000_000_000),
+    ];
+    for s in streams {
+        assert!(rt; g.fits(&s), "{s:?}");
+        g.push(s)?;
+    }
+    let options = Options {
+        gap: 10,
+        sweeps: 5_000,
+        tests: true,
+        eliminate: 0,
+    };
+    let critical = Critical {
+        global: List::new(rt.alloc()),
+        nodal: None,
+        measure: None,
+    };
+    let classes = classify(rt.alloc(), &g)?;
+    let one = study(rt.alloc(), &g, &options, &critical)?;
+    let other = study_classed(rt.alloc(), &g, classes, &options, &critical)?;
+    assert_eq!(rt; one.stages.len(), 1);
+    assert_eq!(rt; other.stages.len(), 1);
+    let (one, other) = (one.stages.at(0), other.stages.at(0));
+    assert!(rt; one.streams == other.streams);
+    assert!(rt; one.prices == other.prices);
+    assert!(rt; one.tests == other.tests);
+    assert_flow(&rt, other, 0, 101_000_000, Some((100_999_997, 101_000_002)));
     Ok(())
 }

@@ -69,7 +69,8 @@ impl Places {
 
 // Takes out the entry at a key.
 fn take(map: &mut HashMap<(Name, i32), u32>, key: (Name, i32))
-    ensures { (q : List ℕ × ℤ) → get same_key map.new q ≡ (if same_key key q then None else get same_key map.old q) }
+    ensures { (q : List ℕ × ℤ) → get same_key map.new q
+        ≡ (if same_key key q then None else get same_key map.old q) }
 {
     map.remove(&key);
 }
@@ -85,7 +86,8 @@ pub fn block_of(day: i32) -> i32
 // Puts an entry for which there is room.
 fn put<K: Eq + Hash + Drop, V: Drop>(map: &mut HashMap<K, V>, key: K, value: V)
     requires { 0 < spare map.old }
-    ensures { (q : K) → get K.eq map.new q ≡ (if K.eq key q then Some value else get K.eq map.old q) }
+    ensures { (q : K) → get K.eq map.new q
+        ≡ (if K.eq key q then Some value else get K.eq map.old q) }
 {
     if map.insert(key, value).is_err() {
         unreachable!()

@@ -16,3 +16,7 @@ mod Deviants
 mod StateLaws
 mod LeastLemmas
 mod OutsideLemmas
+mod SmallFlowLemmas
+mod RangeLemmas
+mod NetLemmas
+mod SolveLemmas

@@ -1,5 +1,5 @@
 -- A graph has one state after each number of sweeps, and one solution.
-use Rattle.std.proofs.Common.{◌≡◌, ◌∙◌, ℕ, zero, suc, ◌+◌, ◌*◌, ◌^◌, ◌<◌, ◌≤◌, ◌⊎◌, Bool, true, false, ℤ, List, ap, ap₂, refl, sym, subst, inl, inr, arith, rules}
+use Rattle.std.proofs.Common.{◌≡◌, ◌∙◌, ℕ, zero, suc, ◌+◌, ◌-◌, ◌*◌, ◌^◌, ◌≤◌, ◌⊎◌, Bool, false, ℤ, List, ap, ap₂, refl, sym, subst, inl, inr, arith, rules}
 use Rattle.std.specs.Prelude.{IsTrue, ◌↔◌}
 use Rattle.std.proofs.lemmas.Bool.{cases_lt}
 use Rattle.pb_graph.specs.declared.results.Solved.{Solved}
@@ -8,11 +8,13 @@ use Rattle.pb_graph.specs.ProcessGraph.{ProcessGraph, IsProcessGraph}
 use Rattle.pb_merge.proofs.GroupLaws.{numbering_law, some_groups_law}
 use Rattle.pb_forest.specs.Flows.{AgreeOffForest}
 use Rattle.pb_forest.proofs.ForestLaws.{one_balanced_law, one_forest_law, some_balanced_law, some_forest_law}
+use Rattle.pb_graph.specs.Groups.{AreGroups}
 use Rattle.pb_dual.specs.Sweeps.{prices_after}
+use Rattle.pb_dual.proofs.SweepLaws.{idle_law}
 use Rattle.pb_gap.specs.Gap.{MeetsGap, gap_of, gap_size}
 use Rattle.pb_gap.specs.State.{AreRoundedFlows, IsState, IsStateAfter, State, gap_in, nearest_flows, price_in}
 use Rattle.pb_gap.specs.Statistic.{high_of, low_of}
-use Rattle.pb_gap.specs.Solution.{EachMissesBefore, IsMetAfter, IsSameState, IsSolution, IsSolvedStatistic, MissesAfter, OneSolutionLaw, OneSolvedStatisticLaw, OneStateLaw, SomeSolutionLaw, SomeSolvedStatisticLaw, SomeStateLaw}
+use Rattle.pb_gap.specs.Solution.{EachMissesBefore, IsMetAfter, IsSolution, MissesAfter, OneSolutionLaw, OneSolvedStatisticLaw, OneStateLaw, SomeSolutionLaw, SomeSolvedStatisticLaw, SomeStateLaw}
 
 -- the flows that belong to prices are one vector
 pub one_rounded : (g : ProcessGraph) (price : ℕ → ℤ) (xs ys : List ℤ) → IsProcessGraph g → AreRoundedFlows g price xs → AreRoundedFlows g price ys → xs ≡ ys
@@ -105,30 +107,45 @@ one_solved_statistic g gap sweeps low other_low high other_high limits a b =
       a.is_high ∙ ap (high_of g.streams) same.flows ∙ sym b.is_high,
     )
 
--- what a test of the present state says
-pub misses_here : (g : ProcessGraph) (gap k : ℕ) (s : State) (met : Bool) → s.graph ≡ g → IsStateAfter g k (price_in s) s.flows
-    → (IsTrue met ↔ MeetsGap gap (gap_in s)) → met ≡ false → MissesAfter g gap k
-misses_here g gap k s met same after test fails =
-    let not_met : MeetsGap gap (gap_in s) → ⊥ = λ meets. absurd (clash met (test.1 meets) fails) in
-    record { price = price_in s; flows = s.flows; state = after; missed = subst (λ (h : ProcessGraph). MeetsGap gap (gap_of (price_in s) h.streams s.flows) → ⊥) same not_met }
+-- prices after k sweeps whose flows miss the gap, whichever they are
+pub misses_at : (g : ProcessGraph) (group : List ℕ) (gap k : ℕ) (price : ℕ → ℤ) → AreGroups g group → price ≡ prices_after g group k
+    → ((flows : List ℤ) → AreRoundedFlows g price flows → MeetsGap gap (gap_of price g.streams flows) → ⊥) → MissesAfter g gap k
+misses_at g group gap k price groups swept far =
+    let (held, forest) = some_forest_law g.streams in
+    let (flows, balanced, nearest) = some_balanced_law g held (nearest_flows price g.streams) forest in
+    let rounded : AreRoundedFlows g price flows = record { held = held; forest = forest; balanced = balanced; nearest = nearest } in
+    record { price = price; flows = flows; state = record { group = group; groups = groups; swept = swept; rounded = rounded }; missed = far flows rounded }
+
+-- the flows of a state are all that belong to its prices
+pub none_near : (s : State) (gap : ℕ) (met : Bool) → IsState s → (IsTrue met ↔ MeetsGap gap (gap_in s)) → met ≡ false → (flows : List ℤ) → AreRoundedFlows s.graph (price_in s) flows
+    → MeetsGap gap (gap_of (price_in s) s.graph.streams flows) → ⊥
+none_near s gap met is test fails flows rounded meets =
+    let same = one_rounded s.graph (price_in s) flows s.flows is.limits rounded is.rounded in
+    clash met (test.1 (subst (λ (xs : List ℤ). MeetsGap gap (gap_of (price_in s) s.graph.streams xs)) same meets)) fails
   where
     clash : (met : Bool) → IsTrue met → met ≡ false → ⊥
     clash met yes_ no_ = search rules
 
-pub met_here : (g : ProcessGraph) (gap k : ℕ) (s : State) (met : Bool) → s.graph ≡ g → IsStateAfter g k (price_in s) s.flows
-    → (IsTrue met ↔ MeetsGap gap (gap_in s)) → met ≡ true → IsMetAfter g gap k (price_in s) s.flows
-met_here g gap k s met same after test passes =
-    let yes_ : IsTrue met = search rules in
-    record { state = after; met = subst (λ (h : ProcessGraph). MeetsGap gap (gap_of (price_in s) h.streams s.flows)) same (test.0 yes_) }
+-- where a sweep changes no price, the gap is missed ever after
+misses_later : (g : ProcessGraph) (group : List ℕ) (gap j k : ℕ) → AreGroups g group → prices_after g group j ≡ prices_after g group k → MissesAfter g gap k → MissesAfter g gap j
+misses_later g group gap j k groups same miss =
+    let own = numbering_law.one g miss.state.group group miss.state.groups groups in
+    record {
+      price = miss.price;
+      flows = miss.flows;
+      state = record { group = group; groups = groups; swept = miss.state.swept ∙ ap (λ (ks : List ℕ). prices_after g ks k) own ∙ sym same; rounded = miss.state.rounded };
+      missed = miss.missed;
+    }
 
-pub next_state : (g : ProcessGraph) (k : ℕ) (s t u : State) → s.graph ≡ g → t ≡ s → IsStateAfter g k (price_in s) s.flows
-    → ((k : ℕ) → IsStateAfter t.graph k (price_in t) t.flows → IsStateAfter t.graph (suc k) (price_in u) u.flows) → IsStateAfter g (k + 1) (price_in u) u.flows
-next_state g k s t u same kept after more =
-    let e : suc k ≡ k + 1 = omega arith in
-    let graph : t.graph ≡ g = ap (λ (v : State). v.graph) kept ∙ same in
-    let here : IsStateAfter t.graph k (price_in t) t.flows =
-    subst (λ (h : ProcessGraph). IsStateAfter h k (price_in t) t.flows) (sym graph) (subst (λ (v : State). IsStateAfter g k (price_in v) v.flows) (sym kept) after) in
-    subst (λ (n : ℕ). IsStateAfter g n (price_in u) u.flows) e (subst (λ (h : ProcessGraph). IsStateAfter h (suc k) (price_in u) u.flows) graph (more k here))
+pub idle_from : (g : ProcessGraph) (group : List ℕ) (j k : ℕ) → prices_after g group (suc k) ≡ prices_after g group k → k ≤ j → prices_after g group j ≡ prices_after g group k
+idle_from g group j k same le = let e : (j - k) + k ≡ j = omega (arith, le) in ap (prices_after g group) (sym e) ∙ idle_law g group k (j - k) same
+
+pub misses_idle : (g : ProcessGraph) (group : List ℕ) (gap k n : ℕ) → AreGroups g group → prices_after g group (suc k) ≡ prices_after g group k → EachMissesBefore g gap k → MissesAfter g gap k
+    → EachMissesBefore g gap n
+misses_idle g group gap k n groups same each here j lt = elim (cases_lt j k) [
+  | inl less ↦ each j less
+  | inr ge ↦ misses_later g group gap j k groups (idle_from g group j k same ge) here
+]
 
 pub misses_to : (g : ProcessGraph) (gap k n : ℕ) → k ≡ n → EachMissesBefore g gap k → EachMissesBefore g gap n
 misses_to g gap k n is each = subst (EachMissesBefore g gap) is each

@@ -5,10 +5,12 @@ pub mod FlowPair
 pub mod Bounds
 pub mod StreamBounds
 pub mod Statistic
+pub mod Nets
 pub mod State
 pub mod Solution
 pub mod Residuals
 pub mod Laws
+pub mod RangeLaws
 pub mod Least
 -- Inside
 pub mod Members

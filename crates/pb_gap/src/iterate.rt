@@ -1,10 +1,13 @@
-// A state of the sweeps, with all that the next ones need.
+// Prices of the sweeps with flows beside them, and all that the next sweeps need.
 
-ghost use Rattle.std.specs.Prelude.{◌≡◌, ◌↔◌, ℕ, suc, ◌<◌, ◌≤◌, ◌^◌, ℤ, Bool, List as Seq, Some, length, slice_get, unsigned_abs, IsTrue, IfOk};
+ghost use Rattle.std.specs.Prelude.{◌≡◌, ◌↔◌, ℕ, suc, ◌<◌, ◌≤◌, ◌^◌, ℤ, Bool, false, List as Seq, Some, length, slice_get, unsigned_abs, IsTrue, IfOk};
+ghost use Rattle.pb_graph.specs.Groups.{AreGroups};
+ghost use Rattle.pb_graph.specs.Prices.{PricesFit};
 ghost use Rattle.pb_forest.specs.Forest.{IsForest, degrees_of_freedom};
-ghost use Rattle.pb_gap.specs.Gap.{MeetsGap};
+ghost use Rattle.pb_dual.specs.Sweeps.{prices_after};
+ghost use Rattle.pb_gap.specs.Gap.{MeetsGap, gap_of};
 ghost use Rattle.pb_gap.specs.FlowPair.{AreOfPrices};
-ghost use Rattle.pb_gap.specs.State.{IsState, IsStateAfter, price_in, gap_in};
+ghost use Rattle.pb_gap.specs.State.{AreRoundedFlows, IsState, IsStateAfter, price_in, gap_in};
 ghost use Rattle.pb_gap.specs.Solution.{IsSolution};
 ghost use Rattle.pb_gap.specs.Iterate.{IsGapOf};
 
@@ -12,6 +15,7 @@ use crate::flow_pair::FlowPair;
 use crate::flows::write_flows;
 use crate::gap::Gap;
 use crate::measurements::standard_deviations;
+use crate::nets::{imbalance_roots, is_beyond};
 use pb_dual::Dual;
 use pb_forest::Forest;
 use pb_graph::{Graph, Solved};
@@ -19,15 +23,15 @@ use pb_merge::Groups;
 use std::alloc::{AllocError, Global};
 use std::marker::Model;
 
-/// A state of the sweeps, with room for all that the next ones need.
+/// Prices of the sweeps with flows beside them, and room for all that the next sweeps need. The flows
+/// belong to the prices once they are settled.
 #[derive(Drop)]
 pub struct Iterate {
-    graph: Graph,
-    groups: Groups,
     forest: Forest,
     dual: Dual,
     standard_deviations: Vec<i128>,
-    dual_flows: Vec<i128>,
+    // For each group the standard deviation of its imbalance.
+    roots: Vec<i128>,
     // Room for the dual flows to the nearest gram.
     nearest: Vec<i128>,
     flows: Vec<i128>,
@@ -41,42 +45,33 @@ impl Model for Iterate {
 
     ghost Value = { State };
 
-    ghost view = { λ a. record { graph = a.graph; group = a.dual.group; prices = a.dual.prices; flows = a.flows.items } };
+    ghost view = { λ a. record { graph = a.dual.graph; group = a.dual.group; prices = a.dual.prices; flows = a.flows.items } };
 
-    ghost invariant = { λ a. IsIterate a.graph a.groups a.forest a.dual a.standard_deviations.items a.dual_flows.items a.nearest.items a.flows.items a.deviations.items };
+    ghost invariant = { λ a. IsIterate a.forest a.dual a.standard_deviations.items a.roots.items a.nearest.items a.flows.items a.deviations.items };
 }
 
 impl Iterate {
     /// The state of a graph after 0 sweeps.
     pub fn new(alloc: Global, graph: &Graph) -> Result<Iterate, AllocError>
         ensures graph { IfOk result (λ s. s.graph ≡ graph.now) }
+        ensures state { IfOk result IsState }
         ensures after { IfOk result (λ s. IsStateAfter graph.now 0 (price_in s) s.flows) }
     {
         let count = graph.streams().len();
-        let own = graph.copy(alloc)?;
         let groups = Groups::of(alloc, graph)?;
         let forest = Forest::of(alloc, graph)?;
         let dual = Dual::new(alloc, graph, groups.numbers())?;
         let standard_deviations = standard_deviations(alloc, graph.streams())?;
-        let mut dual_flows = vec![in alloc; 0i128; count]?;
+        let roots = imbalance_roots(alloc, &groups)?;
         let mut nearest = vec![in alloc; 0i128; count]?;
         let mut flows = vec![in alloc; 0i128; count]?;
         let deviations = vec![in alloc; 0i128; count]?;
-        write_flows(
-            &own,
-            &forest,
-            &dual,
-            &mut dual_flows,
-            &mut nearest,
-            &mut flows,
-        );
+        write_flows(&forest, &dual, &mut nearest, &mut flows);
         Ok(Iterate {
-            graph: own,
-            groups,
             forest,
             dual,
             standard_deviations,
-            dual_flows,
+            roots,
             nearest,
             flows,
             deviations,
@@ -88,9 +83,8 @@ impl Iterate {
         requires { node < self.now.graph.nodes }
         ensures value { result ≡ price_in self.now node }
         ensures within { unsigned_abs result ≤ 2 ^ 120 }
-        ensures state { IsState self.now }
     {
-        self.dual.price(self.groups.group(node))
+        self.dual.price_at(node)
     }
 
     /// The flow of a stream.
@@ -98,7 +92,6 @@ impl Iterate {
         requires { stream < length self.now.graph.streams }
         ensures value { slice_get self.now.flows stream ≡ Some result }
         ensures within { unsigned_abs result < 2 ^ 68 }
-        ensures state { IsState self.now }
     {
         self.flows[stream as usize]
     }
@@ -116,81 +109,93 @@ impl Iterate {
         ensures graph { result.graph ≡ self.now.graph }
         ensures flows { result.flows ≡ self.now.flows }
         ensures prices { AreOfPrices (price_in self.now) result }
-        ensures state { IsState self.now }
     {
         FlowPair::new(
-            &self.graph,
+            self.dual.graph(),
             &self.standard_deviations,
-            &self.dual_flows,
+            self.dual.dual_flows(),
             &self.flows,
         )
     }
 
-    /// Begins again at prices of 0.
+    /// Writes the flows that belong to the prices.
+    fn settle(&mut self)
+        ensures graph { self.new.graph ≡ self.old.graph }
+        ensures group { self.new.group ≡ self.old.group }
+        ensures prices { self.new.prices ≡ self.old.prices }
+        ensures state { IsState self.new }
+    {
+        write_flows(&self.forest, &self.dual, &mut self.nearest, &mut self.flows);
+    }
+
+    /// Begins again at prices of 0. The flows stay.
     fn reset(&mut self)
         ensures graph { self.new.graph ≡ self.old.graph }
         ensures group { self.new.group ≡ self.old.group }
-        ensures after { IsStateAfter self.old.graph 0 (price_in self.new) self.new.flows }
+        ensures groups { AreGroups self.old.graph self.old.group }
+        ensures after { price_in self.new ≡ prices_after self.old.graph self.old.group 0 }
     {
         self.dual.reset();
-        write_flows(
-            &self.graph,
-            &self.forest,
-            &self.dual,
-            &mut self.dual_flows,
-            &mut self.nearest,
-            &mut self.flows,
-        );
     }
 
-    /// Sweeps once.
-    fn sweep(&mut self)
+    /// Sweeps once. The flows stay. Whether a price changed.
+    fn sweep(&mut self) -> bool
         ensures graph { self.new.graph ≡ self.old.graph }
         ensures group { self.new.group ≡ self.old.group }
-        ensures after { (k : ℕ) → IsStateAfter self.old.graph k (price_in self.old) self.old.flows → IsStateAfter self.old.graph (suc k) (price_in self.new) self.new.flows }
+        ensures after { (k : ℕ) → price_in self.old ≡ prices_after self.old.graph self.old.group k → price_in self.new ≡ prices_after self.old.graph self.old.group (suc k) }
+        ensures idle { result ≡ false → price_in self.new ≡ price_in self.old }
     {
-        self.dual.sweep();
-        write_flows(
-            &self.graph,
-            &self.forest,
-            &self.dual,
-            &mut self.dual_flows,
-            &mut self.nearest,
-            &mut self.flows,
-        );
+        self.dual.sweep()
     }
 
-    /// The gap of the state.
+    /// The gap of the flows and the prices.
     pub fn gap(&mut self) -> Gap
         ensures gap { IsGapOf self.old result }
         ensures same { self.new ≡ self.old }
-        ensures state { IsState self.old }
     {
         let pair = FlowPair::new(
-            &self.graph,
+            self.dual.graph(),
             &self.standard_deviations,
-            &self.dual_flows,
+            self.dual.dual_flows(),
             &self.flows,
         );
         pair.gap(&mut self.deviations)
     }
 
-    /// Whether the gap is met.
-    fn is_met(&mut self, gap: u32) -> bool
+    /// Whether the gap of the flows and the prices is met.
+    fn is_near(&mut self, gap: u32) -> bool
         ensures met { IsTrue result ↔ MeetsGap gap (gap_in self.old) }
         ensures same { self.new ≡ self.old }
-        ensures state { IsState self.old }
     {
         let pair = FlowPair::new(
-            &self.graph,
+            self.dual.graph(),
             &self.standard_deviations,
-            &self.dual_flows,
+            self.dual.dual_flows(),
             &self.flows,
         );
         pair.is_met(gap, &mut self.deviations)
     }
 
-    /// Sweeps from prices of 0 until the gap is met, and at most so many times.
+    /// Whether the gap of the flows that belong to the prices is met. They are written, unless the
+    /// groups' net dual flows tell that it isn't.
+    fn is_met(&mut self, gap: u32) -> bool
+        ensures graph { self.new.graph ≡ self.old.graph }
+        ensures group { self.new.group ≡ self.old.group }
+        ensures prices { self.new.prices ≡ self.old.prices }
+        ensures state { IsTrue result → IsState self.new }
+        ensures met { IsTrue result → MeetsGap gap (gap_in self.new) }
+        ensures far { result ≡ false → (flows : Seq ℤ) → AreRoundedFlows self.old.graph (price_in self.old) flows
+            → MeetsGap gap (gap_of (price_in self.old) self.old.graph.streams flows) → ⊥ }
+    {
+        if is_beyond(&self.dual, &self.roots, gap) {
+            return false;
+        }
+        self.settle();
+        self.is_near(gap)
+    }
+
+    /// Sweeps from prices of 0 until the gap is met, and at most so many times. A sweep that changes no
+    /// price is the last one, since each later one would leave the same prices.
     pub fn solve(&mut self, gap: u32, sweeps: u32) -> Solved
         ensures graph { self.new.graph ≡ self.old.graph }
         ensures group { self.new.group ≡ self.old.group }
@@ -202,11 +207,15 @@ impl Iterate {
             if self.is_met(gap) {
                 return Solved::Converged(k);
             }
-            self.sweep();
+            if !self.sweep() {
+                self.settle();
+                return Solved::Unconverged(sweeps);
+            }
         }
         if self.is_met(gap) {
             Solved::Converged(sweeps)
         } else {
+            self.settle();
             Solved::Unconverged(sweeps)
         }
     }

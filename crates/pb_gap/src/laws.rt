@@ -1,7 +1,9 @@
 //! What is proved of the definitions alone. The functions are empty: the contract of each is a law.
 
 ghost use Rattle.pb_gap.specs.Laws.{WeightLaw, SchwarzLaw, IdentityLaw, DualityLaw, AreGaps, GapLaw, EnclosureLaw, StreamSumLaw, StreamLaw, LowLaw, HighLaw};
+ghost use Rattle.pb_gap.specs.Nets.{NetLaw};
 ghost use Rattle.pb_gap.specs.Least.{OrthogonalityLaw, ExcessLaw, DistanceLaw};
+ghost use Rattle.pb_gap.specs.RangeLaws.{RangeLaw};
 ghost use Rattle.pb_gap.specs.Solution.{SomeStateLaw, OneStateLaw, OutsideLaw, SomeSolutionLaw, OneSolutionLaw, SomeSolvedStatisticLaw, OneSolvedStatisticLaw};
 
 /// The product of the variances over each of them is a whole number.
@@ -36,6 +38,12 @@ pub fn least_law()
     ensures distance { DistanceLaw }
 {}
 
+/// Where the gap of balanced whole flows is met, the net dual flow of each group is at most so many standard deviations of the
+/// group's imbalance.
+pub fn net_law()
+    ensures { NetLaw }
+{}
+
 /// Each balanced vector no worse than some balanced whole flows is within the bounds that any prices that fit give.
 pub fn enclosure_law()
     ensures { EnclosureLaw }
@@ -52,6 +60,11 @@ pub fn stream_law()
 pub fn statistic_law()
     ensures low { LowLaw }
     ensures high { HighLaw }
+{}
+
+/// Prices that fit, and the flows that belong to them, have numbers within the ranges in which they are printed.
+pub fn range_law()
+    ensures { RangeLaw }
 {}
 
 /// A process graph has a state after each number of sweeps.

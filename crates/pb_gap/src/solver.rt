@@ -28,13 +28,13 @@ pub struct Solver {
 
 impl Model for Solver {
     ghost use Rattle.pb_gap.specs.State.{State};
-    ghost use Rattle.pb_gap.specs.Iterate.{IsGapOf};
+    ghost use Rattle.pb_gap.specs.Iterate.{IsSettled};
 
     ghost Value = { State };
 
     ghost view = { λ a. a.iterate };
 
-    ghost invariant = { λ a. IsGapOf a.iterate a.gap };
+    ghost invariant = { λ a. IsSettled a.iterate a.gap };
 }
 
 impl Solver {

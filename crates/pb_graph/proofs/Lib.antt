@@ -1,3 +1,4 @@
+mod AlikeLemmas
 mod BalanceLemmas
 pub mod BoundaryLemmas
 pub mod CertificateLemmas

@@ -13,6 +13,7 @@ pub mod Groups
 pub mod Prices
 pub mod WellFormed
 pub mod Parts
+pub mod Alike
 pub mod Laws
 -- Inside
 pub mod Search

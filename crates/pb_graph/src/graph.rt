@@ -6,6 +6,7 @@ ghost use Rattle.pb_graph.specs.ProcessGraph.{ProcessGraph, IsProcessGraph, IsSt
 ghost use Rattle.pb_graph.specs.Boundary.{IsCut};
 ghost use Rattle.pb_graph.specs.Cycle.{IsCycle};
 ghost use Rattle.pb_graph.specs.Balance.{net_of, IsBalanced};
+ghost use Rattle.pb_graph.specs.Alike.{AreAlike, shape_of, shapes_of};
 
 use crate::records::{Meas, Member, Step, Stream};
 use crate::{balance, cut, cycle};
@@ -137,6 +138,14 @@ impl Graph {
         })
     }
 
+    /// Whether two graphs are alike: they have as many nodes, and streams with the same ends in the same order, of which the same
+    /// are measured. The classes of the streams of one are then those of the other.
+    pub fn alike(&self, other: &Graph) -> bool
+        ensures { IsTrue result ↔ AreAlike self.now other.now }
+    {
+        self.nodes == other.nodes && are_of_same_shapes(&self.streams, &other.streams)
+    }
+
     /// Whether the side has one item for each node and the members are its boundary, in order, with their signs.
     pub fn is_cut(&self, side: &[bool], members: &[Member]) -> bool
         ensures { IsTrue result ↔ IsCut self.now side.now members.now }
@@ -163,6 +172,28 @@ fn unmeasured(alloc: Global, streams: &[Stream], stream_id: u32) -> Result<Vec<S
         ..streams[stream_id as usize]
     };
     Ok(copy)
+}
+
+// Whether two streams have the same ends, and both are measured or neither is.
+fn are_of_one_shape(one: &Stream, other: &Stream) -> bool
+    ensures { IsTrue result ↔ (shape_of one.now ≡ shape_of other.now) }
+{
+    one.from == other.from && one.to == other.to && one.meas.is_some() == other.meas.is_some()
+}
+
+// Whether two lists have as many streams, of the same shapes in order.
+fn are_of_same_shapes(ones: &[Stream], others: &[Stream]) -> bool
+    ensures { IsTrue result ↔ (shapes_of ones.now ≡ shapes_of others.now) }
+{
+    if ones.len() != others.len() {
+        return false;
+    }
+    for (j, one) in ones.iter().enumerate() {
+        if !are_of_one_shape(one, &others[j]) {
+            return false;
+        }
+    }
+    true
 }
 
 // Whether a stream joins two nodes.

@@ -275,3 +275,47 @@ fn joins_parts(rt: HostRuntime) -> Result<(), AllocError> {
     assert!(rt; parts.label(3) == 1);
     Ok(())
 }
+
+/// Values and variances may differ, and nothing else.
+#[test]
+fn alike_graphs(rt: HostRuntime) -> Result<(), AllocError> {
+    let alloc = rt.alloc();
+    let ends = [(0, 1, true), (1, 2, false), (2, 0, true)];
+    let g = graph(&rt, alloc, 3, &ends)?;
+    assert!(rt; g.alike(&graph(&rt, alloc, 3, &ends)?));
+    assert!(rt; !g.alike(&graph(&rt, alloc, 4, &ends)?), "a node more");
+    assert!(rt;
+        !g.alike(&graph(&rt, alloc, 3, &ends[..2])?),
+        "a stream less"
+    );
+    assert!(rt;
+        !graph(&rt, alloc, 3, &ends[..2])?.alike(&g),
+        "a stream more"
+    );
+    let cases = [
+        ((0, 1, true), (1, 2, false), (0, 2, true)),
+        ((0, 1, true), (1, 2, true), (2, 0, true)),
+        ((0, 1, false), (1, 2, false), (2, 0, true)),
+        ((0, 2, true), (1, 2, false), (2, 0, true)),
+    ];
+    for (a, b, c) in cases {
+        let other = graph(&rt, alloc, 3, &[a, b, c])?;
+        assert!(rt; !g.alike(&other), "{a:?} {b:?} {c:?}");
+    }
+    let mut other = Graph::new(alloc, 3);
+    for &(from, to, measured) in &ends {
+        let meas = if measured {
+            Some(Meas {
+                value: 5,
+                variance: 7,
+            })
+        } else {
+            None
+        };
+        let stream = Stream { from, to, meas };
+        assert!(rt; other.fits(&stream));
+        other.push(stream)?;
+    }
+    assert!(rt; g.alike(&other), "other values");
+    Ok(())
+}

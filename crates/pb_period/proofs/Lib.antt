@@ -5,3 +5,4 @@ mod PlainLemmas
 mod PlantLemmas
 mod TransferLemmas
 mod VarianceLemmas
+mod UntouchedLemmas

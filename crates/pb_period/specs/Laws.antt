@@ -1,11 +1,13 @@
 -- Statement. What holds of the graphs of accepted rows.
-use Rattle.std.specs.Prelude.{◌≡◌, List, All, IfOk}
+use Rattle.std.specs.Prelude.{◌≡◌, false, List, [], ◌∷◌, ◌++◌, All, IfOk}
 use Rattle.pb_graph.specs.ProcessGraph.{IsProcessGraph}
 use Rattle.pb_site.specs.Site.{HasDistinctNames}
+use Rattle.pb_facts.specs.Facts.{NoRepeats}
 use Rattle.pb_book.specs.declared.rows.Period.{Period}
 use Rattle.pb_book.specs.Accepted.{AreAccepted}
+use Rattle.pb_book.specs.TakenOut.{takes_out}
 use Rattle.pb_book.specs.Plain.{plain_stored}
-use Rattle.pb_book.specs.Rows.{StoredRow, declared_of, periods_of}
+use Rattle.pb_book.specs.Rows.{StoredRow, declared_of, facts_of, periods_of}
 use Rattle.pb_period.specs.Days.{days_of}
 use Rattle.pb_period.specs.declared.days.Days.{Days}
 use Rattle.pb_period.specs.PeriodGraph.{assembly_of, design_graph, period_names}
@@ -29,3 +31,15 @@ pub record HaveSameGraphs (rows other : List StoredRow) : Type 0 where
 -- the plain rows of accepted rows have the graphs of these
 abbrev pub PlainGraphsLaw : Type 0
 PlainGraphsLaw = (rows : List StoredRow) → AreAccepted rows → HaveSameGraphs rows (plain_stored rows)
+
+-- rows that declare the same, and of which some days have the same graph
+pub record LeavesDays (rows other : List StoredRow) (days : Days) : Type 0 where
+  pub declared : declared_of other ≡ declared_of rows
+  pub graph : assembly_of other days ≡ assembly_of rows days
+
+-- a stored row that doesn't take out a period leaves its graph as it was, where no two facts have one id
+abbrev pub UntouchedLaw : Type 0
+UntouchedLaw =
+    (rows : List StoredRow) (stored : StoredRow) (period : Period) → NoRepeats (facts_of (rows ++ stored ∷ []))
+    → takes_out (facts_of (rows ++ stored ∷ [])) stored.row period ≡ false
+    → LeavesDays rows (rows ++ stored ∷ []) (days_of period)

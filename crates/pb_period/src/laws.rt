@@ -1,6 +1,6 @@
 // The laws of the graphs.
 
-ghost use Rattle.pb_period.specs.Laws.{GraphsLaw, PlainGraphsLaw};
+ghost use Rattle.pb_period.specs.Laws.{GraphsLaw, PlainGraphsLaw, UntouchedLaw};
 
 use pb_book::{accepted_law, plain_law};
 use pb_site::plant_law;
@@ -21,3 +21,8 @@ pub fn plain_graphs_law()
 {
     plain_law();
 }
+
+/// The law that a stored row which doesn't take out a period leaves what is declared and the graph of the period as they were.
+pub fn untouched_law()
+    ensures { UntouchedLaw }
+{}

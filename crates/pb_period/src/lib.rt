@@ -14,4 +14,4 @@ mod transfers;
 
 pub use days::Days;
 pub use graph::{Assembly, assemble, design, period_names};
-pub use laws::{graphs_law, plain_graphs_law};
+pub use laws::{graphs_law, plain_graphs_law, untouched_law};

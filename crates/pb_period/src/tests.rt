@@ -85,7 +85,7 @@ fn designs_measure_all_but_plain_streams(rt: HostRuntime) -> Result<(), Fail> {
         (2, None),
         (3, Some((0, 5))),
     ] {
-        assert!(rt; designed(rt.alloc(), text, j)? == want, "{j}");
+        assert!(rt; designed(rt.alloc(), text, j)? == want, "the stream {j}");
     }
     Ok(())
 }
@@ -101,7 +101,7 @@ fn periods_share_a_transfer(rt: HostRuntime) -> Result<(), Fail> {
     ] {
         assert!(rt;
             measured(rt.alloc(), TRANSFER, b"", period, j)? == want,
-            "{period} {j}"
+            "the stream {j} of the period {period}"
         );
     }
     Ok(())
@@ -120,7 +120,7 @@ fn measures_a_refinery_day(rt: HostRuntime) -> Result<(), Fail> {
     ] {
         assert!(rt;
             measured(rt.alloc(), REFINERY, rising, 0, j)? == want,
-            "{j}"
+            "the stream {j}"
         );
     }
     Ok(())
@@ -140,7 +140,10 @@ fn measures_a_tank_by_its_dips(rt: HostRuntime) -> Result<(), Fail> {
         (b"dip,p1,TK1,2024-04-30,0,850000,1\n", None),
     ];
     for (dips, want) in table {
-        assert!(rt; measured(rt.alloc(), REFINERY, dips, 0, 0)? == want);
+        assert!(rt;
+            measured(rt.alloc(), REFINERY, dips, 0, 0)? == want,
+            "the tank with the dips {dips:?}"
+        );
     }
     Ok(())
 }
@@ -153,7 +156,10 @@ fn measures_a_stream_that_is_read_each_day(rt: HostRuntime) -> Result<(), Fail> 
         (b"reading,r4,B,2024-03-02,6,2\n", 1, Some((10, 3))),
     ];
     for (more, j, want) in table {
-        assert!(rt; measured(rt.alloc(), TWO_DAYS, more, 0, j)? == want, "{j}");
+        assert!(rt;
+            measured(rt.alloc(), TWO_DAYS, more, 0, j)? == want,
+            "the stream {j} with the rows {more:?}"
+        );
     }
     Ok(())
 }

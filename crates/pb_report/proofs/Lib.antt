@@ -4,3 +4,4 @@ mod JsonLemmas
 mod OutputLemmas
 mod PieceLemmas
 mod StudyLemmas
+mod BlockLemmas

@@ -21,9 +21,10 @@ mod tests;
 mod verdicts;
 
 pub use design::write_design;
-pub use form::Form;
+pub use form::{Form, write_row};
 pub use history::{HistoryRow, HistoryWord, Period, write_history};
 pub use over::write_over;
 pub use refused::write_refused;
+pub use row::OutputRow;
 pub use study::write_study;
 pub use summary::write_summary;

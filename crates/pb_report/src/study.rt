@@ -1,9 +1,10 @@
 // The rows of a study.
 
-ghost use Rattle.std.specs.Prelude.{◌≡◌, ◌<◌, ◌++◌, length, IfOk, OnOk, OnErr};
+ghost use Rattle.std.specs.Prelude.{◌≡◌, ◌<◌, ◌∷◌, ◌++◌, [], codes, pos, length, IfOk, OnOk, OnErr};
 ghost use Rattle.pb_report.specs.Form.{AppendsRows};
 ghost use Rattle.pb_report.specs.Names.{IsNamedStudy};
 ghost use Rattle.pb_report.specs.Output.{AddsRows};
+ghost use Rattle.pb_report.specs.Row.{number, row_of, text};
 ghost use Rattle.pb_report.specs.Study.{stage_rows, stop_row, stop_rows, stop_word, study_rows, taken_row};
 
 use crate::block::write_block;
@@ -65,6 +66,21 @@ fn write_stages(
     Ok(())
 }
 
+// The first columns of a row of a round: its kind, the period and the round.
+fn round_row(
+    alloc: Global,
+    kind: &str,
+    period: &Name,
+    round: usize,
+) -> Result<OutputRow, AllocError>
+    ensures { IfOk result (λ row. row ≡ row_of kind.now
+        (text (codes "period") period.now ∷ number (codes "round") (pos round) ∷ [])) }
+{
+    OutputRow::of(alloc, kind)?
+        .text("period", period.as_str())?
+        .number("round", round as i128)
+}
+
 // The row of a suspect that was taken before a round.
 fn taken_row(
     alloc: Global,
@@ -76,9 +92,7 @@ fn taken_row(
     requires { suspect.now.stream < length names.now.streams }
     ensures { IfOk result (λ row. row ≡ taken_row names.now period.now round suspect.now) }
 {
-    OutputRow::of(alloc, "taken")?
-        .text("period", period.as_str())?
-        .number("round", round as i128)?
+    round_row(alloc, "taken", period, round)?
         .text("stream", names.streams.at(suspect.stream as usize).as_str())?
         .number("low", suspect.low)
 }

@@ -1,4 +1,5 @@
 mod NameLemmas
+mod CutLemmas
 mod RowLemmas
 mod ReadLemmas
 mod NumberLemmas

@@ -1,9 +1,9 @@
--- Each record takes at least one byte, so the records that a reader has reached are all the records of the text.
-use Rattle.std.proofs.Common.{◌≡◌, ◌<◌, ◌≤◌, ◌+◌, ◌∷◌, ◌++◌, [], ◌∙◌, ℕ, zero, suc, List, Bool, true, false, Option, Some, None, length, arith, sym, refl, inl, inr}
+-- Each record takes at least one byte, so what a reader of bytes in hand has left are the records that follow.
+use Rattle.std.proofs.Common.{Bor, ap, ◌≡◌, ◌<◌, ◌≤◌, ◌+◌, ◌∷◌, ◌++◌, [], ◌∙◌, ℕ, zero, suc, List, Bool, true, false, Option, Some, None, length, arith, sym, refl, inl, inr}
 use Rattle.std.specs.Prelude.{◌==◌, ◌||◌, if◌then◌else◌}
 use Rattle.std.proofs.lemmas.Bool.{cases_Bool}
 use Rattle.csv.specs.Machine.{Read, ends_at_end, fields_after, field_after, in_field, is_end, next_record, start_field, start_record, step}
-use Rattle.csv.specs.Reading.{ExplainsRead, NotLengths, Reached, default_config, is_bom, is_flexible, records_from, strip_bom}
+use Rattle.csv.specs.Reading.{ExplainsRead, NotLengths, ReadRecord, Reached, default_config, is_bom, is_flexible, reader_state, records_from, records_next, strip_bom, took_first}
 use Rattle.csv.specs.declared.error.ErrorKind.{ErrorKind}
 use Rattle.csv.specs.declared.error.ErrorKind.TheVariants as kind
 use Rattle.csv.specs.declared.parser.Action.{Action}
@@ -11,6 +11,8 @@ use Rattle.csv.specs.declared.parser.Action.TheVariants as act
 use Rattle.csv.specs.declared.parser.State.{State}
 use Rattle.csv.specs.declared.parser.State.TheVariants as st
 use Rattle.csv.specs.declared.reader.Reader.{Reader}
+use Rattle.csv.proofs.ReadFacts.{rows-end, rows-more}
+use Rattle.pb_rows.specs.InHand.{IsBetween, records_in, records_left, unread_by}
 use Rattle.pb_rows.specs.Records.{records_of}
 
 -- what a byte does in a field: it is a comma, a carriage return, a line feed, or another one
@@ -104,8 +106,111 @@ record_takes s fields field (c ∷ xs) p between e = elim (cases_Bool (is_end (s
       omega (arith, rest.1)
 ]
 
+-- how many steps a reader may take makes no difference, where they are more than the bytes
+same_records : (m n : ℕ) (s : State) (xs : List ℕ) → ends_at_end s ≡ false → length xs < m → length xs < n
+    → records_from default_config m s xs ≡ records_from default_config n s xs
+unfolding records_from
+same_records zero n s xs between room more = absurd (omega arith)
+same_records (suc m) zero s xs between room more = absurd (omega arith)
+same_records (suc m) (suc n) s xs between room more =
+    by (next_record default_config s [] [] xs) refl (λ t ys stands less enough. same_records m n t ys stands less enough)
+  where
+    by : (o : Option Read) → next_record default_config s [] [] xs ≡ o
+        → ((t : State) (ys : List ℕ) → ends_at_end t ≡ false → length ys < m → length ys < n → records_from default_config m t ys ≡ records_from default_config n t ys)
+        → records_next (records_from default_config m) o ≡ records_next (records_from default_config n) o
+    by None e rest = refl
+    by (Some p) e rest =
+        let leaves = record_leaves s [] [] xs p e in
+        let takes = record_takes s [] [] xs p between e in
+        ap (λ (records : List (List (List ℕ))). p.0 ∷ records) (rest p.1 p.2 leaves.0 (omega (arith, takes, room)) (omega (arith, takes, more)))
+
+-- records are at most as many as their bytes
+few_records : (n : ℕ) (s : State) (xs : List ℕ) → ends_at_end s ≡ false → length (records_from default_config n s xs) ≤ length xs
+unfolding records_from
+few_records zero s xs between = omega arith
+few_records (suc n) s xs between = by (next_record default_config s [] [] xs) refl (λ t ys stands. few_records n t ys stands)
+  where
+    by : (o : Option Read) → next_record default_config s [] [] xs ≡ o
+        → ((t : State) (ys : List ℕ) → ends_at_end t ≡ false → length (records_from default_config n t ys) ≤ length ys)
+        → length (records_next (records_from default_config n) o) ≤ length xs
+    by None e rest = omega arith
+    by (Some p) e rest =
+        let leaves = record_leaves s [] [] xs p e in
+        let takes = record_takes s [] [] xs p between e in
+        let few = rest p.1 p.2 leaves.0 in
+        omega (arith, takes, few)
+
+-- the records of bytes, where a first one is there and where none is
+records_more : (s : State) (xs : List ℕ) (p : Read) → ends_at_end s ≡ false → next_record default_config s [] [] xs ≡ Some p
+    → records_from default_config (length xs + 1) s xs ≡ p.0 ∷ records_from default_config (length p.2 + 1) p.1 p.2
+unfolding records_from
+records_more s xs p between e =
+    let leaves = record_leaves s [] [] xs p e in
+    let takes = record_takes s [] [] xs p between e in
+    let steps : length xs + 1 ≡ suc (length xs) = omega arith in
+    rw (steps, e) (ap (λ (rest : List (List (List ℕ))). p.0 ∷ rest) (same_records (length xs) (length p.2 + 1) p.1 p.2 leaves.0 (omega (arith, takes)) (omega arith)))
+
+records_none : (s : State) (xs : List ℕ) → next_record default_config s [] [] xs ≡ None → records_from default_config (length xs + 1) s xs ≡ []
+unfolding records_from
+records_none s xs e =
+    let steps : length xs + 1 ≡ suc (length xs) = omega arith in
+    rw (steps, e) refl
+
+-- a first record, and those behind it
+follows : (p : Read) (fields : List (List ℕ)) (s : State) (ys : List ℕ) (unread : Option (List ℕ)) → fields ≡ p.0 → p.1 ≡ s → p.2 ≡ ys → unread ≡ Some ys
+    → p.0 ∷ records_from default_config (length p.2 + 1) p.1 p.2 ≡ fields ∷ records_in s unread
+follows p fields s ys unread first state bytes known = rw (first, known, state, bytes) refl
+
+-- what a read of a record leaves of a reader of bytes in hand, and of its records
+pub record AfterRecord (old new : Reader (Bor (List ℕ))) (fields : List (List ℕ)) : Type 0 where
+  pub stands : IsBetween new
+  pub left : records_left old false ≡ fields ∷ records_left new false
+
+pub record_read : (old new : Reader (Bor (List ℕ))) (fields : List (List ℕ)) → IsBetween old
+    → ReadRecord (λ s. Some s.now) old new true fields → took_first new ≡ true → is_flexible new ≡ is_flexible old → AfterRecord old new fields
+unfolding Reached
+record_read old new fields stands read first flexible =
+    let more = rows-more (λ (s : Bor (List ℕ)). Some s.now) old new fields default_config (reader_state old) stands.bytes stands.bytes [] stands.config stands.unread (refl, refl) read in
+    let p = more.2.0 in
+    let leaves = record_leaves (reader_state old) [] [] stands.bytes p more.2.1 in
+    record {
+      stands = record {
+        config = read.2 ∙ stands.config;
+        trim = read.3 ∙ stands.trim;
+        flexible = flexible ∙ stands.flexible;
+        ready = inl first;
+        between = rw more.2.3.0 at leaves.0;
+        bytes = more.0;
+        unread = more.1;
+      };
+      left = ap (records_in (reader_state old)) stands.unread ∙ records_more (reader_state old) stands.bytes p stands.between more.2.1
+          ∙ follows p fields (reader_state new) more.0 (unread_by new) more.2.2 more.2.3.0 more.2.3.1 more.1;
+    }
+
+-- where a read finds no record, none was left
+pub none_read : (old new : Reader (Bor (List ℕ))) (fields : List (List ℕ)) → IsBetween old
+    → ReadRecord (λ s. Some s.now) old new false fields → records_left old false ≡ []
+none_read old new fields stands read =
+    let none = rows-end (λ (s : Bor (List ℕ)). Some s.now) old new fields default_config stands.bytes stands.config stands.unread read in
+    rw stands.unread (records_none (reader_state old) stands.bytes none)
+
+-- a text without its byte order mark is no longer than it
+strip_bom_within : (bytes : List ℕ) → length (strip_bom bytes) ≤ length bytes
+unfolding strip_bom
+strip_bom_within [] = omega arith
+strip_bom_within (a ∷ []) = omega arith
+strip_bom_within (a ∷ b ∷ []) = omega arith
+strip_bom_within (a ∷ b ∷ c ∷ rest) = elim (cases_Bool (is_bom a b c)) [ inl mark ↦ rw mark (omega arith) | inr none ↦ rw none (omega arith) ]
+
+-- the records of a text are at most as many as its bytes
+pub few_records_of : (bytes : List ℕ) → length (records_of bytes) ≤ length bytes
+few_records_of bytes =
+    let few = few_records (length (strip_bom bytes) + 1) st.StartRecord (strip_bom bytes) refl in
+    let mark = strip_bom_within bytes in
+    omega (arith, few, mark)
+
 -- the records that were reached, where no further one follows, are all the records of the text
-pub from_reached : (n : ℕ) (s s2 : State) (xs ys : List ℕ) (rows : List (List (List ℕ))) → ends_at_end s ≡ false → length xs < n
+from_reached : (n : ℕ) (s s2 : State) (xs ys : List ℕ) (rows : List (List (List ℕ))) → ends_at_end s ≡ false → length xs < n
     → Reached default_config s xs rows s2 ys → next_record default_config s2 [] [] ys ≡ None → records_from default_config n s xs ≡ rows
 unfolding Reached records_from
 from_reached zero s s2 xs ys rows between room reached ended = absurd (omega arith)
@@ -116,38 +221,11 @@ from_reached (suc n) s s2 xs ys (row ∷ rows) between room reached ended =
     let takes = record_takes s [] [] xs p between reached.1 in
     rw (reached.1, reached.2, from_reached n p.1 s2 p.2 ys rows leaves.0 (omega arith) reached.3 ended) refl
 
--- as many records as that take as many bytes
-reached_within : (s s2 : State) (xs ys : List ℕ) (rows : List (List (List ℕ))) → ends_at_end s ≡ false → Reached default_config s xs rows s2 ys → length rows ≤ length xs
-unfolding Reached
-reached_within s s2 xs ys [] between reached = omega arith
-reached_within s s2 xs ys (row ∷ rows) between reached =
-    let p = reached.0 in
-    let leaves = record_leaves s [] [] xs p reached.1 in
-    let takes = record_takes s [] [] xs p between reached.1 in
-    let rest = reached_within p.1 s2 p.2 ys rows leaves.0 reached.3 in
-    omega arith
-
--- a text without its byte order mark is no longer than it
-strip_bom_within : (bytes : List ℕ) → length (strip_bom bytes) ≤ length bytes
-unfolding strip_bom
-strip_bom_within [] = omega arith
-strip_bom_within (a ∷ []) = omega arith
-strip_bom_within (a ∷ b ∷ []) = omega arith
-strip_bom_within (a ∷ b ∷ c ∷ rest) = elim (cases_Bool (is_bom a b c)) [ inl mark ↦ rw mark (omega arith) | inr none ↦ rw none (omega arith) ]
-
--- all that a text's reader reached
+-- all that a text's reader reaches
 pub all_reached : (bytes ys : List ℕ) (s2 : State) (rows : List (List (List ℕ))) → Reached default_config st.StartRecord (strip_bom bytes) rows s2 ys
     → next_record default_config s2 [] [] ys ≡ None → rows ≡ records_of bytes
 all_reached bytes ys s2 rows reached ended =
     sym (from_reached (length (strip_bom bytes) + 1) st.StartRecord s2 (strip_bom bytes) ys rows refl (omega arith) reached ended)
-
--- they are at most as many as the bytes
-pub reached_few : (bytes ys : List ℕ) (s2 : State) (rows : List (List (List ℕ))) → Reached default_config st.StartRecord (strip_bom bytes) rows s2 ys
-    → length rows ≤ length bytes
-reached_few bytes ys s2 rows reached =
-    let within = reached_within st.StartRecord s2 (strip_bom bytes) ys rows refl reached in
-    let mark = strip_bom_within bytes in
-    omega arith
 
 -- a flexible reader never refuses a record for its length
 pub flexible_refuses : {R : Type 0} (rem : R → Option (List ℕ)) (old new : Reader R) (text : Bool) (k : ErrorKind) → is_flexible old ≡ true

@@ -1,6 +1,7 @@
 -- Statement
 pub mod Bytes
 pub mod Records
+pub mod RecordsLeft
 pub mod Name
 pub mod Reason
 pub mod Number
@@ -8,5 +9,7 @@ pub mod Date
 pub mod Written
 pub mod Texts
 -- Inside
+pub mod Cut
+pub mod InHand
 pub mod Padded
 pub mod Hashed

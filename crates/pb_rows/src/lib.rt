@@ -10,6 +10,7 @@ mod laws;
 mod name;
 mod number;
 mod reason;
+mod records;
 mod row;
 #[cfg(test)]
 mod tests;
@@ -20,5 +21,6 @@ pub use laws::{date_text_law, number_text_law, reason_limit_law, written_rows_la
 pub use name::{Name, NameList, Names};
 pub use number::{read_whole, whole_bytes};
 pub use reason::{MOST_REASON, Reason};
-pub use row::{Row, Rows};
+pub use records::{Records, Rows};
+pub use row::Row;
 pub use writer::RowWriter;

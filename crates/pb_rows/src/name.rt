@@ -94,7 +94,8 @@ impl Hash for Name {
 impl Name {
     /// The name that a field writes; `None` exactly where the field isn't of the form.
     pub fn read(field: &[u8]) -> Option<Name>
-        ensures { MatchOption result (is_name field.now ≡ false) (λ name. (is_name field.now ≡ true) × (name ≡ field.now)) }
+        ensures { MatchOption result (is_name field.now ≡ false)
+            (λ name. (is_name field.now ≡ true) × (name ≡ field.now)) }
     {
         if !is_name(field) {
             return None;

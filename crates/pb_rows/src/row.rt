@@ -1,28 +1,30 @@
-// The records of a text, each a list of fields, and each field its bytes.
+// A record: a list of fields, and each field its bytes.
 
-ghost use Rattle.std.specs.Prelude.{◌≡◌, ◌<◌, ◌≤◌, ◌∷◌, ◌++◌, [], length, take, slice_index_or, IfOk, OnOk, OnErr, IsTrue, ◌↔◌, map};
-ghost use Rattle.std.specs.Slice.Iter.{iter_rest};
-ghost use Rattle.csv.specs.Reading.{NotLengths, error_kind};
-ghost use Rattle.csv.specs.Records.{fields_of};
-ghost use Rattle.pb_rows.specs.Records.{records_of, without_trailing_empty};
+ghost use Rattle.std.specs.Prelude.{◌≡◌, ◌<◌, ◌≤◌, ◌∷◌, ◌++◌, [], length, map, min, take, slice_index_or, IfOk, OnOk, OnErr, IsTrue, ◌↔◌};
+ghost use Rattle.csv.specs.Records.{cut_from, prev};
+ghost use Rattle.pb_rows.specs.Cut.{AreEnds};
+ghost use Rattle.pb_rows.specs.Records.{without_trailing_empty};
 
-use csv::{ByteRecord, Error, ReaderBuilder};
 use std::alloc::{AllocError, Global};
 use std::marker::Model;
-use std::slice::Iter;
 
-/// A record: a list of fields, each of which is a list of bytes.
+/// A record: a list of fields, each of which is a list of bytes. They lie in one buffer, with the place where each ends.
 #[derive(Debug, Drop)]
 pub struct Row {
-    fields: Vec<Vec<u8>>,
+    bytes: Vec<u8>,
+    ends: Vec<usize>,
 }
 
 impl Model for Row {
-    ghost use Rattle.std.specs.Prelude.{List, ℕ, map};
+    ghost use Rattle.std.specs.Prelude.{List, ℕ};
+    ghost use Rattle.csv.specs.Records.{cut_from};
+    ghost use Rattle.pb_rows.specs.Cut.{AreEnds};
 
     ghost Value = { List (List ℕ) };
 
-    ghost view = { λ a. map (λ f. f.items) a.fields.items };
+    ghost view = { λ a. cut_from 0 a.ends.items a.bytes.items };
+
+    ghost invariant = { λ a. AreEnds a.ends.items a.bytes.items };
 }
 
 impl Row {
@@ -31,8 +33,19 @@ impl Row {
         ensures { result ≡ [] }
     {
         Row {
-            fields: Vec::new(alloc),
+            bytes: Vec::new(alloc),
+            ends: Vec::new(alloc),
         }
+    }
+
+    // The row without any field, with room for so many bytes and fields.
+    pub(crate) fn with_room(alloc: Global, bytes: usize, fields: usize) -> Result<Row, AllocError>
+        ensures { IfOk result (λ row. row ≡ []) }
+    {
+        Ok(Row {
+            bytes: Vec::with_capacity(alloc, bytes)?,
+            ends: Vec::with_capacity(alloc, fields)?,
+        })
     }
 
     /// Appends a field. After an `Err`, want of memory, the row is as it was.
@@ -40,8 +53,10 @@ impl Row {
         ensures appended { OnOk result (self.new ≡ self.old ++ field.now ∷ []) }
         ensures unchanged { OnErr result (self.new ≡ self.old) }
     {
-        let alloc = *self.fields.allocator();
-        self.fields.push(Vec::from_slice(alloc, field)?)?;
+        self.ends.reserve(1)?;
+        self.bytes.extend_from_slice(field)?;
+        let end = self.bytes.len();
+        self.ends.push_reserved(end);
         Ok(())
     }
 
@@ -49,21 +64,14 @@ impl Row {
     pub fn len(&self) -> usize
         ensures { result ≡ length self.now }
     {
-        self.fields.len()
+        self.ends.len()
     }
 
     /// Whether the row has no field.
     pub fn is_empty(&self) -> bool
         ensures { IsTrue result ↔ (self.now ≡ []) }
     {
-        self.fields.is_empty()
-    }
-
-    /// The fields in order.
-    pub fn iter(&self) -> Iter<'_, Vec<u8>>
-        ensures { map (λ field. field.items) (iter_rest result) ≡ self.now }
-    {
-        self.fields.iter()
+        self.ends.is_empty()
     }
 
     /// The bytes of the field at a place, counted from 0.
@@ -71,14 +79,21 @@ impl Row {
         requires { i < length self.now }
         ensures { result.now ≡ slice_index_or self.now i [] }
     {
-        self.fields[i].as_slice()
+        field_in(&self.bytes, &self.ends, i)
     }
 
-    /// The fields up to the last one that isn't empty.
-    pub fn filled_fields(&self) -> &[Vec<u8>]
-        ensures { map (λ field. field.items) result.now ≡ without_trailing_empty self.now }
+    /// Lends the fields up to the last one that isn't empty, in order, as many of them as there are places for, and answers how
+    /// many it lends.
+    pub fn lend<'a>(&'a self, places: &mut [&'a [u8]]) -> usize
+        ensures within { result ≤ length places.old }
+        ensures fields { map (λ field. field.now) (take result places.new)
+            ≡ take (length places.old) (without_trailing_empty self.now) }
     {
-        &self.fields[..self.filled()]
+        let count = fewer(self.filled(), places.len());
+        for i in 0..count {
+            places[i] = self.field(i);
+        }
+        count
     }
 
     /// The number of fields up to the last one that isn't empty: spreadsheets pad rows with empty fields.
@@ -94,103 +109,26 @@ impl Row {
     }
 }
 
-/// The records of a text, in order.
-#[derive(Debug, Drop)]
-pub struct Rows {
-    rows: Vec<Row>,
-}
-
-impl Model for Rows {
-    ghost use Rattle.std.specs.Prelude.{List, ℕ};
-
-    ghost Value = { List (List (List ℕ)) };
-
-    ghost view = { λ a. a.rows.items };
-}
-
-impl Rows {
-    /// No row.
-    pub fn new(alloc: Global) -> Rows
-        ensures { result ≡ [] }
-    {
-        Rows {
-            rows: Vec::new(alloc),
-        }
-    }
-
-    /// Appends a row. After an `Err`, want of memory, the rows are as they were.
-    pub fn push(&mut self, row: Row) -> Result<(), AllocError>
-        ensures appended { OnOk result (self.new ≡ self.old ++ row ∷ []) }
-        ensures unchanged { OnErr result (self.new ≡ self.old) }
-    {
-        self.rows.push(row)?;
-        Ok(())
-    }
-
-    /// The records of a text, as `csv` reads them: with the comma, the double quote and its default terminator, without
-    /// headers or trimming, of whatever lengths. Refused alone for want of memory.
-    pub fn of(alloc: Global, bytes: &[u8]) -> Result<Rows, AllocError>
-        ensures records { IfOk result (λ rows. rows ≡ records_of bytes.now) }
-        ensures at_most_bytes { IfOk result (λ rows. length rows ≤ length bytes.now) }
-    {
-        let reader = ReaderBuilder::new()
-            .has_headers(false)
-            .flexible(true)
-            .from_reader(alloc, bytes);
-        let mut rows = Rows::new(alloc);
-        for entry in reader.into_byte_records() {
-            match entry {
-                Ok(fields) => rows.push(row_of(alloc, &fields)?)?,
-                Err(error) => return Err(out_of_memory(error)),
-            }
-        }
-        Ok(rows)
-    }
-
-    /// The number of records.
-    pub fn len(&self) -> usize
-        ensures { result ≡ length self.now }
-    {
-        self.rows.len()
-    }
-
-    /// Whether there is no record.
-    pub fn is_empty(&self) -> bool
-        ensures { IsTrue result ↔ (self.now ≡ []) }
-    {
-        self.rows.is_empty()
-    }
-
-    /// The records in order.
-    pub fn iter(&self) -> Iter<'_, Row>
-        ensures { iter_rest result ≡ self.now }
-    {
-        self.rows.iter()
-    }
-
-    /// The record at a place, counted from 0.
-    pub fn at(&self, i: usize) -> &Row
-        requires { i < length self.now }
-        ensures { result.now ≡ slice_index_or self.now i [] }
-    {
-        &self.rows[i]
-    }
-}
-
-// A flexible reader of bytes refuses for want of memory alone, never for a record's length.
-fn out_of_memory(_error: Error) -> AllocError
-    requires { NotLengths (error_kind _error) }
+// The lesser of two numbers.
+fn fewer(a: usize, b: usize) -> usize
+    ensures { result ≡ min a b }
 {
-    AllocError
+    if a < b { a } else { b }
 }
 
-// A record that `csv` has read, as a row of its own.
-fn row_of(alloc: Global, entry: &ByteRecord) -> Result<Row, AllocError>
-    ensures { IfOk result (λ row. row ≡ fields_of entry.now) }
+// The bytes of the field at a place: those from the end of the field before it to its own.
+fn field_in<'a>(bytes: &'a [u8], ends: &[usize], i: usize) -> &'a [u8]
+    requires cut { AreEnds ends.now bytes.now }
+    requires place { i < length ends.now }
+    ensures { result.now ≡ slice_index_or (cut_from 0 ends.now bytes.now) i [] }
 {
-    let mut row = Row::new(alloc);
-    for field in entry {
-        row.push(field)?;
-    }
-    Ok(row)
+    &bytes[start_of(ends, i)..ends[i]]
+}
+
+// Where the field at a place begins: at the end of the one before.
+fn start_of(ends: &[usize], i: usize) -> usize
+    requires { i < length ends.now }
+    ensures { result ≡ prev 0 ends.now i }
+{
+    if i == 0 { 0 } else { ends[i - 1] }
 }

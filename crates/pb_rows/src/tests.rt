@@ -1,7 +1,8 @@
 // What no clause says: that calls succeed where memory is ample, and values from outside.
 
 use crate::{
-    Name, NameList, Names, Reason, Row, RowWriter, Rows, read_date, read_whole, whole_bytes,
+    Name, NameList, Names, Reason, Records, Row, RowWriter, Rows, read_date, read_whole,
+    whole_bytes,
 };
 use std::test::Fail;
 
@@ -138,6 +139,23 @@ fn reads_records(rt: HostRuntime) -> Result<(), Fail> {
 }
 
 #[test]
+fn takes_records(rt: HostRuntime) -> Result<(), Fail> {
+    let mut records = Records::of(rt.alloc(), b"unit,U\n\n,\n");
+    assert_eq!(rt; records.taken(), 0);
+    let first = records.next()?.ok_or("a first record")?;
+    assert_eq!(rt; first.len(), 2);
+    assert_eq!(rt; first.field(1), b"U".as_slice());
+    let second = records.next()?.ok_or("a second record")?;
+    assert_eq!(rt; second.len(), 2);
+    assert_eq!(rt; second.filled(), 0);
+    assert_eq!(rt; records.taken(), 2);
+    assert!(rt; records.next()?.is_none());
+    assert!(rt; records.next()?.is_none());
+    assert_eq!(rt; records.taken(), 2);
+    Ok(())
+}
+
+#[test]
 fn makes_rows(rt: HostRuntime) -> Result<(), Fail> {
     let mut row = Row::new(rt.alloc());
     assert!(rt; row.is_empty());
@@ -150,7 +168,9 @@ fn makes_rows(rt: HostRuntime) -> Result<(), Fail> {
     assert_eq!(rt; rows.at(0).len(), 2);
     assert_eq!(rt; rows.at(0).field(1), b"U".as_slice());
     for row in rows.iter() {
-        assert_eq!(rt; row.iter().count(), 2, "the fields of {row:?}");
+        let mut fields: [&[u8]; 3] = [b""; 3];
+        assert_eq!(rt; row.lend(&mut fields), 2, "the fields of {row:?}");
+        assert_eq!(rt; fields[1], b"U".as_slice(), "the fields of {row:?}");
     }
     let mut text = Vec::from_slice(rt.alloc(), b"tank,K\n")?;
     rows.at(0).write_to(&mut text)?;

@@ -1,6 +1,6 @@
 -- The critical values of a plant keep their limits.
 use Rattle.std.proofs.Common.{List, [], ◌∷◌, Option, Some, None, slice_get}
-use Rattle.std.specs.Prelude.{IfSome, filter_map}
+use Rattle.std.specs.Prelude.{All, IfSome, filter_map}
 use Rattle.std.specs.List.{AllByRecursion, cons_option}
 use Rattle.std.proofs.lemmas.List.Elements.{All-from_recursion, recursion_from_All}
 use Rattle.pb_limits.specs.Ranges.{IsCriticalValue}
@@ -54,11 +54,14 @@ gives_measure (Stream name from to kind base) is = tt
 gives_measure (CritGlobal dof value) is = tt
 gives_measure (CritNodal value) is = tt
 
-pub critical_within : (declared : List Declared) → IsPlant declared → AreCritical (declared_critical declared)
-critical_within declared plant =
-    let all = recursion_from_All IsInRange declared plant.ranges in
+pub critical_in_range : (declared : List Declared) → All (λ (d : Declared). IsInRange d) declared → AreCritical (declared_critical declared)
+critical_in_range declared ranges =
+    let all = recursion_from_All IsInRange declared ranges in
     record {
       rows = All-from_recursion IsCriticalRow (filter_map critical_row declared) (all_given critical_row IsCriticalRow gives_row declared all);
       nodal = first IsCriticalValue (filter_map nodal_value declared) (all_given nodal_value IsCriticalValue gives_nodal declared all);
       measure = first IsCriticalValue (filter_map measure_value declared) (all_given measure_value IsCriticalValue gives_measure declared all);
     }
+
+pub critical_within : (declared : List Declared) → IsPlant declared → AreCritical (declared_critical declared)
+critical_within declared plant = critical_in_range declared plant.ranges

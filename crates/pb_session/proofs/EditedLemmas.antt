@@ -55,7 +55,7 @@ seam done more stored accepted =
     subst (λ (rs : List StoredRow). refusal_of rs stored.row ≡ None) (take-append_seam done (stored ∷ more)) is.no_cause
 
 stored_answer : (rows : List StoredRow) (fields : List (List ℕ)) (row : BookRow) → WritesRow fields row → refusal_of rows row ≡ None → answer_of rows fields ≡ Stored row
-stored_answer rows fields row writes none = ap (λ (r : Result Request Refusal). answer_if rows r) writes ∙ ap (λ (o : Option Refusal). stored_or_refused row o) none
+stored_answer rows fields row writes none = ap (λ (r : Result Request Refusal). answer_if rows r) writes.asks ∙ ap (λ (o : Option Refusal). stored_or_refused row o) none
 
 -- none of these records is refused, none adds a text, and so they end
 record StoreAll (state : SessionState) (at : ℕ) (records : List (List (List ℕ))) (end : SessionState) : Type 0 where
@@ -152,6 +152,7 @@ report_as state rows other names period graph text same report = record {
   study = report.study;
   is_study = subst (λ (ds : List Declared). IsStudyOf graph state.options (declared_critical ds) report.study) same report.is_study;
   certified = report.certified;
+  tested = report.tested;
   rows = report.rows;
 }
 

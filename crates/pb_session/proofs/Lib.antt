@@ -8,3 +8,6 @@ mod ReportLemmas
 mod RowLemmas
 mod SomeTextLemmas
 mod TextLemmas
+mod KeepingLemmas
+mod KeptLawLemmas
+mod KeptLemmas

@@ -1,7 +1,10 @@
 -- Statement. Each record adds one text to the output, and each session has one.
 use Rattle.std.specs.Prelude.{◌≡◌, ℕ, List}
 use Rattle.pb_elim.specs.Options.{AreOptions}
+use Rattle.pb_elim.specs.Criticals.{AreCritical}
 use Rattle.pb_book.specs.Accepted.{AreAccepted}
+use Rattle.pb_book.specs.Rows.{StoredRow}
+use Rattle.pb_session.specs.Criticals.{critical_of}
 use Rattle.pb_session.specs.Session.{Adds, IsSessionText, SessionState}
 
 -- a record adds at most one text
@@ -27,3 +30,7 @@ abbrev pub SomeSessionTextLaw : Type 0
 SomeSessionTextLaw =
     (state : SessionState) (at : ℕ) (records : List (List (List ℕ))) → AreOptions state.options → AreAccepted state.rows
     → (text : List ℕ) × IsSessionText state at records text
+
+-- the critical values of accepted rows keep their limits
+abbrev pub CriticalsLaw : Type 0
+CriticalsLaw = (rows : List StoredRow) → AreAccepted rows → AreCritical (critical_of rows)

@@ -6,5 +6,8 @@ pub mod Session
 pub mod FirstStage
 pub mod Laws
 pub mod Edited
+pub mod Kept
+pub mod KeptLaws
 -- Inside
 pub mod Accepted
+pub mod Keeping

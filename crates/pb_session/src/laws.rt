@@ -1,11 +1,12 @@
 // Each record adds one text to the output, and each session has one.
 
 ghost use Rattle.pb_session.specs.Edited.{EditedFileLaw};
-ghost use Rattle.pb_session.specs.Laws.{OneTextLaw, OneSessionTextLaw, SomeTextLaw, SomeSessionTextLaw};
+ghost use Rattle.pb_session.specs.KeptLaws.{FewKeptLaw, KeptTextLaw, OneKeptLaw, SomeKeptLaw};
+ghost use Rattle.pb_session.specs.Laws.{CriticalsLaw, OneTextLaw, OneSessionTextLaw, SomeTextLaw, SomeSessionTextLaw};
 
-use pb_book::{accepted_law, plain_law};
+use pb_book::{accepted_law, plain_law, ranges_law};
 use pb_classify::{one_classification_law, some_classification_law};
-use pb_elim::{certified_law, one_study_law, some_study_law};
+use pb_elim::{certified_law, one_study_law, some_study_law, tested_law};
 use pb_period::{graphs_law, plain_graphs_law};
 
 /// The law that what a record adds to the output is one text, and so is the output of a session: the classes of a design and
@@ -27,6 +28,7 @@ pub fn some_text_law()
     some_classification_law();
     some_study_law();
     certified_law();
+    tested_law();
     graphs_law();
     accepted_law();
 }
@@ -39,4 +41,26 @@ pub fn edited_file_law()
 {
     plain_law();
     plain_graphs_law();
+}
+
+/// The law that the critical values of accepted rows keep their limits.
+pub fn criticals_law()
+    ensures { CriticalsLaw }
+{
+    ranges_law();
+}
+
+/// The law of what a session keeps: its records tell of which periods it keeps a study, whatever records come, and of how many at the
+/// most. What is kept changes no text: sessions with the same rows, options and form add the same text for a record.
+pub fn kept_law()
+    ensures one { OneKeptLaw }
+    ensures some { SomeKeptLaw }
+    ensures few { FewKeptLaw }
+    ensures texts { KeptTextLaw }
+{
+    one_study_law();
+    some_study_law();
+    graphs_law();
+    accepted_law();
+    one_text_law();
 }

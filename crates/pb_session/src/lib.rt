@@ -5,12 +5,15 @@
 //! behind it.
 #![tactic(auto)]
 
+mod classes;
 mod criticals;
 mod history;
+mod kept;
 mod laws;
 mod session;
 #[cfg(test)]
 mod tests;
 
-pub use laws::{edited_file_law, one_text_law, some_text_law};
+pub use classes::Classes;
+pub use laws::{criticals_law, edited_file_law, kept_law, one_text_law, some_text_law};
 pub use session::Session;

@@ -1,87 +1,144 @@
 // The state of a session.
 
-ghost use Rattle.std.specs.Prelude.{◌≡◌, ◌≢◌, ◌<◌, ◌∷◌, [], length, slice_get, OnOk, OnErr, IfErr, IfOk, Err};
+ghost use Rattle.std.specs.Prelude.{◌≡◌, ◌≢◌, ◌<◌, ◌≤◌, ◌↔◌, ◌∷◌, [], None, length, slice_get, option_map, OnOk, OnErr, IfErr, IfOk, IfSome, IsSome, IsTrue, Contains, Err};
 ghost use Rattle.pb_book.specs.declared.answer.Accepted.TheVariants.{Design, Stored};
 ghost use Rattle.pb_book.specs.Answer.{code_of};
 ghost use Rattle.pb_report.specs.Refusal.{refused_row};
 ghost use Rattle.pb_book.specs.Rows.{periods_of};
 
+use crate::classes::{Classes, classes_in, copied, renew};
 use crate::criticals::declared_critical;
 use crate::history::{told_edits, told_period};
+use crate::kept::{KeptStudy, drop_study, drop_touched, ids_law, place_of, settle};
 use pb_book::{Accepted, Book, NotAccepted, Refused};
-use pb_classify::classify;
-use pb_elim::{stage, study};
-use pb_graph::{Graph, Options, Stage};
-use pb_period::{Assembly, assemble, design, period_names};
+use pb_classify::{alike_law, classify};
+use pb_elim::{stage, study_classed, tested_law};
+use pb_graph::{Classified, Graph, List, Options, Stage, Study};
+use pb_period::{Assembly, assemble, design, period_names, untouched_law};
 use pb_report::{Form, write_design, write_history, write_over, write_refused, write_study};
 use pb_rows::{Name, Names, Row};
 use std::alloc::{AllocError, Global};
 use std::marker::Model;
 
-/// A session: what is asked of its studies, the form of its output, and the book of its rows.
+/// A session: what is asked of its studies, the form of its output, and the book of its rows. Beside these it keeps studies of periods
+/// whose rows no later row touched, and the classes of its last report.
 #[derive(Drop)]
 pub struct Session {
     alloc: Global,
     options: Options,
     form: Form,
     book: Book,
+    kept: Vec<KeptStudy>,
+    classes: Option<Classes>,
 }
 
 impl Model for Session {
-    ghost use Rattle.pb_session.specs.Session.{SessionState};
+    ghost use Rattle.pb_session.specs.Kept.{Held};
 
-    ghost Value = { SessionState };
+    ghost Value = { Held };
 
-    ghost use Rattle.pb_elim.specs.Options.{AreOptions};
+    ghost use Rattle.pb_session.specs.Keeping.{IsKeeping, held_of};
 
-    ghost view = { λ a. record { options = a.options; form = a.form; rows = a.book } };
+    ghost view = { λ a.
+        held_of (record { options = a.options; form = a.form; rows = a.book }) a.kept.items a.classes };
 
-    ghost invariant = { λ a. AreOptions a.options };
+    ghost invariant = { λ a.
+        IsKeeping (record { options = a.options; form = a.form; rows = a.book }) a.kept.items a.classes };
+}
+
+/// What a report that was written leaves to be kept.
+#[derive(Drop)]
+struct Reported {
+    /// The study, where it was made for the report and wasn't kept before.
+    made: Option<Study>,
+    /// The graph of the period.
+    graph: Graph,
+    /// Its classes, where those that are kept aren't its own too.
+    classes: Option<List<Classified>>,
 }
 
 impl Session {
     ghost use Rattle.pb_book.specs.Answer.{answer_of, is_refused};
+    ghost use Rattle.pb_classify.specs.Classification.{IsClassification};
     ghost use Rattle.pb_elim.specs.Options.{AreOptions};
+    ghost use Rattle.pb_elim.specs.Printed.{printed_classes};
     ghost use Rattle.pb_graph.specs.ProcessGraph.{IsProcessGraph};
     ghost use Rattle.pb_session.specs.Accepted.{IsOfPeriods};
     ghost use Rattle.pb_session.specs.Appending.{AppendsText, KeepsText};
     ghost use Rattle.pb_session.specs.FirstStage.{Begins, IsFirstStage, TellsAStream};
+    ghost use Rattle.pb_session.specs.Keeping.{IsRenewal, IsReportedAt, IsReportedOf, KeepsAlike};
+    ghost use Rattle.pb_session.specs.Kept.{IsKeptAt, Keeps, KeepsAccepted, KeepsReportOf, most_kept, reported_after, reported_behind, reported_of};
     ghost use Rattle.pb_session.specs.Session.{Adds, AddsAccepted, AreNamesOf, IsDesign, IsReport, IsTextOf, Reports, Tells, state_after};
 
     /// A session that has stored nothing.
     pub fn new(alloc: Global, options: Options, form: Form) -> Session
         requires { AreOptions options }
-        ensures options { result.options ≡ options }
-        ensures form { result.form ≡ form }
-        ensures rows { result.rows ≡ [] }
+        ensures options { result.state.options ≡ options }
+        ensures form { result.state.form ≡ form }
+        ensures rows { result.state.rows ≡ [] }
+        ensures kept { result.kept ≡ [] }
+        ensures reported { result.reported ≡ None }
     {
         Session {
             alloc,
             options,
             form,
             book: Book::new(alloc),
+            kept: Vec::new(alloc),
+            classes: None,
         }
     }
 
     /// The book of the rows stored so far.
     pub fn book(&self) -> &Book
-        ensures { result.now ≡ self.now.rows }
+        ensures { result.now ≡ self.now.state.rows }
     {
         &self.book
     }
 
+    /// The study that is kept of the period at a place: that of its graph by the rows stored so far, of one stage. `None` exactly
+    /// where none is kept of it. At most four are. It takes no memory.
+    pub fn kept(&self, period: u32) -> Option<&Study>
+        requires { period < length (periods_of self.now.state.rows) }
+        ensures found { IsSome result ↔ Contains self.now.kept period }
+        ensures study { IfSome result (λ study. IsKeptAt self.now.state
+            (slice_get (periods_of self.now.state.rows) period) study.now) }
+        ensures few { length self.now.kept ≤ most_kept }
+    {
+        match place_of(&self.kept, period) {
+            Some(place) => Some(&self.kept[place].study),
+            None => None,
+        }
+    }
+
+    /// The graph of the last report with the class of each of its streams, and their certificates. `None` exactly where no report
+    /// was written. It takes no memory.
+    pub fn classes(&self) -> Option<&Classes>
+        ensures graph { option_map (λ classes. classes.now.graph) result ≡ self.now.reported }
+        ensures list { IfSome result (λ classes. IsClassification classes.now.graph classes.now.list) }
+    {
+        self.classes.as_ref()
+    }
+
     /// Takes the record with the number `at`, counted from 1, and appends to `out` what it adds to the output. True exactly
-    /// where the record was refused. After an `Err`, want of memory, the session and `out` are as they were.
+    /// where the record was refused. A report is kept, where its study has one stage, and a stored row lets those go that it touches.
+    /// After an `Err`, want of memory, the session and `out` are as they were, with all that is kept.
     pub fn row(&mut self, at: u32, row: &Row, out: &mut Vec<u8>) -> Result<bool, AllocError>
-        ensures ok { OnOk result (AppendsText (Adds self.old at row.now) out.old out.new) }
+        ensures ok { OnOk result (AppendsText (Adds self.old.state at row.now) out.old out.new) }
         ensures refused { IfOk result (λ refused.
-            refused ≡ is_refused (answer_of self.old.rows row.now)) }
-        ensures stored { OnOk result (self.new ≡ state_after self.old at row.now) }
+            refused ≡ is_refused (answer_of self.old.state.rows row.now)) }
+        ensures stored { OnOk result (self.new.state ≡ state_after self.old.state at row.now) }
+        ensures kept { OnOk result (Keeps self.old.state self.old.kept at row.now self.new.kept) }
+        ensures reported { OnOk result (self.new.reported
+            ≡ reported_after self.old.state self.old.reported (answer_of self.old.state.rows row.now)) }
         ensures err { OnErr result (self.new ≡ self.old) }
         ensures err_out { OnErr result (KeepsText out.old out.new) }
     {
         match self.book.accept(at, row) {
             Ok(accepted) => {
+                untouched_law();
+                ids_law(&self.book);
+                drop_touched(&mut self.kept, &self.book, accepted);
                 self.write(accepted, out)?;
                 Ok(false)
             }
@@ -96,10 +153,10 @@ impl Session {
     /// The first stage of the study of a period as it stands, with what the session asks of its studies. `Over` tells the first
     /// stream whose value or variance is above the limits of a graph.
     pub fn first_stage(&self, period: u32) -> Result<Stage, Assembly>
-        requires { period < length (periods_of self.now.rows) }
+        requires { period < length (periods_of self.now.state.rows) }
         ensures answer { result ≢ Err Assembly.NoMemory
-            → Begins self.now (slice_get (periods_of self.now.rows) period) result }
-        ensures over { TellsAStream self.now (slice_get (periods_of self.now.rows) period) result }
+            → Begins self.now.state (slice_get (periods_of self.now.state.rows) period) result }
+        ensures over { TellsAStream self.now.state (slice_get (periods_of self.now.state.rows) period) result }
     {
         match assemble(self.alloc, &self.book, period) {
             Ok(graph) => self.stage_of(&graph),
@@ -110,7 +167,7 @@ impl Session {
     // The first stage of the study of a graph.
     fn stage_of(&self, graph: &Graph) -> Result<Stage, Assembly>
         requires { IsProcessGraph graph.now }
-        ensures stage { IfOk result (IsFirstStage self.now graph.now) }
+        ensures stage { IfOk result (IsFirstStage self.now.state graph.now) }
         ensures err { IfErr result (λ e. e ≡ Assembly.NoMemory) }
     {
         let critical = declared_critical(self.alloc, self.book.site())?;
@@ -121,17 +178,24 @@ impl Session {
     // Appends the row of a refusal.
     fn refuse(&self, at: u32, cause: Refused, out: &mut Vec<u8>) -> Result<(), AllocError>
         ensures ok { OnOk result (AppendsText
-            (IsTextOf self.now (refused_row at (code_of cause) ∷ [])) out.old out.new) }
+            (IsTextOf self.now.state (refused_row at (code_of cause) ∷ [])) out.old out.new) }
         ensures err { OnErr result (KeepsText out.old out.new) }
     {
         write_refused(self.alloc, at, cause.code(), self.form, out)
     }
 
-    // Appends what an accepted record adds.
-    fn write(&self, accepted: Accepted, out: &mut Vec<u8>) -> Result<(), AllocError>
-        requires { IsOfPeriods self.now.rows accepted }
-        ensures ok { OnOk result (AppendsText (AddsAccepted self.now accepted) out.old out.new) }
-        ensures err { OnErr result (KeepsText out.old out.new) }
+    // Appends what an accepted record adds, and keeps what a report leaves.
+    fn write(&mut self, accepted: Accepted, out: &mut Vec<u8>) -> Result<(), AllocError>
+        requires { IsOfPeriods self.old.state.rows accepted }
+        ensures ok { OnOk result (AppendsText
+            (AddsAccepted self.old.state accepted) out.old out.new) }
+        ensures state { OnOk result (self.new.state ≡ self.old.state) }
+        ensures kept { OnOk result
+            (KeepsAccepted self.old.state self.old.kept accepted self.new.kept) }
+        ensures reported { OnOk result (self.new.reported
+            ≡ reported_behind self.old.state self.old.reported accepted) }
+        ensures err { OnErr result (self.new ≡ self.old) }
+        ensures err_out { OnErr result (KeepsText out.old out.new) }
         ensures sure { OnErr result (accepted ≢ Stored) }
     {
         match accepted {
@@ -145,7 +209,8 @@ impl Session {
 
     // Appends the rows of the design of what is stored.
     fn write_design(&self, out: &mut Vec<u8>) -> Result<(), AllocError>
-        ensures ok { OnOk result (AppendsText (AddsAccepted self.now Design) out.old out.new) }
+        ensures ok { OnOk result (AppendsText
+            (AddsAccepted self.now.state Design) out.old out.new) }
         ensures err { OnErr result (KeepsText out.old out.new) }
     {
         let names = self.book.site().names()?;
@@ -163,40 +228,18 @@ impl Session {
         requires names { AreNamesOf names.now graph.now }
         requires limits { IsProcessGraph graph.now }
         ensures ok { OnOk result (AppendsText
-            (IsDesign self.now names.now graph.now) out.old out.new) }
+            (IsDesign self.now.state names.now graph.now) out.old out.new) }
         ensures err { OnErr result (KeepsText out.old out.new) }
     {
         let classes = classify(self.alloc, graph)?;
         write_design(self.alloc, names, graph, &classes, self.form, out)
     }
 
-    // Appends the report of a period, or the row that names the first stream beyond the limits.
-    fn write_report(&self, i: u32, out: &mut Vec<u8>) -> Result<(), AllocError>
-        requires { i < length (periods_of self.now.rows) }
-        ensures ok { OnOk result (AppendsText
-            (Reports self.now (slice_get (periods_of self.now.rows) i)) out.old out.new) }
-        ensures err { OnErr result (KeepsText out.old out.new) }
-    {
-        let names = period_names(&self.book, i)?;
-        let period = self.book.period(i).name;
-        match assemble(self.alloc, &self.book, i) {
-            Ok(graph) => self.write_graph(&names, &period, &graph, out),
-            Err(Assembly::Over(j)) => write_over(
-                self.alloc,
-                &period,
-                names.streams.at(j as usize),
-                self.form,
-                out,
-            ),
-            Err(Assembly::NoMemory) => Err(AllocError),
-        }
-    }
-
     // Appends the history of a period.
     fn write_history(&self, i: u32, out: &mut Vec<u8>) -> Result<(), AllocError>
-        requires { i < length (periods_of self.now.rows) }
+        requires { i < length (periods_of self.now.state.rows) }
         ensures ok { OnOk result (AppendsText
-            (Tells self.now (slice_get (periods_of self.now.rows) i)) out.old out.new) }
+            (Tells self.now.state (slice_get (periods_of self.now.state.rows) i)) out.old out.new) }
         ensures err { OnErr result (KeepsText out.old out.new) }
     {
         let period = self.book.period(i);
@@ -204,22 +247,139 @@ impl Session {
         write_history(self.alloc, &told_period(&period), &edits, self.form, out)
     }
 
+    // Appends the report of a period, or the row that names the first stream beyond the limits, and keeps what it leaves. All memory
+    // is taken before what is kept changes.
+    fn write_report(&mut self, i: u32, out: &mut Vec<u8>) -> Result<(), AllocError>
+        requires { i < length (periods_of self.old.state.rows) }
+        ensures ok { OnOk result (AppendsText (Reports self.old.state
+            (slice_get (periods_of self.old.state.rows) i)) out.old out.new) }
+        ensures state { OnOk result (self.new.state ≡ self.old.state) }
+        ensures kept { OnOk result (KeepsReportOf self.old.state i self.old.kept
+            (slice_get (periods_of self.old.state.rows) i) self.new.kept) }
+        ensures reported { OnOk result (self.new.reported ≡ reported_of self.old.state
+            self.old.reported (slice_get (periods_of self.old.state.rows) i)) }
+        ensures err { OnErr result (self.new ≡ self.old) }
+        ensures err_out { OnErr result (KeepsText out.old out.new) }
+    {
+        self.kept.reserve(1)?;
+        match self.report(i, out)? {
+            None => drop_study(&mut self.kept, i),
+            Some(
+                Reported {
+                    made,
+                    graph,
+                    classes,
+                },
+            ) => {
+                alike_law();
+                settle(&mut self.kept, i, made);
+                renew(&mut self.classes, graph, classes);
+            }
+        }
+        Ok(())
+    }
+
+    // Appends the report of a period, and says what it leaves to be kept: it is written from the study that is kept, if one is.
+    fn report(&self, i: u32, out: &mut Vec<u8>) -> Result<Option<Reported>, AllocError>
+        requires { i < length (periods_of self.now.state.rows) }
+        ensures ok { OnOk result (AppendsText (Reports self.now.state
+            (slice_get (periods_of self.now.state.rows) i)) out.old out.new) }
+        ensures leaves { IfOk result
+            (IsReportedAt self.now i (slice_get (periods_of self.now.state.rows) i)) }
+        ensures err { OnErr result (KeepsText out.old out.new) }
+    {
+        match self.kept(i) {
+            Some(study) => self.report_kept(i, study, out),
+            None => self.report_anew(i, out),
+        }
+    }
+
+    // Appends the report of a period whose study is kept.
+    fn report_kept(
+        &self,
+        i: u32,
+        study: &Study,
+        out: &mut Vec<u8>,
+    ) -> Result<Option<Reported>, AllocError>
+        requires there { i < length (periods_of self.now.state.rows) }
+        requires kept { Contains self.now.kept i }
+        requires study { IsKeptAt self.now.state
+            (slice_get (periods_of self.now.state.rows) i) study.now }
+        ensures ok { OnOk result (AppendsText (Reports self.now.state
+            (slice_get (periods_of self.now.state.rows) i)) out.old out.new) }
+        ensures leaves { IfOk result
+            (IsReportedAt self.now i (slice_get (periods_of self.now.state.rows) i)) }
+        ensures err { OnErr result (KeepsText out.old out.new) }
+    {
+        let names = period_names(&self.book, i)?;
+        let name = self.book.period(i).name;
+        let stage = study.stages.at(0);
+        let graph = stage.graph.copy(self.alloc)?;
+        let classes = self.renewal(&graph, stage)?;
+        write_study(
+            self.alloc,
+            &names,
+            &name,
+            &self.options,
+            study,
+            self.form,
+            out,
+        )?;
+        tested_law();
+        Ok(Some(Reported {
+            made: None,
+            graph,
+            classes,
+        }))
+    }
+
+    // Appends the report of a period, or the row that names the first stream beyond the limits.
+    fn report_anew(&self, i: u32, out: &mut Vec<u8>) -> Result<Option<Reported>, AllocError>
+        requires { i < length (periods_of self.now.state.rows) }
+        ensures ok { OnOk result (AppendsText (Reports self.now.state
+            (slice_get (periods_of self.now.state.rows) i)) out.old out.new) }
+        ensures leaves { IfOk result
+            (IsReportedAt self.now i (slice_get (periods_of self.now.state.rows) i)) }
+        ensures err { OnErr result (KeepsText out.old out.new) }
+    {
+        let names = period_names(&self.book, i)?;
+        let period = self.book.period(i).name;
+        match assemble(self.alloc, &self.book, i) {
+            Ok(graph) => Ok(Some(self.write_graph(i, &names, &period, graph, out)?)),
+            Err(Assembly::Over(j)) => {
+                write_over(
+                    self.alloc,
+                    &period,
+                    names.streams.at(j as usize),
+                    self.form,
+                    out,
+                )?;
+                Ok(None)
+            }
+            Err(Assembly::NoMemory) => Err(AllocError),
+        }
+    }
+
     // Appends the report of a period of this name, whose graph this is, with the names of its nodes and streams.
     fn write_graph(
         &self,
+        i: u32,
         names: &Names,
         period: &Name,
-        graph: &Graph,
+        graph: Graph,
         out: &mut Vec<u8>,
-    ) -> Result<(), AllocError>
-        requires names { AreNamesOf names.now graph.now }
-        requires limits { IsProcessGraph graph.now }
+    ) -> Result<Reported, AllocError>
+        requires names { AreNamesOf names.now graph }
+        requires limits { IsProcessGraph graph }
         ensures ok { OnOk result (AppendsText
-            (IsReport self.now names.now period.now graph.now) out.old out.new) }
+            (IsReport self.now.state names.now period.now graph) out.old out.new) }
+        ensures leaves { IfOk result (IsReportedOf self.now i graph) }
         ensures err { OnErr result (KeepsText out.old out.new) }
     {
         let critical = declared_critical(self.alloc, self.book.site())?;
-        let study = study(self.alloc, graph, &self.options, &critical)?;
+        let classes = self.classes_of(&graph)?;
+        let study = study_classed(self.alloc, &graph, classes, &self.options, &critical)?;
+        let classes = self.renewal(&graph, study.stages.at(0))?;
         write_study(
             self.alloc,
             names,
@@ -228,6 +388,44 @@ impl Session {
             &study,
             self.form,
             out,
-        )
+        )?;
+        Ok(Reported {
+            made: Some(study),
+            graph,
+            classes,
+        })
+    }
+
+    // Whether the graph of the kept classes is alike this one, so that they are its classes too.
+    fn is_known(&self, graph: &Graph) -> bool
+        ensures { IsTrue result ↔ KeepsAlike self.now.reported graph.now }
+    {
+        match &self.classes {
+            Some(kept) => kept.graph.alike(graph),
+            None => false,
+        }
+    }
+
+    // The classes of a graph: a copy of the kept ones where they are its classes too.
+    fn classes_of(&self, graph: &Graph) -> Result<List<Classified>, AllocError>
+        requires { IsProcessGraph graph.now }
+        ensures { IfOk result (IsClassification graph.now) }
+    {
+        alike_law();
+        match &self.classes {
+            Some(kept) if kept.graph.alike(graph) => copied(self.alloc, kept.list.as_slice()),
+            _ => classify(self.alloc, graph),
+        }
+    }
+
+    // The classes to keep of a graph with this stage; `None` where those that are kept are its classes too.
+    fn renewal(&self, graph: &Graph, stage: &Stage) -> Result<Option<List<Classified>>, AllocError>
+        requires { IsClassification graph.now (printed_classes stage.now) }
+        ensures { IfOk result (IsRenewal self.now.reported graph.now) }
+    {
+        if self.is_known(graph) {
+            return Ok(None);
+        }
+        Ok(Some(classes_in(self.alloc, stage.streams.as_slice())?))
     }
 }

@@ -64,7 +64,7 @@ fn stored(alloc: Global, rows: &Rows, options: Options) -> Result<Session, Alloc
     requires options { AreOptions options }
     requires some { 1 ≤ length rows.now }
     requires few { length rows.now < 2 ^ 32 }
-    ensures { IfOk result (λ session. session
+    ensures { IfOk result (λ session. session.state
         ≡ state_after_all (new_session options) 1 (take (length rows.now - 1) rows.now)) }
 {
     let mut session = Session::new(alloc, options, Form::Csv);
@@ -83,9 +83,9 @@ fn summed(
     rows: usize,
     session: &Session,
 ) -> Result<Vec<u8>, AllocError>
-    requires { 0 < length (periods_of session.now.rows) }
-    ensures { IfOk result (λ text. SumsUp number streams rows session.now
-        (slice_get (periods_of session.now.rows) 0) text.items) }
+    requires { 0 < length (periods_of session.now.state.rows) }
+    ensures { IfOk result (λ text. SumsUp number streams rows session.now.state
+        (slice_get (periods_of session.now.state.rows) 0) text.items) }
 {
     match session.first_stage(0) {
         Ok(stage) => stage_text(alloc, number, streams, rows, &stage),

@@ -5,3 +5,4 @@ mod NodalLemmas
 mod EndLemmas
 mod GroupLemmas
 mod FreeTestLemmas
+mod NodalRangeLemmas

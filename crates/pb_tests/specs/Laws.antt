@@ -1,12 +1,14 @@
 -- Statement. What is proved of tests.
-use Rattle.std.specs.Prelude.{◌≡◌, ℕ, ◌<◌, ℤ, pos, ◌≤ℤ◌, List, All, Option, Some}
+use Rattle.std.specs.Prelude.{◌≡◌, ℕ, ◌*◌, ◌<◌, ◌≤◌, ℤ, pos, ◌≤ℤ◌, unsigned_abs, List, All, Option, Some}
 use Rattle.std.specs.List.{Any}
+use Rattle.pb_limits.specs.Limits.{most_streams, most_value}
 use Rattle.pb_graph.specs.declared.results.Verdict.TheVariants.{Reject, Accept}
 use Rattle.pb_graph.specs.declared.results.NodalTest.{NodalTest}
 use Rattle.pb_graph.specs.declared.results.MeasureTest.{MeasureTest}
 use Rattle.pb_graph.specs.ProcessGraph.{ProcessGraph, IsProcessGraph}
 use Rattle.pb_graph.specs.Groups.{IsFreeGroup, SameGroup}
 use Rattle.pb_graph.specs.Squares.{Fractional, IsBalancedFractional, AreSquaresAtMost, whole_flows}
+use Rattle.pb_merge.specs.Variance.{most_group_variance}
 use Rattle.pb_gap.specs.Solution.{IsSolvedStatistic}
 use Rattle.pb_tests.specs.Verdicts.{global_verdict, measure_verdict}
 use Rattle.pb_tests.specs.Nodal.{AreNodalTests}
@@ -37,6 +39,16 @@ pub record AreOfFreeGroups (graph : ProcessGraph) (tests : List NodalTest) : Typ
 abbrev pub FreeGroupsLaw : Type 0
 FreeGroupsLaw = (graph : ProcessGraph) (critical : Option ℤ) (tests : List NodalTest)
     → IsProcessGraph graph → AreNodalTests graph critical tests → AreOfFreeGroups graph tests
+
+-- the net flow of a nodal test is that of as many values as a graph has streams, and its variance that of as many variances
+pub record IsNodalNumber (test : NodalTest) : Type 0 where
+  pub net : unsigned_abs test.net ≤ most_streams * most_value
+  pub positive : pos 0 ≤ℤ test.variance
+  pub variance : test.variance ≤ℤ pos most_group_variance
+
+abbrev pub NodalRangeLaw : Type 0
+NodalRangeLaw = (graph : ProcessGraph) (critical : Option ℤ) (tests : List NodalTest)
+    → IsProcessGraph graph → AreNodalTests graph critical tests → All IsNodalNumber tests
 
 -- the measurement of a stream has a test, and no other
 abbrev pub SomeMeasureTestLaw : Type 0

@@ -1,6 +1,6 @@
 // What is proved of the definitions alone. The contract of each function is a law; it calls those that the proof stands on.
 
-ghost use Rattle.pb_tests.specs.Laws.{SomeNodalTestsLaw, OneNodalTestsLaw, FreeGroupsLaw, SomeMeasureTestLaw, OneMeasureTestLaw, SomeMeasureTestsLaw, OneMeasureTestsLaw, EndsLaw, GlobalRejectLaw, GlobalAcceptLaw, DropRejectLaw, DropAcceptLaw, MeasureRejectLaw, MeasureAcceptLaw};
+ghost use Rattle.pb_tests.specs.Laws.{SomeNodalTestsLaw, OneNodalTestsLaw, FreeGroupsLaw, NodalRangeLaw, SomeMeasureTestLaw, OneMeasureTestLaw, SomeMeasureTestsLaw, OneMeasureTestsLaw, EndsLaw, GlobalRejectLaw, GlobalAcceptLaw, DropRejectLaw, DropAcceptLaw, MeasureRejectLaw, MeasureAcceptLaw};
 
 use pb_gap::{solved_statistic_law, statistic_law, weight_law};
 
@@ -13,6 +13,11 @@ pub fn nodal_tests_law()
 /// The nodal tests of a graph are of its free groups, each named by its least node, and no free group is left out.
 pub fn free_groups_law()
     ensures { FreeGroupsLaw }
+{}
+
+/// The net flow and the variance of each nodal test are within the limits that its verdict asks.
+pub fn nodal_range_law()
+    ensures { NodalRangeLaw }
 {}
 
 /// The measurement of a stream has a test, and no other.

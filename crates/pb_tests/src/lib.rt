@@ -12,11 +12,11 @@ mod verdicts;
 
 pub use laws::{
     decided_drop_law, decided_global_law, decided_measure_law, ends_law, free_groups_law,
-    measure_test_law, measure_tests_law, nodal_tests_law,
+    measure_test_law, measure_tests_law, nodal_range_law, nodal_tests_law,
 };
 pub use measures::{measure, measure_tests};
-pub use nodals::{nodal, nodal_tests};
-pub use verdicts::{global, global_test};
+pub use nodals::{nodal, nodal_tests, nodal_verdict};
+pub use verdicts::{global, global_test, verdict};
 
 #[cfg(test)]
 mod tests;

@@ -80,8 +80,8 @@ fn is_above(net: u128, variance: u128, critical: u128) -> bool
     net * net > critical * variance / 1_000
 }
 
-// The verdict of a nodal test.
-fn nodal_verdict(net: i128, variance: i128, critical: Option<i64>) -> Verdict
+/// The verdict of a nodal test on a net flow in grams and its variance, by a critical value in thousandths.
+pub fn nodal_verdict(net: i128, variance: i128, critical: Option<i64>) -> Verdict
     requires net { unsigned_abs net ≤ most_streams * most_value }
     requires positive { pos 0 ≤ℤ variance }
     requires variance { variance ≤ℤ pos most_group_variance }

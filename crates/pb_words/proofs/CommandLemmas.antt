@@ -9,11 +9,11 @@ use Rattle.pb_words.specs.Given.{Given}
 use Rattle.pb_limits.specs.Limits.{most_gap, most_streams, most_sweeps}
 use Rattle.pb_elim.specs.Options.{AreOptions, most_rounds}
 use Rattle.pb_make.specs.Plant.{least_streams}
-use Rattle.pb_words.specs.Command.{Asks, AsksMake, AsksMakeOf, AsksRun, AsksRunOf, IsCommandOf, IsFormOf, IsInRange, greatest_number, natural, number_or}
+use Rattle.pb_words.specs.Command.{Asks, AsksCheckOf, AsksMake, AsksMakeOf, AsksRun, AsksRunOf, IsCommandOf, IsFormOf, IsInRange, greatest_number, natural, number_or}
 use Rattle.pb_words.specs.Line.{IsGivenByClap}
 use Rattle.pb_words.proofs.EndLemmas.{parts_of_taken, taken_of_parts}
 use Rattle.pb_words.specs.declared.command.Command.{Command}
-use Rattle.pb_words.specs.declared.command.Command.TheVariants.{Run, Make}
+use Rattle.pb_words.specs.declared.command.Command.TheVariants.{Run, Check, Make}
 
 abbrev some_in : {X : Type 0} → Option X → Bool
 some_in None = false
@@ -57,16 +57,29 @@ between_of least most o (Some z) e =
     let n = natural_within least most o z (sym e) in
     rw n.1 (omega (arith, ints), omega (arith, ints))
 
-codes_apart : codes "run" ≡ codes "make" → ⊥
-codes_apart e = true≢false (ap (λ (t : List ℕ). bytes_eq t (codes "run")) e)
+run_or_make : codes "run" ≡ codes "make" → ⊥
+run_or_make e = true≢false (ap (λ (t : List ℕ). bytes_eq t (codes "run")) e)
 
--- what asks for a run asks for no session to be made, and the other way round
+run_or_check : codes "run" ≡ codes "check" → ⊥
+run_or_check e = true≢false (ap (λ (t : List ℕ). bytes_eq t (codes "run")) e)
+
+check_or_make : codes "check" ≡ codes "make" → ⊥
+check_or_make e = true≢false (ap (λ (t : List ℕ). bytes_eq t (codes "check")) e)
+
+-- what asks for a command of one mode asks for none of another
 pub run_only : (given : Given) (command : Command) → given.mode ≡ Some (codes "run") → Asks given command → AsksRunOf given command
 run_only given (Run options form) mode asks = asks
-run_only given (Make number streams summary gap sweeps) mode asks = absurd (codes_apart (same_some _ _ (sym mode ∙ asks.mode)))
+run_only given Check mode asks = absurd (run_or_check (same_some _ _ (sym mode ∙ asks.mode)))
+run_only given (Make number streams summary gap sweeps) mode asks = absurd (run_or_make (same_some _ _ (sym mode ∙ asks.mode)))
+
+pub check_only : (given : Given) (command : Command) → given.mode ≡ Some (codes "check") → Asks given command → AsksCheckOf given command
+check_only given (Run options form) mode asks = absurd (run_or_check (same_some _ _ (sym asks.mode ∙ mode)))
+check_only given Check mode asks = asks
+check_only given (Make number streams summary gap sweeps) mode asks = absurd (check_or_make (same_some _ _ (sym mode ∙ asks.mode)))
 
 pub make_only : (given : Given) (command : Command) → given.mode ≡ Some (codes "make") → Asks given command → AsksMakeOf given command
-make_only given (Run options form) mode asks = absurd (codes_apart (same_some _ _ (sym asks.mode ∙ mode)))
+make_only given (Run options form) mode asks = absurd (run_or_make (same_some _ _ (sym asks.mode ∙ mode)))
+make_only given Check mode asks = absurd (check_or_make (same_some _ _ (sym asks.mode ∙ mode)))
 make_only given (Make number streams summary gap sweeps) mode asks = asks
 
 -- ---- at most one command
@@ -101,8 +114,13 @@ one_make given n m s t p q g h k l x y =
 
 pub one_asked : (given : Given) (a b : Command) → Asks given a → Asks given b → a ≡ b
 one_asked given (Run o f) (Run p g) x y = one_run given o p f g x y
-one_asked given (Run o f) (Make n s t g k) x y = absurd (codes_apart (same_some _ _ (sym x.mode ∙ y.mode)))
-one_asked given (Make n s t g k) (Run o f) x y = absurd (codes_apart (same_some _ _ (sym y.mode ∙ x.mode)))
+one_asked given (Run o f) Check x y = absurd (run_or_check (same_some _ _ (sym x.mode ∙ y.mode)))
+one_asked given (Run o f) (Make n s t g k) x y = absurd (run_or_make (same_some _ _ (sym x.mode ∙ y.mode)))
+one_asked given Check (Run o f) x y = absurd (run_or_check (same_some _ _ (sym y.mode ∙ x.mode)))
+one_asked given Check Check x y = refl
+one_asked given Check (Make n s t g k) x y = absurd (check_or_make (same_some _ _ (sym x.mode ∙ y.mode)))
+one_asked given (Make n s t g k) (Run o f) x y = absurd (run_or_make (same_some _ _ (sym y.mode ∙ x.mode)))
+one_asked given (Make n s t g k) Check x y = absurd (check_or_make (same_some _ _ (sym y.mode ∙ x.mode)))
 one_asked given (Make n s p g k) (Make m t q h l) x y = one_make given n m s t p q g h k l x y
 
 -- ---- commands and clap
@@ -142,6 +160,7 @@ run_range given options form a =
 
 pub in_range : (given : Given) (command : Command) → Asks given command → IsInRange command
 in_range given (Run options form) a = run_range given options form a
+in_range given Check a = tt
 in_range given (Make from count summed gap sweeps) a = record {
   number = (number_range 0 greatest_number 1 given.number from (omega arith) (omega arith) a.number).1;
   least = (number_range least_streams most_streams 300 given.streams count (omega arith) (omega arith) a.streams).0;

@@ -1,5 +1,5 @@
 -- Statement. The commands, and the words that give each.
-use Rattle.std.specs.Prelude.{◌≡◌, ◌≤◌, ◌⊎◌, ℕ, ℤ, pos, negsuc, Bool, true, false, ◌||◌, List, Option, Some, None, is_some, codes}
+use Rattle.std.specs.Prelude.{◌≡◌, ◌≤◌, ◌⊎◌, ℕ, ℤ, pos, negsuc, Bool, true, false, ◌||◌, List, Option, Some, None, is_some, codes, ⊤}
 use Rattle.pb_rows.specs.Number.{number, within}
 use Rattle.pb_limits.specs.Limits.{most_gap, most_streams, most_sweeps}
 use Rattle.pb_graph.specs.declared.results.Options.{Options}
@@ -10,7 +10,7 @@ use Rattle.pb_make.specs.Plant.{least_streams}
 use Rattle.pb_words.specs.Parts.{Part, ArePartsOf}
 use Rattle.pb_words.specs.Given.{Given, given_by}
 use Rattle.pb_words.specs.declared.command.Command.{Command}
-use Rattle.pb_words.specs.declared.command.Command.TheVariants.{Run, Make}
+use Rattle.pb_words.specs.declared.command.Command.TheVariants.{Run, Check, Make}
 
 -- the greatest number that a session is made from: every number of 32 bits is one
 abbrev pub greatest_number : ℕ
@@ -44,6 +44,18 @@ pub record AsksRun (given : Given) (options : Options) (asked : Form) : Type 0 w
   pub no_streams : given.streams ≡ None
   pub no_summary : given.summary ≡ false
 
+-- What was given asks for a check: its mode, and nothing else.
+pub record AsksCheck (given : Given) : Type 0 where
+  pub mode : given.mode ≡ Some (codes "check")
+  pub no_gap : given.gap ≡ None
+  pub no_sweeps : given.sweeps ≡ None
+  pub no_eliminate : given.eliminate ≡ None
+  pub no_format : given.format ≡ None
+  pub no_number : given.number ≡ None
+  pub no_streams : given.streams ≡ None
+  pub no_tests : given.tests ≡ false
+  pub no_summary : given.summary ≡ false
+
 -- What was given asks for a session made from this number with so many streams, or for its summary with this gap and so many
 -- sweeps.
 pub record AsksMake (given : Given) (from count : ℕ) (summed : Bool) (within_gap within_sweeps : ℕ) : Type 0 where
@@ -60,16 +72,25 @@ pub record AsksMake (given : Given) (from count : ℕ) (summed : Bool) (within_g
 -- the command is a run, and what was given asks for it
 abbrev pub AsksRunOf : Given → Command → Type 0
 AsksRunOf given (Run options form) = AsksRun given options form
+AsksRunOf given Check = ⊥
 AsksRunOf given (Make number streams summary gap sweeps) = ⊥
+
+-- the command is a check, and what was given asks for it
+abbrev pub AsksCheckOf : Given → Command → Type 0
+AsksCheckOf given (Run options form) = ⊥
+AsksCheckOf given Check = AsksCheck given
+AsksCheckOf given (Make number streams summary gap sweeps) = ⊥
 
 -- the command is a session to be made, and what was given asks for it
 abbrev pub AsksMakeOf : Given → Command → Type 0
 AsksMakeOf given (Run options form) = ⊥
+AsksMakeOf given Check = ⊥
 AsksMakeOf given (Make number streams summary gap sweeps) = AsksMake given number streams summary gap sweeps
 
 -- what was given asks for the command
 abbrev pub Asks : Given → Command → Type 0
 Asks given (Run options form) = AsksRun given options form
+Asks given Check = AsksCheck given
 Asks given (Make number streams summary gap sweeps) = AsksMake given number streams summary gap sweeps
 
 -- The words give the command: they are the words of parts, each option at most once, and what the parts give asks for it.
@@ -90,4 +111,5 @@ pub record IsMakeInRange (from count within_gap within_sweeps : ℕ) : Type 0 wh
 -- a command within the limits
 abbrev pub IsInRange : Command → Type 0
 IsInRange (Run options form) = AreOptions options
+IsInRange Check = ⊤
 IsInRange (Make number streams summary gap sweeps) = IsMakeInRange number streams gap sweeps

@@ -4,7 +4,7 @@ ghost use Rattle.std.specs.List.{All};
 ghost use Rattle.pb_rows.specs.Number.{number, within};
 ghost use Rattle.clap.specs.Matches.{found_of, first_value};
 ghost use Rattle.pb_words.specs.Given.{given_of, is_true};
-ghost use Rattle.pb_words.specs.Command.{Asks, AsksMakeOf, AsksRunOf, IsCommandOf, IsFormOf, IsInRange, number_or};
+ghost use Rattle.pb_words.specs.Command.{Asks, AsksCheckOf, AsksMakeOf, AsksRunOf, IsCommandOf, IsFormOf, IsInRange, number_or};
 ghost use Rattle.pb_words.specs.Line.{is_plain_or_named};
 ghost use Rattle.pb_words.specs.declared.command.WordsRefused.TheVariants.{Usage, NoMemory};
 
@@ -26,6 +26,8 @@ pub enum Command {
         options: Options,
         form: Form,
     },
+    /// The check of a report by its own numbers.
+    Check,
     /// A session made from a number with so many streams; or, with `summary`, a row on the first stage of its first report, which
     /// is asked with this gap, in thousandths of a standard deviation, and at most so many sweeps.
     Make {
@@ -54,12 +56,13 @@ const MOST_ROUNDS: u32 = 20;
 // A made session has at least so many streams.
 const LEAST_STREAMS: u32 = 3;
 
-/// The command that words give: exactly one mode, `run` or `make`, and its options, each at most once and in any order, as two
+/// The command that words give: exactly one mode, `run`, `check` or `make`, and its options, each at most once and in any order, as two
 /// words or as one with an equals sign. `Usage` exactly where they give none.
 pub fn read_words(alloc: Global, words: &Words) -> Result<Command, WordsRefused>
     ensures ok { IfOk result (λ command. IsCommandOf words.now command) }
     ensures within { IfOk result IsInRange }
-    ensures usage { IfErr result (λ e. e ≡ Usage → (command : Command) → IsCommandOf words.now command → ⊥) }
+    ensures usage { IfErr result (λ e. e ≡ Usage → (command : Command)
+        → IsCommandOf words.now command → ⊥) }
 {
     if !are_plain_or_named(words.as_slice()) {
         return Err(WordsRefused::Usage);
@@ -95,11 +98,14 @@ fn is_plain_or_named(word: &[u8]) -> bool
 
 // The command that the matches ask for.
 fn asked(matches: &ArgMatches) -> Option<Command>
-    ensures some { IfSome result (λ command. Asks (given_of (first_value (found_of matches.now))) command) }
-    ensures none { IsNone result → (command : Command) → Asks (given_of (first_value (found_of matches.now))) command → ⊥ }
+    ensures some { IfSome result (λ command.
+        Asks (given_of (first_value (found_of matches.now))) command) }
+    ensures none { IsNone result → (command : Command)
+        → Asks (given_of (first_value (found_of matches.now))) command → ⊥ }
 {
     match matches.get_str("mode") {
         Some("run") => run_asked(matches),
+        Some("check") => check_asked(matches),
         Some("make") => make_asked(matches),
         _ => None,
     }
@@ -109,7 +115,8 @@ fn asked(matches: &ArgMatches) -> Option<Command>
 fn run_asked(matches: &ArgMatches) -> Option<Command>
     requires mode { first_value (found_of matches.now) (codes "mode") ≡ Some (codes "run") }
     ensures some { IfSome result (AsksRunOf (given_of (first_value (found_of matches.now)))) }
-    ensures none { IsNone result → (command : Command) → AsksRunOf (given_of (first_value (found_of matches.now))) command → ⊥ }
+    ensures none { IsNone result → (command : Command)
+        → AsksRunOf (given_of (first_value (found_of matches.now))) command → ⊥ }
 {
     if is_there(matches, "number") || is_there(matches, "streams") || is_set(matches, "summary") {
         return None;
@@ -125,11 +132,33 @@ fn run_asked(matches: &ArgMatches) -> Option<Command>
     Some(Command::Run { options, form })
 }
 
+// The check that they ask for: it takes no option.
+fn check_asked(matches: &ArgMatches) -> Option<Command>
+    requires mode { first_value (found_of matches.now) (codes "mode") ≡ Some (codes "check") }
+    ensures some { IfSome result (AsksCheckOf (given_of (first_value (found_of matches.now)))) }
+    ensures none { IsNone result → (command : Command)
+        → AsksCheckOf (given_of (first_value (found_of matches.now))) command → ⊥ }
+{
+    if is_there(matches, "gap")
+        || is_there(matches, "sweeps")
+        || is_there(matches, "eliminate")
+        || is_there(matches, "format")
+        || is_there(matches, "number")
+        || is_there(matches, "streams")
+        || is_set(matches, "tests")
+        || is_set(matches, "summary")
+    {
+        return None;
+    }
+    Some(Command::Check)
+}
+
 // The session to be made that they ask for.
 fn make_asked(matches: &ArgMatches) -> Option<Command>
     requires mode { first_value (found_of matches.now) (codes "mode") ≡ Some (codes "make") }
     ensures some { IfSome result (AsksMakeOf (given_of (first_value (found_of matches.now)))) }
-    ensures none { IsNone result → (command : Command) → AsksMakeOf (given_of (first_value (found_of matches.now))) command → ⊥ }
+    ensures none { IsNone result → (command : Command)
+        → AsksMakeOf (given_of (first_value (found_of matches.now))) command → ⊥ }
 {
     if is_there(matches, "eliminate") || is_there(matches, "format") || is_set(matches, "tests") {
         return None;
@@ -193,7 +222,8 @@ fn whole_between(text: &str, least: u32, most: u32) -> Option<i128>
 // The form that was given; `None` exactly where its text names none.
 fn form_of(matches: &ArgMatches) -> Option<Form>
     ensures some { IfSome result (IsFormOf (first_value (found_of matches.now) (codes "format"))) }
-    ensures none { IsNone result → (form : Form) → IsFormOf (first_value (found_of matches.now) (codes "format")) form → ⊥ }
+    ensures none { IsNone result → (form : Form)
+        → IsFormOf (first_value (found_of matches.now) (codes "format")) form → ⊥ }
 {
     match matches.get_str("format") {
         None | Some("csv") => Some(Form::Csv),

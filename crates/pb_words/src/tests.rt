@@ -195,6 +195,12 @@ fn reads_makes(rt: HostRuntime) -> Result<(), AllocError> {
     Ok(())
 }
 
+#[test]
+fn reads_a_check(rt: HostRuntime) -> Result<(), AllocError> {
+    assert_eq!(rt; read(&rt, &["check"])?, Ok(Command::Check));
+    Ok(())
+}
+
 /// No mode or two, values out of range or of another form, options twice, cut short or of another mode, and words that `clap`
 /// itself would take otherwise.
 #[test]
@@ -207,8 +213,8 @@ fn refuses_other_words(rt: HostRuntime) -> Result<(), AllocError> {
         &["Run"],
         &["ru"],
         &["runs"],
-        &["check"],
-        &["check", "--gap", "5"],
+        &["check", "check"],
+        &["check", "run"],
         &["run", "run"],
         &["run", "make"],
         &["--tests"],
@@ -262,6 +268,20 @@ fn refuses_other_words(rt: HostRuntime) -> Result<(), AllocError> {
         &["run", "--summary"],
         &["make", "--tests"],
         &["make", "--eliminate", "1"],
+    ];
+    for words in lists {
+        assert_eq!(rt; read(&rt, words)?, Err(WordsRefused::Usage), "at {words:?}");
+    }
+    let lists: [&[&str]; 9] = [
+        &["check", "--gap", "5"],
+        &["check", "--sweeps=5"],
+        &["check", "--tests"],
+        &["check", "--eliminate", "1"],
+        &["check", "--format", "csv"],
+        &["check", "--number", "1"],
+        &["--streams=3", "check"],
+        &["check", "--summary"],
+        &["checks"],
     ];
     for words in lists {
         assert_eq!(rt; read(&rt, words)?, Err(WordsRefused::Usage), "at {words:?}");

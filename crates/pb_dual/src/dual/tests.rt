@@ -59,9 +59,9 @@ fn check_sweeps<R: Abort>(
     let groups = Groups::of(alloc, g)?;
     let mut dual = Dual::new(alloc, g, groups.numbers())?;
     check(rt, &dual, none);
-    dual.sweep();
+    assert_eq!(rt; dual.sweep(), once != none, "the first sweep");
     check(rt, &dual, once);
-    dual.sweep();
+    assert_eq!(rt; dual.sweep(), twice != once, "the second sweep");
     check(rt, &dual, twice);
     dual.reset();
     check(rt, &dual, none);
@@ -159,7 +159,7 @@ fn one_step_and_the_dual_flows(rt: HostRuntime) -> Result<(), Fail> {
     assert!(&rt; dual.groups() == 2);
     dual.step(1);
     check(&rt, &dual, &[0, -72_057_594_038]);
-    assert!(&rt; dual.streams.len() == 3);
+    assert!(&rt; dual.flows.len() == 3);
     let flows = [dual.dual_flow(0), dual.dual_flow(1), dual.dual_flow(2)];
     assert_eq!(&rt;
         flows,

@@ -1,65 +1,127 @@
-use Rattle.std.proofs.Common.{◌≡◌, ◌∙◌, ℕ, ◌+◌, ◌<◌, List, [], ◌++◌, length, get_or, ap, sym, subst, arith}
+use Rattle.std.proofs.Common.{◌≡◌, ◌∙◌, ◌||◌, ℕ, ◌+◌, List, [], ◌++◌, drop, get_or, ap, refl, sym, subst}
 use Rattle.std.proofs.lemmas.Result.{err_from_is_err_and}
 use Rattle.pb_book.specs.Answer.{answer_of, is_refused}
-use Rattle.pb_session.specs.Session.{Adds, state_after}
+use Rattle.pb_session.specs.Session.{Adds, SessionState, state_after}
 use Rattle.pb_cli.specs.Prefix.{IsBeginningOf}
 use Rattle.pb_cli.specs.Run.{new_session}
-use Rattle.pb_io.proofs.PieceLemmas.{puts_more}
-use Rattle.pb_cli.proofs.TextLemmas.{answered_more, cut_short, stopped}
+use Rattle.pb_io.proofs.PieceLemmas.{puts_more, puts_none}
+use Rattle.pb_cli.proofs.TextLemmas.{Answered, all_answered, answered_more, answered_none, any_err, cut_short, next_at, none_left, stopped}
 use Rattle.pb_cli.proofs.answers.answer_records.Goals as goal
+
+pub turns-init : goal.turns-init
+turns-init g c =
+    let rows = c.args.records.now.left in
+    let start = new_session c.args.options c.args.form in
+    let new = c.new-session.ensures in
+    let same : c.new-session.result.state ≡ start = λ i. record { options = new.options i; form = new.form i; rows = new.rows i } in
+    record {
+      so_far = ([], answered_none start rows c.args.records.now.taken c.new-session.result.state c.requires.none_taken same, puts_none (g.W.Sink.seen c.args.sink.now));
+      left = ap (λ (k : ℕ). drop k rows) c.requires.none_taken;
+      faults = refl;
+      idle = refl;
+    }
+
+-- want of memory is no fault of the sink
+pub returns-in_err-fields-clause-cut : goal.returns-in_err-fields-clause-cut
+returns-in_err-fields-clause-cut g c =
+    let p = err_from_is_err_and c.from_residual.result c.from_residual.ensures.1 in
+    rw (p.1, p.2) (λ e.
+    let no : ⊥ = cc e in
+    absurd no)
+
+pub returns-in_err-fields-clause-cause : goal.returns-in_err-fields-clause-cause
+returns-in_err-fields-clause-cause g c =
+    let p = err_from_is_err_and c.from_residual.result c.from_residual.ensures.1 in
+    rw (p.1, p.2) (λ e.
+    let no : ⊥ = cc e in
+    absurd no)
+
+pub returns-in_err-some_refused-clause-memory_no_fault : goal.returns-in_err-some_refused-clause-memory_no_fault
+returns-in_err-some_refused-clause-memory_no_fault g c =
+    let p = err_from_is_err_and c.from_residual-in_err-some_refused.result c.from_residual-in_err-some_refused.ensures.1 in
+    rw (p.1, p.2) (λ e. rw (c.in_err-some_refused.ensures.no_memory e) c.turns.invariant.faults)
+
+pub returns-in_err-some_refused-clause-cause : goal.returns-in_err-some_refused-clause-cause
+returns-in_err-some_refused-clause-cause g c =
+    let p = err_from_is_err_and c.from_residual-in_err-some_refused.result c.from_residual-in_err-some_refused.ensures.1 in
+    rw (p.1, p.2, ← c.turns.invariant.faults) c.in_err-some_refused.ensures.cause
+
+-- no memory was found for the next record
+pub returns-in_err-fields-clause-some : goal.returns-in_err-fields-clause-some
+returns-in_err-fields-clause-some g c =
+    let (text, a, puts) = c.turns.invariant.so_far in
+    any_err c.from_residual.result _ (λ e same.
+    (text, stopped (new_session c.args.options c.args.form) c.args.records.now.left c.turns.records.taken c.turns.session.state c.turns.some_refused text a, puts))
 
 -- the sink failed within the text of this record
 pub returns-in_err-some_refused-clause-cut : goal.returns-in_err-some_refused-clause-cut
 returns-in_err-some_refused-clause-cut g c =
-    let rows = c.args.rows.now in
-    let i = c.loop-i.i in
-    let lt : i < length rows = omega (arith, c.loop-i-test.true, c.loop-i.invariant.end) in
-    let (text, a, puts) = c.loop-i.invariant.so_far in
-    let p = err_from_is_err_and c.from_residual.result c.from_residual.ensures.1 in
+    let rows = c.args.records.now.left in
+    let i = c.turns.records.taken in
+    let state : SessionState = c.turns.session.state in
+    let took = rw c.in-Some.is at c.in_ok-fields.ensures.ok in
+    let next = next_at rows c.turns.records c.next.new.self c.in-Some.fields c.turns.invariant.left took in
+    let at : c.taken-at.result ≡ i + 1 = c.taken-at.ensures ∙ next.place in
+    let (text, a, puts) = c.turns.invariant.so_far in
+    let p = err_from_is_err_and c.from_residual-in_err-some_refused.result c.from_residual-in_err-some_refused.ensures.1 in
     rw (p.1, p.2) (λ e.
     let (piece, begun, more) = c.in_err-some_refused.ensures.cut e in
-    let here : IsBeginningOf (Adds c.loop-i.session (i + 1) (get_or rows i [])) piece =
-    subst (λ (r : List (List ℕ)). IsBeginningOf (Adds c.loop-i.session (i + 1) r) piece) c.at.ensures begun in (
+    let there : IsBeginningOf (Adds state c.taken-at.result (get_or rows i [])) piece =
+    subst (λ (r : List (List ℕ)). IsBeginningOf (Adds state c.taken-at.result r) piece) (sym next.here) begun in
+    let here : IsBeginningOf (Adds state (i + 1) (get_or rows i [])) piece = subst (λ (k : ℕ). IsBeginningOf (Adds state k (get_or rows i [])) piece) at there in (
       text ++ piece,
-      cut_short (new_session c.args.options c.args.form) rows i c.loop-i.session c.loop-i.some_refused text piece lt a here,
+      cut_short (new_session c.args.options c.args.form) rows i state c.turns.some_refused text piece next.within a here,
       puts_more _ _ _ text piece puts more,
     ))
 
--- no memory was found for this record
+-- no memory was found for its text
 pub returns-in_err-some_refused-clause-some : goal.returns-in_err-some_refused-clause-some
 returns-in_err-some_refused-clause-some g c =
-    let (text, a, puts) = c.loop-i.invariant.so_far in
-    let p = err_from_is_err_and c.from_residual.result c.from_residual.ensures.1 in
+    let (text, a, puts) = c.turns.invariant.so_far in
+    let p = err_from_is_err_and c.from_residual-in_err-some_refused.result c.from_residual-in_err-some_refused.ensures.1 in
     rw (p.1, p.2) (λ e.
-    (text, stopped (new_session c.args.options c.args.form) c.args.rows.now c.loop-i.i c.loop-i.session c.loop-i.some_refused text a, rw (c.in_err-some_refused.ensures.no_memory e) puts))
-
-pub returns-in_err-some_refused-clause-cause : goal.returns-in_err-some_refused-clause-cause
-returns-in_err-some_refused-clause-cause g c =
-    let p = err_from_is_err_and c.from_residual.result c.from_residual.ensures.1 in
-    rw (p.1, p.2, ← c.loop-i.invariant.faults) c.in_err-some_refused.ensures.cause
-
--- want of memory is no fault of the sink
-pub returns-in_err-some_refused-clause-memory_no_fault : goal.returns-in_err-some_refused-clause-memory_no_fault
-returns-in_err-some_refused-clause-memory_no_fault g c =
-    let p = err_from_is_err_and c.from_residual.result c.from_residual.ensures.1 in
-    rw (p.1, p.2) (λ e. rw (c.in_err-some_refused.ensures.no_memory e) c.loop-i.invariant.faults)
+    (text, stopped (new_session c.args.options c.args.form) c.args.records.now.left c.turns.records.taken c.turns.session.state c.turns.some_refused text a, rw (c.in_err-some_refused.ensures.no_memory e) puts))
 
 -- one more record is answered
-pub loop-i-preserved : goal.loop-i-preserved
-loop-i-preserved g c =
-    let rows = c.args.rows.now in
-    let i = c.loop-i.i in
-    let lt : i < length rows = omega (arith, c.loop-i-test.true, c.loop-i.invariant.end) in
-    let (text, a, puts) = c.loop-i.invariant.so_far in
+pub turns-preserved : goal.turns-preserved
+turns-preserved g c =
+    let rows = c.args.records.now.left in
+    let i = c.turns.records.taken in
+    let start = new_session c.args.options c.args.form in
+    let state : SessionState = c.turns.session.state in
+    let after : SessionState = c.answer_record.new.session.state in
+    let took = rw c.in-Some.is at c.in_ok-fields.ensures.ok in
+    let next = next_at rows c.turns.records c.next.new.self c.in-Some.fields c.turns.invariant.left took in
+    let at : c.taken-at.result ≡ i + 1 = c.taken-at.ensures ∙ next.place in
+    let (text, a, puts) = c.turns.invariant.so_far in
     let (piece, adds, more) = c.in_ok-some_refused.ensures.whole in
-    let at : c.at.result.now ≡ get_or rows i [] = c.at.ensures in
-    let here : Adds c.loop-i.session (i + 1) (get_or rows i []) piece = subst (λ (r : List (List ℕ)). Adds c.loop-i.session (i + 1) r piece) at adds in
-    let new_is = c.in_ok-some_refused.ensures.stored ∙ ap (state_after c.loop-i.session (i + 1)) at in
-    let now_is = c.in_ok-some_refused.ensures.refused ∙ ap (λ (r : List (List ℕ)). is_refused (answer_of c.loop-i.session.rows r)) at in
-    let next = answered_more (new_session c.args.options c.args.form) rows i c.loop-i.session c.answer_record.new.session c.loop-i.some_refused _ text piece lt a here new_is now_is in
+    let there : Adds state c.taken-at.result (get_or rows i []) piece = subst (λ (r : List (List ℕ)). Adds state c.taken-at.result r piece) (sym next.here) adds in
+    let here : Adds state (i + 1) (get_or rows i []) piece = subst (λ (k : ℕ). Adds state k (get_or rows i []) piece) at there in
+    let new_is : after ≡ state_after state (i + 1) (get_or rows i []) =
+    c.in_ok-some_refused.ensures.stored ∙ ap (λ (k : ℕ). state_after state k c.in-Some.fields) at ∙ ap (state_after state (i + 1)) (sym next.here) in
+    let now_is = c.in_ok-some_refused.ensures.refused ∙ ap (λ (r : List (List ℕ)). is_refused (answer_of state.rows r)) (sym next.here) in
+    let so_far = answered_more start rows i state after c.turns.some_refused _ text piece next.within a here new_is now_is in
     record {
-      so_far = (text ++ piece, next, puts_more _ _ _ text piece puts more);
-      faults = c.in_ok-some_refused.ensures.no_fault ∙ c.loop-i.invariant.faults;
-      idle = c.answer_record.ensures.idle ∙ c.loop-i.invariant.idle;
-      end = c.loop-i.invariant.end;
+      so_far = (text ++ piece, subst (λ (k : ℕ). Answered start rows k after (c.turns.some_refused || c.in_ok-some_refused.field-0) (text ++ piece)) (sym next.place) so_far, puts_more _ _ _ text piece puts more);
+      left = next.behind;
+      faults = c.in_ok-some_refused.ensures.no_fault ∙ c.turns.invariant.faults;
+      idle = c.answer_record.ensures.idle ∙ c.turns.invariant.idle;
     }
+
+-- all records are answered
+pub returns-clause-refused : goal.returns-clause-refused
+returns-clause-refused g c =
+    let rows = c.args.records.now.left in
+    let took = rw c.in_default.is at c.in_ok-fields.ensures.ok in
+    let (text, a, puts) = c.turns.invariant.so_far in
+    (all_answered (new_session c.args.options c.args.form) rows c.turns.records.taken c.turns.session.state c.turns.some_refused text (none_left rows c.turns.records c.next.new.self c.turns.invariant.left took) a).0
+
+pub returns-clause-whole : goal.returns-clause-whole
+returns-clause-whole g c =
+    let rows = c.args.records.now.left in
+    let took = rw c.in_default.is at c.in_ok-fields.ensures.ok in
+    let (text, a, puts) = c.turns.invariant.so_far in (
+      text,
+      (all_answered (new_session c.args.options c.args.form) rows c.turns.records.taken c.turns.session.state c.turns.some_refused text (none_left rows c.turns.records c.next.new.self c.turns.invariant.left took) a).1,
+      puts,
+    )

@@ -1,51 +1,71 @@
-use Rattle.std.proofs.Common.{rules, ◌≡◌}
+use Rattle.std.proofs.Common.{◌≡◌, ◌∙◌, ℕ, List, subst, sym}
 use Rattle.pb_io.specs.Counts.{Rose}
 use Rattle.pb_words.specs.declared.command.Command.{Command}
-use Rattle.pb_words.specs.declared.command.Command.TheVariants.{Run, Make}
+use Rattle.pb_words.specs.declared.command.Command.TheVariants.{Run, Check, Make}
 use Rattle.pb_words.specs.Command.{IsCommandOf}
-use Rattle.pb_cli.specs.declared.status.Status.TheVariants.{Usage}
-use Rattle.pb_cli.proofs.CommandLemmas.{completes_none, completes_run, run_or_make}
+use Rattle.pb_cli.specs.declared.status.Status.TheVariants.{NoMemory, TooLarge, WriteFault}
+use Rattle.pb_cli.specs.Run.{EndsAs, IsGiven}
+use Rattle.pb_cli.proofs.CommandLemmas.{completes, completes_unread, making_here, unless_failed}
 use Rattle.pb_cli.proofs.runs.run.Goals as goal
-
-pub returns-in-Ok-Run-clause-complete : goal.returns-in-Ok-Run-clause-complete
-returns-in-Ok-Run-clause-complete g c =
-    let here : IsCommandOf c.args.words.now (Run c.in-Ok-Run.options c.in-Ok-Run.form) = search rules in
-    completes_run c.args.words.now c.in-Ok-Run.options c.in-Ok-Run.form
-    (Rose (g.R.Source.seen c.args.source.now).faults (g.R.Source.seen c.run_session.new.source).faults)
-    (Rose (g.W.Sink.seen c.args.sink.now).faults (g.W.Sink.seen c.run_session.new.sink).faults)
-    c.run_session.result (g.R.Source.seen c.args.source.now).remaining c.one_command_law.ensures here c.run_session.ensures.complete
 
 pub returns-in-Err-Usage-clause-usage : goal.returns-in-Err-Usage-clause-usage
 returns-in-Err-Usage-clause-usage g c = λ e accepted. c.in-Err-Usage.ensures.usage c.in-Err-Usage.field-0-is accepted.0 accepted.1
 
 pub returns-in-Err-Usage-clause-complete : goal.returns-in-Err-Usage-clause-complete
-returns-in-Err-Usage-clause-complete g c =
-    completes_none c.args.words.now
-    (Rose (g.R.Source.seen c.args.source.now).faults (g.R.Source.seen c.args.source.now).faults)
-    (Rose (g.W.Sink.seen c.args.sink.now).faults (g.W.Sink.seen c.args.sink.now).faults)
-    Usage (g.R.Source.seen c.args.source.now).remaining
-    (λ options form of. c.in-Err-Usage.ensures.usage c.in-Err-Usage.field-0-is (Run options form) of)
+returns-in-Err-Usage-clause-complete g c = λ command input of told none. absurd (c.in-Err-Usage.ensures.usage c.in-Err-Usage.field-0-is command of)
 
-pub returns-in-Ok-Run-clause-make_unread : goal.returns-in-Ok-Run-clause-make_unread
-returns-in-Ok-Run-clause-make_unread g c = λ m.
-    let here : IsCommandOf c.args.words.now (Run c.in-Ok-Run.options c.in-Ok-Run.form) = search rules in
-    absurd (run_or_make _ _ _ _ _ _ _ (c.one_command_law.ensures c.args.words.now (Run c.in-Ok-Run.options c.in-Ok-Run.form) _ here m.5))
+pub returns-in-Err-clause-not_too_large : goal.returns-in-Err-clause-not_too_large
+returns-in-Err-clause-not_too_large g c = λ other. c.read_input.ensures.not_too_large (λ large.
+    let both = sym c.in-Err.is ∙ large in
+    let same : c.in-Err.status ≡ TooLarge = cc both in
+    other same)
 
-pub returns-in-Ok-Run-clause-make_complete : goal.returns-in-Ok-Run-clause-make_complete
-returns-in-Ok-Run-clause-make_complete g c = λ m.
-    let here : IsCommandOf c.args.words.now (Run c.in-Ok-Run.options c.in-Ok-Run.form) = search rules in
-    absurd (run_or_make _ _ _ _ _ _ _ (c.one_command_law.ensures c.args.words.now (Run c.in-Ok-Run.options c.in-Ok-Run.form) _ here m.5))
+pub returns-in-Err-clause-complete : goal.returns-in-Err-clause-complete
+returns-in-Err-clause-complete g c =
+    completes_unread c.one_command_law.ensures c.args.words.now c.in-Ok.command (g.R.Source.seen c.args.source.now) (g.R.Source.seen c.read_input.new.source)
+    (Rose (g.W.Sink.seen c.args.sink.now).faults (g.W.Sink.seen c.args.sink.now).faults) c.in-Err.status c.in-Ok.ensures.ok c.in-Err.ensures.complete
 
-pub returns-in-Err-Usage-clause-make_complete : goal.returns-in-Err-Usage-clause-make_complete
-returns-in-Err-Usage-clause-make_complete g c = λ m. absurd (c.in-Err-Usage.ensures.usage c.in-Err-Usage.field-0-is _ m.5)
+pub returns-in-Err-clause-make_unread : goal.returns-in-Err-clause-make_unread
+returns-in-Err-clause-make_unread g c = λ m. c.read_input.ensures.unread (making_here c.one_command_law.ensures c.args.words.now c.in-Ok.command c.in-Ok.ensures.ok m)
 
--- the words give the making of a session, and no run
-pub returns-in-Ok-Make-clause-complete : goal.returns-in-Ok-Make-clause-complete
-returns-in-Ok-Make-clause-complete g c =
-    let made : Command = Make c.in-Ok-Make.number c.in-Ok-Make.streams c.in-Ok-Make.summary c.in-Ok-Make.gap c.in-Ok-Make.sweeps in
-    let here : IsCommandOf c.args.words.now made = search rules in
-    completes_none c.args.words.now
-    (Rose (g.R.Source.seen c.args.source.now).faults (g.R.Source.seen c.args.source.now).faults)
-    (Rose (g.W.Sink.seen c.args.sink.now).faults (g.W.Sink.seen c.make_session.new.sink).faults)
-    c.make_session.result (g.R.Source.seen c.args.source.now).remaining
-    (λ options form of. run_or_make _ _ _ _ _ _ _ (c.one_command_law.ensures c.args.words.now (Run options form) made of here))
+pub returns-in-Run-clause-complete : goal.returns-in-Run-clause-complete
+returns-in-Run-clause-complete g c =
+    let source_old = g.R.Source.seen c.args.source.now in
+    let source_new = g.R.Source.seen c.read_input.new.source in
+    let run : Command = Run c.in-Run.options c.in-Run.form in
+    let here : IsCommandOf c.args.words.now run = subst (λ (command : Command). IsCommandOf c.args.words.now command) c.in-Run.is c.in-Ok.ensures.ok in
+    let given : (input : List ℕ) → IsGiven run source_old source_new input → c.in-Ok-read_input.input.items ≡ input =
+    subst (λ (command : Command). (input : List ℕ) → IsGiven command source_old source_new input → c.in-Ok-read_input.input.items ≡ input) c.in-Run.is c.in-Ok-read_input.ensures.given in
+    completes c.one_command_law.ensures c.args.words.now run c.as_slice.result.now source_old source_new
+    (Rose (g.W.Sink.seen c.args.sink.now).faults (g.W.Sink.seen c.answer.new.sink).faults) c.answer.result here (λ input told. c.as_slice.ensures.value ∙ given input told)
+    (unless_failed (EndsAs run c.as_slice.result.now c.answer.result) (c.answer.result ≡ WriteFault) (c.answer.result ≡ NoMemory)
+    (Rose (g.W.Sink.seen c.args.sink.now).faults (g.W.Sink.seen c.answer.new.sink).faults) c.answer.ensures.answers c.answer.ensures.write_fault)
+
+pub returns-in-Run-clause-make_unread : goal.returns-in-Run-clause-make_unread
+returns-in-Run-clause-make_unread g c = λ m. c.read_input.ensures.unread (making_here c.one_command_law.ensures c.args.words.now c.in-Ok.command c.in-Ok.ensures.ok m)
+
+pub returns-in-Check-clause-complete : goal.returns-in-Check-clause-complete
+returns-in-Check-clause-complete g c =
+    let source_old = g.R.Source.seen c.args.source.now in
+    let source_new = g.R.Source.seen c.read_input.new.source in
+    let here : IsCommandOf c.args.words.now Check = subst (λ (command : Command). IsCommandOf c.args.words.now command) c.in-Check.is c.in-Ok.ensures.ok in
+    let given : (input : List ℕ) → IsGiven Check source_old source_new input → c.in-Ok-read_input.input.items ≡ input =
+    subst (λ (command : Command). (input : List ℕ) → IsGiven command source_old source_new input → c.in-Ok-read_input.input.items ≡ input) c.in-Check.is c.in-Ok-read_input.ensures.given in
+    completes c.one_command_law.ensures c.args.words.now Check c.as_slice-in-Check.result.now source_old source_new
+    (Rose (g.W.Sink.seen c.args.sink.now).faults (g.W.Sink.seen c.judge.new.sink).faults) c.judge.result here (λ input told. c.as_slice-in-Check.ensures.value ∙ given input told)
+    (unless_failed (EndsAs Check c.as_slice-in-Check.result.now c.judge.result) (c.judge.result ≡ WriteFault) (c.judge.result ≡ NoMemory)
+    (Rose (g.W.Sink.seen c.args.sink.now).faults (g.W.Sink.seen c.judge.new.sink).faults) c.judge.ensures.answers c.judge.ensures.write_fault)
+
+pub returns-in-Check-clause-make_unread : goal.returns-in-Check-clause-make_unread
+returns-in-Check-clause-make_unread g c = λ m. c.read_input.ensures.unread (making_here c.one_command_law.ensures c.args.words.now c.in-Ok.command c.in-Ok.ensures.ok m)
+
+pub returns-clause-complete : goal.returns-clause-complete
+returns-clause-complete g c =
+    let source_old = g.R.Source.seen c.args.source.now in
+    let source_new = g.R.Source.seen c.read_input.new.source in
+    let make : Command = Make c.in-Make.number c.in-Make.streams c.in-Make.summary c.in-Make.gap c.in-Make.sweeps in
+    let here : IsCommandOf c.args.words.now make = subst (λ (command : Command). IsCommandOf c.args.words.now command) c.in-Make.is c.in-Ok.ensures.ok in
+    let given : (input : List ℕ) → IsGiven make source_old source_new input → c.in-Ok-read_input.input.items ≡ input =
+    subst (λ (command : Command). (input : List ℕ) → IsGiven command source_old source_new input → c.in-Ok-read_input.input.items ≡ input) c.in-Make.is c.in-Ok-read_input.ensures.given in
+    completes c.one_command_law.ensures c.args.words.now make c.in-Ok-read_input.input.items source_old source_new
+    (Rose (g.W.Sink.seen c.args.sink.now).faults (g.W.Sink.seen c.make_session.new.sink).faults) c.make_session.result here given c.make_session.ensures.complete

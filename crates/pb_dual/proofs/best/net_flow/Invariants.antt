@@ -5,6 +5,6 @@ use Rattle.pb_dual.proofs.best.net_flow.Given as goal
 
 abbrev pub invariant-loop-stream : goal.invariant-loop-stream
 invariant-loop-stream l = record {
-  so_far : l.total ≡ border_flow l.prices l.group (take l.stream-index l.border);
+  so_far : l.total ≡ border_flow l.flows (take l.stream-index l.border);
   small : unsigned_abs l.total ≤ l.stream-index * most_dual_flow;
 }

@@ -10,11 +10,11 @@ abbrev some_stream : Stream
 some_stream = record { from = 0; to = 0; meas = None }
 
 -- each group has its border of one stream more
-pub loop-stream-preserved : goal.loop-stream-preserved
-loop-stream-preserved c k lt =
+pub loop-j-preserved : goal.loop-j-preserved
+loop-j-preserved c k lt =
     let group = c.args.group.now in
     let ss = c.args.streams.now in
-    let j = c.loop-stream.stream-index in
-    c.in_ok-add_stream.ensures k (omega (arith, lt, c.loop-stream.auto.borders))
-    ∙ ap (λ (l : List BorderStream). l ++ option_to_list (seen_at group k (get_or ss j some_stream))) (c.loop-stream.invariant k lt)
-    ∙ sym (border_more group k j ss some_stream c.loop-stream-test.true)
+    let j = c.loop-j.j in
+    c.in_ok-add_stream.ensures k (omega (arith, lt, c.loop-j.auto.borders))
+    ∙ ap (λ (l : List BorderStream). l ++ option_to_list (seen_at group k j (get_or ss j some_stream))) (c.loop-j.invariant k lt)
+    ∙ sym (border_more group k j ss some_stream c.loop-j-test.true)

@@ -1,6 +1,5 @@
-use Rattle.std.proofs.Common.{FitsSigned, arith}
+use Rattle.std.proofs.Common.{FitsSigned}
 use mir.Syntax.{w128}
-use Rattle.std.proofs.lemmas.Int.{ints}
 use Rattle.std.proofs.Math.Facts.{to_z-of_z}
 use Rattle.pb_graph.specs.Prices.{rise_of}
 use Rattle.pb_gap.proofs.Widths.{deviation_is, rooted}

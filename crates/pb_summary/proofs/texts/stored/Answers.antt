@@ -10,9 +10,9 @@ loop-i-preserved c =
     let i = c.loop-i.i in
     let lt : i < length rows = omega (arith, c.loop-i-test.true, c.loop-i.invariant.end) in
     let at : c.at.result.now ≡ get_or rows i [] = c.at.ensures in
-    let new_is = c.in_ok-row.ensures.stored ∙ ap (state_after c.loop-i.session (i + 1)) at in
+    let new_is = c.in_ok-row.ensures.stored ∙ ap (state_after c.loop-i.session.state (i + 1)) at in
     record {
-      so_far = state_more (new_session c.args.options) c.loop-i.session c.row.new.self rows i lt c.loop-i.invariant.so_far new_is;
+      so_far = state_more (new_session c.args.options) c.loop-i.session.state c.row.new.self.state rows i lt c.loop-i.invariant.so_far new_is;
       end = c.loop-i.invariant.end;
     }
 

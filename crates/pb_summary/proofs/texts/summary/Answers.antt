@@ -44,7 +44,7 @@ summed-requires c =
     let rows = c.in_ok-rows.rows in
     let rows_is : rows ≡ session_rows c.args.number c.args.streams =
     c.in_ok-rows.ensures.records ∙ ap records_of (c.deref.ensures.value ∙ c.in_ok-make.ensures.value) ∙ c.reads_back_law.ensures c.args.number c.args.streams in
-    let state_is : c.in_ok-session.session ≡ state = c.in_ok-session.ensures
+    let state_is : c.in_ok-session.session.state ≡ state = c.in_ok-session.ensures
     ∙ ap (λ (o : Options). state_after_all (new_session o) 1 (take (length rows - 1) rows)) c.made_options.ensures
     ∙ ap (state_after_all start 1) (all_but_last rows stored report_row rows_is) in
     let has : HasMadePeriod state.rows = holds_after HasMadePeriod start 1 stored (c.period_law.ensures c.args.number c.args.streams c.requires.least c.requires.most) in
@@ -59,10 +59,10 @@ returns c =
     let rows = c.in_ok-rows.rows in
     let rows_is : rows ≡ session_rows number streams =
     c.in_ok-rows.ensures.records ∙ ap records_of (c.deref.ensures.value ∙ c.in_ok-make.ensures.value) ∙ c.reads_back_law.ensures number streams in
-    let state_is : c.in_ok-session.session ≡ state = c.in_ok-session.ensures
+    let state_is : c.in_ok-session.session.state ≡ state = c.in_ok-session.ensures
     ∙ ap (λ (o : Options). state_after_all (new_session o) 1 (take (length rows - 1) rows)) c.made_options.ensures
     ∙ ap (state_after_all start 1) (all_but_last rows (stored_rows number streams) report_row rows_is) in
-    let counted = subst (λ (n : ℕ). IfOk c.summed.result (λ text. SumsUp number streams n c.in_ok-session.session (slice_get (periods_of c.in_ok-session.session.rows) 0) text.items))
+    let counted = subst (λ (n : ℕ). IfOk c.summed.result (λ text. SumsUp number streams n c.in_ok-session.session.state (slice_get (periods_of c.in_ok-session.session.state.rows) 0) text.items))
     (c.len.ensures ∙ ap (λ (l : List (List (List ℕ))). length l) rows_is) c.summed.ensures in
     record {
       text = subst (λ (s : SessionState). IfOk c.summed.result (λ text. SumsUp number streams (length (session_rows number streams)) s (slice_get (periods_of s.rows) 0) text.items)) state_is counted;

@@ -18,7 +18,7 @@ over_sure j r is = λ other. cc (is, other)
 
 pub returns-in-Ok : goal.returns-in-Ok
 returns-in-Ok c =
-    let state = c.args.session.now in
+    let state = c.args.session.now.state in
     let stage = c.in-Ok.stage in
     let found = slice_get (periods_of state.rows) 0 in
     let begins = subst (Begins state found) c.in-Ok.is (c.first_stage.ensures.answer (ok_sure stage c.first_stage.result c.in-Ok.is)) in
@@ -26,13 +26,13 @@ returns-in-Ok c =
 
 pub stream_text-requires-clause-stream : goal.stream_text-requires-clause-stream
 stream_text-requires-clause-stream c =
-    let state = c.args.session.now in
+    let state = c.args.session.now.state in
     let over = is_over c.in-Err-Over.j c.in-Err-Over.field-0 c.first_stage.result c.in-Err-Over.is c.in-Err-Over.field-0-is in
     rw c.book.ensures (told_there state (slice_get (periods_of state.rows) 0) c.in-Err-Over.j c.first_stage.result over c.first_stage.ensures.over)
 
 pub returns-in-Err-Over : goal.returns-in-Err-Over
 returns-in-Err-Over c =
-    let state = c.args.session.now in
+    let state = c.args.session.now.state in
     let j = c.in-Err-Over.j in
     let found = slice_get (periods_of state.rows) 0 in
     let over = is_over j c.in-Err-Over.field-0 c.first_stage.result c.in-Err-Over.is c.in-Err-Over.field-0-is in

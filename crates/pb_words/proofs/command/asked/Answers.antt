@@ -1,7 +1,7 @@
 use Rattle.std.proofs.Common.{rules, ◌≡◌, Some, codes}
 use Rattle.clap.specs.Matches.{found_of, first_value}
 use Rattle.pb_words.specs.Given.{given_of}
-use Rattle.pb_words.proofs.CommandLemmas.{make_only, run_only}
+use Rattle.pb_words.proofs.CommandLemmas.{check_only, make_only, run_only}
 use Rattle.pb_words.proofs.command.asked.Goals as goal
 
 pub returns-in-Some-run-clause-none : goal.returns-in-Some-run-clause-none
@@ -13,3 +13,8 @@ pub returns-in-Some-make-clause-none : goal.returns-in-Some-make-clause-none
 returns-in-Some-make-clause-none c = λ none command asks.
     let mode : first_value (found_of c.args.matches.now) (codes "mode") ≡ Some (codes "make") = search rules in
     c.make_asked.ensures.none none command (make_only (given_of (first_value (found_of c.args.matches.now))) command mode asks)
+
+pub returns-in-Some-check-clause-none : goal.returns-in-Some-check-clause-none
+returns-in-Some-check-clause-none c = λ none command asks.
+    let mode : first_value (found_of c.args.matches.now) (codes "mode") ≡ Some (codes "check") = search rules in
+    c.check_asked.ensures.none none command (check_only (given_of (first_value (found_of c.args.matches.now))) command mode asks)

@@ -1,4 +1,4 @@
-use Rattle.std.proofs.Common.{pos, ◌^◌, ◌≤ℤ◌, arith}
+use Rattle.std.proofs.Common.{arith}
 use Rattle.std.proofs.lemmas.Int.{ints}
 use Rattle.pb_gap.proofs.Deviants.{gap_written}
 use Rattle.pb_gap.proofs.flow_pair.FlowPair.gap.Goals as goal

@@ -1,8 +1,8 @@
-use Rattle.std.proofs.Common.{◌≡◌, ◌∙◌, true, FitsSigned, ap, sym, subst, arith, rules}
+use Rattle.std.proofs.Common.{true, FitsSigned, subst, rules}
 use mir.Syntax.{w128}
 use Rattle.std.specs.Prelude.{IsTrue, ◌↔◌}
 use Rattle.std.proofs.Math.Facts.{to_z-of_z}
-use Rattle.pb_gap.specs.Gap.{Gap, MeetsGap, gap_of}
+use Rattle.pb_gap.specs.Gap.{Gap, MeetsGap}
 use Rattle.pb_gap.proofs.Deviants.{gap_written, not_near}
 use Rattle.pb_gap.proofs.flow_pair.FlowPair.is_met.Goals as goal
 

@@ -1,21 +1,13 @@
-use Rattle.std.proofs.Common.{◌≡◌, ◌∙◌, ℤ, List, ap₂, subst}
+use Rattle.std.proofs.Common.{◌≡◌}
 use Rattle.pb_gap.specs.Gap.{Gap}
-use Rattle.pb_gap.specs.State.{IsState}
-use Rattle.pb_gap.specs.FlowPair.{PairedFlows}
-use Rattle.pb_gap.proofs.Iterates.{at_state, state_of}
+use Rattle.pb_gap.proofs.Iterates.{at_state, paired}
 use Rattle.pb_gap.proofs.iterate.Iterate.gap.Goals as goal
 
 pub returns-clause-gap : goal.returns-clause-gap
 returns-clause-gap c =
     let i = c.self.inside in
-    let is : c.new-pair.result ≡ record { graph = i.graph; dual_flows = i.dual_flows.items; flows = i.flows.items } =
-    c.new-pair.ensures ∙ ap₂ (λ (us xs : List ℤ). record { graph = i.graph; dual_flows = us; flows = xs }) c.deref-2.ensures.value c.deref-3.ensures.value in
+    let is = paired c.graph.result.now i.dual c.dual_flows.result.now c.deref-2.result.now i.flows.items c.new-pair.result c.new-pair.ensures c.graph.ensures c.dual_flows.ensures.value c.deref-2.ensures.value in
     record {
-      value = at_state (λ (gap : Gap). c.gap.result ≡ gap) c.args.self.now i.graph i.forest i.dual i.dual_flows.items i.flows.items c.new-pair.result c.self.view_is c.self.invariant.belong is c.gap.ensures.value;
+      value = at_state (λ (gap : Gap). c.gap.result ≡ gap) c.args.self.now i.dual i.flows.items c.new-pair.result c.self.view_is is c.gap.ensures.value;
       range = c.gap.ensures.range;
     }
-
-pub returns-clause-state : goal.returns-clause-state
-returns-clause-state c =
-    let i = c.self.inside in
-    subst IsState c.self.view_is (state_of i.graph i.groups i.forest i.dual i.dual_flows.items i.flows.items c.self.invariant.parts c.self.invariant.belong)

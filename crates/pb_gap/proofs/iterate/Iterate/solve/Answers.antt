@@ -1,57 +1,97 @@
-use Rattle.std.proofs.Common.{◌≡◌, ◌∙◌, ℕ, suc, ◌+◌, ap, subst, sym, arith, rules}
-use Rattle.pb_gap.specs.State.{IsStateAfter, State, price_in}
+use Rattle.std.proofs.Common.{◌≡◌, ℕ, suc, ◌+◌, ap, refl, subst, arith, rules}
+use Rattle.pb_gap.specs.State.{price_in}
 use Rattle.pb_gap.specs.Solution.{IsMetAfter}
-use Rattle.pb_gap.proofs.States.{met_here, misses_here, misses_more, misses_to, next_state}
+use Rattle.pb_gap.proofs.States.{misses_more, misses_to}
+use Rattle.pb_gap.proofs.Iterates.{state_at}
+use Rattle.pb_gap.proofs.SolveLemmas.{HasSamePrices, IsPricedAfter, idle_now, kept_prices, met_now, missed_now, swept_prices}
 use Rattle.pb_gap.proofs.iterate.Iterate.solve.Goals as goal
 
 pub loop-k-preserved : goal.loop-k-preserved
 loop-k-preserved c =
     let g = c.args.self.now.graph in
+    let group = c.args.self.now.group in
     let k = c.loop-k.k in
-    let s = c.loop-k.self in
-    let t = c.is_met.new.self in
     let inv = c.loop-k.invariant in
-    let graph : t.graph ≡ g = ap (λ (v : State). v.graph) c.is_met.ensures.same ∙ inv.graph in
-    let group = ap (λ (v : State). v.group) c.is_met.ensures.same ∙ inv.group in
-    let here = misses_here g c.args.gap k s c.is_met.result inv.graph inv.after c.is_met.ensures.met c.if-is_met.false in
-    let missed = misses_more g c.args.gap k inv.missed here in
+    let met = c.is_met.ensures in
+    let before : IsPricedAfter g group k c.loop-k.self = record { graph = inv.graph; numbers = inv.group; groups = inv.groups; after = inv.after } in
+    let same : HasSamePrices c.loop-k.self c.is_met.new.self = record { graph = met.graph; numbers = met.group; prices = met.prices } in
+    let next = swept_prices g group k c.is_met.new.self c.sweep.new.self (kept_prices g group k c.loop-k.self c.is_met.new.self before same) c.sweep.ensures.graph c.sweep.ensures.group c.sweep.ensures.after in
+    let missed = misses_more g c.args.gap k inv.missed (missed_now g group c.args.gap k c.loop-k.self c.is_met.result before met.far c.if-is_met.false) in
     let e : suc k ≡ k + 1 = omega arith in
+    let there = subst (λ (n : ℕ). IsPricedAfter g group n c.sweep.new.self) e next in
     record {
-      graph = c.sweep.ensures.graph ∙ graph;
-      group = c.sweep.ensures.group ∙ group;
-      after = next_state g k s t c.sweep.new.self inv.graph c.is_met.ensures.same inv.after c.sweep.ensures.after;
+      graph = there.graph;
+      group = there.numbers;
+      groups = inv.groups;
+      after = there.after;
       missed = misses_to g c.args.gap (suc k) (k + 1) e missed;
     }
+
+pub returns-then-is_met-clause-solution : goal.returns-then-is_met-clause-solution
+returns-then-is_met-clause-solution c =
+    let g = c.args.self.now.graph in
+    let group = c.args.self.now.group in
+    let k = c.loop-k.k in
+    let inv = c.loop-k.invariant in
+    let met = c.is_met.ensures in
+    let before : IsPricedAfter g group k c.loop-k.self = record { graph = inv.graph; numbers = inv.group; groups = inv.groups; after = inv.after } in
+    let same : HasSamePrices c.loop-k.self c.is_met.new.self = record { graph = met.graph; numbers = met.group; prices = met.prices } in
+    record {
+      within = omega (arith, c.loop-k-test.true);
+      least = inv.missed;
+      here = met_now g group c.args.gap k c.is_met.new.self c.is_met.result (kept_prices g group k c.loop-k.self c.is_met.new.self before same) met.state met.met c.if-is_met.true;
+    }
+
+pub returns-then-not-sweep-clause-solution : goal.returns-then-not-sweep-clause-solution
+returns-then-not-sweep-clause-solution c =
+    let g = c.args.self.now.graph in
+    let group = c.args.self.now.group in
+    let k = c.loop-k.k in
+    let inv = c.loop-k.invariant in
+    let met = c.is_met.ensures in
+    let settled = c.settle.ensures in
+    let before : IsPricedAfter g group k c.loop-k.self = record { graph = inv.graph; numbers = inv.group; groups = inv.groups; after = inv.after } in
+    let same : HasSamePrices c.loop-k.self c.is_met.new.self = record { graph = met.graph; numbers = met.group; prices = met.prices } in
+    let here = kept_prices g group k c.loop-k.self c.is_met.new.self before same in
+    let next = swept_prices g group k c.is_met.new.self c.sweep.new.self here c.sweep.ensures.graph c.sweep.ensures.group c.sweep.ensures.after in
+    idle_now g group c.args.gap c.args.sweeps k c.is_met.new.self c.sweep.new.self c.settle.new.self here next (c.sweep.ensures.idle (search rules))
+    (record { graph = settled.graph; numbers = settled.group; prices = settled.prices }) settled.state c.loop-k-test.true inv.missed
+    (missed_now g group c.args.gap k c.loop-k.self c.is_met.result before met.far c.if-is_met.false)
 
 pub returns-then-is_met-2-clause-solution : goal.returns-then-is_met-2-clause-solution
 returns-then-is_met-2-clause-solution c =
     let g = c.args.self.now.graph in
+    let group = c.args.self.now.group in
     let k = c.loop-k.k in
-    let s = c.loop-k.self in
     let inv = c.loop-k.invariant in
+    let met = c.is_met-2.ensures in
     let end : k ≡ c.args.sweeps = omega (arith, c.loop-k-test.false, c.loop-k.auto.k-end) in
-    let here = met_here g c.args.gap k s c.is_met-2.result inv.graph inv.after c.is_met-2.ensures.met c.if-is_met-2.true in
-    let there : IsMetAfter g c.args.gap k (price_in c.is_met-2.new.self) c.is_met-2.new.self.flows =
-    subst (λ (v : State). IsMetAfter g c.args.gap k (price_in v) v.flows) (sym c.is_met-2.ensures.same) here in
+    let before : IsPricedAfter g group k c.loop-k.self = record { graph = inv.graph; numbers = inv.group; groups = inv.groups; after = inv.after } in
+    let same : HasSamePrices c.loop-k.self c.is_met-2.new.self = record { graph = met.graph; numbers = met.group; prices = met.prices } in
+    let here = met_now g group c.args.gap k c.is_met-2.new.self c.is_met-2.result (kept_prices g group k c.loop-k.self c.is_met-2.new.self before same) met.state met.met c.if-is_met-2.true in
     record {
       within = omega arith;
       least = misses_to g c.args.gap k c.args.sweeps end inv.missed;
-      here = subst (λ (n : ℕ). IsMetAfter g c.args.gap n (price_in c.is_met-2.new.self) c.is_met-2.new.self.flows) end there;
+      here = subst (λ (n : ℕ). IsMetAfter g c.args.gap n (price_in c.is_met-2.new.self) c.is_met-2.new.self.flows) end here;
     }
 
 pub returns-else-is_met-2-clause-solution : goal.returns-else-is_met-2-clause-solution
 returns-else-is_met-2-clause-solution c =
     let g = c.args.self.now.graph in
+    let group = c.args.self.now.group in
     let k = c.loop-k.k in
-    let s = c.loop-k.self in
     let inv = c.loop-k.invariant in
+    let met = c.is_met-2.ensures in
+    let settled = c.settle-else-is_met-2.ensures in
     let end : k ≡ c.args.sweeps = omega (arith, c.loop-k-test.false, c.loop-k.auto.k-end) in
-    let here = misses_here g c.args.gap k s c.is_met-2.result inv.graph inv.after c.is_met-2.ensures.met c.if-is_met-2.false in
-    let missed = misses_more g c.args.gap k inv.missed here in
-    let there : IsStateAfter g k (price_in c.is_met-2.new.self) c.is_met-2.new.self.flows =
-    subst (λ (v : State). IsStateAfter g k (price_in v) v.flows) (sym c.is_met-2.ensures.same) inv.after in
+    let before : IsPricedAfter g group k c.loop-k.self = record { graph = inv.graph; numbers = inv.group; groups = inv.groups; after = inv.after } in
+    let same : HasSamePrices c.loop-k.self c.is_met-2.new.self = record { graph = met.graph; numbers = met.group; prices = met.prices } in
+    let mid = kept_prices g group k c.loop-k.self c.is_met-2.new.self before same in
+    let there = subst (λ (n : ℕ). IsPricedAfter g group n c.settle-else-is_met-2.new.self) end
+    (kept_prices g group k c.is_met-2.new.self c.settle-else-is_met-2.new.self mid (record { graph = settled.graph; numbers = settled.group; prices = settled.prices })) in
+    let missed = misses_more g c.args.gap k inv.missed (missed_now g group c.args.gap k c.loop-k.self c.is_met-2.result before met.far c.if-is_met-2.false) in
     record {
-      done = search rules;
+      done = refl;
       none = misses_to g c.args.gap (suc k) (suc c.args.sweeps) (ap suc end) missed;
-      here = subst (λ (n : ℕ). IsStateAfter g n (price_in c.is_met-2.new.self) c.is_met-2.new.self.flows) end there;
+      here = state_at c.settle-else-is_met-2.new.self g group c.args.sweeps there.graph settled.state there.groups there.after;
     }

@@ -16,10 +16,10 @@ returns-clause-value c =
     let s = c.self.inside.iterate in
     let ms = c.args.members.now in
     c.bounds.ensures.value (price_in s) c.pair.ensures.prices
-    ∙ ap₂ (λ (g : ProcessGraph) (gap : Gap). bounds_of (price_in s) g.streams gap ms) c.pair.ensures.graph c.self.invariant.value
+    ∙ ap₂ (λ (g : ProcessGraph) (gap : Gap). bounds_of (price_in s) g.streams gap ms) c.pair.ensures.graph c.self.invariant.measure.value
     ∙ ap (λ (s : State). bounds_of (price_in s) s.graph.streams (gap_in s) ms) c.self.view_is
 
 pub returns-clause-enclosure : goal.returns-clause-enclosure
 returns-clause-enclosure c x balanced no_worse =
     subst (λ (b : Bounds). IsWithin x c.args.members.now b) (sym (returns-clause-value c))
-    (state_enclosed c.args.self.now x c.args.members.now (subst IsState c.self.view_is c.pair.ensures.state) balanced no_worse c.requires)
+    (state_enclosed c.args.self.now x c.args.members.now (subst IsState c.self.view_is c.self.invariant.is) balanced no_worse c.requires)

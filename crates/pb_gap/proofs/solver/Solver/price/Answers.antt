@@ -4,4 +4,4 @@ use Rattle.pb_gap.proofs.Iterates.{outside}
 use Rattle.pb_gap.proofs.solver.Solver.price.Goals as goal
 
 pub returns-clause-outside : goal.returns-clause-outside
-returns-clause-outside c n past = outside c.args.self.now n (subst IsState c.self.view_is c.price.ensures.state) past
+returns-clause-outside c n past = outside c.args.self.now n (subst IsState c.self.view_is c.self.invariant.is) past

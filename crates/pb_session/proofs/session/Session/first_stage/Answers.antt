@@ -6,6 +6,7 @@ use Rattle.pb_period.specs.Days.{days_of}
 use Rattle.pb_period.specs.declared.graph.Assembly.{Assembly}
 use Rattle.pb_period.specs.declared.graph.Assembly.TheVariants.{NoMemory}
 use Rattle.pb_period.specs.PeriodGraph.{NamesAStream, assembly_of}
+use Rattle.pb_session.specs.Kept.{Held}
 use Rattle.pb_session.specs.Session.{SessionState}
 use Rattle.pb_session.proofs.FirstStageLemmas.{begins_at, begins_by, tells_none, tells_why}
 use Rattle.pb_session.proofs.session.Session.first_stage.Goals as goal
@@ -23,9 +24,9 @@ moved rows state i r is holds = subst (λ (rs : List StoredRow). IfSome (slice_g
 
 pub returns-in-Ok : goal.returns-in-Ok
 returns-in-Ok c =
-    let state = c.args.self.now in
+    let state = c.args.self.now.state in
     let graph = c.in-Ok.graph in
-    let rows_is : c.self.inside.book ≡ state.rows = ap (λ (s : SessionState). s.rows) c.self.view_is in
+    let rows_is : c.self.inside.book ≡ state.rows = ap (λ (h : Held). h.state.rows) c.self.view_is in
     let holds = moved c.self.inside.book state c.args.period c.assemble.result rows_is (c.assemble.ensures.answer (ok_sure graph c.assemble.result c.in-Ok.is)) in
     record {
       answer = λ sure. begins_at state c.args.period (Ok graph) c.assemble.result c.stage_of.result c.requires c.in-Ok.is holds
@@ -35,10 +36,10 @@ returns-in-Ok c =
 
 pub returns-in-Err : goal.returns-in-Err
 returns-in-Err c =
-    let state = c.args.self.now in
+    let state = c.args.self.now.state in
     let why : Assembly = c.in-Err.why in
     let told : Result Stage Assembly = Err why in
-    let rows_is : c.self.inside.book ≡ state.rows = ap (λ (s : SessionState). s.rows) c.self.view_is in
+    let rows_is : c.self.inside.book ≡ state.rows = ap (λ (h : Held). h.state.rows) c.self.view_is in
     let named = subst (λ (rs : List StoredRow). IfSome (slice_get (periods_of rs) c.args.period) (λ period. IfErr c.assemble.result (NamesAStream rs (days_of period)))) rows_is c.assemble.ensures.over in
     record {
       answer = λ sure.

@@ -1,12 +1,18 @@
-use Rattle.std.proofs.Common.{◌≡◌, ◌≢◌, ◌∙◌, List, OnErr, Result, Ok, Err, true, sym, ap, subst}
+use Rattle.std.proofs.Common.{◌≡◌, ◌≢◌, ◌∙◌, ◌≤◌, List, length, OnErr, Result, Ok, Err, true, refl, sym, ap, ap₂, subst}
+use Rattle.std.specs.List.{AllByRecursion}
 use Rattle.pb_book.specs.declared.answer.Accepted.{Accepted}
 use Rattle.pb_book.specs.declared.answer.Refused.{Refused as Refusal}
 use Rattle.pb_book.specs.declared.answer.NotAccepted.{NotAccepted}
 use Rattle.pb_book.specs.declared.answer.NotAccepted.TheVariants.{Refused as NotAcceptedFor, NoMemory}
 use Rattle.pb_book.specs.Rows.{StoredRow}
 use Rattle.pb_book.specs.Answer.{Answer, Refused, after, after_answer, answer_of, is_refused}
+use Rattle.pb_session.specs.declared.kept.KeptStudy.{KeptStudy}
+use Rattle.pb_session.specs.Keeping.{IsKeptStudy, held_of, left_by}
+use Rattle.pb_session.specs.Kept.{Held, Keeps, KeepsAccepted, KeepsBy, most_kept, reported_after}
 use Rattle.pb_session.specs.Session.{AddsBy, Adds, SessionState, state_after}
-use Rattle.pb_session.proofs.RowLemmas.{accepted_adds, answers, of_periods, refused_is}
+use Rattle.pb_session.proofs.KeepingLemmas.{keeps_by, left_few, left_kept, left_other, reported_still, said, state_with}
+use Rattle.pb_session.proofs.KeptLemmas.{periods_in}
+use Rattle.pb_session.proofs.RowLemmas.{accepted_adds, answers, of_periods, refused_is, unchanged_by}
 use Rattle.pb_session.proofs.session.Session.row.Goals as goal
 
 -- what the book says is no want of memory
@@ -29,22 +35,94 @@ write-requires c =
     let said = sym c.in-Ok.is ∙ c.accept.ensures.answer sure in
     of_periods c.self.inside.book c.accept.new.self c.args.at (answer_of c.self.inside.book c.args.row.now) c.in-Ok.accepted said (answers c.self.inside.book c.args.row.now) (c.accept.ensures.stored sure)
 
+-- what is kept behind the row is that of the rows stored then
+pub invariant_of-self : goal.invariant_of-self
+invariant_of-self c =
+    let state : SessionState = record { options = c.self.inside.options; form = c.self.inside.form; rows = c.self.inside.book } in
+    let kept = c.self.inside.kept.items in
+    let rows = c.accept.new.self in
+    let accepted = c.in-Ok.accepted in
+    let sure = accepted_sure accepted c.accept.result c.in-Ok.is in
+    let said_is = sym c.in-Ok.is ∙ c.accept.ensures.answer sure in
+    let answer = answer_of state.rows c.args.row.now in
+    let left = c.drop_touched.ensures in
+    let studies = left_kept c.untouched_law.ensures state rows c.args.at answer accepted kept said_is (said state.rows c.args.row.now) (c.accept.ensures.stored sure) c.ids_law.ensures c.self.invariant.studies in
+    record {
+      options = c.self.invariant.options;
+      studies = subst (AllByRecursion (IsKeptStudy (state_with state rows))) (sym left) studies;
+      few = subst (λ (ks : List KeptStudy). length ks ≤ most_kept) (sym left) (left_few accepted rows kept c.self.invariant.few);
+      classes = c.self.invariant.classes;
+    }
+
+pub returns-in_err-write-in-Ok-clause-err : goal.returns-in_err-write-in-Ok-clause-err
+returns-in_err-write-in-Ok-clause-err c =
+    let state : SessionState = record { options = c.self.inside.options; form = c.self.inside.form; rows = c.self.inside.book } in
+    let kept = c.self.inside.kept.items in
+    let classes = c.self.inside.classes in
+    let accepted = c.in-Ok.accepted in
+    let sure = accepted_sure accepted c.accept.result c.in-Ok.is in
+    let said_is = sym c.in-Ok.is ∙ c.accept.ensures.answer sure in
+    let answer = answer_of state.rows c.args.row.now in
+    let other = c.in_err-write-in-Ok.ensures.sure in
+    let rows_stay : c.accept.new.self ≡ state.rows = c.accept.ensures.stored sure ∙ unchanged_by state.rows c.args.at answer accepted said_is other in
+    let kept_stay : c.drop_touched.new.kept.items ≡ kept = c.drop_touched.ensures ∙ left_other accepted c.accept.new.self kept other in
+    let same : held_of (state_with state c.accept.new.self) c.drop_touched.new.kept.items classes ≡ held_of state kept classes =
+    ap₂ (λ (rows : List StoredRow) (ks : List KeptStudy). held_of (state_with state rows) ks classes) rows_stay kept_stay in
+    on_err _ _ (c.in_err-write-in-Ok.ensures.err ∙ same ∙ c.self.view_is)
+
 pub returns-in_ok-write-in-Ok-clause-ok : goal.returns-in_ok-write-in-Ok-clause-ok
 returns-in_ok-write-in-Ok-clause-ok c =
     let state : SessionState = record { options = c.self.inside.options; form = c.self.inside.form; rows = c.self.inside.book } in
-    let new : SessionState = record { options = c.self.inside.options; form = c.self.inside.form; rows = c.accept.new.self } in
+    let new : SessionState = state_with state c.accept.new.self in
     let sure = accepted_sure c.in-Ok.accepted c.accept.result c.in-Ok.is in
-    let said = sym c.in-Ok.is ∙ c.accept.ensures.answer sure in
+    let said_is = sym c.in-Ok.is ∙ c.accept.ensures.answer sure in
     let answer = answer_of c.self.inside.book c.args.row.now in
-    let new_is : new ≡ record { options = state.options; form = state.form; rows = after_answer state.rows c.args.at answer } =
-    ap (λ (rows : List StoredRow). record { options = state.options; form = state.form; rows = rows }) (c.accept.ensures.stored sure) in
+    let new_is : new ≡ state_with state (after_answer state.rows c.args.at answer) = ap (state_with state) (c.accept.ensures.stored sure) in
     let (text, written, adds) = c.in_ok-write-in-Ok.ensures.ok in
-    let here : Adds state c.args.at c.args.row.now text = accepted_adds state new c.args.at answer c.in-Ok.accepted text said new_is adds in
-    (text, written, subst (λ (s : SessionState). Adds s c.args.at c.args.row.now text) c.self.view_is here)
+    let here : Adds state c.args.at c.args.row.now text = accepted_adds state new c.args.at answer c.in-Ok.accepted text said_is new_is adds in
+    (text, written, subst (λ (h : Held). Adds h.state c.args.at c.args.row.now text) c.self.view_is here)
+
+pub returns-in_ok-write-in-Ok-clause-stored : goal.returns-in_ok-write-in-Ok-clause-stored
+returns-in_ok-write-in-Ok-clause-stored c =
+    let state : SessionState = record { options = c.self.inside.options; form = c.self.inside.form; rows = c.self.inside.book } in
+    let sure = accepted_sure c.in-Ok.accepted c.accept.result c.in-Ok.is in
+    c.in_ok-write-in-Ok.ensures.state ∙ ap (state_with state) (c.accept.ensures.stored sure) ∙ ap (λ (h : Held). state_after h.state c.args.at c.args.row.now) c.self.view_is
+
+pub returns-in_ok-write-in-Ok-clause-kept : goal.returns-in_ok-write-in-Ok-clause-kept
+returns-in_ok-write-in-Ok-clause-kept c =
+    let state : SessionState = record { options = c.self.inside.options; form = c.self.inside.form; rows = c.self.inside.book } in
+    let kept = c.self.inside.kept.items in
+    let rows = c.accept.new.self in
+    let accepted = c.in-Ok.accepted in
+    let sure = accepted_sure accepted c.accept.result c.in-Ok.is in
+    let said_is = sym c.in-Ok.is ∙ c.accept.ensures.answer sure in
+    let answer = answer_of state.rows c.args.row.now in
+    let after = c.write.new.self.kept in
+    let left = c.drop_touched.ensures in
+    let keeps : KeepsAccepted (state_with state rows) (periods_in (left_by accepted rows kept)) accepted after =
+    subst (λ (ks : List KeptStudy). KeepsAccepted (state_with state rows) (periods_in ks) accepted after) left c.in_ok-write-in-Ok.ensures.kept in
+    let here : Keeps state (periods_in kept) c.args.at c.args.row.now after =
+    keeps_by state rows c.args.at answer accepted kept after said_is (said state.rows c.args.row.now) (c.accept.ensures.stored sure) keeps in
+    subst (λ (h : Held). Keeps h.state h.kept c.args.at c.args.row.now after) c.self.view_is here
+
+pub returns-in_ok-write-in-Ok-clause-reported : goal.returns-in_ok-write-in-Ok-clause-reported
+returns-in_ok-write-in-Ok-clause-reported c =
+    let state : SessionState = record { options = c.self.inside.options; form = c.self.inside.form; rows = c.self.inside.book } in
+    let held = held_of state c.self.inside.kept.items c.self.inside.classes in
+    let accepted = c.in-Ok.accepted in
+    let sure = accepted_sure accepted c.accept.result c.in-Ok.is in
+    let said_is = sym c.in-Ok.is ∙ c.accept.ensures.answer sure in
+    let answer = answer_of state.rows c.args.row.now in
+    let still = reported_still state c.accept.new.self c.args.at answer accepted held.reported said_is (c.accept.ensures.stored sure) in
+    c.in_ok-write-in-Ok.ensures.reported ∙ still ∙ ap (λ (h : Held). reported_after h.state h.reported (answer_of h.state.rows c.args.row.now)) c.self.view_is
 
 pub returns-in_ok-refuse-in-Err-Refused : goal.returns-in_ok-refuse-in-Err-Refused
 returns-in_ok-refuse-in-Err-Refused c =
     let state : SessionState = record { options = c.self.inside.options; form = c.self.inside.form; rows = c.self.inside.book } in
+    let kept = c.self.inside.kept.items in
+    let classes = c.self.inside.classes in
+    let held = held_of state kept classes in
+    let new = held_of (state_with state c.accept.new.self) kept classes in
     let cause = c.in-Err-Refused.cause in
     let is_for = refused_for cause c.in-Err-Refused.field-0 c.accept.result c.in-Err-Refused.is c.in-Err-Refused.field-0-is in
     let sure = refused_sure cause c.accept.result is_for in
@@ -54,13 +132,15 @@ returns-in_ok-refuse-in-Err-Refused c =
     let here : Adds state c.args.at c.args.row.now text = subst (λ (a : Answer). AddsBy state c.args.at a text) (sym answer_is) is in
     let refused_now : true ≡ is_refused answer = sym (ap is_refused answer_is) in
     let rows_stay : c.accept.new.self ≡ after c.self.inside.book c.args.at c.args.row.now = c.accept.ensures.stored sure in
-    let new : SessionState = record { options = c.self.inside.options; form = c.self.inside.form; rows = c.accept.new.self } in
-    let new_is : new ≡ state_after state c.args.at c.args.row.now =
-    ap (λ (rows : List StoredRow). record { options = c.self.inside.options; form = c.self.inside.form; rows = rows }) rows_stay in
+    let stored : new.state ≡ state_after held.state c.args.at c.args.row.now = ap (state_with state) rows_stay in
+    let keeps : Keeps held.state held.kept c.args.at c.args.row.now new.kept = subst (λ (a : Answer). KeepsBy state held.kept c.args.at a held.kept) (sym answer_is) refl in
+    let reports : new.reported ≡ reported_after held.state held.reported (answer_of held.state.rows c.args.row.now) = sym (ap (reported_after state held.reported) answer_is) in
     record {
-      ok = (text, written, subst (λ (s : SessionState). Adds s c.args.at c.args.row.now text) c.self.view_is here);
-      refused = subst (λ (s : SessionState). true ≡ is_refused (answer_of s.rows c.args.row.now)) c.self.view_is refused_now;
-      stored = subst (λ (s : SessionState). new ≡ state_after s c.args.at c.args.row.now) c.self.view_is new_is;
+      ok = (text, written, subst (λ (h : Held). Adds h.state c.args.at c.args.row.now text) c.self.view_is here);
+      refused = subst (λ (h : Held). true ≡ is_refused (answer_of h.state.rows c.args.row.now)) c.self.view_is refused_now;
+      stored = subst (λ (h : Held). new.state ≡ state_after h.state c.args.at c.args.row.now) c.self.view_is stored;
+      kept = subst (λ (h : Held). Keeps h.state h.kept c.args.at c.args.row.now new.kept) c.self.view_is keeps;
+      reported = subst (λ (h : Held). new.reported ≡ reported_after h.state h.reported (answer_of h.state.rows c.args.row.now)) c.self.view_is reports;
       err = tt;
       err_out = tt;
     }
@@ -74,7 +154,6 @@ returns-in_err-refuse-in-Err-Refused-clause-err c =
     let answer_is : answer ≡ Refused cause = refused_is answer cause (sym is_for ∙ c.accept.ensures.answer sure) in
     let rows_stay : c.accept.new.self ≡ c.self.inside.book = c.accept.ensures.stored sure ∙ ap (after_answer c.self.inside.book c.args.at) answer_is in
     let state : SessionState = record { options = c.self.inside.options; form = c.self.inside.form; rows = c.self.inside.book } in
-    let new : SessionState = record { options = c.self.inside.options; form = c.self.inside.form; rows = c.accept.new.self } in
-    let same : new ≡ state =
-    ap (λ (rows : List StoredRow). record { options = c.self.inside.options; form = c.self.inside.form; rows = rows }) rows_stay in
+    let held : List StoredRow → Held = λ rows. held_of (state_with state rows) c.self.inside.kept.items c.self.inside.classes in
+    let same : held c.accept.new.self ≡ held state.rows = ap held rows_stay in
     on_err _ _ (same ∙ c.self.view_is)

@@ -3,6 +3,7 @@ use Rattle.pb_graph.specs.declared.results.Critical.{Critical}
 use Rattle.pb_elim.specs.Stage.{IsStageOf}
 use Rattle.pb_session.specs.Criticals.{critical_of, declared_critical}
 use Rattle.pb_session.specs.FirstStage.{IsFirstStage}
+use Rattle.pb_session.specs.Kept.{Held}
 use Rattle.pb_session.specs.Session.{SessionState}
 use Rattle.pb_session.proofs.session.Session.stage_of.Goals as goal
 
@@ -18,4 +19,4 @@ returns c =
       limits = c.requires;
       is_stage = subst (λ (c : Critical). IsStageOf graph state.options c stage) same is;
     } in
-    record { stage = subst (λ (s : SessionState). IsFirstStage s graph stage) c.self.view_is at_state; err = tt }
+    record { stage = subst (λ (h : Held). IsFirstStage h.state graph stage) c.self.view_is at_state; err = tt }

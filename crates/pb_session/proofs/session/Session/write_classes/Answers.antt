@@ -3,6 +3,7 @@ use Rattle.std.proofs.lemmas.Option.{slice_get-get_or}
 use Rattle.pb_graph.proofs.CertificateLemmas.{witness_within}
 use Rattle.pb_report.specs.Form.{text_in}
 use Rattle.pb_report.specs.Design.{design_rows}
+use Rattle.pb_session.specs.Kept.{Held}
 use Rattle.pb_session.specs.Session.{IsDesign, SessionState}
 use Rattle.pb_session.proofs.AppendingLemmas.{appends_such}
 use Rattle.pb_session.proofs.session.Session.write_classes.Goals as goal
@@ -23,11 +24,11 @@ returns-clause-ok c =
     let graph = c.args.graph.now in
     let classes = c.in_ok-classes.classes in
     let text = text_in c.self.inside.form (design_rows names graph classes) in
-    let here : IsDesign c.args.self.now names graph text = record {
+    let here : IsDesign c.args.self.now.state names graph text = record {
       limits = c.requires.limits;
       named = c.requires.names;
       classes = classes;
       are = c.in_ok-classes.ensures;
-      rows = ap (λ (s : SessionState). text_in s.form (design_rows names graph classes)) c.self.view_is;
+      rows = ap (λ (h : Held). text_in h.state.form (design_rows names graph classes)) c.self.view_is;
     } in
-    appends_such _ (IsDesign c.args.self.now names graph) _ _ text here c.write_design.ensures.ok
+    appends_such _ (IsDesign c.args.self.now.state names graph) _ _ text here c.write_design.ensures.ok

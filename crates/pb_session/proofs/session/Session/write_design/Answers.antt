@@ -4,6 +4,7 @@ use Rattle.pb_graph.specs.ProcessGraph.{ProcessGraph}
 use Rattle.pb_site.specs.Site.{HasDistinctNames, names_of}
 use Rattle.pb_book.specs.Rows.{StoredRow, declared_of}
 use Rattle.pb_period.specs.PeriodGraph.{base_of, design_graph}
+use Rattle.pb_session.specs.Kept.{Held}
 use Rattle.pb_session.specs.Session.{AreNamesOf, IsDesign, SessionState}
 use Rattle.pb_session.proofs.AppendingLemmas.{appends_so}
 use Rattle.pb_session.proofs.NamedLemmas.{names_are}
@@ -18,9 +19,9 @@ write_classes-requires-clause-names c =
 
 pub returns-clause-ok : goal.returns-clause-ok
 returns-clause-ok c =
-    let state = c.args.self.now in
+    let state = c.args.self.now.state in
     let names = c.in_ok-names.names in
-    let rows_is : c.self.inside.book ≡ state.rows = ap (λ (s : SessionState). s.rows) c.self.view_is in
+    let rows_is : c.self.inside.book ≡ state.rows = ap (λ (h : Held). h.state.rows) c.self.view_is in
     let names_is : names ≡ names_of (declared_of state.rows) =
     c.in_ok-names.ensures.ok ∙ ap names_of c.site.ensures ∙ ap (λ (rows : List StoredRow). names_of (declared_of rows)) rows_is in
     let graph_is : c.in_ok-graph.graph ≡ design_graph state.rows = c.in_ok-graph.ensures ∙ ap design_graph rows_is in

@@ -1,100 +1,88 @@
-use Rattle.std.proofs.Common.{◌≡◌, ◌≢◌, ◌∙◌, ◌<◌, ◌∷◌, [], ℕ, List, length, Some, IfErr, Result, Ok, Err, slice_get, sym, ap, ap₂, subst}
-use Rattle.pb_rows.specs.declared.name.Names.{Names}
+use Rattle.std.proofs.Common.{◌≡◌, ◌∙◌, List, ℕ, Option, Some, None, slice_get, sym, ap, ap₂, subst}
+use Rattle.std.specs.Prelude.{option_map}
+use Rattle.pb_graph.specs.declared.records.Classified.{Classified}
+use Rattle.pb_graph.specs.declared.results.Study.{Study}
 use Rattle.pb_graph.specs.ProcessGraph.{ProcessGraph}
-use Rattle.pb_book.specs.declared.rows.Period.{Period}
-use Rattle.pb_book.specs.Rows.{StoredRow, periods_of}
-use Rattle.pb_period.specs.declared.days.Days.{Days}
-use Rattle.pb_period.specs.Days.{days_of}
-use Rattle.pb_period.specs.declared.graph.Assembly.{Assembly}
-use Rattle.pb_period.specs.declared.graph.Assembly.TheVariants.{Over, NoMemory}
-use Rattle.pb_period.specs.PeriodGraph.{NamesAStream, assembly_of, period_graph, period_names}
-use Rattle.pb_report.specs.declared.form.Form.{Form}
-use Rattle.pb_report.specs.Form.{text_in}
-use Rattle.pb_report.specs.Names.{name_at}
-use Rattle.pb_report.specs.Over.{over_row}
-use Rattle.pb_session.specs.Session.{IsReport, Reports, SessionState}
-use Rattle.pb_session.proofs.AppendingLemmas.{appends_so, appends_such}
-use Rattle.pb_session.proofs.NamedLemmas.{period_names_are, stream_named}
-use Rattle.pb_session.proofs.ReportLemmas.{at_found, reports_at}
+use Rattle.pb_book.specs.Rows.{periods_of}
+use Rattle.pb_session.specs.declared.classes.Classes.{Classes}
+use Rattle.pb_session.specs.declared.kept.KeptStudy.{KeptStudy}
+use Rattle.pb_session.specs.declared.session.Reported.{Reported}
+use Rattle.pb_session.specs.Keeping.{IsKeeping, IsReportedAt, held_of, others_than, renewed, settled}
+use Rattle.pb_session.specs.Kept.{Held, KeepsReportOf, reported_of}
+use Rattle.pb_session.specs.Session.{SessionState}
+use Rattle.pb_session.proofs.KeepingLemmas.{Settles, passes_over, settles}
+use Rattle.pb_session.proofs.KeptLemmas.{periods_in}
 use Rattle.pb_session.proofs.session.Session.write_report.Goals as goal
 
-ok_sure : (graph : ProcessGraph) (r : Result ProcessGraph Assembly) → r ≡ Ok graph → r ≢ Err NoMemory
-ok_sure graph r is = λ other. cc (is, other)
+-- what is held behind the row that names a stream over the limits
+none_held : (state : SessionState) (i : ℕ) (before kept new : List KeptStudy) (classes : Option Classes) (left : Option Reported) → before ≡ kept → left ≡ None → new ≡ others_than i before
+    → IsReportedAt (held_of state before classes) i (slice_get (periods_of state.rows) i) left → IsKeeping state kept classes
+    → Settles state i (slice_get (periods_of state.rows) i) kept classes new classes
+none_held state i before kept new classes left same none new_is leaves keeping =
+    let found = slice_get (periods_of state.rows) i in
+    let here : IsReportedAt (held_of state kept classes) i found None =
+    subst (λ (o : Option Reported). IsReportedAt (held_of state kept classes) i found o) none (subst (λ (ks : List KeptStudy). IsReportedAt (held_of state ks classes) i found left) same leaves) in
+    subst (λ (ks : List KeptStudy). Settles state i found kept classes ks classes) (sym (new_is ∙ ap (others_than i) same)) (passes_over state i kept classes here keeping)
 
-is_over : (j : ℕ) (why : Assembly) (r : Result ProcessGraph Assembly) → r ≡ Err why → why ≡ Over j → r ≡ Err (Over j)
-is_over j why r is why_is = cc (is, why_is)
+pub invariant_of-self-in-None : goal.invariant_of-self-in-None
+invariant_of-self-in-None c =
+    let state : SessionState = record { options = c.self.inside.options; form = c.self.inside.form; rows = c.self.inside.book } in
+    (none_held state c.args.i _ c.self.inside.kept.items c.drop_study.new.kept.items c.self.inside.classes c.in_ok-report.field-0 c.in_ok-reserve.ensures.items c.in-None.is c.drop_study.ensures.items
+    c.in_ok-report.ensures.leaves c.self.invariant).keeping
 
-over_sure : (j : ℕ) (r : Result ProcessGraph Assembly) → r ≡ Err (Over j) → r ≢ Err NoMemory
-over_sure j r is = λ other. cc (is, other)
-
--- the stream that is over the limits is one of the graph's
-over_within : (rows : List StoredRow) (days : Days) (j : ℕ) (r : Result ProcessGraph Assembly) → r ≡ Err (Over j) → IfErr r (NamesAStream rows days)
-    → j < length (period_graph rows days).streams
-over_within rows days j r is named = subst (λ (r : Result ProcessGraph Assembly). IfErr r (NamesAStream rows days)) is named
-
-pub write_graph-requires-clause-names : goal.write_graph-requires-clause-names
-write_graph-requires-clause-names c =
-    let rows = c.self.inside.book in
-    let period = c.period-period.result in
-    let found = slice_get (periods_of rows) c.args.i in
-    let names = c.in_ok-names.names in
-    let names_is = at_found found period (λ (p : Period). names ≡ period_names rows (days_of p)) c.period-period.ensures.value c.in_ok-names.ensures.ok in
-    let sure = ok_sure c.in-Ok.graph c.assemble.result c.in-Ok.is in
-    let answer_is = at_found found period (λ (p : Period). c.assemble.result ≡ assembly_of rows (days_of p)) c.period-period.ensures.value (c.assemble.ensures.answer sure) in
-    rw names_is (period_names_are rows (days_of period) c.in-Ok.graph c.in_ok-names.ensures.distinct (sym c.in-Ok.is ∙ answer_is))
-
-pub at-requires : goal.at-requires
-at-requires c =
-    let rows = c.self.inside.book in
-    let period = c.period-period.result in
-    let found = slice_get (periods_of rows) c.args.i in
-    let names = c.in_ok-names.names in
-    let names_is = at_found found period (λ (p : Period). names ≡ period_names rows (days_of p)) c.period-period.ensures.value c.in_ok-names.ensures.ok in
-    let is = is_over c.in-Err-Over.j c.in-Err-Over.field-0 c.assemble.result c.in-Err-Over.is c.in-Err-Over.field-0-is in
-    let named = at_found found period (λ (p : Period). IfErr c.assemble.result (NamesAStream rows (days_of p))) c.period-period.ensures.value c.assemble.ensures.over in
-    let there = stream_named rows (days_of period) c.in-Err-Over.j (over_within rows (days_of period) c.in-Err-Over.j c.assemble.result is named) in
-    subst (λ (n : Names). c.in-Err-Over.j < length n.streams) (sym names_is) there
-
-pub returns-in-Ok-clause-ok : goal.returns-in-Ok-clause-ok
-returns-in-Ok-clause-ok c =
-    let state = c.args.self.now in
-    let rows = c.self.inside.book in
+pub returns-in-None-clause-kept : goal.returns-in-None-clause-kept
+returns-in-None-clause-kept c =
+    let state : SessionState = record { options = c.self.inside.options; form = c.self.inside.form; rows = c.self.inside.book } in
     let i = c.args.i in
-    let period = c.period-period.result in
-    let found = slice_get (periods_of rows) i in
-    let names = c.in_ok-names.names in
-    let graph = c.in-Ok.graph in
-    let rows_is : rows ≡ state.rows = ap (λ (s : SessionState). s.rows) c.self.view_is in
-    let names_is = at_found found period (λ (p : Period). names ≡ period_names rows (days_of p)) c.period-period.ensures.value c.in_ok-names.ensures.ok in
-    let sure = ok_sure graph c.assemble.result c.in-Ok.is in
-    let answer_is = at_found found period (λ (p : Period). c.assemble.result ≡ assembly_of rows (days_of p)) c.period-period.ensures.value (c.assemble.ensures.answer sure) in
-    let at_now : slice_get (periods_of state.rows) i ≡ Some period = subst (λ (rs : List StoredRow). slice_get (periods_of rs) i ≡ Some period) rows_is c.period-period.ensures.value in
-    let names_now : names ≡ period_names state.rows (days_of period) = subst (λ (rs : List StoredRow). names ≡ period_names rs (days_of period)) rows_is names_is in
-    let answer_now : c.assemble.result ≡ assembly_of state.rows (days_of period) = subst (λ (rs : List StoredRow). c.assemble.result ≡ assembly_of rs (days_of period)) rows_is answer_is in
-    appends_so c.write_graph.result (IsReport state names period.name graph) (Reports state (slice_get (periods_of state.rows) i)) _ _
-    (λ t is. reports_at state i period (Ok graph) t at_now (sym c.in-Ok.is ∙ answer_now) (subst (λ (n : Names). IsReport state n period.name graph t) names_now is))
-    c.write_graph.ensures.ok
+    let new = c.drop_study.new.kept.items in
+    let s = none_held state i _ c.self.inside.kept.items new c.self.inside.classes c.in_ok-report.field-0 c.in_ok-reserve.ensures.items c.in-None.is c.drop_study.ensures.items
+    c.in_ok-report.ensures.leaves c.self.invariant in
+    subst (λ (h : Held). KeepsReportOf h.state i h.kept (slice_get (periods_of h.state.rows) i) (periods_in new)) c.self.view_is s.keeps
 
-pub returns-in-Err-Over-clause-ok : goal.returns-in-Err-Over-clause-ok
-returns-in-Err-Over-clause-ok c =
-    let state = c.args.self.now in
-    let rows = c.self.inside.book in
+pub returns-in-None-clause-reported : goal.returns-in-None-clause-reported
+returns-in-None-clause-reported c =
+    let state : SessionState = record { options = c.self.inside.options; form = c.self.inside.form; rows = c.self.inside.book } in
     let i = c.args.i in
-    let j = c.in-Err-Over.j in
-    let period = c.period-period.result in
-    let found = slice_get (periods_of rows) i in
-    let names = c.in_ok-names.names in
-    let rows_is : rows ≡ state.rows = ap (λ (s : SessionState). s.rows) c.self.view_is in
-    let names_is = at_found found period (λ (p : Period). names ≡ period_names rows (days_of p)) c.period-period.ensures.value c.in_ok-names.ensures.ok in
-    let over = is_over j c.in-Err-Over.field-0 c.assemble.result c.in-Err-Over.is c.in-Err-Over.field-0-is in
-    let sure = over_sure j c.assemble.result over in
-    let answer_is = at_found found period (λ (p : Period). c.assemble.result ≡ assembly_of rows (days_of p)) c.period-period.ensures.value (c.assemble.ensures.answer sure) in
-    let at_now : slice_get (periods_of state.rows) i ≡ Some period = subst (λ (rs : List StoredRow). slice_get (periods_of rs) i ≡ Some period) rows_is c.period-period.ensures.value in
-    let names_now : names ≡ period_names state.rows (days_of period) = subst (λ (rs : List StoredRow). names ≡ period_names rs (days_of period)) rows_is names_is in
-    let answer_now : c.assemble.result ≡ assembly_of state.rows (days_of period) = subst (λ (rs : List StoredRow). c.assemble.result ≡ assembly_of rs (days_of period)) rows_is answer_is in
-    let line : Form → List ℕ → List ℕ = λ form name. text_in form (over_row period.name name ∷ []) in
-    let name_is : c.at.result.now ≡ name_at (period_names state.rows (days_of period)).streams j = c.at.ensures ∙ ap (λ (n : Names). name_at n.streams j) names_now in
-    let text = line c.self.inside.form c.at.result.now in
-    let is : text ≡ line state.form (name_at (period_names state.rows (days_of period)).streams j) = ap₂ line (ap (λ (s : SessionState). s.form) c.self.view_is) name_is in
-    let here : Reports state (slice_get (periods_of state.rows) i) text = reports_at state i period (Err (Over j)) text at_now (sym over ∙ answer_now) is in
-    appends_such c.write_over.result (Reports state (slice_get (periods_of state.rows) i)) _ _ text here c.write_over.ensures.ok
+    let s = none_held state i _ c.self.inside.kept.items c.drop_study.new.kept.items c.self.inside.classes c.in_ok-report.field-0 c.in_ok-reserve.ensures.items c.in-None.is c.drop_study.ensures.items
+    c.in_ok-report.ensures.leaves c.self.invariant in
+    let last : Option ProcessGraph = option_map (λ (k : Classes). k.graph) c.self.inside.classes in
+    subst (λ (h : Held). last ≡ reported_of h.state h.reported (slice_get (periods_of h.state.rows) i)) c.self.view_is s.reports
+
+-- what is held behind a report
+some_held : (state : SessionState) (i : ℕ) (before kept new : List KeptStudy) (classes new_classes : Option Classes) (left : Option Reported) (r : Reported) → before ≡ kept → left ≡ Some r
+    → new ≡ settled i r.made before → new_classes ≡ renewed classes r.graph r.classes
+    → (IsReportedAt (held_of state kept classes) i (slice_get (periods_of state.rows) i) (Some r) → Settles state i (slice_get (periods_of state.rows) i) kept classes (settled i r.made kept) (renewed classes r.graph r.classes))
+    → IsReportedAt (held_of state before classes) i (slice_get (periods_of state.rows) i) left
+    → Settles state i (slice_get (periods_of state.rows) i) kept classes new new_classes
+some_held state i before kept new classes new_classes left r same some new_is classes_is all leaves =
+    let found = slice_get (periods_of state.rows) i in
+    let here : IsReportedAt (held_of state kept classes) i found (Some r) =
+    subst (λ (o : Option Reported). IsReportedAt (held_of state kept classes) i found o) some (subst (λ (ks : List KeptStudy). IsReportedAt (held_of state ks classes) i found left) same leaves) in
+    subst (λ (ks : List KeptStudy). Settles state i found kept classes ks new_classes) (sym (new_is ∙ ap (settled i r.made) same))
+    (subst (λ (cs : Option Classes). Settles state i found kept classes (settled i r.made kept) cs) (sym classes_is) (all here))
+
+settled_now : (c : goal.After-renew) → Settles (record { options = c.self.inside.options; form = c.self.inside.form; rows = c.self.inside.book }) c.args.i
+    (slice_get (periods_of c.self.inside.book) c.args.i) c.self.inside.kept.items c.self.inside.classes c.settle.new.kept.items c.renew.new.classes
+settled_now c =
+    let state : SessionState = record { options = c.self.inside.options; form = c.self.inside.form; rows = c.self.inside.book } in
+    let i = c.args.i in
+    let r : Reported = c.in-Some.field-0 in
+    some_held state i _ c.self.inside.kept.items c.settle.new.kept.items c.self.inside.classes c.renew.new.classes c.in_ok-report.field-0 r c.in_ok-reserve.ensures.items c.in-Some.is
+    c.settle.ensures c.renew.ensures
+    (λ leaves. settles c.alike_law.ensures state i r c.self.inside.kept.items c.self.inside.classes leaves c.self.invariant)
+    c.in_ok-report.ensures.leaves
+
+pub invariant_of-self-in-Some : goal.invariant_of-self-in-Some
+invariant_of-self-in-Some c = (settled_now c).keeping
+
+pub returns-in-Some-clause-kept : goal.returns-in-Some-clause-kept
+returns-in-Some-clause-kept c =
+    let i = c.args.i in
+    let new = c.settle.new.kept.items in
+    subst (λ (h : Held). KeepsReportOf h.state i h.kept (slice_get (periods_of h.state.rows) i) (periods_in new)) c.self.view_is (settled_now c).keeps
+
+pub returns-in-Some-clause-reported : goal.returns-in-Some-clause-reported
+returns-in-Some-clause-reported c =
+    let i = c.args.i in
+    let last : Option ProcessGraph = option_map (λ (k : Classes). k.graph) c.renew.new.classes in
+    subst (λ (h : Held). last ≡ reported_of h.state h.reported (slice_get (periods_of h.state.rows) i)) c.self.view_is (settled_now c).reports

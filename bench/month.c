@@ -1,0 +1,286 @@
+/* The flows of one month, in plain C: reads the rows of a session (unit, stream, period, reading, report), sweeps best prices in 128
+ * bits until the gap is met, and writes one row `flow,STREAM,GRAMS` for each stream. It stands beside plantbal in bench/c, and knows
+ * metered and plain streams alone. */
+#include <stdint.h>
+#include <stdio.h>
+#include <stdlib.h>
+#include <string.h>
+
+typedef __int128 wide;
+typedef unsigned __int128 uwide;
+
+enum { MOST_NODES = 1001, MOST_STREAMS = 2000, MOST_DAYS = 366 };
+
+typedef struct { char name[64]; int from, to, metered, days; wide value, variance; } Stream;
+typedef struct { int stream, other, enters; wide variance, room; } Border;
+
+static Stream streams[MOST_STREAMS];
+static char nodes[MOST_NODES][64];
+static int stream_count, node_count = 1, day_count;
+static char first_day[16], last_day[16];
+static int asked;
+
+/* ---- names, by a table of their hashes */
+enum { SLOTS = 1 << 14 };
+static struct { const char *name; int id; } node_slots[SLOTS], stream_slots[SLOTS];
+
+static unsigned hash(const char *s) { unsigned h = 2166136261u; while (*s) h = (h ^ (unsigned char)*s++) * 16777619u; return h; }
+
+#define PUT(table, text, number) do { unsigned i_ = hash(text) % SLOTS; while (table[i_].name) i_ = (i_ + 1) % SLOTS; \
+    table[i_].name = text; table[i_].id = number; } while (0)
+
+static int find_node(const char *s) { unsigned i = hash(s) % SLOTS; while (node_slots[i].name) { if (!strcmp(node_slots[i].name, s)) return node_slots[i].id; i = (i + 1) % SLOTS; } return -1; }
+static int find_stream(const char *s) { unsigned i = hash(s) % SLOTS; while (stream_slots[i].name) { if (!strcmp(stream_slots[i].name, s)) return stream_slots[i].id; i = (i + 1) % SLOTS; } return -1; }
+
+static wide number(const char *s)
+{
+    wide x = 0;
+    int minus = *s == '-';
+    for (s += minus; *s; s++) x = x * 10 + (*s - '0');
+    return minus ? -x : x;
+}
+
+/* ---- rows */
+static int day_of(const char *date)
+{
+    int y = atoi(date), m = atoi(date + 5), d = atoi(date + 8);
+    y -= m <= 2;
+    int era = y / 400, yoe = y - era * 400, doy = (153 * (m + (m > 2 ? -3 : 9)) + 2) / 5 + d - 1;
+    return era * 146097 + yoe * 365 + yoe / 4 - yoe / 100 + doy;
+}
+
+typedef struct { int stream, day; wide grams, variance; } Reading;
+static Reading *readings;
+static int reading_count, reading_room;
+
+static void read_row(char *line)
+{
+    char *field[8] = {0};
+    int count = 0;
+    for (char *p = line; p && count < 8; count++) { field[count] = p; p = strchr(p, ','); if (p) *p++ = 0; }
+    if (!strcmp(field[0], "unit")) {
+        strcpy(nodes[node_count], field[1]);
+        PUT(node_slots, nodes[node_count], node_count);
+        node_count++;
+    } else if (!strcmp(field[0], "stream")) {
+        Stream *s = &streams[stream_count];
+        strcpy(s->name, field[1]);
+        s->from = find_node(field[2]);
+        s->to = find_node(field[3]);
+        s->metered = !strcmp(field[4], "metered");
+        s->variance = number(field[5]);
+        PUT(stream_slots, s->name, stream_count);
+        stream_count++;
+    } else if (!strcmp(field[0], "period")) {
+        strcpy(first_day, field[2]);
+        strcpy(last_day, field[3]);
+    } else if (!strcmp(field[0], "reading")) {
+        if (reading_count == reading_room) readings = realloc(readings, (reading_room = 2 * reading_room + 1024) * sizeof *readings);
+        Reading r = { find_stream(field[2]), day_of(field[3]), number(field[4]), number(field[5]) };
+        readings[reading_count++] = r;
+    } else if (!strcmp(field[0], "report")) {
+        asked = 1;
+    }
+}
+
+static void add_readings(void)
+{
+    int from = day_of(first_day), to = day_of(last_day);
+    day_count = to - from + 1;
+    for (int i = 0; i < reading_count; i++) {
+        Reading *r = &readings[i];
+        if (r->day < from || r->day > to) continue;
+        streams[r->stream].value += r->grams;
+        streams[r->stream].variance += r->variance;
+        streams[r->stream].days++;
+    }
+}
+
+/* ---- groups and the forest */
+static int parent[MOST_NODES], group[MOST_NODES], group_count;
+static int held[MOST_STREAMS], order[MOST_NODES], up[MOST_NODES];
+static int root(int n) { while (parent[n] != n) n = parent[n] = parent[parent[n]]; return n; }
+static int is_measured(int j) { return streams[j].metered && streams[j].days == day_count; }
+
+static void join_all(void)
+{
+    static int number_of[MOST_NODES];
+    for (int n = 0; n < node_count; n++) { parent[n] = n; number_of[n] = -1; }
+    for (int j = 0; j < stream_count; j++)
+        if (!is_measured(j) && root(streams[j].from) != root(streams[j].to)) { held[j] = 1; parent[root(streams[j].from)] = root(streams[j].to); }
+    for (int n = 0; n < node_count; n++) {
+        int r = root(n);
+        if (number_of[r] < 0) number_of[r] = group_count++;
+        group[n] = number_of[r];
+    }
+    for (int j = 0; j < stream_count; j++)
+        if (is_measured(j) && root(streams[j].from) != root(streams[j].to)) { held[j] = 1; parent[root(streams[j].from)] = root(streams[j].to); }
+}
+
+/* nodes in an order in which each comes behind its parent, with the held stream that leads up */
+static void walk_forest(void)
+{
+    static int near[MOST_NODES][2], next[2 * MOST_STREAMS], at[2 * MOST_STREAMS], seen[MOST_NODES];
+    int count = 0, used = 0;
+    for (int n = 0; n < node_count; n++) near[n][0] = -1;
+    for (int j = 0; j < stream_count; j++) if (held[j]) {
+        at[used] = j; next[used] = near[streams[j].from][0]; near[streams[j].from][0] = used++;
+        at[used] = j; next[used] = near[streams[j].to][0]; near[streams[j].to][0] = used++;
+    }
+    for (int r = 0; r < node_count; r++) {
+        if (seen[r]) continue;
+        seen[r] = 1; up[r] = -1; order[count++] = r;
+        for (int i = count - 1; i < count; i++)
+            for (int e = near[order[i]][0]; e >= 0; e = next[e]) {
+                Stream *s = &streams[at[e]];
+                int other = s->from == order[i] ? s->to : s->from;
+                if (!seen[other]) { seen[other] = 1; up[other] = at[e]; order[count++] = other; }
+            }
+    }
+}
+
+/* ---- prices and flows, in 128 bits */
+static wide price[MOST_NODES], dual[MOST_STREAMS], flow[MOST_STREAMS], deviation_root[MOST_STREAMS], group_variance[MOST_NODES], group_room[MOST_NODES], net_root[MOST_NODES];
+static Border border[2 * MOST_STREAMS];
+static int border_at[MOST_NODES + 1];
+static wide greatest;
+
+static wide size(wide x) { return x < 0 ? -x : x; }
+
+static wide floor_div(wide n, wide d) { wide q = n / d; return n % d < 0 ? q - 1 : q; }
+
+static uint64_t root_floor(uwide n)
+{
+    uint64_t r = 0;
+    for (int b = 63; b >= 0; b--) { uint64_t t = r | (uint64_t)1 << b; if ((uwide)t * t <= n) r = t; }
+    return r;
+}
+
+static void make_borders(void)
+{
+    static int fill[MOST_NODES];
+    for (int j = 0; j < stream_count; j++)
+        if (is_measured(j) && group[streams[j].from] != group[streams[j].to]) { border_at[group[streams[j].from] + 1]++; border_at[group[streams[j].to] + 1]++; }
+    for (int k = 0; k < group_count; k++) { border_at[k + 1] += border_at[k]; fill[k] = border_at[k]; group_room[k] = (wide)1 << 112; }
+    for (int j = 0; j < stream_count; j++) {
+        int f = group[streams[j].from], t = group[streams[j].to];
+        if (!is_measured(j)) continue;
+        dual[j] = streams[j].value * ((wide)1 << 56);
+        deviation_root[j] = root_floor((uwide)streams[j].variance << 40);
+        if (f == t) continue;
+        wide v = streams[j].variance, room = ((wide)1 << 112) / v;
+        Border leaves = { j, t, 0, v, room }, enters = { j, f, 1, v, room };
+        border[fill[f]++] = leaves;
+        border[fill[t]++] = enters;
+        group_variance[f] += v;
+        group_variance[t] += v;
+        if (room < group_room[f]) group_room[f] = room;
+        if (room < group_room[t]) group_room[t] = room;
+    }
+    for (int k = 0; k < group_count; k++) net_root[k] = root_floor((uwide)group_variance[k] << 40) + 1;
+}
+
+static wide net(int k)
+{
+    wide sum = 0;
+    for (int i = border_at[k]; i < border_at[k + 1]; i++) sum += border[i].enters ? dual[border[i].stream] : -dual[border[i].stream];
+    return sum;
+}
+
+static int step(int k)
+{
+    wide a = group_variance[k], c = price[k] - floor_div(2 * net(k) + a, 2 * a);
+    if (size(c) + greatest > group_room[k]) {
+        wide lo = -((wide)1 << 120), hi = (wide)1 << 120;
+        for (int i = border_at[k]; i < border_at[k + 1]; i++) {
+            wide o = price[border[i].other];
+            if (o - border[i].room > lo) lo = o - border[i].room;
+            if (o + border[i].room < hi) hi = o + border[i].room;
+        }
+        c = c < lo ? lo : c > hi ? hi : c;
+    }
+    if (c == price[k]) return 0;
+    price[k] = c;
+    if (size(c) > greatest) greatest = size(c);
+    for (int i = border_at[k]; i < border_at[k + 1]; i++) {
+        Border *b = &border[i];
+        wide rise = b->enters ? c - price[b->other] : price[b->other] - c;
+        dual[b->stream] = streams[b->stream].value * ((wide)1 << 56) + b->variance * rise;
+    }
+    return 1;
+}
+
+static int sweep(void)
+{
+    int moved = 0;
+    for (int k = 1; k < group_count; k++) if (border_at[k] < border_at[k + 1]) moved |= step(k);
+    return moved;
+}
+
+static void write_flows(void)
+{
+    static wide excess[MOST_NODES];
+    memset(excess, 0, sizeof excess);
+    for (int j = 0; j < stream_count; j++) if (!held[j]) {
+        flow[j] = is_measured(j) ? (dual[j] + ((wide)1 << 55)) >> 56 : 0;
+        excess[streams[j].from] -= flow[j];
+        excess[streams[j].to] += flow[j];
+    }
+    for (int i = node_count - 1; i >= 0; i--) {
+        int n = order[i], j = up[n];
+        if (j < 0) continue;
+        int other = streams[j].from == n ? streams[j].to : streams[j].from;
+        flow[j] = streams[j].from == n ? excess[n] : -excess[n];
+        excess[other] += excess[n];
+    }
+}
+
+static int is_met(wide gap)
+{
+    static wide a[MOST_STREAMS];
+    wide most = (gap << 20) / 1000;
+    for (int k = 1; k < group_count; k++) if (most * net_root[k] * (1 << 16) < size(net(k))) return 0;
+    write_flows();
+    for (int j = 0; j < stream_count; j++) {
+        a[j] = 0;
+        if (!is_measured(j)) continue;
+        wide d = deviation_root[j] * (1 << 16);
+        a[j] = (size(flow[j] * ((wide)1 << 56) - dual[j]) + d - 1) / d;
+        if (a[j] > most) return 0;
+    }
+    int h = 0;
+    for (int j = 0; j < stream_count; j++) while (a[j] > (wide)1 << (57 + h)) h++;
+    uwide sum = 0;
+    for (int j = 0; j < stream_count; j++) { wide b = (a[j] + ((wide)1 << h) - 1) >> h; sum += (uwide)(b * b); }
+    uint64_t g = root_floor(sum);
+    if ((uwide)g * g != sum) g++;
+    return ((uwide)g << h) * 1000 <= (uwide)gap << 20;
+}
+
+static void print_wide(wide x)
+{
+    char text[48], *p = text + sizeof text;
+    uwide u = x < 0 ? -(uwide)x : (uwide)x;
+    do *--p = '0' + (int)(u % 10); while (u /= 10);
+    if (x < 0) *--p = '-';
+    fwrite(p, 1, text + sizeof text - p, stdout);
+}
+
+int main(void)
+{
+    static char line[4096];
+    strcpy(nodes[0], "env");
+    PUT(node_slots, nodes[0], 0);
+    while (fgets(line, sizeof line, stdin)) { line[strcspn(line, "\n")] = 0; read_row(line); }
+    if (!asked) return 0;
+    add_readings();
+    join_all();
+    walk_forest();
+    make_borders();
+    int k = 0, met = is_met(10);
+    for (; !met && k < 5000; k++) { if (!sweep()) { k = 5000; break; } met = is_met(10); }
+    write_flows();
+    fprintf(stderr, "%s,%d\n", met ? "converged" : "unconverged", k);
+    for (int j = 0; j < stream_count; j++) { printf("flow,%s,", streams[j].name); print_wide(flow[j]); putchar('\n'); }
+    return 0;
+}

@@ -1,0 +1,37 @@
+-- Statement. Records have one judgement, each block that gets a yes is certified, and one's own reports get nothing else.
+use Rattle.std.specs.Prelude.{◌≡◌, ◌<◌, ℕ, List, [], length, map, All}
+use Rattle.pb_readback.specs.declared.block.Block.{Block}
+use Rattle.pb_readback.specs.Next.{AreBlocks}
+use Rattle.pb_audit.specs.Judgement.{AreFindings, Finding, Finds, FindsNothing, IsCertifiedFinding, IsPassedBlock, passed}
+
+-- something is found in records, or nothing
+abbrev pub SomeFindingsLaw : Type 0
+SomeFindingsLaw = (at : ℕ) (records : List (List (List ℕ))) → (findings : List Finding) × AreFindings at records findings
+
+-- and nothing else
+abbrev pub OneFindingsLaw : Type 0
+OneFindingsLaw =
+    (at : ℕ) (records : List (List (List ℕ))) (one other : List Finding)
+    → AreFindings at records one → AreFindings at records other → one ≡ other
+
+-- each block that passes is certified
+abbrev pub CertifiedFindingsLaw : Type 0
+CertifiedFindingsLaw =
+    (at : ℕ) (records : List (List (List ℕ))) (findings : List Finding) → AreFindings at records findings
+    → All IsCertifiedFinding findings
+
+-- behind what is found fewer records are left
+abbrev pub FewerLaw : Type 0
+FewerLaw =
+    (at : ℕ) (records behind : List (List (List ℕ))) (finding : Finding) → Finds at records finding behind
+    → length behind < length records
+
+-- nothing is found where no record is left
+abbrev pub NothingLaw : Type 0
+NothingLaw = (at : ℕ) → FindsNothing at []
+
+-- where records are blocks that pass, and rows between them, nothing else is found
+abbrev pub PassedLaw : Type 0
+PassedLaw =
+    (at : ℕ) (records : List (List (List ℕ))) (blocks : List Block) → AreBlocks records blocks → All IsPassedBlock blocks
+    → AreFindings at records (map (λ block. passed block) blocks)

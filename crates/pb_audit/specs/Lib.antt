@@ -1,0 +1,7 @@
+-- Statement
+pub mod Rows
+pub mod Judgement
+pub mod Next
+pub mod Laws
+-- Inside
+pub mod Judging

@@ -1,0 +1,37 @@
+-- Statement. One finding at a time.
+use Rattle.std.specs.Prelude.{◌≡◌, ℕ, ◌+◌, ◌-◌, List, [], ◌∷◌, ◌++◌, length, Option, Some, None}
+use Rattle.pb_rows.specs.RecordsLeft.{RecordsLeft}
+use Rattle.pb_audit.specs.declared.judge.Judged.{Judged}
+use Rattle.pb_audit.specs.declared.judge.Judged.TheVariants.{Passed, Failed, Unreadable}
+use Rattle.pb_audit.specs.Judgement.{Finding, Finds, FindsNothing, failed, passed, text_of_findings, unreadable}
+
+-- what kind of finding it is
+abbrev pub judged_of : Finding → Judged
+judged_of (passed block) = Passed
+judged_of (failed block test place stated found) = Failed
+judged_of (unreadable number fault) = Unreadable
+
+-- the records of a block were taken; what is left behind a row that can't be read isn't said
+abbrev pub GoesOn : RecordsLeft → RecordsLeft → List (List (List ℕ)) → Judged → Type 0
+GoesOn old new behind Unreadable = Unit {0}
+GoesOn old new behind judged = new ≡ record { taken = old.taken + (length old.left - length behind); left = behind }
+
+-- What is found next among records that are taken one at a time is of this kind, and this is the text of its row.
+pub record IsNextFinding (old new : RecordsLeft) (judged : Judged) (text : List ℕ) : Type 0 where
+  pub finding : Finding
+  pub behind : List (List (List ℕ))
+  pub found : Finds old.taken old.left finding behind
+  pub is : judged ≡ judged_of finding
+  pub text_is : text ≡ text_of_findings (finding ∷ [])
+  pub goes_on : GoesOn old new behind judged
+
+-- what is found next, if there is something
+abbrev pub Tells : RecordsLeft → RecordsLeft → Option Judged → List ℕ → Type 0
+Tells old new None text = FindsNothing old.taken old.left × (text ≡ [])
+Tells old new (Some judged) text = IsNextFinding old new judged text
+
+-- a text gains its row
+pub record AppendsFinding (old new : RecordsLeft) (judged : Option Judged) (before after : List ℕ) : Type 0 where
+  pub text : List ℕ
+  pub tells : Tells old new judged text
+  pub appended : after ≡ before ++ text

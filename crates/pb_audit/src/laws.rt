@@ -1,0 +1,34 @@
+// Laws of judgements.
+
+ghost use Rattle.pb_audit.specs.Laws.{CertifiedFindingsLaw, FewerLaw, NothingLaw, OneFindingsLaw, PassedLaw, SomeFindingsLaw};
+
+use pb_check::{one_verdict_law, some_verdict_law, sound_law};
+use pb_readback::{formed_law, next_law};
+
+/// The law that something is found in records, or nothing, and nothing else; so the judgement of a report is settled. Behind what is
+/// found fewer records are left, and where none is left nothing is found.
+pub fn findings_law()
+    ensures some { SomeFindingsLaw }
+    ensures one { OneFindingsLaw }
+    ensures fewer { FewerLaw }
+    ensures nothing { NothingLaw }
+{
+    next_law();
+    formed_law();
+    some_verdict_law();
+    one_verdict_law();
+}
+
+/// The law that each block that passes is certified, wherever it came from, and that its state is converged exactly where its gap is
+/// met.
+pub fn certified_law()
+    ensures { CertifiedFindingsLaw }
+{
+    formed_law();
+    sound_law();
+}
+
+/// The law that in records that are blocks which pass, and rows between them, nothing else is found.
+pub fn passed_law()
+    ensures { PassedLaw }
+{}

@@ -1,0 +1,5 @@
+use Rattle.pb_book.proofs.NamedLemmas as lemmas
+use Rattle.pb_book.proofs.laws.ranges_law.Goals as goal
+
+pub returns : goal.returns
+returns c = lemmas.ranges_law

@@ -1,0 +1,16 @@
+mod AmongLemmas
+mod BoxLemmas
+mod DecideLemmas
+mod FirstLemmas
+mod GroupLemmas
+mod NetLemmas
+mod OneLemmas
+mod OtherLemmas
+mod OwnLemmas
+mod PlaceLemmas
+mod RowLemmas
+mod ShownLemmas
+mod SomeLemmas
+mod SoundLemmas
+mod StateLemmas
+mod VerdictLemmas

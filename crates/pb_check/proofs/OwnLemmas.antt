@@ -1,0 +1,103 @@
+-- Each stage of a study passes.
+use Rattle.std.proofs.Common.{◌≡◌, ◌∙◌, ℕ, ℤ, List, Option, Some, None, is_some, slice_get, get_or, refl, sym, ap, subst, arith}
+use Rattle.std.specs.Prelude.{IfSome}
+use Rattle.pb_integers.proofs.Lists.{some_same}
+use Rattle.pb_graph.specs.declared.records.Stream.{Stream}
+use Rattle.pb_graph.specs.declared.records.Class.{Class}
+use Rattle.pb_graph.specs.declared.records.Class.TheVariants.{Observable, Unobservable, Redundant, Nonredundant}
+use Rattle.pb_graph.specs.declared.records.Witness.{Witness}
+use Rattle.pb_graph.specs.declared.records.Witness.TheVariants.{Cut, Cycle}
+use Rattle.pb_graph.specs.declared.results.Solved.{Solved}
+use Rattle.pb_graph.specs.declared.results.Solved.TheVariants.{Converged, Unconverged}
+use Rattle.pb_graph.specs.declared.results.StreamResult.{StreamResult}
+use Rattle.pb_graph.specs.declared.results.Tests.{Tests}
+use Rattle.pb_graph.specs.declared.results.Stage.{Stage}
+use Rattle.pb_graph.specs.ProcessGraph.{ProcessGraph, IsProcessGraph, is_measured}
+use Rattle.pb_graph.specs.Certificates.{Shows}
+use Rattle.pb_gap.specs.declared.gap.Gap.{Gap}
+use Rattle.pb_gap.specs.Gap.{MeetsGap, deviations_of, gap_of}
+use Rattle.pb_gap.specs.StreamBounds.{stream_bounds}
+use Rattle.pb_gap.specs.Solution.{IsSolution, OneStateLaw}
+use Rattle.pb_gap.specs.Laws.{AreGaps}
+use Rattle.pb_elim.specs.Printed.{printed_flows, printed_gap, printed_price}
+use Rattle.pb_elim.specs.Certified.{AreShownTests, IsShownStage}
+use Rattle.pb_elim.specs.Laws.{CertifiedLaw, SolutionLaw}
+use Rattle.pb_check.specs.declared.faults.Test.TheVariants.{Class as ClassTest, Witness as WitnessTest, Balance, Price, Box, Freedom, Gap as GapTest, State, Bounds as BoundsTest, Statistic, Nodal, Verdict as VerdictTest}
+use Rattle.pb_check.specs.Asked.{AreNodalRows, AreVerdicts, HasClass, IsStateAt, found_gap, is_bounded, is_of_measured}
+use Rattle.pb_check.specs.Verdict.{IsPassed}
+use Rattle.pb_check.specs.Laws.{OwnLaw}
+
+-- ---- classes
+-- a class that is shown is that of the stream
+class_measured : (g : ProcessGraph) (j : ℕ) (s : Stream) (class : Class) (w : Witness) → Shows g j s class w → is_of_measured class ≡ is_measured s
+class_measured g j s Observable (Cut side members) shows = sym (ap is_some shows.0)
+class_measured g j s Redundant (Cut side members) shows = sym shows.0
+class_measured g j s Unobservable (Cycle steps) shows = sym (ap is_some shows.0)
+class_measured g j s Nonredundant (Cycle steps) shows = sym shows.0
+class_measured g j s Observable (Cycle steps) shows = absurd shows
+class_measured g j s Redundant (Cycle steps) shows = absurd shows
+class_measured g j s Unobservable (Cut side members) shows = absurd shows
+class_measured g j s Nonredundant (Cut side members) shows = absurd shows
+
+-- and the rule gives it bounds unless it is unobservable
+pub class_bounded : (g : ProcessGraph) (j : ℕ) (s : Stream) (class : Class) (w : Witness) (price : ℕ → ℤ) (ss : List Stream) (gap : Gap) → Shows g j s class w
+    → is_some (stream_bounds price ss gap j (record { class = class; witness = w })) ≡ is_bounded class
+class_bounded g j s Observable (Cut side members) price ss gap shows = refl
+class_bounded g j s Redundant w price ss gap shows = refl
+class_bounded g j s Unobservable w price ss gap shows = refl
+class_bounded g j s Nonredundant w price ss gap shows = refl
+class_bounded g j s Observable (Cycle steps) price ss gap shows = absurd shows
+
+has_class : (stage : Stage) (j : ℕ) (s : Stream) (r : StreamResult) → IsShownStage stage → slice_get stage.graph.streams j ≡ Some s → slice_get stage.streams j ≡ Some r → HasClass s r
+has_class stage j s r shown at there =
+    let (t, at_t, shows) = shown.shown j r there in
+    let c = r.classified in
+    let here : Shows stage.graph j s c.class c.witness = subst (λ (u : Stream). Shows stage.graph j u c.class c.witness) (some_same (sym at_t ∙ at)) shows in
+    record {
+      measured = class_measured stage.graph j s c.class c.witness here;
+      bounded = ap is_some (shown.numbers.bounded j r there) ∙ class_bounded stage.graph j s c.class c.witness (printed_price stage) stage.graph.streams (printed_gap stage) here;
+    }
+
+-- ---- the state
+state_at : OneStateLaw → (g : ProcessGraph) (gap sweeps : ℕ) (solved : Solved) (price : ℕ → ℤ) (flows : List ℤ) (printed : Gap) → IsProcessGraph g → printed ≡ gap_of price g.streams flows
+    → IsSolution g gap sweeps solved price flows → IsStateAt gap sweeps printed solved
+state_at one g gap sweeps (Converged k) price flows printed limits same is = (subst (MeetsGap gap) (sym same) is.here.met, is.within)
+state_at one g gap sweeps (Unconverged k) price flows printed limits same is =
+    let miss = is.none k (omega arith) in
+    let alike = one g k price miss.price flows miss.flows limits is.here miss.state in
+    let there : printed ≡ gap_of miss.price g.streams miss.flows = same ∙ (λ i. gap_of (alike.price i) g.streams (alike.flows i)) in
+    ((λ met. miss.missed (subst (MeetsGap gap) there met)), is.done)
+
+-- ---- tests
+rows_if : (stage : Stage) (o : Option Tests) → IfSome o (AreShownTests stage) → IfSome o (AreNodalRows stage)
+rows_if stage None shown = tt
+rows_if stage (Some tests) shown = shown.groups
+
+verdicts_if : (stage : Stage) (o : Option Tests) → IfSome o (AreShownTests stage) → IfSome o (AreVerdicts stage)
+verdicts_if stage None shown = tt
+verdicts_if stage (Some tests) shown = record { overall = shown.overall; nodal = shown.nodal; measure = shown.measure }
+
+-- ---- all tests
+shown_passed : AreGaps → OneStateLaw → (stage : Stage) (gap sweeps : ℕ) → IsShownStage stage
+    → IsSolution stage.graph gap sweeps stage.solved (printed_price stage) (printed_flows stage) → IsPassed stage gap sweeps
+shown_passed gaps one stage gap sweeps shown solution =
+    let same : printed_gap stage ≡ found_gap stage = gaps.only (deviations_of (printed_price stage) stage.graph.streams (printed_flows stage)) (printed_gap stage) shown.numbers.deviation in
+    λ test. passes same test
+  where
+    passes : printed_gap stage ≡ found_gap stage → IsPassed stage gap sweeps
+    passes same ClassTest = λ j s r at there. has_class stage j s r shown at there
+    passes same WitnessTest = shown.shown
+    passes same Balance = shown.balanced
+    passes same Price = record { shared = shown.fit.shared; fixed = shown.fit.fixed }
+    passes same Box = shown.fit.box
+    passes same Freedom = shown.numbers.freedom
+    passes same GapTest = same
+    passes same State = state_at one stage.graph gap sweeps stage.solved (printed_price stage) (printed_flows stage) (printed_gap stage) shown.limits same solution
+    passes same BoundsTest = shown.numbers.bounded
+    passes same Statistic = record { low = shown.numbers.from_below; high = shown.numbers.from_above }
+    passes same Nodal = rows_if stage stage.tests shown.tests
+    passes same VerdictTest = verdicts_if stage stage.tests shown.tests
+
+pub own_by : AreGaps → CertifiedLaw → SolutionLaw → OneStateLaw → OwnLaw
+own_by gaps certified solved one graph options critical study limits is = λ k d lt.
+    shown_passed gaps one (get_or study.stages k d) options.gap options.sweeps (certified graph options critical study limits is k d lt).shown (solved graph options critical study is k d lt)

@@ -1,0 +1,89 @@
+-- Rows beside the tests of a graph, and verdicts.
+use Rattle.std.proofs.Common.{◌≡◌, ℕ, zero, suc, ◌<◌, pos, Bool, true, false, List, [], ◌∷◌, length, map, Option, Some, None, slice_get, get_or, All, refl, sym, ap₂, subst, inl, inr, arith}
+use Rattle.std.specs.Prelude.{MatchOption, if◌then◌else◌}
+use Rattle.std.proofs.lemmas.List.{length-map}
+use Rattle.std.proofs.lemmas.List.Elements.{All-nil, All-cons, All-append}
+use Rattle.pb_graph.specs.declared.records.Stream.{Stream}
+use Rattle.pb_graph.specs.declared.results.Verdict.TheVariants.{Reject}
+use Rattle.pb_graph.specs.declared.results.NodalTest.{NodalTest}
+use Rattle.pb_graph.specs.declared.results.MeasureTest.{MeasureTest}
+use Rattle.pb_graph.specs.declared.results.Tests.{Tests}
+use Rattle.pb_graph.specs.declared.results.Stage.{Stage}
+use Rattle.pb_graph.specs.ProcessGraph.{ProcessGraph, IsProcessGraph}
+use Rattle.pb_graph.specs.Groups.{group_count, is_free_group}
+use Rattle.pb_tests.specs.Nodal.{AreNodalTests, nodal_test, nodal_tests_below, test_of_group}
+use Rattle.pb_tests.specs.Laws.{IsNodalNumber, NodalRangeLaw}
+use Rattle.pb_elim.specs.Certified.{IsMeasureVerdict, IsNodalVerdict, unjudged}
+use Rattle.pb_check.specs.declared.faults.Fault.{Fault}
+use Rattle.pb_check.specs.Asked.{AreNodalRows, AreVerdicts, IsGlobalVerdict}
+use Rattle.pb_check.specs.Faults.{IsRowAt}
+use Rattle.pb_check.specs.Rows.{AreVerdictsFault, IsFirstMeasure, IsFirstNodal, IsFirstOf}
+
+-- ---- rows
+pub rows_same : (rows rule : List NodalTest) → length rows ≡ length rule → ((k : ℕ) → k < length rows → IsRowAt rows rule k) → map unjudged rows ≡ rule
+rows_same [] [] each at = refl
+rows_same [] (t ∷ ts) each at = absurd (omega (arith, each))
+rows_same (r ∷ rs) [] each at = absurd (omega (arith, each))
+rows_same (r ∷ rs) (t ∷ ts) each at =
+    ap₂ (λ (x : NodalTest) (xs : List NodalTest). x ∷ xs) (at 0 (omega arith) r t refl refl)
+    (rows_same rs ts (omega (arith, each)) (λ k lt row test here there. at (suc k) (omega (arith, lt)) row test here there))
+
+-- the tests of a graph without critical values have no verdicts
+bare_if : (b : Bool) (test : NodalTest) → unjudged test ≡ test → All (λ (t : NodalTest). unjudged t ≡ t) (if b then test ∷ [] else [])
+bare_if true test is = All-cons (λ (t : NodalTest). unjudged t ≡ t) test [] is (All-nil (λ (t : NodalTest). unjudged t ≡ t))
+bare_if false test is = All-nil (λ (t : NodalTest). unjudged t ≡ t)
+
+bare_below : (group : List ℕ) (ss : List Stream) (k : ℕ) → All (λ (t : NodalTest). unjudged t ≡ t) (nodal_tests_below group ss None k)
+bare_below group ss zero = All-nil (λ (t : NodalTest). unjudged t ≡ t)
+bare_below group ss (suc k) =
+    All-append (λ (t : NodalTest). unjudged t ≡ t) (nodal_tests_below group ss None k) (test_of_group group ss None k) (bare_below group ss k)
+    (bare_if (is_free_group group ss k) (nodal_test group ss None k) refl)
+
+pub rule_bare : (graph : ProcessGraph) (rule : List NodalTest) → AreNodalTests graph None rule → All (λ (t : NodalTest). unjudged t ≡ t) rule
+rule_bare graph rule are = subst (All (λ (t : NodalTest). unjudged t ≡ t)) (sym are.tested) (bare_below are.group graph.streams (group_count are.group))
+
+-- ---- the numbers of rows that are the tests of the graph
+at_unjudged : (rows : List NodalTest) (k : ℕ) (d : NodalTest) → k < length rows → get_or (map unjudged rows) k (unjudged d) ≡ unjudged (get_or rows k d)
+at_unjudged [] k d lt = absurd (omega (arith, lt))
+at_unjudged (r ∷ rows) zero d lt = refl
+at_unjudged (r ∷ rows) (suc k) d lt = at_unjudged rows k d (omega (arith, lt))
+
+pub row_numbers : NodalRangeLaw → (stage : Stage) (tests : Tests) → IsProcessGraph stage.graph → AreNodalRows stage tests → All IsNodalNumber tests.nodal
+row_numbers law stage tests limits rows = λ k d lt.
+    let all = law stage.graph None (map unjudged tests.nodal) limits rows in
+    let is = subst IsNodalNumber (at_unjudged tests.nodal k d lt) (all k (unjudged d) (omega (arith, lt, length-map tests.nodal unjudged))) in
+    record { net = is.net; positive = is.positive; variance = is.variance }
+
+-- ---- verdicts
+pub nodal_fails : (stage : Stage) (tests : Tests) (fault : Fault) → IsGlobalVerdict stage tests → IsFirstNodal tests.nodal fault → AreVerdictsFault stage tests fault
+nodal_fails stage tests fault overall first =
+    inr (inl (record { overall = overall; place = first.first.place; row = first.row; first = first.first.first; row_is = first.first.row_is; is = first.is }))
+
+pub measures_decide : (stage : Stage) (tests : Tests) (o : Option Fault) → IsGlobalVerdict stage tests → All IsNodalVerdict tests.nodal
+    → MatchOption o (All IsMeasureVerdict tests.measure) (IsFirstMeasure tests.measure) → MatchOption o (AreVerdicts stage tests) (AreVerdictsFault stage tests)
+measures_decide stage tests None overall nodal measure = record { overall = overall; nodal = nodal; measure = measure }
+measures_decide stage tests (Some fault) overall nodal first =
+    inr (inr (record { overall = overall; nodal = nodal; place = first.first.place; row = first.row; first = first.first.first; row_is = first.first.row_is; is = first.is }))
+
+-- what is there, and what isn't
+pub some_there : {A : Type 0} (o : Option A) (x : A) (P : Type 0) (Q : A → Type 0) → o ≡ Some x → MatchOption o P Q → Q x
+some_there o x P Q is match = subst (λ (o : Option _). MatchOption o P Q) is match
+
+pub none_there : {A : Type 0} (o : Option A) (P : Type 0) (Q : A → Type 0) → ((x : A) → o ≡ Some x → ⊥) → MatchOption o P Q → P
+none_there None P Q never match = match
+none_there (Some x) P Q never match = absurd (never x refl)
+
+-- ---- the first that fails
+abbrev pub some_row : NodalTest
+some_row = record { node = 0; net = pos 0; variance = pos 0; critical = None; verdict = Reject }
+
+abbrev pub some_measure : MeasureTest
+some_measure = record { stream = 0; low = pos 0; high = None; critical = None; verdict = Reject }
+
+pub first_of : {A : Type 0} (P : A → Type 0) (rows : List A) (place : ℕ) (row : A) → place < length rows → slice_get rows place ≡ Some row
+    → ((k : ℕ) → k < place → (other : A) → slice_get rows k ≡ Some other → P other) → (P row → ⊥) → IsFirstOf P rows row
+first_of P rows place row lt at before fails = record {
+  place = place;
+  first = record { within = lt; before = before; without = λ all. fails (all row at) };
+  row_is = at;
+}

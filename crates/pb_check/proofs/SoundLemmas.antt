@@ -1,0 +1,59 @@
+-- A stage that passes is shown, so it is certified.
+use Rattle.std.proofs.Common.{◌≡◌, ◌↔◌, ℕ, pos, Option, Some, None, refl, sym, subst, arith}
+use Rattle.std.specs.Prelude.{IfSome, IsTrue}
+use Rattle.pb_graph.specs.declared.results.Solved.{Solved}
+use Rattle.pb_graph.specs.declared.results.Solved.TheVariants.{Converged, Unconverged}
+use Rattle.pb_graph.specs.declared.results.Tests.{Tests}
+use Rattle.pb_graph.specs.declared.results.Stage.{Stage}
+use Rattle.pb_graph.specs.ProcessGraph.{IsProcessGraph}
+use Rattle.pb_graph.specs.WellFormed.{IsWellFormed}
+use Rattle.pb_gap.specs.declared.gap.Gap.{Gap}
+use Rattle.pb_gap.specs.Gap.{IsGap, MeetsGap, deviations_of}
+use Rattle.pb_gap.specs.Laws.{AreGaps}
+use Rattle.pb_elim.specs.Printed.{printed_flows, printed_gap, printed_price}
+use Rattle.pb_elim.specs.Certified.{AreShownTests, IsShownStage}
+use Rattle.pb_elim.specs.Laws.{ShownLaw}
+use Rattle.pb_check.specs.declared.faults.Test.TheVariants.{Witness as WitnessTest, Balance, Price, Box, Freedom, Gap as GapTest, State, Bounds, Statistic, Nodal, Verdict as VerdictTest}
+use Rattle.pb_check.specs.Asked.{AreNodalRows, AreVerdicts, IsStateAt, found_gap}
+use Rattle.pb_check.specs.Verdict.{IsPassed}
+use Rattle.pb_check.specs.Laws.{SoundLaw, is_converged}
+
+tests_if : (stage : Stage) (o : Option Tests) → IfSome o (AreNodalRows stage) → IfSome o (AreVerdicts stage) → IfSome o (AreShownTests stage)
+tests_if stage None rows verdicts = tt
+tests_if stage (Some tests) rows verdicts = record { overall = verdicts.overall; groups = rows; nodal = verdicts.nodal; measure = verdicts.measure }
+
+passed_shown : AreGaps → (stage : Stage) (gap sweeps : ℕ) → IsProcessGraph stage.graph → IsWellFormed stage → IsPassed stage gap sweeps → IsShownStage stage
+passed_shown gaps stage gap sweeps limits formed passed =
+    let deviations = deviations_of (printed_price stage) stage.graph.streams (printed_flows stage) in
+    let prices = passed Price in
+    record {
+      limits = limits;
+      each = formed.each_stream;
+      shown = passed WitnessTest;
+      balanced = passed Balance;
+      priced = formed.each_price;
+      fit = record {
+        shared = prices.shared;
+        fixed = prices.fixed;
+        within = λ n lt. formed.prices n (pos 0) (omega (arith, lt, formed.each_price));
+        box = passed Box;
+      };
+      numbers = record {
+        deviation = subst (IsGap deviations) (sym (passed GapTest)) (gaps.is deviations);
+        bounded = passed Bounds;
+        freedom = passed Freedom;
+        from_below = (passed Statistic).low;
+        from_above = (passed Statistic).high;
+      };
+      tests = tests_if stage stage.tests (passed Nodal) (passed VerdictTest);
+    }
+
+state_is : (gap sweeps : ℕ) (printed found : Gap) (solved : Solved) → printed ≡ found → IsStateAt gap sweeps printed solved → IsTrue (is_converged solved) ↔ MeetsGap gap found
+state_is gap sweeps printed found (Converged k) same is = ((λ yes_. subst (MeetsGap gap) same is.0), (λ met. refl))
+state_is gap sweeps printed found (Unconverged k) same is = ((λ no_. cc no_), (λ met. absurd (is.0 (subst (MeetsGap gap) (sym same) met))))
+
+pub sound_by : AreGaps → ShownLaw → SoundLaw
+sound_by gaps shown stage gap sweeps limits formed passed = record {
+  certified = shown stage (passed_shown gaps stage gap sweeps limits formed passed);
+  state = state_is gap sweeps (printed_gap stage) (found_gap stage) stage.solved (passed GapTest) (passed State);
+}

@@ -1,0 +1,119 @@
+-- What the pair of a stage says of its gap, its bounds and its measured flows.
+use Rattle.std.proofs.Common.{◌≡◌, ◌∙◌, ◌↔◌, ℕ, zero, suc, ◌<◌, ◌≤◌, ℤ, List, [], ◌∷◌, length, map, Option, Some, is_some, slice_get, get_or, All, refl, sym, ap, subst, arith}
+use Rattle.std.specs.Prelude.{IfSome}
+use Rattle.std.proofs.lemmas.List.{length-map}
+use Rattle.std.proofs.lemmas.Option.{slice_get-get_or, slice_get_within}
+use Rattle.pb_integers.proofs.Lists.{all_each, some_same}
+use Rattle.pb_graph.specs.declared.records.Member.{Member}
+use Rattle.pb_graph.specs.declared.records.Witness.{Witness}
+use Rattle.pb_graph.specs.declared.records.Witness.TheVariants.{Cut, Cycle}
+use Rattle.pb_graph.specs.declared.records.Classified.{Classified}
+use Rattle.pb_graph.specs.declared.results.Bounds.{Bounds}
+use Rattle.pb_graph.specs.declared.results.StreamResult.{StreamResult}
+use Rattle.pb_graph.specs.declared.results.Stage.{Stage}
+use Rattle.pb_graph.specs.ProcessGraph.{ProcessGraph, IsProcessGraph}
+use Rattle.pb_graph.specs.Certificates.{IsCertified}
+use Rattle.pb_graph.specs.WellFormed.{IsFlow, IsResultWithin, IsWellFormed, IsWitnessWithin}
+use Rattle.pb_gap.specs.declared.gap.Gap.{Gap}
+use Rattle.pb_gap.specs.Gap.{MeetsGap, gap_of, standard_deviations_of}
+use Rattle.pb_gap.specs.FlowPair.{AreMeasured, PairedFlows}
+use Rattle.pb_gap.specs.Bounds.{AreSigned}
+use Rattle.pb_gap.specs.StreamBounds.{stream_bounds, sum_for}
+use Rattle.pb_gap.specs.Laws.{StreamSumLaw, SumsTo}
+use Rattle.pb_elim.specs.Printed.{printed_flows, printed_gap, printed_price}
+use Rattle.pb_elim.specs.Signs.{AreWitnessSigns}
+use Rattle.pb_check.specs.declared.faults.Fault.{Fault}
+use Rattle.pb_check.specs.Asked.{AreShown, HasBoundsAt, HaveBounds, HaveClasses, IsGapOfFlows, found_gap}
+use Rattle.pb_check.specs.Faults.{IsBoundsFault}
+use Rattle.pb_check.specs.Pairs.{DifferAt, IsPairOf}
+use Rattle.pb_check.proofs.OwnLemmas.{class_bounded}
+
+-- ---- the gap
+pub found_is : (stage : Stage) (pair : PairedFlows) → IsPairOf stage pair → gap_of (printed_price stage) pair.graph.streams pair.flows ≡ found_gap stage
+found_is stage pair is = λ i. gap_of (printed_price stage) (is.graph i).streams (is.flows i)
+
+pub met_printed : (stage : Stage) (pair : PairedFlows) (gap : ℕ) (P : Type 0) → IsPairOf stage pair → IsGapOfFlows stage → (P ↔ MeetsGap gap (gap_of (printed_price stage) pair.graph.streams pair.flows))
+    → P ↔ MeetsGap gap (printed_gap stage)
+met_printed stage pair gap P is gap_is met = subst (λ (g : Gap). P ↔ MeetsGap gap g) (found_is stage pair is ∙ sym gap_is) met
+
+-- ---- bounds
+pub signed_members : StreamSumLaw → (g : ProcessGraph) (j : ℕ) (c : Classified) (members : List Member) → IsProcessGraph g → IsCertified g j c → sum_for j c.class c.witness ≡ Some members
+    → AreSigned g members
+signed_members law g j c members limits certified is =
+    let sums : SumsTo g j members = subst (λ (o : Option (List Member)). IfSome o (SumsTo g j)) is (law g j c limits certified) in
+    sums.signed
+
+signs_within : (g : ProcessGraph) (w : Witness) → IsWitnessWithin g w → AreWitnessSigns w
+signs_within g (Cut side members) (each, within) = λ k d lt. (within k d lt).sign
+signs_within g (Cycle steps) within = tt
+
+pub result_signs : (stage : Stage) (j : ℕ) (r : StreamResult) → IsWellFormed stage → slice_get stage.streams j ≡ Some r → AreWitnessSigns r.classified.witness
+result_signs stage j r formed at = signs_within stage.graph r.classified.witness (all_each (IsResultWithin stage.graph) stage.streams formed.results j r at).witness
+
+-- a stream has bounds exactly where the rule gives it some
+pub result_bounded : (stage : Stage) (j : ℕ) (r : StreamResult) → HaveClasses stage → AreShown stage → slice_get stage.streams j ≡ Some r
+    → is_some r.bounds ≡ is_some (stream_bounds (printed_price stage) stage.graph.streams (printed_gap stage) j r.classified)
+result_bounded stage j r classes shown at =
+    let (s, there, shows) = shown j r at in
+    (classes j s r there at).bounded ∙ sym (class_bounded stage.graph j s r.classified.class r.classified.witness (printed_price stage) stage.graph.streams (printed_gap stage) shows)
+
+-- ---- flows
+from_map : (xs : List StreamResult) (k : ℕ) (y : ℤ) → slice_get (map (λ (r : StreamResult). r.flow) xs) k ≡ Some y → (x : StreamResult) × (slice_get xs k ≡ Some x) × (x.flow ≡ y)
+from_map [] k y at = cc at
+from_map (x ∷ xs) zero y at = (x, refl, some_same at)
+from_map (x ∷ xs) (suc k) y at = from_map xs k y at
+
+flow_at : (g : ProcessGraph) (rs : List StreamResult) → All (IsResultWithin g) rs → All IsFlow (map (λ (r : StreamResult). r.flow) rs)
+flow_at g rs within = λ k d lt.
+    let flow : StreamResult → ℤ = λ r. r.flow in
+    let (r, at, is) = from_map rs k (get_or (map flow rs) k d) (slice_get-get_or (map flow rs) k d lt) in
+    subst IsFlow is (all_each (IsResultWithin g) rs within k r at).flow
+
+pub measured : (stage : Stage) (roots flows : List ℤ) → IsProcessGraph stage.graph → IsWellFormed stage → roots ≡ standard_deviations_of stage.graph.streams
+    → flows ≡ printed_flows stage → AreMeasured stage.graph.streams roots flows
+measured stage roots flows limits formed rooted printed = record {
+  few = limits.few_streams;
+  limits = limits.limits;
+  roots = rooted;
+  each = ap length printed ∙ length-map stage.streams (λ (r : StreamResult). r.flow) ∙ formed.each_stream;
+  small = subst (All IsFlow) (sym printed) (flow_at stage.graph stage.streams formed.results);
+}
+
+-- ---- the streams of a stage, one by one
+-- a result at a place, where the results are handed on as a slice
+pub result_at : (stage : Stage) (results : List StreamResult) (j : ℕ) (r : StreamResult) → results ≡ stage.streams → r ≡ get_or results j r → j < length results
+    → slice_get stage.streams j ≡ Some r
+result_at stage results j r same is lt = ap (λ (rs : List StreamResult). slice_get rs j) (sym same) ∙ slice_get-get_or results j r lt ∙ ap Some (sym is)
+
+-- its place is a number of 32 bits
+pub place_small : (stage : Stage) (results : List StreamResult) (j : ℕ) → results ≡ stage.streams → IsProcessGraph stage.graph → IsWellFormed stage → j < length results → j < 2000
+place_small stage results j same limits formed lt = omega (arith, ap length same, limits.few_streams, formed.each_stream, lt)
+
+-- the first stream that has other bounds than the rule gives
+pub bounds_fail : (stage : Stage) (j : ℕ) (r : StreamResult) (found : Option Bounds) (fault : Fault) → IsWellFormed stage → slice_get stage.streams j ≡ Some r
+    → found ≡ stream_bounds (printed_price stage) stage.graph.streams (printed_gap stage) j r.classified → ((k : ℕ) → k < j → HasBoundsAt stage k) → DifferAt j r.bounds found fault
+    → IsBoundsFault stage fault
+bounds_fail stage j r found fault formed at found_is before differ = record {
+  stream = j;
+  result = r;
+  stated = differ.here;
+  found = differ.there;
+  first = record {
+    within = omega (arith, slice_get_within stage.streams j r at, formed.each_stream);
+    before = before;
+    without = λ all. differ.differ (some_same (sym differ.stated_is ∙ all r at ∙ sym found_is ∙ differ.found_is));
+  };
+  result_is = at;
+  stated_is = differ.stated_is;
+  found_is = sym found_is ∙ differ.found_is;
+  is = differ.is;
+}
+
+-- the stream at a place has the bounds that the rule gives
+pub bounds_here : (stage : Stage) (j : ℕ) (r : StreamResult) (found : Option Bounds) → slice_get stage.streams j ≡ Some r
+    → found ≡ stream_bounds (printed_price stage) stage.graph.streams (printed_gap stage) j r.classified → r.bounds ≡ found → HasBoundsAt stage j
+bounds_here stage j r found at found_is same q there =
+    subst (λ (r : StreamResult). r.bounds ≡ stream_bounds (printed_price stage) stage.graph.streams (printed_gap stage) j r.classified) (some_same (sym at ∙ there)) (same ∙ found_is)
+
+pub all_bounds : (stage : Stage) (n : ℕ) → length stage.streams ≤ n → ((k : ℕ) → k < n → HasBoundsAt stage k) → HaveBounds stage
+all_bounds stage n end each j r at = each j (omega (arith, slice_get_within stage.streams j r at, end)) r at

@@ -1,0 +1,94 @@
+-- Each stage passes or has a first fault, at a place of its own.
+use Rattle.std.proofs.Common.{◌≡◌, ◌⊎◌, ℕ, ◌+◌, length, Option, Some, None, refl, sym, subst, inl, inr, arith}
+use Rattle.std.specs.Prelude.{IfSome, IsSomeAnd}
+use Rattle.pb_integers.proofs.Lists.{all_each}
+use Rattle.pb_graph.specs.declared.results.Tests.{Tests}
+use Rattle.pb_graph.specs.declared.results.Stage.{Stage}
+use Rattle.pb_graph.specs.WellFormed.{IsNodalWithin, IsMeasureWithin, AreTestsWithin, IsWellFormed}
+use Rattle.pb_tests.specs.Laws.{SomeNodalTestsLaw}
+use Rattle.pb_check.specs.declared.faults.Test.{Test}
+use Rattle.pb_check.specs.declared.faults.Test.TheVariants.{Class, Witness, Balance, Price, Box, Freedom, Gap, State, Bounds, Statistic, Nodal, Verdict}
+use Rattle.pb_check.specs.declared.faults.Fault.{Fault}
+use Rattle.pb_check.specs.Faults.{IsNodalRowsFault, IsGlobalFault, IsNodalVerdictFault, IsMeasureVerdictFault}
+use Rattle.pb_check.specs.Verdict.{code_of, Passes, Fails, IsPlaceWithin}
+use Rattle.pb_check.specs.VerdictLaws.{HasFault, SomeVerdictLaw, PlaceLaw}
+use Rattle.pb_check.specs.Among.{IsAmong}
+use Rattle.pb_check.proofs.AmongLemmas.{none_yet, passed, code_least, all_passed}
+use Rattle.pb_check.proofs.SomeLemmas.{Either, class_either, witness_either, balance_either, price_either, box_either, freedom_either, gap_either, state_either, bounds_either, statistic_either, nodal_either, verdict_either}
+
+-- ---- one test more
+abbrev Outcome : Stage → ℕ → ℕ → ℕ → Type 0
+Outcome stage gap sweeps n = IsAmong stage gap sweeps 1 n None ⊎ HasFault stage gap sweeps
+
+step : (stage : Stage) (gap sweeps n : ℕ) (test : Test) → code_of test ≡ n + 1 → Outcome stage gap sweeps n
+    → (IsAmong stage gap sweeps 1 n None → Either (Passes stage gap sweeps test) (Fails stage gap sweeps test)) → Outcome stage gap sweeps (n + 1)
+step stage gap sweeps n test is before decide = elim before [
+  | inr fault ↦ inr fault
+  | inl among ↦ elim (decide among) [
+    | inl passes ↦ inl (passed stage gap sweeps 1 n test is among passes)
+    | inr (fault, fails) ↦ inr (record {
+      test = test;
+      place = fault.place;
+      stated = fault.stated;
+      found = fault.found;
+      is = record { before = λ other less. among other (code_least other) (omega (arith, less, is)); fails = fails };
+    })
+  ]
+]
+
+pub some_verdict_by : SomeNodalTestsLaw → SomeVerdictLaw
+some_verdict_by law stage gap sweeps limits formed =
+    let start : Outcome stage gap sweeps 0 = inl (none_yet stage gap sweeps) in
+    let one = step stage gap sweeps 0 Class refl start (λ among. class_either stage) in
+    let two = step stage gap sweeps 1 Witness refl one (λ among. witness_either stage formed) in
+    let three = step stage gap sweeps 2 Balance refl two (λ among. balance_either stage formed) in
+    let four = step stage gap sweeps 3 Price refl three (λ among. price_either stage limits) in
+    let five = step stage gap sweeps 4 Box refl four (λ among. box_either stage) in
+    let six = step stage gap sweeps 5 Freedom refl five (λ among. freedom_either stage limits) in
+    let seven = step stage gap sweeps 6 Gap refl six (λ among. gap_either stage) in
+    let eight = step stage gap sweeps 7 State refl seven (λ among. state_either stage gap sweeps) in
+    let nine = step stage gap sweeps 8 Bounds refl eight (λ among. bounds_either stage formed (among Class (omega arith) (omega arith)) (among Witness (omega arith) (omega arith))) in
+    let ten = step stage gap sweeps 9 Statistic refl nine (λ among. statistic_either stage) in
+    let eleven = step stage gap sweeps 10 Nodal refl ten (λ among. nodal_either law stage limits) in
+    let twelve = step stage gap sweeps 11 Verdict refl eleven (λ among. verdict_either stage) in
+    elim twelve [ inl among ↦ inl (all_passed stage gap sweeps among) | inr fault ↦ inr fault ]
+
+-- ---- places
+within_by : (stage : Stage) (a b : Fault) → a ≡ b → IsPlaceWithin stage b.place → IsPlaceWithin stage a.place
+within_by stage a b is within = subst (λ (f : Fault). IsPlaceWithin stage f.place) (sym is) within
+
+rows_within : (stage : Stage) (o : Option Tests) (fault : Fault) → IfSome o (AreTestsWithin stage.graph) → IsSomeAnd o (λ tests. IsNodalRowsFault stage tests fault)
+    → IsPlaceWithin stage fault.place
+rows_within stage None fault formed fails = absurd fails
+rows_within stage (Some tests) fault formed fails = elim fails.says [
+  | inl count ↦ within_by stage fault _ count.is tt
+  | inr row ↦ within_by stage fault _ row.is (all_each (IsNodalWithin stage.graph) tests.nodal formed.nodal row.place row.row row.row_is).node
+]
+
+verdicts_within : (stage : Stage) (o : Option Tests) (fault : Fault) → length stage.streams ≡ length stage.graph.streams → IfSome o (AreTestsWithin stage.graph)
+    → IsSomeAnd o (λ tests. IsGlobalFault stage tests fault ⊎ (IsNodalVerdictFault stage tests fault ⊎ IsMeasureVerdictFault stage tests fault))
+    → IsPlaceWithin stage fault.place
+verdicts_within stage None fault each formed fails = absurd fails
+verdicts_within stage (Some tests) fault each formed (inl whole) = within_by stage fault _ whole.is tt
+verdicts_within stage (Some tests) fault each formed (inr (inl nodal)) =
+    within_by stage fault _ nodal.is (all_each (IsNodalWithin stage.graph) tests.nodal formed.nodal nodal.place nodal.row nodal.row_is).node
+verdicts_within stage (Some tests) fault each formed (inr (inr measure)) =
+    within_by stage fault _ measure.is (omega (arith, each, (all_each (IsMeasureWithin stage.graph) tests.measure formed.measure measure.place measure.row measure.row_is).stream))
+
+pub place_of : (stage : Stage) (gap sweeps : ℕ) (test : Test) (fault : Fault) → IsWellFormed stage → Fails stage gap sweeps test fault → IsPlaceWithin stage fault.place
+place_of stage gap sweeps Class fault formed fails = within_by stage fault _ fails.is (omega (arith, fails.first.within, formed.each_stream))
+place_of stage gap sweeps Witness fault formed fails = within_by stage fault _ fails.is (omega (arith, fails.first.within, formed.each_stream))
+place_of stage gap sweeps Balance fault formed fails = within_by stage fault _ fails.is fails.first.within
+place_of stage gap sweeps Price fault formed fails = within_by stage fault _ fails.is fails.first.within
+place_of stage gap sweeps Box fault formed fails = within_by stage fault _ fails.is (omega (arith, fails.first.within, formed.each_stream))
+place_of stage gap sweeps Freedom fault formed fails = within_by stage fault _ fails.is tt
+place_of stage gap sweeps Gap fault formed fails = within_by stage fault _ fails.is tt
+place_of stage gap sweeps State fault formed fails = within_by stage fault _ fails.is tt
+place_of stage gap sweeps Bounds fault formed fails = within_by stage fault _ fails.is (omega (arith, fails.first.within, formed.each_stream))
+place_of stage gap sweeps Statistic fault formed fails = within_by stage fault _ fails.is tt
+place_of stage gap sweeps Nodal fault formed fails = rows_within stage stage.tests fault formed.tests fails
+place_of stage gap sweeps Verdict fault formed fails = verdicts_within stage stage.tests fault formed.each_stream formed.tests fails
+
+pub place_law : PlaceLaw
+place_law stage gap sweeps formed fault =
+    place_of stage gap sweeps fault.test (record { place = fault.place; stated = fault.stated; found = fault.found }) formed fault.is.fails

@@ -1,0 +1,22 @@
+use Rattle.std.proofs.Common.{arith}
+use Rattle.std.proofs.lemmas.Option.{slice_get_within}
+use Rattle.pb_check.specs.Asked.{IsShownAt}
+use Rattle.pb_check.proofs.DecideLemmas.{one_more, fails_by}
+use Rattle.pb_check.proofs.PlaceLemmas.{stream_fault}
+use Rattle.pb_check.proofs.classes.witness_fault.Goals as goal
+
+pub returns-then-not-is_shown_at : goal.returns-then-not-is_shown_at
+returns-then-not-is_shown_at c =
+    let stage = c.args.stage.now in
+    let j = c.loop-j.j in
+    stream_fault stage (IsShownAt stage) j c.at_stream.result (omega (arith, c.loop-j-test.true, c.len-j-end.ensures.value)) c.loop-j.invariant
+    (fails_by (IsShownAt stage j) c.is_shown_at.result c.is_shown_at.ensures c.if-not-is_shown_at.true) c.at_stream.ensures
+
+pub loop-j-preserved : goal.loop-j-preserved
+loop-j-preserved c = one_more (IsShownAt c.args.stage.now) c.loop-j.j c.loop-j.invariant (c.is_shown_at.ensures.0 c.if-not-is_shown_at.false)
+
+pub returns : goal.returns
+returns c =
+    λ j result there.
+    let within = slice_get_within c.args.stage.now.streams j result there in
+    c.loop-j.invariant j (omega (arith, within, c.loop-j-test.false, c.len-j-end.ensures.value, c.requires.each_stream)) result there

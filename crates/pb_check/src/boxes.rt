@@ -1,0 +1,72 @@
+// Test 5: the box of each measured stream.
+
+ghost use Rattle.std.specs.Prelude.{◌≡◌, ◌<◌, ◌≤◌, ◌^◌, ℕ, pos, ◌≤ℤ◌, ◌-ℤ◌, unsigned_abs, length, MatchOption};
+ghost use Rattle.pb_graph.specs.ProcessGraph.{IsMeasurement, IsProcessGraph};
+ghost use Rattle.pb_graph.specs.WellFormed.{IsWellFormed};
+ghost use Rattle.pb_dual.specs.Candidates.{room_of};
+ghost use Rattle.pb_check.specs.Asked.{IsInBoxAt, AreInBox};
+ghost use Rattle.pb_check.specs.Faults.{IsBoxFault};
+ghost use Rattle.pb_check.specs.Others.{IsOutOfBox};
+
+use crate::faults::{Fault, Place};
+use pb_fixed::div_floor;
+use pb_graph::{Meas, Stage};
+
+// The most that a variance times a difference of prices may be.
+const BOX: i128 = 1 << 112;
+
+// The most by which the prices at the ends of a stream of this variance may differ.
+fn room(meas: &Meas) -> i128
+    requires { IsMeasurement meas.now }
+    ensures { result ≡ room_of meas.now.variance }
+{
+    div_floor(BOX, meas.variance)
+}
+
+// How much two prices differ.
+fn difference(from: i128, to: i128) -> i128
+    requires from { unsigned_abs from ≤ 2 ^ 120 }
+    requires to { unsigned_abs to ≤ 2 ^ 120 }
+    ensures { result ≡ pos (unsigned_abs (to -ℤ from)) }
+{
+    (to - from).abs()
+}
+
+// The stream at a place, where it is measured and the prices at its ends differ by more than they may.
+fn out_of_box(stage: &Stage, place: u32) -> Option<Fault>
+    requires formed { IsWellFormed stage.now }
+    requires limits { IsProcessGraph stage.now.graph }
+    requires place { place < length stage.now.graph.streams }
+    ensures { MatchOption result (IsInBoxAt stage.now place) (IsOutOfBox stage.now place) }
+{
+    let stream = stage.graph.stream(place);
+    let Some(meas) = stream.meas else {
+        return None;
+    };
+    let stated = difference(
+        *stage.prices.at(stream.from as usize),
+        *stage.prices.at(stream.to as usize),
+    );
+    let found = room(&meas);
+    if stated <= found {
+        return None;
+    }
+    Some(Fault {
+        place: Place::Stream(place),
+        stated,
+        found,
+    })
+}
+
+/// Test 5: the adjustment of each measured flow is within its limit.
+pub fn box_fault(stage: &Stage) -> Option<Fault>
+    requires { IsWellFormed stage.now }
+    ensures { MatchOption result (AreInBox stage.now) (IsBoxFault stage.now) }
+{
+    for place in 0..stage.graph.len() {
+        if let Some(fault) = out_of_box(stage, place) {
+            return Some(fault);
+        }
+    }
+    None
+}

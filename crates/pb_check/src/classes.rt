@@ -1,0 +1,199 @@
+// Tests 1 and 2: the class of each stream, and the cut or cycle that shows it.
+
+ghost use Rattle.std.specs.Prelude.{◌≡◌, ◌↔◌, ◌==◌, ◌<◌, Some, None, length, slice_get, IsSome, All, IsTrue, MatchOption};
+ghost use Rattle.std.specs.List.{list_any};
+ghost use Rattle.pb_graph.specs.declared.records.Member.{Member};
+ghost use Rattle.pb_graph.specs.declared.records.Step.{Step};
+ghost use Rattle.pb_graph.specs.declared.records.Stream.{Stream};
+ghost use Rattle.pb_graph.specs.Certificates.{CutsOff, GoesRound, Shows};
+ghost use Rattle.pb_graph.specs.WellFormed.{IsWellFormed};
+ghost use Rattle.pb_check.specs.Others.{IsOtherMeasured, IsOtherUnmeasured};
+ghost use Rattle.pb_check.specs.Asked.{is_of_measured, is_bounded, HasClass, HasClassAt, HaveClasses, IsShownAt, AreShown};
+ghost use Rattle.pb_check.specs.Faults.{IsClassFault, IsWitnessFault};
+
+use crate::faults::{Fault, at_stream};
+use pb_graph::{Class, Graph, Member, Stage, Step, Stream, StreamResult, Witness};
+
+// Whether a class is that of a measured stream.
+fn is_of_measured(class: Class) -> bool
+    ensures { result ≡ is_of_measured class }
+{
+    matches!(class, Class::Redundant | Class::Nonredundant)
+}
+
+// Whether a stream of a class has bounds.
+fn is_bounded(class: Class) -> bool
+    ensures { result ≡ is_bounded class }
+{
+    !matches!(class, Class::Unobservable)
+}
+
+// Whether a stream has a class of measured streams exactly where it is measured, and bounds exactly where it isn't unobservable.
+fn has_class(stream: &Stream, printed: &StreamResult) -> bool
+    ensures { IsTrue result ↔ HasClass stream.now printed.now }
+{
+    let class = printed.classified.class;
+    is_of_measured(class) == stream.meas.is_some() && printed.bounds.is_some() == is_bounded(class)
+}
+
+// Whether the stream at a place has.
+fn has_class_at(stage: &Stage, j: u32) -> bool
+    requires formed { IsWellFormed stage.now }
+    requires place { j < length stage.now.graph.streams }
+    ensures { IsTrue result ↔ HasClassAt stage.now j }
+{
+    has_class(&stage.graph.stream(j), stage.streams.at(j as usize))
+}
+
+/// Test 1: each stream has a class of measured streams exactly where it is measured, and bounds exactly where it isn't unobservable.
+pub fn class_fault(stage: &Stage) -> Option<Fault>
+    requires { IsWellFormed stage.now }
+    ensures { MatchOption result (HaveClasses stage.now) (IsClassFault stage.now) }
+{
+    for j in 0..stage.graph.len() {
+        if !has_class_at(stage, j) {
+            return Some(at_stream(j));
+        }
+    }
+    None
+}
+
+// Whether the stream at a place is measured, if there is one.
+fn is_measured_at(graph: &Graph, stream: u32) -> bool
+    ensures { IsTrue result
+        ↔ ((s : Stream) → slice_get graph.now.streams stream ≡ Some s → IsSome s.meas) }
+{
+    match graph.streams().get(stream as usize) {
+        None => true,
+        Some(s) => s.meas.is_some(),
+    }
+}
+
+// Whether the stream at a place is unmeasured, if there is one.
+fn is_unmeasured_at(graph: &Graph, stream: u32) -> bool
+    ensures { IsTrue result
+        ↔ ((s : Stream) → slice_get graph.now.streams stream ≡ Some s → s.meas ≡ None) }
+{
+    match graph.streams().get(stream as usize) {
+        None => true,
+        Some(s) => s.meas.is_none(),
+    }
+}
+
+// Whether a member is measured unless it is this stream.
+fn is_other_measured(graph: &Graph, id: u32, member: &Member) -> bool
+    ensures { IsTrue result ↔ IsOtherMeasured graph.now id member.now }
+{
+    member.stream == id || is_measured_at(graph, member.stream)
+}
+
+// Whether a step is along an unmeasured stream unless it is along this one.
+fn is_other_unmeasured(graph: &Graph, id: u32, step: &Step) -> bool
+    ensures { IsTrue result ↔ IsOtherUnmeasured graph.now id step.now }
+{
+    step.stream == id || is_unmeasured_at(graph, step.stream)
+}
+
+// Whether the members other than a stream are measured.
+fn others_measured(graph: &Graph, id: u32, members: &[Member]) -> bool
+    ensures { IsTrue result ↔ All (IsOtherMeasured graph.now id) members.now }
+{
+    members
+        .iter()
+        .all(|member| is_other_measured(graph, id, member))
+}
+
+// Whether the steps other than along a stream are along unmeasured ones.
+fn others_unmeasured(graph: &Graph, id: u32, steps: &[Step]) -> bool
+    ensures { IsTrue result ↔ All (IsOtherUnmeasured graph.now id) steps.now }
+{
+    steps
+        .iter()
+        .all(|step| is_other_unmeasured(graph, id, step))
+}
+
+// Whether a stream is one of the members.
+fn has_member(members: &[Member], id: u32) -> bool
+    ensures { result ≡ list_any (λ (m : Member). m.stream == id) members.now }
+{
+    members.iter().any(|member| member.stream == id)
+}
+
+// Whether one of the steps goes along a stream.
+fn has_step(steps: &[Step], id: u32) -> bool
+    ensures { result ≡ list_any (λ (t : Step). t.stream == id) steps.now }
+{
+    steps.iter().any(|step| step.stream == id)
+}
+
+// Whether the members are a cut that has a stream and else measured ones.
+#[tactic(auto, using(crate::proofs::OtherLemmas::each_by_recursion, crate::proofs::OtherLemmas::each_by_place))]
+fn cuts_off(graph: &Graph, id: u32, side: &[bool], members: &[Member]) -> bool
+    ensures { IsTrue result ↔ CutsOff graph.now id side.now members.now }
+{
+    graph.is_cut(side, members) && has_member(members, id) && others_measured(graph, id, members)
+}
+
+// Whether the steps are a cycle that has a stream and else unmeasured ones.
+#[tactic(auto, using(crate::proofs::OtherLemmas::each_by_recursion, crate::proofs::OtherLemmas::each_by_place))]
+fn goes_round(graph: &Graph, id: u32, steps: &[Step]) -> bool
+    ensures { IsTrue result ↔ GoesRound graph.now id steps.now }
+{
+    graph.is_cycle(steps) && has_step(steps, id) && others_unmeasured(graph, id, steps)
+}
+
+// Whether a certificate shows the class of a stream.
+fn shows(graph: &Graph, id: u32, stream: &Stream, class: Class, witness: &Witness) -> bool
+    ensures { IsTrue result ↔ Shows graph.now id stream.now class witness.now }
+{
+    match witness {
+        Witness::Cut { side, members } => match class {
+            Class::Observable => {
+                stream.meas.is_none() && cuts_off(graph, id, side.as_slice(), members.as_slice())
+            }
+            Class::Redundant => {
+                stream.meas.is_some() && cuts_off(graph, id, side.as_slice(), members.as_slice())
+            }
+            _ => false,
+        },
+        Witness::Cycle { steps } => match class {
+            Class::Unobservable => {
+                stream.meas.is_none() && goes_round(graph, id, steps.as_slice())
+            }
+            Class::Nonredundant => {
+                stream.meas.is_some() && goes_round(graph, id, steps.as_slice())
+            }
+            _ => false,
+        },
+    }
+}
+
+// Whether the printed cut or cycle shows the class of the stream at a place.
+fn is_shown_at(stage: &Stage, j: u32) -> bool
+    requires formed { IsWellFormed stage.now }
+    requires place { j < length stage.now.graph.streams }
+    ensures { IsTrue result ↔ IsShownAt stage.now j }
+{
+    let classified = &stage.streams.at(j as usize).classified;
+    let stream = stage.graph.stream(j);
+    shows(
+        &stage.graph,
+        j,
+        &stream,
+        classified.class,
+        &classified.witness,
+    )
+}
+
+/// Test 2: the printed cut or cycle shows the class of each stream. The work is in proportion to members and steps.
+pub fn witness_fault(stage: &Stage) -> Option<Fault>
+    requires { IsWellFormed stage.now }
+    ensures { MatchOption result (AreShown stage.now) (IsWitnessFault stage.now) }
+{
+    for j in 0..stage.graph.len() {
+        if !is_shown_at(stage, j) {
+            return Some(at_stream(j));
+        }
+    }
+    None
+}

@@ -1,0 +1,118 @@
+// The tests of a judgement, and what one that fails answers.
+
+ghost use Rattle.std.specs.Prelude.{◌≡◌, pos};
+ghost use Rattle.pb_check.specs.declared.faults.Place.TheVariants.{Node, Stream as StreamAt, Whole};
+ghost use Rattle.pb_check.specs.Verdict.{code_of};
+
+/// The tests of a stage, in their order.
+#[derive(Clone, Copy, Debug, PartialEq, Eq)]
+pub enum Test {
+    /// The class is one of a measured stream exactly where the stream is measured, and there are bounds unless it is unobservable.
+    Class,
+    /// The printed cut or cycle shows the class.
+    Witness,
+    /// The flows balance at each node.
+    Balance,
+    /// The nodes of a group share a price, and it is 0 where the group isn't free.
+    Price,
+    /// The prices at the ends of a measured stream are near enough.
+    Box,
+    /// The degrees of freedom are those of the graph.
+    Freedom,
+    /// The numbers of the gap are those of the flows and the prices.
+    Gap,
+    /// The state is converged exactly where the gap is met, and the sweeps are as many as were allowed, or fewer.
+    State,
+    /// The bounds are those of the prices, the gap and the certificate.
+    Bounds,
+    /// The statistic is that of the flows and the gap.
+    Statistic,
+    /// The nodal tests are those of the graph.
+    Nodal,
+    /// Each verdict follows from the printed numbers.
+    Verdict,
+}
+
+impl Test {
+    /// The number of the test, from 1.
+    pub fn code(self) -> u32
+        ensures { result ≡ code_of self }
+    {
+        match self {
+            Test::Class => 1,
+            Test::Witness => 2,
+            Test::Balance => 3,
+            Test::Price => 4,
+            Test::Box => 5,
+            Test::Freedom => 6,
+            Test::Gap => 7,
+            Test::State => 8,
+            Test::Bounds => 9,
+            Test::Statistic => 10,
+            Test::Nodal => 11,
+            Test::Verdict => 12,
+        }
+    }
+}
+
+/// What a test is about where it fails: a node, a stream, or the whole stage.
+#[derive(Clone, Copy, Debug, PartialEq, Eq)]
+pub enum Place {
+    Node(u32),
+    Stream(u32),
+    Whole,
+}
+
+/// The first failure of a test: its place, what the stage states there, and what the rule gives. Where there are no two numbers both
+/// are 0.
+#[derive(Clone, Copy, Debug, PartialEq, Eq)]
+pub struct Fault {
+    pub place: Place,
+    pub stated: i128,
+    pub found: i128,
+}
+
+/// Why a stage isn't passed: the first test that fails, with its first failure; or want of memory.
+#[derive(Clone, Copy, Debug, PartialEq, Eq)]
+pub enum CheckFault {
+    At {
+        test: Test,
+        place: Place,
+        stated: i128,
+        found: i128,
+    },
+    NoMemory,
+}
+
+/// A failure at a stream, without numbers.
+pub fn at_stream(stream: u32) -> Fault
+    ensures { result ≡ record { place = StreamAt stream; stated = pos 0; found = pos 0 } }
+{
+    Fault {
+        place: Place::Stream(stream),
+        stated: 0,
+        found: 0,
+    }
+}
+
+/// A failure at a node, with its two numbers.
+pub fn at_node(node: u32, stated: i128, found: i128) -> Fault
+    ensures { result ≡ record { place = Node node; stated = stated; found = found } }
+{
+    Fault {
+        place: Place::Node(node),
+        stated,
+        found,
+    }
+}
+
+/// A failure of the whole stage, with its two numbers.
+pub fn whole(stated: i128, found: i128) -> Fault
+    ensures { result ≡ record { place = Whole; stated = stated; found = found } }
+{
+    Fault {
+        place: Place::Whole,
+        stated,
+        found,
+    }
+}

@@ -1,0 +1,219 @@
+// Tests 7 to 10: the numbers that follow from the flows and the prices.
+
+ghost use Rattle.std.specs.Prelude.{◌≡◌, ◌↔◌, ℕ, ◌<◌, ◌≤◌, map, length, IfOk, IsTrue, MatchOption};
+ghost use Rattle.pb_limits.specs.Limits.{most_gap, most_sweeps};
+ghost use Rattle.pb_graph.specs.WellFormed.{IsWellFormed, sweeps_of};
+ghost use Rattle.pb_gap.specs.declared.gap.Gap.{Gap as GapValue};
+ghost use Rattle.pb_gap.specs.Gap.{MeetsGap};
+ghost use Rattle.pb_gap.specs.GapRange.{IsGapInRange};
+ghost use Rattle.pb_elim.specs.Printed.{printed_gap};
+ghost use Rattle.pb_check.specs.declared.faults.Test.{Test as TestValue};
+ghost use Rattle.pb_check.specs.Asked.{IsGapOfFlows, IsStateAt, IsStateOfGap, IsStatistic};
+ghost use Rattle.pb_check.specs.Faults.{IsGapFault, IsStateFault, IsStatisticFault, high_or_none};
+ghost use Rattle.pb_check.specs.Verdict.{Passes, code_of};
+ghost use Rattle.pb_check.specs.Among.{IsAmong};
+ghost use Rattle.pb_check.specs.Pairs.{IsPairOf, GapsDiffer, EndsDiffer};
+
+use crate::bounds::bounds_fault;
+use crate::faults::{Fault, Test, whole};
+use pb_gap::{FlowPair, Gap, standard_deviations, write_dual_flows};
+use pb_graph::{Solved, Stage, StreamResult};
+use std::alloc::{AllocError, Global};
+
+// Where two gaps differ, the first number that does: h, and then g.
+fn gap_difference(stated: Gap, found: Gap) -> Option<Fault>
+    ensures { MatchOption result (stated ≡ found) (GapsDiffer stated found) }
+{
+    if stated.h != found.h {
+        return Some(whole(i128::from(stated.h), i128::from(found.h)));
+    }
+    if stated.g != found.g {
+        return Some(whole(i128::from(stated.g), i128::from(found.g)));
+    }
+    None
+}
+
+// The printed gap.
+fn printed_gap(stage: &Stage) -> Gap
+    requires { IsWellFormed stage.now }
+    ensures value { result ≡ printed_gap stage.now }
+    ensures range { IsGapInRange result }
+{
+    Gap {
+        g: stage.g,
+        h: stage.h,
+    }
+}
+
+// Test 7: the printed gap is that of the flows and the prices. `deviations` is room for one number of each stream.
+fn gap_fault(stage: &Stage, pair: &FlowPair, deviations: &mut [i128]) -> Option<Fault>
+    requires formed { IsWellFormed stage.now }
+    requires pair { IsPairOf stage.now pair.now }
+    requires room { length deviations.old ≡ length pair.now.graph.streams }
+    ensures { MatchOption result (IsGapOfFlows stage.now) (IsGapFault stage.now) }
+{
+    gap_difference(printed_gap(stage), pair.gap(deviations))
+}
+
+// Whether a state is converged, in at most so many sweeps, where the gap is met, and unconverged, after all of them, where it isn't.
+fn is_state(solved: Solved, met: bool, sweeps: u32) -> bool
+    ensures { (gap : ℕ) (printed : GapValue) → (IsTrue met ↔ MeetsGap gap printed)
+        → (IsTrue result ↔ IsStateAt gap sweeps printed solved) }
+{
+    match solved {
+        Solved::Converged(k) => met && k <= sweeps,
+        Solved::Unconverged(k) => !met && k == sweeps,
+    }
+}
+
+// How many sweeps were done.
+fn sweeps_of(solved: Solved) -> u32
+    ensures { result ≡ sweeps_of solved }
+{
+    match solved {
+        Solved::Converged(k) => k,
+        Solved::Unconverged(k) => k,
+    }
+}
+
+// Test 8: the state is converged exactly where the gap is met, and the sweeps are as many as were allowed, or fewer.
+fn state_fault(
+    stage: &Stage,
+    pair: &FlowPair,
+    deviations: &mut [i128],
+    gap: u32,
+    sweeps: u32,
+) -> Option<Fault>
+    requires pair { IsPairOf stage.now pair.now }
+    requires room { length deviations.old ≡ length pair.now.graph.streams }
+    requires gap_is { IsGapOfFlows stage.now }
+    ensures { MatchOption result (IsStateOfGap stage.now gap sweeps)
+        (IsStateFault stage.now gap sweeps) }
+{
+    let met = pair.is_met(gap, deviations);
+    if is_state(stage.solved, met, sweeps) {
+        return None;
+    }
+    let done = sweeps_of(stage.solved);
+    Some(whole(i128::from(done), i128::from(sweeps)))
+}
+
+// A high end, and -1 where there is none.
+fn high_or_none(high: Option<i128>) -> i128
+    ensures { result ≡ high_or_none high }
+{
+    match high {
+        None => -1,
+        Some(high) => high,
+    }
+}
+
+// Whether there are two high ends that are the same, or none.
+fn same_high(stated: Option<i128>, found: Option<i128>) -> bool
+    ensures { IsTrue result ↔ (stated ≡ found) }
+{
+    match stated {
+        None => found.is_none(),
+        Some(stated) => match found {
+            None => false,
+            Some(found) => stated == found,
+        },
+    }
+}
+
+// Where the ends of two statistics differ, the first that does: the low one, and then the high one.
+fn ends_difference(
+    low: i128,
+    high: Option<i128>,
+    found_low: i128,
+    found_high: Option<i128>,
+) -> Option<Fault>
+    ensures { MatchOption result ((low ≡ found_low) × (high ≡ found_high))
+        (EndsDiffer low high found_low found_high) }
+{
+    if low != found_low {
+        return Some(whole(low, found_low));
+    }
+    if !same_high(high, found_high) {
+        return Some(whole(high_or_none(high), high_or_none(found_high)));
+    }
+    None
+}
+
+// Test 10: the statistic is that of the flows and the printed gap.
+fn statistic_fault(stage: &Stage, pair: &FlowPair) -> Option<Fault>
+    requires formed { IsWellFormed stage.now }
+    requires pair { IsPairOf stage.now pair.now }
+    ensures { MatchOption result (IsStatistic stage.now) (IsStatisticFault stage.now) }
+{
+    let (low, high) = pair.statistic(printed_gap(stage));
+    ends_difference(stage.low, stage.high, low, high)
+}
+
+// The printed flows.
+fn printed_flows(alloc: Global, streams: &[StreamResult]) -> Result<Vec<i128>, AllocError>
+    ensures { IfOk result (λ flows. flows.items ≡ map (λ r. r.flow) streams.now) }
+{
+    let mut flows = Vec::new(alloc);
+    for stream in streams {
+        flows.push(stream.flow)?;
+    }
+    Ok(flows)
+}
+
+// The first of the tests 7 to 10 that fails, by the flows beside the dual flows.
+fn first_of_pair(
+    alloc: Global,
+    stage: &Stage,
+    pair: &FlowPair,
+    deviations: &mut [i128],
+    gap: u32,
+    sweeps: u32,
+) -> Result<Option<(Test, Fault)>, AllocError>
+    requires formed { IsWellFormed stage.now }
+    requires pair { IsPairOf stage.now pair.now }
+    requires room { length deviations.old ≡ length pair.now.graph.streams }
+    requires earlier { (test : TestValue) → code_of test < 7 → Passes stage.now gap sweeps test }
+    ensures { IfOk result (IsAmong stage.now gap sweeps 7 10) }
+{
+    if let Some(fault) = gap_fault(stage, pair, deviations) {
+        return Ok(Some((Test::Gap, fault)));
+    }
+    if let Some(fault) = state_fault(stage, pair, deviations, gap, sweeps) {
+        return Ok(Some((Test::State, fault)));
+    }
+    if let Some(fault) = bounds_fault(alloc, stage, pair, printed_gap(stage))? {
+        return Ok(Some((Test::Bounds, fault)));
+    }
+    if let Some(fault) = statistic_fault(stage, pair) {
+        return Ok(Some((Test::Statistic, fault)));
+    }
+    Ok(None)
+}
+
+/// The first of the tests 7 to 10 that a stage fails, which passes those before.
+///
+/// The work is in proportion to streams and members of cuts.
+pub fn first_of_numbers(
+    alloc: Global,
+    stage: &Stage,
+    gap: u32,
+    sweeps: u32,
+) -> Result<Option<(Test, Fault)>, AllocError>
+    requires formed { IsWellFormed stage.now }
+    requires gap_from { 1 ≤ gap }
+    requires gap_to { gap ≤ most_gap }
+    requires sweeps { sweeps ≤ most_sweeps }
+    requires earlier { (test : TestValue) → code_of test < 7 → Passes stage.now gap sweeps test }
+    ensures { IfOk result (IsAmong stage.now gap sweeps 7 10) }
+{
+    let _nodes = stage.graph.nodes();
+    let streams = stage.graph.streams();
+    let roots = standard_deviations(alloc, streams)?;
+    let flows = printed_flows(alloc, stage.streams.as_slice())?;
+    let mut dual_flows = vec![in alloc; 0i128; streams.len()]?;
+    write_dual_flows(&stage.graph, stage.prices.as_slice(), &mut dual_flows);
+    let mut deviations = vec![in alloc; 0i128; streams.len()]?;
+    let pair = FlowPair::new(&stage.graph, &roots, &dual_flows, &flows);
+    first_of_pair(alloc, stage, &pair, &mut deviations, gap, sweeps)
+}

@@ -1,0 +1,250 @@
+-- The reports of a run read back as the stages of their studies, each of which passes.
+use Rattle.std.proofs.Common.{◌≡◌, ◌∙◌, ◌&&◌, ℕ, ◌+◌, ◌≤◌, Bool, true, false, List, [], ◌∷◌, ◌++◌, length, map, All, Option, Some, None, Result, Ok, Err, ap, ap₂, sym, refl, subst, arith, slice_get, codes}
+use Rattle.std.specs.Prelude.{slice_index_or}
+use Rattle.std.proofs.lemmas.Option.{get_or_from_slice_get, slice_get_within}
+use Rattle.std.specs.List.{flat_map, list_all, list_any}
+use Rattle.std.proofs.lemmas.List.{map-append}
+use Rattle.std.proofs.lemmas.List.Elements.{All-append, All-cons, All-head, All-nil, All-tail, All-weaker}
+use Rattle.std.proofs.lemmas.List.Folds.{list_all-append}
+use Rattle.std.proofs.lemmas.Grind.{flat_map-append}
+use Rattle.pb_rows.specs.declared.name.Names.{Names}
+use Rattle.pb_rows.specs.Name.{is_name}
+use Rattle.pb_rows.specs.Records.{records_of}
+use Rattle.pb_rows.specs.Written.{begins_with_word}
+use Rattle.pb_graph.specs.declared.results.Options.{Options}
+use Rattle.pb_graph.specs.declared.results.Stage.{Stage}
+use Rattle.pb_graph.specs.declared.results.Study.{Study}
+use Rattle.pb_graph.specs.ProcessGraph.{IsProcessGraph, ProcessGraph}
+use Rattle.pb_elim.specs.Certified.{IsCertifiedStage}
+use Rattle.pb_elim.specs.Criticals.{AreCritical}
+use Rattle.pb_elim.specs.Laws.{FormedLaw}
+use Rattle.pb_elim.specs.Options.{AreOptions}
+use Rattle.pb_check.specs.Laws.{OwnLaw}
+use Rattle.pb_check.specs.Verdict.{IsPassed}
+use Rattle.pb_book.specs.declared.answer.Accepted.{Accepted}
+use Rattle.pb_book.specs.declared.answer.Accepted.TheVariants.{Blank, Stored as StoredAccepted, Design, Report, History}
+use Rattle.pb_book.specs.declared.rows.Period.{Period}
+use Rattle.pb_book.specs.Accepted.{AreAccepted}
+use Rattle.pb_book.specs.Answer.{Answer, Refused, Says, Stored, answer_of, code_of}
+use Rattle.pb_book.specs.Edits.{history_of}
+use Rattle.pb_book.specs.Laws.{AcceptedLaw}
+use Rattle.pb_book.specs.Named.{AreNamed, DeclareNames, NamedLaw}
+use Rattle.pb_book.specs.Rows.{StoredRow, declared_of, periods_of}
+use Rattle.pb_period.specs.declared.days.Days.{Days}
+use Rattle.pb_period.specs.Days.{days_of}
+use Rattle.pb_period.specs.declared.graph.Assembly.{Assembly}
+use Rattle.pb_period.specs.declared.graph.Assembly.TheVariants.{Over, NoMemory}
+use Rattle.pb_period.specs.PeriodGraph.{assembly_of, design_graph, period_names}
+use Rattle.pb_report.specs.declared.form.Form.{Form}
+use Rattle.pb_report.specs.declared.form.Form.TheVariants.{Csv}
+use Rattle.pb_report.specs.Form.{row_text, text_in}
+use Rattle.pb_report.specs.Row.{Columns, values_of}
+use Rattle.pb_report.specs.Study.{study_rows}
+use Rattle.pb_readback.specs.declared.block.Block.{Block}
+use Rattle.pb_readback.specs.Laws.{JoinLaw}
+use Rattle.pb_readback.specs.Next.{AreBlocks}
+use Rattle.pb_readback.specs.Written.{BeginWithWords, IsReportable, PassedRowsLaw, RowTextLaw, RowWordsLaw, StudyRowsLaw, block_with, blocks_from, records_in}
+use Rattle.pb_session.specs.Criticals.{critical_of}
+use Rattle.pb_report.specs.Design.{design_rows}
+use Rattle.pb_report.specs.Names.{name_at}
+use Rattle.pb_report.specs.Over.{over_row}
+use Rattle.pb_report.specs.Refusal.{refused_row}
+use Rattle.pb_site.specs.Site.{names_of}
+use Rattle.pb_session.specs.History.{told, told_history, told_period}
+use Rattle.pb_session.specs.Session.{Adds, AddsAccepted, AddsBy, AreNamesOf, IsReport, IsSessionText, Reports, ReportsBy, SessionState, Tells, state_after}
+use Rattle.pb_audit.specs.Judgement.{AreFindings, Finding, IsJudgement, IsPassedBlock, finds_wrong, passed}
+use Rattle.pb_audit.specs.Laws.{OneFindingsLaw, PassedLaw}
+
+-- A text is rows that read back as blocks, each of which passes.
+pub record ReadsBack (text : List ℕ) : Type 0 where
+  pub rows : List Columns
+  pub blocks : List Block
+  pub text_is : text ≡ text_in Csv rows
+  pub words : BeginWithWords rows
+  pub are : AreBlocks (records_in rows) blocks
+  pub pass : All IsPassedBlock blocks
+
+-- no row
+none_read : ReadsBack []
+none_read = record { rows = []; blocks = []; text_is = refl; words = refl; are = refl; pass = All-nil IsPassedBlock }
+
+-- rows without a block
+passed_over : (rows : List Columns) (text : List ℕ) → text ≡ text_in Csv rows → BeginWithWords rows → AreBlocks (records_in rows) [] → ReadsBack text
+passed_over rows text is words are = record { rows = rows; blocks = []; text_is = is; words = words; are = are; pass = All-nil IsPassedBlock }
+
+-- one text behind the other
+both_read : JoinLaw → (front back : List ℕ) → ReadsBack front → ReadsBack back → ReadsBack (front ++ back)
+both_read join front back a b =
+    let joined : records_in (a.rows ++ b.rows) ≡ records_in a.rows ++ records_in b.rows = map-append values_of a.rows b.rows in
+    record {
+      rows = a.rows ++ b.rows;
+      blocks = a.blocks ++ b.blocks;
+      text_is = ap₂ (λ (x y : List ℕ). x ++ y) a.text_is b.text_is ∙ sym (flat_map-append (row_text Csv) a.rows b.rows);
+      words =
+          ap (λ (l : List (List (List ℕ))). list_all begins_with_word l) joined ∙ list_all-append begins_with_word (records_in a.rows) (records_in b.rows)
+          ∙ ap₂ (λ (x y : Bool). x && y) a.words b.words;
+      are =
+          subst (λ (l : List (List (List ℕ))). AreBlocks l (a.blocks ++ b.blocks)) (sym joined)
+          (join (records_in a.rows) (records_in b.rows) a.blocks b.blocks a.are b.are);
+      pass = All-append IsPassedBlock a.blocks b.blocks a.pass b.pass;
+    }
+
+-- ---- what holds of a session, and stays
+
+pub record IsSound (state : SessionState) : Type 0 where
+  pub form : state.form ≡ Csv
+  pub options : AreOptions state.options
+  pub accepted : AreAccepted state.rows
+  pub named : DeclareNames state.rows
+
+sound_after : AcceptedLaw → NamedLaw → (state : SessionState) (at : ℕ) (fields : List (List ℕ)) → IsSound state → IsSound (state_after state at fields)
+sound_after accepted named state at fields sound = record {
+  form = sound.form;
+  options = sound.options;
+  accepted = accepted.go_on state.rows at fields sound.accepted;
+  named = named.go_on state.rows at fields sound.named;
+}
+
+-- rows in the form of a session
+in_csv : (state : SessionState) (rows : List Columns) (text : List ℕ) → state.form ≡ Csv → text ≡ text_in state.form rows → text ≡ text_in Csv rows
+in_csv state rows text csv is = is ∙ ap (λ (form : Form). text_in form rows) csv
+
+-- ---- a report
+
+-- What is known of studies, of their rows, and of the other rows.
+pub record AreKnown : Type 0 where
+  pub join : JoinLaw
+  pub rows : StudyRowsLaw
+  pub others : PassedRowsLaw
+  pub words : RowWordsLaw
+  pub formed : FormedLaw
+  pub own : OwnLaw
+  pub critical : (rows : List StoredRow) → AreAccepted rows → AreCritical (critical_of rows)
+
+at_place : {X : Type 0} (P : X → Type 0) (xs : List X) (i : ℕ) (x : X) → slice_get xs i ≡ Some x → All P xs → P x
+at_place P xs i x is all = subst P (get_or_from_slice_get xs i x x is) (all i x (slice_get_within xs i x is))
+
+first_is : (names : List (List ℕ)) (name : List ℕ) → slice_get names 0 ≡ Some name → slice_index_or names 0 [] ≡ name
+first_is [] name is = cc is
+first_is (x ∷ names) name is = cc is
+
+-- stages that pass are blocks that pass
+blocks_pass : (names : Names) (period : List ℕ) (options : Options) (round : ℕ) (stages : List Stage) → All (λ (stage : Stage). IsPassed stage options.gap options.sweeps) stages
+    → All IsPassedBlock (blocks_from names period options round stages)
+blocks_pass names period options round [] all = All-nil IsPassedBlock
+blocks_pass names period options round (stage ∷ stages) all =
+    All-cons IsPassedBlock (block_with names period options round stage) (blocks_from names period options (round + 1) stages)
+    (All-head (λ (stage : Stage). IsPassed stage options.gap options.sweeps) stage stages all)
+    (blocks_pass names period options (round + 1) stages (All-tail (λ (stage : Stage). IsPassed stage options.gap options.sweeps) stage stages all))
+
+-- a report can be read back
+reportable : AreKnown → (state : SessionState) (days : Days) (period : List ℕ) (graph : ProcessGraph) (text : List ℕ) → IsSound state → AreNamed state.rows → is_name period ≡ true
+    → (report : IsReport state (period_names state.rows days) period graph text) → IsReportable (period_names state.rows days) period state.options report.study
+reportable known state days period graph text sound named name report = record {
+  named = record {
+    graph = graph;
+    named = report.named.each;
+    formed = known.formed graph state.options (critical_of state.rows) report.study report.limits sound.options (known.critical state.rows sound.accepted) report.is_study;
+  };
+  graphs =
+      All-weaker IsCertifiedStage (λ (stage : Stage). IsProcessGraph stage.graph) (λ (stage : Stage) (c : IsCertifiedStage stage). c.shown.limits) report.study.stages
+      report.certified;
+  all_names = record {
+    node_forms = named.nodes;
+    stream_forms = named.streams;
+    nodes_differ = report.named.nodes;
+    streams_differ = report.named.streams;
+    env = first_is (period_names state.rows days).nodes (codes "env") report.named.environment;
+  };
+  name = name;
+  asked = record { some_gap = sound.options.some_gap; greatest_gap = sound.options.greatest_gap; greatest_sweeps = sound.options.greatest_sweeps };
+  greatest_round = omega (arith, report.is_study.rounds.between, report.is_study.rounds.rounds, sound.options.greatest_rounds);
+}
+
+report_read : AreKnown → (state : SessionState) (days : Days) (period : List ℕ) (graph : ProcessGraph) (text : List ℕ) → IsSound state → AreNamed state.rows → is_name period ≡ true
+    → IsReport state (period_names state.rows days) period graph text → ReadsBack text
+report_read known state days period graph text sound named name report =
+    let names = period_names state.rows days in
+    let able = reportable known state days period graph text sound named name report in
+    record {
+      rows = study_rows names period state.options report.study;
+      blocks = blocks_from names period state.options 0 report.study.stages;
+      text_is = in_csv state (study_rows names period state.options report.study) text sound.form report.rows;
+      words = known.words.studies names period state.options report.study;
+      are = known.rows names period state.options report.study able;
+      pass =
+          blocks_pass names period state.options 0 report.study.stages
+          (known.own graph state.options (critical_of state.rows) report.study report.limits report.is_study);
+    }
+
+reports_read : AreKnown → NamedLaw → (state : SessionState) (i : ℕ) (text : List ℕ) → IsSound state → (found : Option Period) → slice_get (periods_of state.rows) i ≡ found
+    → Reports state found text → ReadsBack text
+reports_read known law state i text sound None at reports = absurd reports
+reports_read known law state i text sound (Some period) at reports = by (assembly_of state.rows (days_of period)) reports
+  where
+    named : AreNamed state.rows
+    named = law.named state.rows sound.named
+
+    by : (a : Result ProcessGraph Assembly) → ReportsBy state period a text → ReadsBack text
+    by (Ok graph) report =
+        report_read known state (days_of period) period.name graph text sound named
+        (at_place (λ (p : Period). is_name p.name ≡ true) (periods_of state.rows) i period at named.periods) report
+    by (Err (Over j)) is =
+        let stream = name_at (period_names state.rows (days_of period)).streams j in
+        let rows : List Columns = over_row period.name stream ∷ [] in
+        passed_over rows text (in_csv state rows text sound.form is) (known.words.over period.name stream) (known.others.over period.name stream)
+    by (Err NoMemory) is = absurd is
+
+-- ---- one record, and all of them
+
+record_read : AreKnown → NamedLaw → (state : SessionState) (at : ℕ) (fields : List (List ℕ)) (text : List ℕ) → IsSound state → Adds state at fields text → ReadsBack text
+record_read known law state at fields text sound adds = by (answer_of state.rows fields) adds
+  where
+    tells : (found : Option Period) → Tells state found text → ReadsBack text
+    tells None is = absurd is
+    tells (Some period) is =
+        let edits = map told (history_of state.rows period) in
+        let rows : List Columns = told_history state.rows period in
+        passed_over rows text (in_csv state rows text sound.form is) (known.words.histories (told_period period) edits) (known.others.histories (told_period period) edits)
+
+    nothing : text ≡ [] → ReadsBack text
+    nothing is = subst (λ (t : List ℕ). ReadsBack t) (sym is) none_read
+
+    said : (accepted : Accepted) → AddsAccepted state accepted text → ReadsBack text
+    said Blank is = nothing is
+    said StoredAccepted is = nothing is
+    said Design design =
+        let names = names_of (declared_of state.rows) in
+        let graph = design_graph state.rows in
+        let rows : List Columns = design_rows names graph design.classes in
+        passed_over rows text (in_csv state rows text sound.form design.rows) (known.words.designs names graph design.classes) (known.others.designs names graph design.classes)
+    said (Report i) reports = reports_read known law state i text sound (slice_get (periods_of state.rows) i) refl reports
+    said (History i) is = tells (slice_get (periods_of state.rows) i) is
+
+    by : (answer : Answer) → AddsBy state at answer text → ReadsBack text
+    by (Refused cause) is =
+        let rows : List Columns = refused_row at (code_of cause) ∷ [] in
+        passed_over rows text (in_csv state rows text sound.form is) (known.words.refused at (code_of cause)) (known.others.refused at (code_of cause))
+    by (Stored row) is = nothing is
+    by (Says accepted) is = said accepted is
+
+pub session_read : AreKnown → NamedLaw → AcceptedLaw → (state : SessionState) (at : ℕ) (records : List (List (List ℕ))) (text : List ℕ) → IsSound state → IsSessionText state at records text → ReadsBack text
+session_read known law accepted state at [] text sound is = subst (λ (t : List ℕ). ReadsBack t) (sym is) none_read
+session_read known law accepted state at (fields ∷ records) text sound (first, rest, adds, texts, whole) =
+    let here = record_read known law state at fields first sound adds in
+    let behind = session_read known law accepted (state_after state at fields) (at + 1) records rest (sound_after accepted law state at fields sound) texts in
+    subst (λ (t : List ℕ). ReadsBack t) (sym whole) (both_read known.join first rest here behind)
+
+-- ---- the check of such a text
+
+nothing_wrong : (blocks : List Block) → finds_wrong (map (λ (block : Block). passed block) blocks) ≡ false
+nothing_wrong [] = refl
+nothing_wrong (block ∷ blocks) = nothing_wrong blocks
+
+-- nothing wrong is found in it
+pub reads_right : RowTextLaw → PassedLaw → OneFindingsLaw → (text : List ℕ) → ReadsBack text → (wrong : Bool) (judgement : List ℕ) → IsJudgement wrong (records_of text) judgement → wrong ≡ false
+reads_right written passes one text reads wrong judgement judged =
+    let records : records_of text ≡ records_in reads.rows = ap records_of reads.text_is ∙ written reads.rows reads.words in
+    let here = subst (λ (rs : List (List (List ℕ))). AreFindings 0 rs judged.findings) records judged.are in
+    let same = one 0 (records_in reads.rows) judged.findings _ here (passes 0 (records_in reads.rows) reads.blocks reads.are reads.pass) in
+    judged.wrong_is ∙ ap (λ (fs : List Finding). finds_wrong fs) same ∙ nothing_wrong reads.blocks

@@ -1,0 +1,465 @@
+-- What comes next: there is one thing, and no other; blocks put behind others.
+use Rattle.std.specs.Prelude.{◌≢◌, ◌⊎◌, nat_lt, bytes_eq, codes, if◌then◌else◌}
+use Rattle.std.specs.Cmp.Lexicographic.{bytes_decides}
+use Rattle.std.specs.List.{list_all}
+use Rattle.std.proofs.Common.{◌≡◌, ◌∙◌, ℕ, ◌+◌, ◌≤◌, List, [], ◌∷◌, ◌++◌, length, Bool, true, false, true≢false, Option, Some, None, refl, sym, ap, arith, inl, inr, append_assoc, length-append}
+use Rattle.std.proofs.lemmas.Bool.{and_parts, cases_Bool}
+use Rattle.pb_readback.specs.declared.block.Block.{Block}
+use Rattle.pb_readback.specs.declared.draft.Draft.{Draft}
+use Rattle.pb_readback.specs.declared.fault.RowFault.{RowFault}
+use Rattle.pb_readback.specs.declared.fault.RowFault.TheVariants.{Unknown, Ended}
+use Rattle.pb_readback.specs.declared.kind.RowKind.{RowKind}
+use Rattle.pb_readback.specs.declared.kind.RowKind.TheVariants.{Report, Node, Stream, Solved, Global, Nodal, Measure, End}
+use Rattle.pb_readback.specs.Blocks.{block_of}
+use Rattle.pb_readback.specs.Drafts.{told_if, with_row, with_rows}
+use Rattle.pb_readback.specs.Faults.{fault_behind, fault_if, first_unknown, opening_fault, opening_if}
+use Rattle.pb_readback.specs.Kinds.{field, is_passed_over, kind_by, kind_of, may_come_after}
+use Rattle.pb_readback.specs.Laws.{JoinLaw, NextLaw}
+use Rattle.pb_readback.specs.Next.{AreBlocks, ArePassedOver, AreSound, Found, IsFault, IsFound, IsNext, Next, NoBlock, Refused, fault_next, opened}
+use Rattle.pb_readback.specs.Reading.{IsReadWhole, is_end}
+use Rattle.pb_readback.proofs.ReadingLemmas.{not_below, sound_more, stands, unended, with_rows_more}
+
+pub at_end : (kind : RowKind) → is_end kind ≡ true → kind ≡ End
+at_end Report h = cc h
+at_end Node h = cc h
+at_end Stream h = cc h
+at_end Solved h = cc h
+at_end Global h = cc h
+at_end Nodal h = cc h
+at_end Measure h = cc h
+at_end End h = refl
+
+pub not_at_end : (kind : RowKind) → is_end kind ≡ false → kind ≢ End
+not_at_end kind h = λ e. true≢false (sym (ap is_end e) ∙ h)
+
+not_end : (kind : RowKind) → kind ≢ End → is_end kind ≡ false
+not_end kind h = elim (cases_Bool (is_end kind)) [
+  | inl holds ↦ absurd (h (at_end kind holds))
+  | inr fails ↦ fails
+]
+
+both : {A B : Type 0} {a c : A} {b d : B} → a ≡ c → b ≡ d → (let p : A × B = (a, b) in p) ≡ (c, d)
+both e f = rw (e, f) refl
+
+the_fault : {f g : RowFault} → (let o : Option RowFault = Some f in o) ≡ Some g → f ≡ g
+the_fault h = cc h
+
+-- ---- what reading on from a draft gives: the block and what is behind it, or the place in the block and the fault
+
+abbrev Outcome : Type 0
+Outcome = (Block × List (List (List ℕ))) ⊎ (ℕ × RowFault)
+
+abbrev by_fault : Option RowFault → ℕ → Outcome → Outcome
+by_fault None rows more = more
+by_fault (Some fault) rows more = inr (rows + 2, fault)
+
+abbrev by_end : Bool → Draft → List (List (List ℕ)) → Outcome → Outcome
+by_end true draft rest more = inl (block_of draft, rest)
+by_end false draft rest more = more
+
+abbrev by_known : Option ℕ → Draft → Outcome → Outcome
+by_known None draft more = more
+by_known (Some stream) draft more = inr (draft.heading.nodes + stream + 2, Unknown)
+
+abbrev outcome : Draft → ℕ → List (List (List ℕ)) → Outcome
+outcome draft rows [] = by_known (first_unknown draft) draft (by_end (is_end draft.last) draft [] (inr (rows + 2, Ended)))
+outcome draft rows (row ∷ rest) =
+    by_known (first_unknown draft) draft
+    (by_end (is_end draft.last) draft (row ∷ rest) (by_fault (fault_behind draft row) rows (outcome (with_row draft row) (rows + 1) rest)))
+
+-- a draft whose last row is the end has all its nodes and streams
+abbrev EndsComplete : Draft → Type 0
+EndsComplete draft = is_end draft.last ≡ true → (nat_lt (length draft.nodes) draft.heading.nodes ≡ false) × (nat_lt (length draft.streams) draft.heading.streams ≡ false)
+
+behind_nodes : (a b z : Bool) → (if a then false else if b then false else z) ≡ true → (a ≡ false) × (b ≡ false)
+behind_nodes true b z h = cc h
+behind_nodes false true z h = cc h
+behind_nodes false false z h = (refl, refl)
+
+stays_complete : (draft : Draft) (row : List (List ℕ)) → EndsComplete draft → fault_behind draft row ≡ None → EndsComplete (with_row draft row)
+stays_complete draft row complete none = by (kind_of row) none
+  where
+    by : (kind : Option RowKind) → fault_if kind draft row ≡ None → EndsComplete (told_if kind draft row)
+    by None none = cc none
+    by (Some Report) none = λ ends. cc ends
+    by (Some Node) none = λ ends. cc ends
+    by (Some Stream) none = λ ends. cc ends
+    by (Some Solved) none = λ ends. cc ends
+    by (Some Global) none = λ ends. cc ends
+    by (Some Nodal) none = λ ends. cc ends
+    by (Some Measure) none = λ ends. cc ends
+    by (Some End) none = λ _. behind_nodes (nat_lt (length draft.nodes) draft.heading.nodes) (nat_lt (length draft.streams) draft.heading.streams) (may_come_after draft.last End) (stands draft End row none)
+
+nothing_after : (kind : RowKind) → may_come_after End kind ≡ false
+nothing_after Report = refl
+nothing_after Node = refl
+nothing_after Stream = refl
+nothing_after Solved = refl
+nothing_after Global = refl
+nothing_after Nodal = refl
+nothing_after Measure = refl
+nothing_after End = refl
+
+-- no row stands behind the end
+not_ended : (draft : Draft) (row : List (List ℕ)) → EndsComplete draft → fault_behind draft row ≡ None → is_end draft.last ≡ false
+not_ended draft row complete none = elim (cases_Bool (is_end draft.last)) [
+  | inl ends ↦ absurd (by (kind_of row) ends none)
+  | inr fails ↦ fails
+]
+  where
+    by : (kind : Option RowKind) → is_end draft.last ≡ true → fault_if kind draft row ≡ None → ⊥
+    by None ends none = cc none
+    by (Some kind) ends none =
+        let counts = complete ends in
+        let may = stands draft kind row none in
+        let last = at_end draft.last ends in
+        let e = rw (counts.0, counts.1, last, nothing_after kind) at may in
+        cc e
+
+goes_on : (draft : Draft) (n : ℕ) (rows rest : List (List (List ℕ))) → EndsComplete draft → AreSound draft rows
+    → outcome draft n (rows ++ rest) ≡ outcome (with_rows draft rows) (n + length rows) rest
+goes_on draft n [] rest complete sound = let e : n ≡ n + 0 = omega arith in ap (λ m. outcome draft m rest) e
+goes_on draft n (row ∷ rows) rest complete sound =
+    let more = goes_on (with_row draft row) (n + 1) rows rest (stays_complete draft row complete sound.1) sound.2 in
+    let e : n + 1 + length rows ≡ n + length (row ∷ rows) = omega arith in
+    step ∙ more ∙ ap (λ m. outcome (with_rows (with_row draft row) rows) m rest) e
+  where
+    step : outcome draft n (row ∷ (rows ++ rest)) ≡ outcome (with_row draft row) (n + 1) (rows ++ rest)
+    step = rw (sound.0, not_ended draft row complete sound.1, sound.1) refl
+
+-- at the end the outcome is the block
+ends_whole : (draft : Draft) (n : ℕ) (rest : List (List (List ℕ))) → first_unknown draft ≡ None → draft.last ≡ End → outcome draft n rest ≡ inl (block_of draft, rest)
+ends_whole draft n [] known last = rw (known, last) refl
+ends_whole draft n (row ∷ rest) known last = rw (known, last) refl
+
+-- before it a fault
+ends_broken : (draft : Draft) (n : ℕ) (rest : List (List (List ℕ))) (within : ℕ) (fault : RowFault) → IsFault draft n rest within fault → outcome draft n rest ≡ inr (within, fault)
+ends_broken draft n [] within fault (inl unknown) = rw (unknown.1) (ap (λ (p : ℕ × RowFault). let o : Outcome = inr p in o) (both (sym unknown.2) (sym unknown.3)))
+ends_broken draft n (row ∷ rest) within fault (inl unknown) = rw (unknown.1) (ap (λ (p : ℕ × RowFault). let o : Outcome = inr p in o) (both (sym unknown.2) (sym unknown.3)))
+ends_broken draft n [] within fault (inr next) = rw (next.0, not_end draft.last next.1) (ap (λ (p : ℕ × RowFault). let o : Outcome = inr p in o) (both (sym next.3) (the_fault next.2)))
+ends_broken draft n (row ∷ rest) within fault (inr next) = rw (next.0, not_end draft.last next.1, next.2) (ap (λ m. let o : Outcome = inr (m, fault) in o) (sym next.3))
+
+-- ---- records
+
+abbrev told_by : ℕ → Outcome → Next
+told_by at (inl found) = Found found.0 found.1
+told_by at (inr broken) = Refused (at + broken.0) broken.1
+
+abbrev by_opening : Option RowFault → ℕ → List (List ℕ) → List (List (List ℕ)) → Next
+by_opening (Some fault) at row rest = Refused (at + 1) fault
+by_opening None at row rest = told_by at (outcome (opened row) 0 rest)
+
+-- what comes next, by a walk
+abbrev next_of : ℕ → List (List (List ℕ)) → Next
+next_of at [] = NoBlock
+next_of at (row ∷ rest) = if is_passed_over row then next_of (at + 1) rest else by_opening (opening_fault row) at row rest
+
+over : (at : ℕ) (passed more : List (List (List ℕ))) → ArePassedOver passed → next_of at (passed ++ more) ≡ next_of (at + length passed) more
+over at [] more skipped = let e : at ≡ at + 0 = omega arith in ap (λ m. next_of m more) e
+over at (row ∷ passed) more skipped =
+    let parts = and_parts (is_passed_over row) (list_all is_passed_over passed) skipped in
+    let e : at + 1 + length passed ≡ at + length (row ∷ passed) = omega arith in
+    step parts.0 ∙ over (at + 1) passed more parts.1 ∙ ap (λ m. next_of m more) e
+  where
+    step : is_passed_over row ≡ true → next_of at (row ∷ (passed ++ more)) ≡ next_of (at + 1) (passed ++ more)
+    step holds = rw holds refl
+
+append_nil : (rows : List (List (List ℕ))) → rows ++ [] ≡ rows
+append_nil [] = refl
+append_nil (row ∷ rows) = ap (λ (more : List (List (List ℕ))). row ∷ more) (append_nil rows)
+
+-- another word is of another kind
+other_kind : (word : List ℕ) → bytes_eq word (codes "report") ≡ false → kind_by word ≢ Some Report
+other_kind word other = λ is.
+    by (bytes_eq word (codes "node")) (bytes_eq word (codes "stream")) (bytes_eq word (codes "solved")) (bytes_eq word (codes "global")) (bytes_eq word (codes "nodal"))
+    (bytes_eq word (codes "measure")) (bytes_eq word (codes "end")) (rw other at is)
+  where
+    by : (b c d e f g h : Bool)
+        → (if b then Some Node else if c then Some Stream else if d then Some Solved else if e then Some Global else if f then Some Nodal else if g then Some Measure
+        else if h then Some End else None) ≡ Some Report
+        → ⊥
+    by true c d e f g h is = cc is
+    by false true d e f g h is = cc is
+    by false false true e f g h is = cc is
+    by false false false true f g h is = cc is
+    by false false false false true g h is = cc is
+    by false false false false false true h is = cc is
+    by false false false false false false true is = cc is
+    by false false false false false false false is = cc is
+
+-- a row that opens a block isn't passed over
+opens_new : (row : List (List ℕ)) → opening_fault row ≡ None → is_passed_over row ≡ false
+opens_new row opens = elim (cases_Bool (bytes_eq (field row 0) (codes "report"))) [
+  | inl report ↦ rw ((bytes_decides (field row 0) (codes "report")).0 report) refl
+  | inr other ↦ absurd (by (kind_by (field row 0)) (other_kind (field row 0) other) opens)
+]
+  where
+    by : (kind : Option RowKind) → kind ≢ Some Report → opening_if kind row ≡ None → ⊥
+    by None other opens = cc opens
+    by (Some Report) other opens = other refl
+    by (Some Node) other opens = cc opens
+    by (Some Stream) other opens = cc opens
+    by (Some Solved) other opens = cc opens
+    by (Some Global) other opens = cc opens
+    by (Some Nodal) other opens = cc opens
+    by (Some Measure) other opens = cc opens
+    by (Some End) other opens = cc opens
+
+complete_at_first : (row : List (List ℕ)) → EndsComplete (opened row)
+complete_at_first row = λ ends. cc ends
+
+rows_complete : (draft : Draft) (rows : List (List (List ℕ))) → EndsComplete draft → AreSound draft rows → EndsComplete (with_rows draft rows)
+rows_complete draft [] complete sound = complete
+rows_complete draft (row ∷ rows) complete sound = rows_complete (with_row draft row) rows (stays_complete draft row complete sound.1) sound.2
+
+-- a block that ends has all its nodes and streams
+pub ended_complete : (first : List (List ℕ)) (rows : List (List (List ℕ))) → AreSound (opened first) rows → (with_rows (opened first) rows).last ≡ End
+    → ((with_rows (opened first) rows).heading.nodes ≤ length (with_rows (opened first) rows).nodes)
+    × ((with_rows (opened first) rows).heading.streams ≤ length (with_rows (opened first) rows).streams)
+ended_complete first rows sound ends =
+    let counts = rows_complete (opened first) rows (complete_at_first first) sound (ap is_end ends) in (
+      not_below (length (with_rows (opened first) rows).nodes) (with_rows (opened first) rows).heading.nodes counts.0,
+      not_below (length (with_rows (opened first) rows).streams) (with_rows (opened first) rows).heading.streams counts.1,
+    )
+
+-- what comes next is what the walk gives
+is_walked : (at : ℕ) (records : List (List (List ℕ))) (next : Next) → IsNext at records next → next ≡ next_of at records
+is_walked at records NoBlock skipped = sym (ap (next_of at) (sym (append_nil records)) ∙ over at records [] skipped)
+is_walked at records (Found block rest) found =
+    let w = found.whole in
+    let opens = w.opens in
+    let on = goes_on (opened found.first) 0 found.rows rest (complete_at_first found.first) w.sound in
+    let ends = ends_whole (with_rows (opened found.first) found.rows) (0 + length found.rows) rest w.known w.ends in
+    let all = on ∙ ends in
+    sym (ap (next_of at) found.split ∙ over at found.passed (found.first ∷ (found.rows ++ rest)) found.skipped
+    ∙ rw (opens_new found.first opens, opens, all) (ap (λ (b : Block). Found b rest) (sym w.value)))
+is_walked at records (Refused number fault) (inl refused) =
+    sym (ap (next_of at) refused.split ∙ over at refused.passed (refused.first ∷ refused.rest) refused.skipped
+    ∙ rw (refused.other, refused.cause) (ap (λ (n : ℕ). Refused n fault) (sym refused.place)))
+is_walked at records (Refused number fault) (inr refused) =
+    let opens = refused.opens in
+    let on = goes_on (opened refused.first) 0 refused.rows refused.rest (complete_at_first refused.first) refused.sound in
+    let ends = ends_broken (with_rows (opened refused.first) refused.rows) (0 + length refused.rows) refused.rest refused.within fault (count refused.cause) in
+    let all = on ∙ ends in
+    sym (ap (next_of at) refused.split ∙ over at refused.passed (refused.first ∷ (refused.rows ++ refused.rest)) refused.skipped
+    ∙ rw (opens_new refused.first opens, opens, all) (ap (λ (n : ℕ). Refused n fault) (sym refused.place)))
+  where
+    count : IsFault (with_rows (opened refused.first) refused.rows) (length refused.rows) refused.rest refused.within fault
+        → IsFault (with_rows (opened refused.first) refused.rows) (0 + length refused.rows) refused.rest refused.within fault
+    count h = let e : length refused.rows ≡ 0 + length refused.rows = omega arith in rw (← e) h
+
+-- ---- one thing comes next
+
+-- the rows read so far behind a first one, as many as these
+record IsSoundTo (start : Draft) (all : List (List (List ℕ))) (draft : Draft) (left : List (List (List ℕ))) (n : ℕ) : Type 0 where
+  rows : List (List (List ℕ))
+  split : all ≡ rows ++ left
+  sound : AreSound start rows
+  told : draft ≡ with_rows start rows
+  count : n ≡ length rows
+
+-- what an outcome says of the records behind a first one
+record Breaks (start : Draft) (all : List (List (List ℕ))) (within : ℕ) (fault : RowFault) : Type 0 where
+  rows : List (List (List ℕ))
+  rest : List (List (List ℕ))
+  split : all ≡ rows ++ rest
+  sound : AreSound start rows
+  cause : IsFault (with_rows start rows) (length rows) rest within fault
+
+abbrev IsOutcome : Draft → List (List (List ℕ)) → Outcome → Type 0
+IsOutcome start all (inl found) = IsReadWhole start all found.1 found.0
+IsOutcome start all (inr broken) = Breaks start all broken.0 broken.1
+
+broken_before : (start draft : Draft) (all left : List (List (List ℕ))) (n stream : ℕ) → IsSoundTo start all draft left n → first_unknown draft ≡ Some stream
+    → Breaks start all (draft.heading.nodes + stream + 2) Unknown
+broken_before start draft all left n stream s unknown = record {
+  rows = s.rows;
+  rest = left;
+  split = s.split;
+  sound = s.sound;
+  cause = inl (stream, ap first_unknown (sym s.told) ∙ unknown, ap (λ (d : Draft). d.heading.nodes + stream + 2) s.told, refl);
+}
+
+whole_at : (start draft : Draft) (all left : List (List (List ℕ))) (n : ℕ) → IsSoundTo start all draft left n → first_unknown draft ≡ None → draft.last ≡ End
+    → IsReadWhole start all left (block_of draft)
+whole_at start draft all left n s known last = record {
+  rows = s.rows;
+  split = s.split;
+  sound = s.sound;
+  known = ap first_unknown (sym s.told) ∙ known;
+  ends = ap (λ (d : Draft). d.last) (sym s.told) ∙ last;
+  value = ap block_of s.told;
+}
+
+broken_at : (start draft : Draft) (all left : List (List (List ℕ))) (n : ℕ) (fault : RowFault) → IsSoundTo start all draft left n → first_unknown draft ≡ None
+    → draft.last ≢ End → fault_next draft left ≡ Some fault → Breaks start all (n + 2) fault
+broken_at start draft all left n fault s known on cause = record {
+  rows = s.rows;
+  rest = left;
+  split = s.split;
+  sound = s.sound;
+  cause = inr (ap first_unknown (sym s.told) ∙ known, unended start draft s.rows s.told on, ap (λ (d : Draft). fault_next d left) (sym s.told) ∙ cause, ap (λ (m : ℕ). m + 2) s.count);
+}
+
+sound_next : (start draft : Draft) (all left : List (List (List ℕ))) (row : List (List ℕ)) (n : ℕ) → IsSoundTo start all draft (row ∷ left) n → first_unknown draft ≡ None
+    → fault_behind draft row ≡ None → IsSoundTo start all (with_row draft row) left (n + 1)
+sound_next start draft all left row n s known fine = record {
+  rows = s.rows ++ row ∷ [];
+  split = s.split ∙ sym (append_assoc s.rows (row ∷ []) left);
+  sound = sound_more start s.rows row s.sound (ap first_unknown (sym s.told) ∙ known) (ap (λ (d : Draft). fault_behind d row) (sym s.told) ∙ fine);
+  told = ap (λ (d : Draft). with_row d row) s.told ∙ sym (with_rows_more start s.rows row);
+  count = let long = length-append s.rows (row ∷ []) in let n_is = s.count in omega (arith, long, n_is);
+}
+
+gives : (start all : _) (left : List (List (List ℕ))) (draft : Draft) (n : ℕ) → IsSoundTo start all draft left n → IsOutcome start all (outcome draft n left)
+gives start all [] draft n s = by (first_unknown draft) refl
+  where
+    by_last : (b : Bool) → is_end draft.last ≡ b → first_unknown draft ≡ None → IsOutcome start all (by_end b draft [] (inr (n + 2, Ended)))
+    by_last true last known = whole_at start draft all [] n s known (at_end draft.last last)
+    by_last false last known = broken_at start draft all [] n Ended s known (not_at_end draft.last last) refl
+
+    by : (k : Option ℕ) → first_unknown draft ≡ k → IsOutcome start all (by_known k draft (by_end (is_end draft.last) draft [] (inr (n + 2, Ended))))
+    by (Some stream) unknown = broken_before start draft all [] n stream s unknown
+    by None known = by_last (is_end draft.last) refl known
+gives start all (row ∷ left) draft n s = by (gives start all left (with_row draft row) (n + 1)) (first_unknown draft) refl
+  where
+    by_row : (IsSoundTo start all (with_row draft row) left (n + 1) → IsOutcome start all (outcome (with_row draft row) (n + 1) left))
+        → (f : Option RowFault) → fault_behind draft row ≡ f → first_unknown draft ≡ None → draft.last ≢ End
+        → IsOutcome start all (by_fault f n (outcome (with_row draft row) (n + 1) left))
+    by_row more None fine known on = more (sound_next start draft all left row n s known fine)
+    by_row more (Some fault) cause known on = broken_at start draft all (row ∷ left) n fault s known on cause
+
+    by_last : (IsSoundTo start all (with_row draft row) left (n + 1) → IsOutcome start all (outcome (with_row draft row) (n + 1) left))
+        → (b : Bool) → is_end draft.last ≡ b → first_unknown draft ≡ None
+        → IsOutcome start all (by_end b draft (row ∷ left) (by_fault (fault_behind draft row) n (outcome (with_row draft row) (n + 1) left)))
+    by_last more true last known = whole_at start draft all (row ∷ left) n s known (at_end draft.last last)
+    by_last more false last known = by_row more (fault_behind draft row) refl known (not_at_end draft.last last)
+
+    by : (IsSoundTo start all (with_row draft row) left (n + 1) → IsOutcome start all (outcome (with_row draft row) (n + 1) left))
+        → (k : Option ℕ) → first_unknown draft ≡ k
+        → IsOutcome start all (by_known k draft (by_end (is_end draft.last) draft (row ∷ left) (by_fault (fault_behind draft row) n (outcome (with_row draft row) (n + 1) left))))
+    by more (Some stream) unknown = broken_before start draft all (row ∷ left) n stream s unknown
+    by more None known = by_last more (is_end draft.last) refl known
+
+-- one row more that is passed over
+one_over : (at : ℕ) (row : List (List ℕ)) (rest : List (List (List ℕ))) (next : Next) → is_passed_over row ≡ true → IsNext (at + 1) rest next → IsNext at (row ∷ rest) next
+one_over at row rest NoBlock holds none = rw (holds) none
+one_over at row rest (Found block left) holds found = record {
+  passed = row ∷ found.passed;
+  first = found.first;
+  rows = found.rows;
+  split = ap (λ (more : List (List (List ℕ))). row ∷ more) found.split;
+  skipped = rw holds found.skipped;
+  whole = found.whole;
+}
+one_over at row rest (Refused number fault) holds (inl refused) = inl (record {
+  passed = row ∷ refused.passed;
+  first = refused.first;
+  rest = refused.rest;
+  split = ap (λ (more : List (List (List ℕ))). row ∷ more) refused.split;
+  skipped = rw holds refused.skipped;
+  other = refused.other;
+  cause = refused.cause;
+  place = refused.place ∙ omega arith;
+})
+one_over at row rest (Refused number fault) holds (inr refused) = inr (record {
+  passed = row ∷ refused.passed;
+  first = refused.first;
+  rows = refused.rows;
+  rest = refused.rest;
+  within = refused.within;
+  split = ap (λ (more : List (List (List ℕ))). row ∷ more) refused.split;
+  skipped = rw holds refused.skipped;
+  opens = refused.opens;
+  sound = refused.sound;
+  cause = refused.cause;
+  place = refused.place ∙ omega arith;
+})
+
+-- a block, or a fault, behind a row that opens one
+by_outcome : (at : ℕ) (row : List (List ℕ)) (rest : List (List (List ℕ))) (o : Outcome) → opening_fault row ≡ None → IsOutcome (opened row) rest o → IsNext at (row ∷ rest) (told_by at o)
+by_outcome at row rest (inl found) opens whole = record {
+  passed = [];
+  first = row;
+  rows = whole.rows;
+  split = ap (λ (more : List (List (List ℕ))). row ∷ more) whole.split;
+  skipped = refl;
+  whole = record { opens = opens; sound = whole.sound; known = whole.known; ends = whole.ends; value = whole.value };
+}
+by_outcome at row rest (inr broken) opens breaks = inr (record {
+  passed = [];
+  first = row;
+  rows = breaks.rows;
+  rest = breaks.rest;
+  within = broken.0;
+  split = ap (λ (more : List (List (List ℕ))). row ∷ more) breaks.split;
+  skipped = refl;
+  opens = opens;
+  sound = breaks.sound;
+  cause = breaks.cause;
+  place = omega arith;
+})
+
+comes_next : (at : ℕ) (records : List (List (List ℕ))) → IsNext at records (next_of at records)
+comes_next at [] = refl
+comes_next at (row ∷ rest) = by (comes_next (at + 1) rest) (is_passed_over row) refl
+  where
+    by_first : (f : Option RowFault) → opening_fault row ≡ f → is_passed_over row ≡ false → IsNext at (row ∷ rest) (by_opening f at row rest)
+    by_first (Some fault) cause other =
+        inl (record { passed = []; first = row; rest = rest; split = refl; skipped = refl; other = other; cause = cause; place = omega arith })
+    by_first None opens other =
+        by_outcome at row rest (outcome (opened row) 0 rest) opens
+        (gives (opened row) rest rest (opened row) 0 (record { rows = []; split = refl; sound = tt; told = refl; count = refl }))
+
+    by : IsNext (at + 1) rest (next_of (at + 1) rest) → (b : Bool) → is_passed_over row ≡ b
+        → IsNext at (row ∷ rest) (if b then next_of (at + 1) rest else by_opening (opening_fault row) at row rest)
+    by later true over = one_over at row rest (next_of (at + 1) rest) over later
+    by later false other = by_first (opening_fault row) refl other
+
+pub next_holds : NextLaw
+next_holds = record {
+  some = λ at records. (next_of at records, comes_next at records);
+  only = λ at records one other first second. is_walked at records one first ∙ sym (is_walked at records other second);
+}
+
+-- ---- blocks put behind others
+
+passed_more : (front back : List (List (List ℕ))) → ArePassedOver front → ArePassedOver back → ArePassedOver (front ++ back)
+passed_more [] back one other = other
+passed_more (row ∷ front) back one other =
+    let parts = and_parts (is_passed_over row) (list_all is_passed_over front) one in
+    rw (parts.0) (passed_more front back parts.1 other)
+
+behind_passed : (front back : List (List (List ℕ))) (blocks : List Block) → ArePassedOver front → AreBlocks back blocks → AreBlocks (front ++ back) blocks
+behind_passed front back [] skipped blocks = passed_more front back skipped blocks
+behind_passed front back (block ∷ more) skipped blocks =
+    let found = blocks.1 in (
+      blocks.0,
+      record {
+        passed = front ++ found.passed;
+        first = found.first;
+        rows = found.rows;
+        split = ap (λ (rest : List (List (List ℕ))). front ++ rest) found.split ∙ sym (append_assoc front found.passed (found.first ∷ (found.rows ++ blocks.0)));
+        skipped = passed_more front found.passed skipped found.skipped;
+        whole = found.whole;
+      },
+      blocks.2,
+    )
+
+before_more : (all rest back : List (List (List ℕ))) (block : Block) → IsFound all block rest → IsFound (all ++ back) block (rest ++ back)
+before_more all rest back block found = record {
+  passed = found.passed;
+  first = found.first;
+  rows = found.rows;
+  split =
+      ap (λ (front : List (List (List ℕ))). front ++ back) found.split
+      ∙ append_assoc found.passed (found.first ∷ (found.rows ++ rest)) back
+      ∙ ap (λ (more : List (List (List ℕ))). found.passed ++ found.first ∷ more) (append_assoc found.rows rest back);
+  skipped = found.skipped;
+  whole = found.whole;
+}
+
+pub join_holds : JoinLaw
+join_holds front back [] more one other = behind_passed front back more one other
+join_holds front back (block ∷ blocks) more one other =
+    (one.0 ++ back, before_more front one.0 back block one.1, join_holds one.0 back blocks more one.2 other)

@@ -1,0 +1,120 @@
+-- The rows of a block, one after the other: what they tell.
+use Rattle.std.specs.Prelude.{◌&&◌, not, ◌==◌, neg_ℤ, codes, bytes_eq, if◌then◌else◌, slice_index_or}
+use Rattle.std.specs.List.{list_all, AllByRecursion}
+use Rattle.std.proofs.Common.{◌≡◌, ◌∙◌, ℕ, ℤ, pos, ◌+◌, ◌<◌, ◌≤◌, List, [], ◌∷◌, ◌++◌, length, Bool, true, false, Option, None, refl, sym, ap, ap₂, subst, arith, append_assoc, length-append}
+use Rattle.std.proofs.lemmas.Bool.{ne_eqb, lt-ltb, and_parts}
+use Rattle.std.proofs.lemmas.List.{append-nil}
+use Rattle.pb_rows.specs.Name.{is_name}
+use Rattle.pb_rows.specs.Number.{whole_text}
+use Rattle.pb_rows.specs.Texts.{HaveOneNumberText}
+use Rattle.pb_graph.specs.Prices.{most_price}
+use Rattle.pb_graph.specs.WellFormed.{IsPrice}
+use Rattle.pb_report.specs.Block.{node_row}
+use Rattle.pb_report.specs.Rows.{rows_with}
+use Rattle.pb_readback.specs.declared.draft.Draft.{Draft}
+use Rattle.pb_readback.specs.declared.kind.RowKind.{RowKind}
+use Rattle.pb_readback.specs.declared.kind.RowKind.TheVariants.{Node}
+use Rattle.pb_readback.specs.Drafts.{with_row, with_rows}
+use Rattle.pb_readback.specs.Faults.{fault_behind, first_unknown}
+use Rattle.pb_readback.specs.Lists.{is_among}
+use Rattle.pb_readback.specs.Next.{AreSound}
+use Rattle.pb_readback.specs.Written.{records_in}
+use Rattle.pb_readback.proofs.WrittenFieldLemmas.{AreNew, abs_between, good_number, value_back}
+use Rattle.pb_readback.proofs.WrittenListLemmas.{AreNamed}
+use Rattle.pb_readback.proofs.WrittenRowLemmas.{node_sound}
+
+-- rows behind a draft have no fault, and leave this draft
+pub record Tells (draft : Draft) (rows : List (List (List ℕ))) (after : Draft) : Type 0 where
+  pub sound : AreSound draft rows
+  pub told : with_rows draft rows ≡ after
+
+pub tells_none : (draft : Draft) → Tells draft [] draft
+tells_none draft = record { sound = tt; told = refl }
+
+pub tells_more : (draft next : Draft) (row : List (List ℕ)) (rows : List (List (List ℕ))) (after : Draft) → first_unknown draft ≡ None
+    → fault_behind draft row ≡ None → with_row draft row ≡ next → Tells next rows after → Tells draft (row ∷ rows) after
+tells_more draft next row rows after unknown fault leaves rest =
+    record {
+      sound = (unknown, fault, subst (λ (d : Draft). AreSound d rows) (sym leaves) rest.sound);
+      told = ap (λ (d : Draft). with_rows d rows) leaves ∙ rest.told;
+    }
+
+pub tells_append : (draft next : Draft) (front back : List (List (List ℕ))) (after : Draft) → Tells draft front next → Tells next back after → Tells draft (front ++ back) after
+tells_append draft next [] back after first second = subst (λ (d : Draft). Tells d back after) (sym first.told) second
+tells_append draft next (row ∷ front) back after first second =
+    let inner : Tells (with_row draft row) front next = record { sound = first.sound.2; told = first.told } in
+    let rest = tells_append (with_row draft row) next front back after inner second in
+    record { sound = (first.sound.0, first.sound.1, rest.sound); told = rest.told }
+
+pub tells_to : (draft one other : Draft) (rows : List (List (List ℕ))) → one ≡ other → Tells draft rows one → Tells draft rows other
+tells_to draft one other rows same tells = subst (λ (d : Draft). Tells draft rows d) same tells
+
+-- the kind of the last row behind rows of a kind
+abbrev pub last_of : {A : Type 0} → RowKind → RowKind → List A → RowKind
+last_of kind last [] = last
+last_of kind last (x ∷ xs) = last_of kind kind xs
+
+-- no part is unknown where no stream was read
+pub unread : (draft : Draft) → draft.rows ≡ [] → first_unknown draft ≡ None
+unread draft none = rw none (by (length draft.streams == draft.heading.streams) None refl)
+  where
+    by : (b : Bool) (o : Option ℕ) → o ≡ None → (if b then o else None) ≡ None
+    by true o h = h
+    by false o h = refl
+
+-- ---- nodes
+
+-- names of nodes behind others: each is new, and the first of all is the environment
+abbrev pub AreNodeNames : List (List ℕ) → List (List ℕ) → Type 0
+AreNodeNames done [] = Unit {0}
+AreNodeNames done (name ∷ names) =
+    (is_name name ≡ true) × (is_among done name ≡ false) × (((length done == 0) && not (bytes_eq name (codes "env"))) ≡ false)
+    × AreNodeNames (done ++ name ∷ []) names
+
+-- the draft behind the rows of nodes
+abbrev pub behind_nodes : Draft → List (List ℕ) → List ℤ → Draft
+behind_nodes draft names prices =
+    record draft { last = last_of Node draft.last names; nodes = draft.nodes ++ names; prices = draft.prices ++ prices }
+
+pub nodes_tell : HaveOneNumberText → (i : ℕ) (draft : Draft) (names : List (List ℕ)) (prices : List ℤ) → length names ≡ length prices → AreNodeNames draft.nodes names
+    → AllByRecursion IsPrice prices → length draft.nodes + length names ≤ draft.heading.nodes → draft.rows ≡ []
+    → Tells draft (records_in (rows_with (λ n name price. node_row name price) i names prices)) (behind_nodes draft names prices)
+nodes_tell texts i draft [] [] long fine ranges room empty =
+    tells_to draft draft (behind_nodes draft [] []) []
+    (ap₂ (λ (ns : List (List ℕ)) (ps : List ℤ). record draft { nodes = ns; prices = ps }) (sym (append-nil draft.nodes)) (sym (append-nil draft.prices))) (tells_none draft)
+nodes_tell texts i draft [] (price ∷ prices) long fine ranges room empty = absurd (omega (arith, long))
+nodes_tell texts i draft (name ∷ names) [] long fine ranges room empty = absurd (omega (arith, long))
+nodes_tell texts i draft (name ∷ names) (price ∷ prices) long fine ranges room empty =
+    let next : Draft = record draft { last = Node; nodes = draft.nodes ++ name ∷ []; prices = draft.prices ++ price ∷ [] } in
+    let more : length (draft.nodes ++ name ∷ []) ≡ length draft.nodes + 1 = length-append draft.nodes (name ∷ []) in
+    let sound = node_sound draft name (whole_text price) (record {
+      place = lt-ltb (length draft.nodes) draft.heading.nodes (omega (arith, room));
+      form = fine.0;
+      good_price = good_number texts (neg_ℤ (pos most_price)) (pos most_price) price (abs_between most_price price ranges.0);
+      new = fine.1;
+      env = fine.2;
+    }) in
+    let leaves : with_row draft (codes "node" ∷ name ∷ whole_text price ∷ []) ≡ next =
+    ap (λ (value : ℤ). record draft { last = Node; nodes = draft.nodes ++ name ∷ []; prices = draft.prices ++ value ∷ [] }) (value_back texts price) in
+    let rest = nodes_tell texts (i + 1) next names prices (omega (arith, long)) fine.3 ranges.1 (omega (arith, more, room)) empty in
+    let same : behind_nodes next names prices ≡ behind_nodes draft (name ∷ names) (price ∷ prices) =
+    ap₂ (λ (ns : List (List ℕ)) (ps : List ℤ). record draft { last = last_of Node Node names; nodes = ns; prices = ps })
+    (append_assoc draft.nodes (name ∷ []) names) (append_assoc draft.prices (price ∷ []) prices) in
+    tells_more draft next (codes "node" ∷ name ∷ whole_text price ∷ []) (records_in (rows_with (λ n name price. node_row name price) (i + 1) names prices))
+    (behind_nodes draft (name ∷ names) (price ∷ prices)) (unread draft empty) sound leaves
+    (tells_to next (behind_nodes next names prices) (behind_nodes draft (name ∷ names) (price ∷ prices)) _ same rest)
+
+-- names that differ are those of nodes, where some stand before them
+more_nodes : (done names : List (List ℕ)) → AreNamed names → AreNew done names → 0 < length done → AreNodeNames done names
+more_nodes done [] forms new some = tt
+more_nodes done (name ∷ names) forms new some =
+    let parts = and_parts (is_name name) (list_all is_name names) forms in
+    let empty : (length done == 0) ≡ false = ne_eqb (length done) 0 (λ e. omega (arith, e, some)) in
+    (parts.0, new.0, rw empty refl, more_nodes (done ++ name ∷ []) names parts.1 new.1 (rw (length-append done (name ∷ [])) (omega arith)))
+
+-- and where the first is the environment
+pub all_nodes : (names : List (List ℕ)) → AreNamed names → AreNew [] names → slice_index_or names 0 [] ≡ codes "env" → AreNodeNames [] names
+all_nodes [] forms new env = tt
+all_nodes (name ∷ names) forms new env =
+    let parts = and_parts (is_name name) (list_all is_name names) forms in
+    (parts.0, new.0, rw env refl, more_nodes (name ∷ []) names parts.1 new.1 (omega arith))

@@ -1,0 +1,30 @@
+-- The rows of a session that are no rows of a report are passed over.
+use Rattle.std.specs.Prelude.{map}
+use Rattle.std.proofs.Common.{ℕ, ◌+◌, List, [], ◌∷◌, refl}
+use Rattle.pb_rows.specs.declared.name.Names.{Names}
+use Rattle.pb_graph.specs.declared.records.Classified.{Classified}
+use Rattle.pb_graph.specs.declared.records.Stream.{Stream}
+use Rattle.pb_report.specs.declared.history.HistoryRow.{HistoryRow}
+use Rattle.pb_report.specs.Design.{class_row}
+use Rattle.pb_report.specs.History.{edit_row}
+use Rattle.pb_report.specs.Rows.{rows_with}
+use Rattle.pb_readback.specs.Next.{ArePassedOver}
+use Rattle.pb_readback.specs.Written.{PassedRowsLaw, records_in}
+
+classes_passed : (names : Names) (i : ℕ) (streams : List Stream) (classes : List Classified) → ArePassedOver (records_in (rows_with (class_row names) i streams classes))
+classes_passed names i [] classes = refl
+classes_passed names i (stream ∷ streams) [] = refl
+classes_passed names i (stream ∷ streams) (classified ∷ classes) = classes_passed names (i + 1) streams classes
+
+edits_passed : (edits : List HistoryRow) → ArePassedOver (records_in (map edit_row edits))
+edits_passed [] = refl
+edits_passed (edit ∷ edits) = edits_passed edits
+
+-- the rows of refusals, of reports that can't be made, of designs and of histories
+pub others_passed : PassedRowsLaw
+others_passed = record {
+  refused = λ at code. refl;
+  over = λ period stream. refl;
+  designs = λ names graph classes. classes_passed names 0 graph.streams classes;
+  histories = λ period edits. edits_passed edits;
+}

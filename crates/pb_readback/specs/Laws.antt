@@ -1,0 +1,21 @@
+-- Statement. Laws of records that are read.
+use Rattle.std.specs.Prelude.{◌≡◌, ◌++◌, ℕ, List}
+use Rattle.pb_readback.specs.declared.block.Block.{Block}
+use Rattle.pb_readback.specs.Next.{AreBlocks, IsFound, IsNext, Next}
+use Rattle.pb_readback.specs.WellFormed.{IsWellFormedBlock}
+
+-- one thing comes next in records, and no other
+pub record NextLaw : Type 0 where
+  pub some : (at : ℕ) (records : List (List (List ℕ))) → (next : Next) × IsNext at records next
+  pub only : (at : ℕ) (records : List (List (List ℕ))) (one other : Next) → IsNext at records one → IsNext at records other
+      → one ≡ other
+
+-- the blocks of records put behind others are their blocks, one after the other
+abbrev pub JoinLaw : Type 0
+JoinLaw =
+    (front back : List (List (List ℕ))) (blocks more : List Block) → AreBlocks front blocks → AreBlocks back more
+    → AreBlocks (front ++ back) (blocks ++ more)
+
+-- a block that is read is well formed
+abbrev pub FormedLaw : Type 0
+FormedLaw = (records rest : List (List (List ℕ))) (block : Block) → IsFound records block rest → IsWellFormedBlock block

@@ -1,0 +1,112 @@
+-- Statement. That the rows of a study read back as its stages, and that the other rows of a session are passed over.
+use Rattle.std.specs.Prelude.{◌≡◌, ℕ, ◌+◌, ◌≤◌, List, [], ◌∷◌, map, length, All, AllPairs, slice_index_or, true, false, codes}
+use Rattle.std.specs.List.{list_all}
+use Rattle.pb_limits.specs.Limits.{most_gap, most_sweeps}
+use Rattle.pb_rows.specs.declared.name.Names.{Names}
+use Rattle.pb_rows.specs.Name.{is_name, same_name}
+use Rattle.pb_rows.specs.Records.{records_of}
+use Rattle.pb_rows.specs.Written.{begins_with_word}
+use Rattle.pb_graph.specs.declared.records.Classified.{Classified}
+use Rattle.pb_graph.specs.declared.results.Options.{Options}
+use Rattle.pb_graph.specs.declared.results.Stage.{Stage}
+use Rattle.pb_graph.specs.declared.results.Study.{Study}
+use Rattle.pb_graph.specs.ProcessGraph.{IsProcessGraph, ProcessGraph}
+use Rattle.pb_report.specs.declared.history.HistoryRow.{HistoryRow}
+use Rattle.pb_report.specs.declared.history.Period.{Period}
+use Rattle.pb_report.specs.declared.form.Form.TheVariants.{Csv}
+use Rattle.pb_report.specs.Form.{text_in}
+use Rattle.pb_report.specs.Design.{design_rows}
+use Rattle.pb_report.specs.History.{history_rows}
+use Rattle.pb_report.specs.Names.{IsNamedStudy}
+use Rattle.pb_report.specs.Over.{over_row}
+use Rattle.pb_report.specs.Refusal.{refused_row}
+use Rattle.pb_report.specs.Row.{Columns, values_of}
+use Rattle.pb_report.specs.Study.{study_rows}
+use Rattle.pb_readback.specs.declared.block.Block.{Block}
+use Rattle.pb_readback.specs.Columns.{most_round}
+use Rattle.pb_readback.specs.Next.{AreBlocks}
+
+-- rows as the records that `csv` reads back
+abbrev pub records_in : List Columns → List (List (List ℕ))
+records_in rows = map values_of rows
+
+-- no two of these names are the same
+abbrev pub AreDistinct : List (List ℕ) → Type 0
+AreDistinct names = AllPairs (λ one other. same_name one other ≡ false) names
+
+-- names of nodes and of streams, none of them twice, and the first node is the environment
+pub record AreBlockNames (names : Names) : Type 0 where
+  pub node_forms : list_all is_name names.nodes ≡ true
+  pub stream_forms : list_all is_name names.streams ≡ true
+  pub nodes_differ : AreDistinct names.nodes
+  pub streams_differ : AreDistinct names.streams
+  pub env : slice_index_or names.nodes 0 [] ≡ codes "env"
+
+-- what was asked of a study is within the limits
+pub record AreOptionsWithin (options : Options) : Type 0 where
+  pub some_gap : 1 ≤ options.gap
+  pub greatest_gap : options.gap ≤ most_gap
+  pub greatest_sweeps : options.sweeps ≤ most_sweeps
+
+-- a study that can be written as a report of a period with these names, each of whose graphs is within its limits
+pub record IsReportable (names : Names) (period : List ℕ) (options : Options) (study : Study) : Type 0 where
+  pub named : IsNamedStudy names study
+  pub graphs : All (λ (stage : Stage). IsProcessGraph stage.graph) study.stages
+  pub all_names : AreBlockNames names
+  pub name : is_name period ≡ true
+  pub asked : AreOptionsWithin options
+  pub greatest_round : length study.stages ≤ most_round + 1
+
+-- a stage as a block of a report
+abbrev pub block_with : Names → List ℕ → Options → ℕ → Stage → Block
+block_with names period options round stage = record {
+  period = period;
+  round = round;
+  gap = options.gap;
+  sweeps = options.sweeps;
+  names = names;
+  stage = stage;
+}
+
+-- stages as blocks, of this round and those behind it
+abbrev pub blocks_from : Names → List ℕ → Options → ℕ → List Stage → List Block
+blocks_from names period options round [] = []
+blocks_from names period options round (stage ∷ stages) =
+    block_with names period options round stage ∷ blocks_from names period options (round + 1) stages
+
+-- The rows of a study read back as its stages, in order.
+abbrev pub StudyRowsLaw : Type 0
+StudyRowsLaw =
+    (names : Names) (period : List ℕ) (options : Options) (study : Study) → IsReportable names period options study
+    → AreBlocks (records_in (study_rows names period options study)) (blocks_from names period options 0 study.stages)
+
+-- The rows of refusals, of reports that can't be made, of designs and of histories are passed over.
+pub record PassedRowsLaw : Type 0 where
+  pub refused : (at code : ℕ) → AreBlocks (records_in (refused_row at code ∷ [])) []
+  pub over : (period stream : List ℕ) → AreBlocks (records_in (over_row period stream ∷ [])) []
+  pub designs : (names : Names) (graph : ProcessGraph) (classes : List Classified)
+      → AreBlocks (records_in (design_rows names graph classes)) []
+  pub histories : (period : Period) (edits : List HistoryRow) → AreBlocks (records_in (history_rows period edits)) []
+
+-- rows that begin with a word, so that they read back from their text as they were written
+abbrev pub BeginWithWords : List Columns → Type 0
+BeginWithWords rows = list_all begins_with_word (records_in rows) ≡ true
+
+-- Each row of a session's output begins with a word.
+pub record RowWordsLaw : Type 0 where
+  pub refused : (at code : ℕ) → BeginWithWords (refused_row at code ∷ [])
+  pub over : (period stream : List ℕ) → BeginWithWords (over_row period stream ∷ [])
+  pub designs : (names : Names) (graph : ProcessGraph) (classes : List Classified) → BeginWithWords (design_rows names graph classes)
+  pub histories : (period : Period) (edits : List HistoryRow) → BeginWithWords (history_rows period edits)
+  pub studies : (names : Names) (period : List ℕ) (options : Options) (study : Study)
+      → BeginWithWords (study_rows names period options study)
+
+-- Rows that begin with a word read back from their text in CSV.
+abbrev pub RowTextLaw : Type 0
+RowTextLaw = (rows : List Columns) → BeginWithWords rows → records_of (text_in Csv rows) ≡ records_in rows
+
+-- The text of a study in CSV reads back as its stages, in order.
+abbrev pub StudyTextLaw : Type 0
+StudyTextLaw =
+    (names : Names) (period : List ℕ) (options : Options) (study : Study) → IsReportable names period options study
+    → AreBlocks (records_of (text_in Csv (study_rows names period options study))) (blocks_from names period options 0 study.stages)

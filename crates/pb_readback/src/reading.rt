@@ -1,0 +1,159 @@
+// Block after block out of records.
+
+ghost use Rattle.std.specs.Prelude.{◌≡◌, ◌+◌, ◌^◌, ◌<◌, length, Some, None, IfOk, IfErr, OnOk, IfSome};
+ghost use Rattle.pb_readback.specs.declared.kind.RowKind.TheVariants.{Stream as StreamKind};
+ghost use Rattle.pb_readback.specs.declared.fault.ReadRefused.TheVariants.{At};
+ghost use Rattle.pb_rows.specs.RecordsLeft.{TakesNext};
+ghost use Rattle.pb_limits.specs.Limits.{most_streams};
+ghost use Rattle.pb_readback.specs.Faults.{fault_behind, first_unknown};
+ghost use Rattle.pb_readback.specs.Drafts.{draft_of, with_row};
+ghost use Rattle.pb_readback.specs.Next.{IsNext, Tells, next_by};
+ghost use Rattle.pb_readback.specs.Reading.{Breaks, BreaksFrom, Ends, IsHeading, IsReadFrom, IsReadWhole, IsUnderWay, RefusesPart, RefusesRow, Skips};
+ghost use Rattle.pb_readback.specs.WellFormed.{IsWellFormedBlock};
+
+use crate::block::Block;
+use crate::draft::{Draft, Heading};
+use crate::fault::{ReadRefused, RowFault};
+use crate::kind::{RowKind, is_passed_over};
+use crate::rows;
+use pb_rows::{Records, Row};
+use std::alloc::{AllocError, Global};
+
+/// Reads the next block. `Ok(None)` exactly where none follows and each record left is one that is passed over; `At` exactly at the
+/// first record that can't be read, with the lowest of its faults. After a refusal nothing is said of the records left.
+pub fn read(alloc: Global, records: &mut Records) -> Result<Option<Block>, ReadRefused>
+    requires few { records.old.taken + length records.old.left < 2 ^ 31 }
+    ensures next { IfOk result
+        (λ found. IsNext records.old.taken records.old.left (next_by found records.new.left)) }
+    ensures refused { IfErr result (Tells records.old.taken records.old.left) }
+    ensures counted { OnOk result
+        (records.new.taken + length records.new.left ≡ records.old.taken + length records.old.left) }
+    ensures formed { IfOk result (λ found. IfSome found IsWellFormedBlock) }
+{
+    match first_row(records) {
+        Err(_) => Err(ReadRefused::NoMemory),
+        Ok(None) => Ok(None),
+        Ok(Some(row)) => match block_from(alloc, &row, records) {
+            Ok(block) => Ok(Some(block)),
+            Err(refused) => Err(refused),
+        },
+    }
+}
+
+// Takes the rows that are passed over, and the first other.
+fn first_row(records: &mut Records) -> Result<Option<Row>, AllocError>
+    ensures skips { IfOk result (Skips records.old.left records.new.left) }
+    ensures counted { OnOk result
+        (records.new.taken + length records.new.left ≡ records.old.taken + length records.old.left) }
+{
+    while let Some(row) = records.next()? {
+        if !is_passed_over(&row) {
+            return Ok(Some(row));
+        }
+    }
+    Ok(None)
+}
+
+// The block that a row opens, which is the last one taken.
+fn block_from(alloc: Global, first: &Row, records: &mut Records) -> Result<Block, ReadRefused>
+    requires few { records.old.taken + length records.old.left < 2 ^ 31 }
+    ensures ok { IfOk result (IsReadFrom first.now records.old.left records.new.left) }
+    ensures err { IfErr result (BreaksFrom first.now records.old.left records.old.taken) }
+    ensures counted { OnOk result
+        (records.new.taken + length records.new.left ≡ records.old.taken + length records.old.left) }
+{
+    match rows::heading(first) {
+        Ok(heading) => block_of(alloc, heading, records),
+        Err(fault) => Err(ReadRefused::At {
+            row: records.taken() as u32,
+            fault,
+        }),
+    }
+}
+
+// The block behind a heading, whose row is the last one taken.
+fn block_of(alloc: Global, heading: Heading, records: &mut Records) -> Result<Block, ReadRefused>
+    requires heading { IsHeading heading }
+    requires few { records.old.taken + length records.old.left < 2 ^ 31 }
+    ensures ok { IfOk result (IsReadWhole (draft_of heading) records.old.left records.new.left) }
+    ensures err { IfErr result (Breaks (draft_of heading) records.old.left records.old.taken) }
+    ensures counted { OnOk result
+        (records.new.taken + length records.new.left ≡ records.old.taken + length records.old.left) }
+{
+    let opened = records.taken() as u32;
+    let mut draft = Draft::new(alloc, heading);
+    while !draft.is_ended() {
+        let row = next_row(records)?;
+        add_row(alloc, &mut draft, &row, records.taken() as u32)?;
+        look_up(&draft, opened)?;
+    }
+    match draft.block(alloc) {
+        Ok(block) => Ok(block),
+        Err(_) => Err(ReadRefused::NoMemory),
+    }
+}
+
+// Takes the next row of a block that isn't at its end.
+fn next_row(records: &mut Records) -> Result<Row, ReadRefused>
+    requires few { records.old.taken < 2 ^ 31 }
+    ensures ok { IfOk result (λ row. TakesNext records.old records.new (Some row)) }
+    ensures err { IfErr result (Ends records.old.left records.old.taken) }
+{
+    match records.next() {
+        Ok(Some(row)) => Ok(row),
+        Ok(None) => Err(refused(records.taken() as u32 + 1, RowFault::Ended)),
+        Err(_) => Err(ReadRefused::NoMemory),
+    }
+}
+
+// Adds a row of this number to a draft, if it has no fault.
+fn add_row(alloc: Global, draft: &mut Draft, row: &Row, number: u32) -> Result<(), ReadRefused>
+    requires way { IsUnderWay draft.old }
+    ensures fine { OnOk result (fault_behind draft.old row.now ≡ None) }
+    ensures told { OnOk result (draft.new ≡ with_row draft.old row.now) }
+    ensures err { IfErr result (RefusesRow draft.old row.now number) }
+{
+    match draft.read(alloc, row) {
+        Ok(None) => Ok(()),
+        Ok(Some(fault)) => Err(refused(number, fault)),
+        Err(_) => Err(ReadRefused::NoMemory),
+    }
+}
+
+// Looks up the names in the parts of a block, whose first row has this number, once its last stream is read.
+fn look_up(draft: &Draft, opened: u32) -> Result<(), ReadRefused>
+    requires way { IsUnderWay draft.now }
+    requires few { opened < 2 ^ 31 }
+    ensures ok { OnOk result (draft.now.last ≡ StreamKind → first_unknown draft.now ≡ None) }
+    ensures err { IfErr result (RefusesPart draft.now opened) }
+{
+    match unknown_behind(draft) {
+        Some(stream) => {
+            let row = opened + draft.heading.nodes + stream + 1;
+            Err(refused(row, RowFault::Unknown))
+        }
+        None => Ok(()),
+    }
+}
+
+// The first stream with an unknown part, where the last row is that of a stream: behind the other rows it was asked before.
+fn unknown_behind(draft: &Draft) -> Option<u32>
+    requires { IsUnderWay draft.now }
+    ensures some { IfSome result (λ stream. first_unknown draft.now ≡ Some stream) }
+    ensures few { IfSome result (λ stream. stream < most_streams) }
+    ensures none { result ≡ None → draft.now.last ≡ StreamKind → first_unknown draft.now ≡ None }
+{
+    if !matches!(draft.last, RowKind::Stream) {
+        return None;
+    }
+    match draft.first_unknown() {
+        Some(stream) => Some(stream as u32),
+        None => None,
+    }
+}
+
+fn refused(row: u32, fault: RowFault) -> ReadRefused
+    ensures { result ≡ At row fault }
+{
+    ReadRefused::At { row, fault }
+}

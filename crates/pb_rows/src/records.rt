@@ -1,0 +1,196 @@
+// The records of a text: all of them in a list, or one at a time.
+
+ghost use Rattle.std.specs.Prelude.{◌≡◌, ◌<◌, ◌^◌, ◌≤◌, ◌∷◌, ◌++◌, [], length, slice_index_or, IfOk, OnOk, OnErr, IsTrue, ◌↔◌};
+ghost use Rattle.std.specs.Slice.Iter.{iter_rest};
+ghost use Rattle.csv.specs.Reading.{NotLengths, error_kind};
+ghost use Rattle.csv.specs.Records.{fields_of};
+ghost use Rattle.pb_rows.specs.Records.{records_of};
+ghost use Rattle.pb_rows.specs.RecordsLeft.{TakesNext};
+
+use crate::row::Row;
+use csv::{ByteRecord, Error, Reader, ReaderBuilder};
+use std::alloc::{AllocError, Global};
+use std::marker::Model;
+use std::slice::Iter;
+
+/// The records of bytes in hand, one at a time, as `csv` reads them: with the comma, the double quote and its default
+/// terminator, without headers or trimming, of whatever lengths.
+#[derive(Drop)]
+pub struct Records<'a> {
+    alloc: Global,
+    reader: Reader<&'a [u8]>,
+    entry: ByteRecord,
+    taken: usize,
+    ended: bool,
+}
+
+impl<'a> Model for Records<'a> {
+    ghost use Rattle.pb_rows.specs.RecordsLeft.{RecordsLeft};
+    ghost use Rattle.pb_rows.specs.InHand.{IsInHand, records_left};
+
+    ghost Value = { RecordsLeft };
+
+    ghost view = { λ a. record { taken = a.taken; left = records_left a.reader a.ended } };
+
+    ghost invariant = { λ a. IsInHand a.reader a.ended a.taken };
+}
+
+impl<'a> Records<'a> {
+    /// The records of these bytes, none of them taken.
+    pub fn of(alloc: Global, bytes: &'a [u8]) -> Records<'a>
+        ensures records { result ≡ record { taken = 0; left = records_of bytes.now } }
+        ensures at_most_bytes { length result.left ≤ length bytes.now }
+    {
+        count_fits(bytes);
+        let reader = ReaderBuilder::new()
+            .has_headers(false)
+            .flexible(true)
+            .from_reader(alloc, bytes);
+        Records {
+            alloc,
+            reader,
+            entry: ByteRecord::new(alloc),
+            taken: 0,
+            ended: false,
+        }
+    }
+
+    /// Takes the next record, if one is left. After an `Err`, want of memory, none is left.
+    pub fn next(&mut self) -> Result<Option<Row>, AllocError>
+        ensures ok { IfOk result (λ row. TakesNext self.old self.new row) }
+        ensures err { OnErr result (self.new.left ≡ []) }
+    {
+        if self.ended {
+            return Ok(None);
+        }
+        match self.reader.read_byte_record(&mut self.entry) {
+            Ok(true) => {}
+            Ok(false) => {
+                self.ended = true;
+                return Ok(None);
+            }
+            Err(error) => {
+                self.ended = true;
+                return Err(out_of_memory(error));
+            }
+        }
+        match row_of(self.alloc, &self.entry) {
+            Ok(row) => {
+                self.taken += 1;
+                Ok(Some(row))
+            }
+            Err(error) => {
+                self.ended = true;
+                Err(error)
+            }
+        }
+    }
+
+    /// How many records were taken.
+    pub fn taken(&self) -> usize
+        ensures { result ≡ self.now.taken }
+    {
+        self.taken
+    }
+}
+
+/// The records of a text, in order.
+#[derive(Debug, Drop)]
+pub struct Rows {
+    rows: Vec<Row>,
+}
+
+impl Model for Rows {
+    ghost use Rattle.std.specs.Prelude.{List, ℕ};
+
+    ghost Value = { List (List (List ℕ)) };
+
+    ghost view = { λ a. a.rows.items };
+}
+
+impl Rows {
+    /// No row.
+    pub fn new(alloc: Global) -> Rows
+        ensures { result ≡ [] }
+    {
+        Rows {
+            rows: Vec::new(alloc),
+        }
+    }
+
+    /// Appends a row. After an `Err`, want of memory, the rows are as they were.
+    pub fn push(&mut self, row: Row) -> Result<(), AllocError>
+        ensures appended { OnOk result (self.new ≡ self.old ++ row ∷ []) }
+        ensures unchanged { OnErr result (self.new ≡ self.old) }
+    {
+        self.rows.push(row)?;
+        Ok(())
+    }
+
+    /// The records of a text, as `Records` takes them one at a time. Refused alone for want of memory.
+    pub fn of(alloc: Global, bytes: &[u8]) -> Result<Rows, AllocError>
+        ensures records { IfOk result (λ rows. rows ≡ records_of bytes.now) }
+        ensures at_most_bytes { IfOk result (λ rows. length rows ≤ length bytes.now) }
+    {
+        let mut records = Records::of(alloc, bytes);
+        let mut rows = Rows::new(alloc);
+        while let Some(row) = records.next()? {
+            rows.push(row)?;
+        }
+        Ok(rows)
+    }
+
+    /// The number of records.
+    pub fn len(&self) -> usize
+        ensures { result ≡ length self.now }
+    {
+        self.rows.len()
+    }
+
+    /// Whether there is no record.
+    pub fn is_empty(&self) -> bool
+        ensures { IsTrue result ↔ (self.now ≡ []) }
+    {
+        self.rows.is_empty()
+    }
+
+    /// The records in order.
+    pub fn iter(&self) -> Iter<'_, Row>
+        ensures { iter_rest result ≡ self.now }
+    {
+        self.rows.iter()
+    }
+
+    /// The record at a place, counted from 0.
+    pub fn at(&self, i: usize) -> &Row
+        requires { i < length self.now }
+        ensures { result.now ≡ slice_index_or self.now i [] }
+    {
+        &self.rows[i]
+    }
+}
+
+// The records are at most as many as the bytes, whose number fits, as their length shows.
+fn count_fits(bytes: &[u8])
+    ensures { length bytes.now < 2 ^ 64 }
+{
+    let _size = bytes.len();
+}
+
+// A flexible reader of bytes refuses for want of memory alone, never for a record's length.
+fn out_of_memory(_error: Error) -> AllocError
+    requires { NotLengths (error_kind _error) }
+{
+    AllocError
+}
+
+// A record that `csv` has read, as a row of its own.
+fn row_of(alloc: Global, entry: &ByteRecord) -> Result<Row, AllocError>
+    ensures { IfOk result (λ row. row ≡ fields_of entry.now) }
+{
+    let mut row = Row::with_room(alloc, entry.as_slice().len(), entry.len())?;
+    for field in entry {
+        row.push(field)?;
+    }
+    Ok(row)
+}

@@ -1,0 +1,135 @@
+-- Inside. The studies and classes that a session keeps, as its code has them.
+use Rattle.std.specs.Prelude.{◌≡◌, ◌==◌, ℕ, ◌≤◌, Bool, Contains, not, List, ◌∷◌, filter, find, length, map, position, slice_get, take, All, Option, Some, None, IfSome, IsSomeAnd, Result, Ok, Err, option_map, if◌then◌else◌}
+use Rattle.std.specs.List.{AllByRecursion}
+use Rattle.pb_graph.specs.declared.records.Classified.{Classified}
+use Rattle.pb_graph.specs.declared.results.StreamResult.{StreamResult}
+use Rattle.pb_graph.specs.declared.results.Study.{Study}
+use Rattle.pb_graph.specs.Alike.{AreAlike}
+use Rattle.pb_graph.specs.ProcessGraph.{ProcessGraph, IsProcessGraph}
+use Rattle.pb_graph.specs.WellFormed.{IsWellFormedStudy}
+use Rattle.pb_classify.specs.Classification.{IsClassification}
+use Rattle.pb_elim.specs.Certified.{IsCertifiedStage}
+use Rattle.pb_elim.specs.Options.{AreOptions}
+use Rattle.pb_elim.specs.Study.{IsStudyOf}
+use Rattle.pb_book.specs.declared.answer.Accepted.{Accepted}
+use Rattle.pb_book.specs.declared.answer.Accepted.TheVariants.{Stored}
+use Rattle.pb_book.specs.declared.rows.Period.{Period}
+use Rattle.pb_book.specs.TakenOut.{touched_at}
+use Rattle.pb_book.specs.Rows.{StoredRow, periods_of}
+use Rattle.pb_period.specs.Days.{days_of}
+use Rattle.pb_period.specs.declared.graph.Assembly.{Assembly}
+use Rattle.pb_period.specs.PeriodGraph.{assembly_of}
+use Rattle.pb_session.specs.declared.classes.Classes.{Classes}
+use Rattle.pb_session.specs.declared.kept.KeptStudy.{KeptStudy}
+use Rattle.pb_session.specs.declared.session.Reported.{Reported}
+use Rattle.pb_session.specs.Criticals.{critical_of}
+use Rattle.pb_session.specs.Kept.{Held, IsKeptAt, most_kept}
+use Rattle.pb_session.specs.Session.{SessionState}
+
+-- ---- the kept studies
+
+-- a study of this period
+abbrev pub is_of : ℕ → KeptStudy → Bool
+is_of period kept = kept.period == period
+
+-- the place of the study of a period
+abbrev pub place_in : ℕ → List KeptStudy → Option ℕ
+place_in period kept = position (is_of period) kept
+
+-- those of other periods
+abbrev pub others_than : ℕ → List KeptStudy → List KeptStudy
+others_than period kept = filter (λ (k : KeptStudy). not (is_of period k)) kept
+
+-- those behind a study of a period that was written
+abbrev pub studies_behind : ℕ → Study → List KeptStudy → List KeptStudy
+studies_behind period study kept =
+    if length study.stages == 1
+    then take most_kept ((let first : KeptStudy = record { period = period; study = study } in first) ∷ others_than period kept)
+    else others_than period kept
+
+-- those behind the one that is kept of the period, if it is
+abbrev pub settled_by : ℕ → Option KeptStudy → List KeptStudy → List KeptStudy
+settled_by period (Some found) kept = studies_behind period found.study kept
+settled_by period None kept = kept
+
+-- those behind a study that was made, or was kept
+abbrev pub settled : ℕ → Option Study → List KeptStudy → List KeptStudy
+settled period (Some study) kept = studies_behind period study kept
+settled period None kept = settled_by period (find (is_of period) kept) kept
+
+-- those of the periods that the last stored row doesn't touch
+abbrev pub untouched_studies : List StoredRow → List KeptStudy → List KeptStudy
+untouched_studies rows kept = filter (λ (k : KeptStudy). not (touched_at rows k.period)) kept
+
+-- those that an accepted record leaves
+abbrev pub left_by : Accepted → List StoredRow → List KeptStudy → List KeptStudy
+left_by Stored rows kept = untouched_studies rows kept
+left_by accepted rows kept = kept
+
+-- ---- the classes
+
+-- the classes of a graph: those of another one that were kept, or others in their place
+abbrev pub renewed : Option Classes → ProcessGraph → Option (List Classified) → Option Classes
+renewed before graph (Some list) = Some (record { graph = graph; list = list })
+renewed (Some before) graph None = Some (record { graph = graph; list = before.list })
+renewed None graph None = None
+
+-- the classes that stand in the results of streams
+abbrev pub classes_in : List StreamResult → List Classified
+classes_in results = map (λ (r : StreamResult). r.classified) results
+
+-- the kept graph is alike, so that its classes are those of this one
+abbrev pub KeepsAlike : Option ProcessGraph → ProcessGraph → Type 0
+KeepsAlike reported graph = IsSomeAnd reported (λ (other : ProcessGraph). AreAlike other graph)
+
+-- classes in place of the kept ones are those of the graph, and none are needed where that of the last report is alike
+abbrev pub IsRenewal : Option ProcessGraph → ProcessGraph → Option (List Classified) → Type 0
+IsRenewal reported graph (Some list) = IsClassification graph list
+IsRenewal reported graph None = KeepsAlike reported graph
+
+-- ---- what a report leaves to be kept
+
+-- the study is that of the graph, and it isn't kept; or none was made, since one is kept
+abbrev pub IsMade : Held → ℕ → ProcessGraph → Option Study → Type 0
+IsMade held i graph (Some study) =
+    IsStudyOf graph held.state.options (critical_of held.state.rows) study
+    × All IsCertifiedStage study.stages × IsWellFormedStudy graph study
+IsMade held i graph None = Contains held.kept i
+
+pub record IsReportedOf (held : Held) (i : ℕ) (graph : ProcessGraph) (reported : Reported) : Type 0 where
+  pub graph_is : reported.graph ≡ graph
+  pub limits : IsProcessGraph graph
+  pub made : IsMade held i graph reported.made
+  pub classes : IsRenewal held.reported graph reported.classes
+
+abbrev pub IsReportedBy : Held → ℕ → Result ProcessGraph Assembly → Option Reported → Type 0
+IsReportedBy held i (Ok graph) (Some reported) = IsReportedOf held i graph reported
+IsReportedBy held i (Err why) None = Unit {0}
+IsReportedBy held i (Ok graph) None = ⊥
+IsReportedBy held i (Err why) (Some reported) = ⊥
+
+abbrev pub IsReportedAt : Held → ℕ → Option Period → Option Reported → Type 0
+IsReportedAt held i (Some period) reported = IsReportedBy held i (assembly_of held.state.rows (days_of period)) reported
+IsReportedAt held i None reported = ⊥
+
+-- ---- the invariant
+
+-- a kept study is that of its period
+abbrev pub IsKeptStudy : SessionState → KeptStudy → Type 0
+IsKeptStudy state kept = IsKeptAt state (slice_get (periods_of state.rows) kept.period) kept.study
+
+-- The studies that are kept are those of their periods by the rows stored so far, at most so many, and the classes are those of
+-- their graph.
+pub record IsKeeping (state : SessionState) (kept : List KeptStudy) (last : Option Classes) : Type 0 where
+  pub options : AreOptions state.options
+  pub studies : AllByRecursion (IsKeptStudy state) kept
+  pub few : length kept ≤ most_kept
+  pub classes : IfSome last (λ (c : Classes). IsClassification c.graph c.list)
+
+-- what a session holds that is made of these
+abbrev pub held_of : SessionState → List KeptStudy → Option Classes → Held
+held_of state studies classes = record {
+  state = state;
+  kept = map (λ (k : KeptStudy). k.period) studies;
+  reported = option_map (λ (c : Classes). c.graph) classes;
+}
