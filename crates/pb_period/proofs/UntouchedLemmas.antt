@@ -52,13 +52,13 @@ find_among p q (x ∷ xs) wider =
     let rest = find_among p q xs wider in
     elim (cases_Bool (q x)) [
       | inl passes ↦ rw passes (elim (cases_Bool (p x)) [
-          | inl here ↦ rw here refl
-          | inr later ↦ rw later rest
-        ])
+        | inl here ↦ rw here refl
+        | inr later ↦ rw later rest
+      ])
       | inr fails ↦ elim (cases_Bool (p x)) [
-          | inl here ↦ absurd (true≢false (sym (wider x here) ∙ fails))
-          | inr later ↦ rw (fails, later) rest
-        ]
+        | inl here ↦ absurd (true≢false (sym (wider x here) ∙ fails))
+        | inr later ↦ rw (fails, later) rest
+      ]
     ]
 
 given_among : {A B : Type 0} (f : A → Option B) (q : A → Bool) (xs : List A) → ((x : A) → q x ≡ false → f x ≡ None) → filter_map f (filter q xs) ≡ filter_map f xs
@@ -133,9 +133,9 @@ no_share period first last amount apart =
     let to = int_min period.last last in
     let none : int_le from to ≡ false = elim (cases_Bool (int_le first period.last)) [
       | inl begins ↦ elim (cases_Bool (int_le period.first last)) [
-          | inl ends ↦ absurd (true≢false (sym (ap₂ (λ (a b : Bool). a && b) begins ends) ∙ apart))
-          | inr past ↦ no_le from to (omega (arith, ints, greatest, least, past))
-        ]
+        | inl ends ↦ absurd (true≢false (sym (ap₂ (λ (a b : Bool). a && b) begins ends) ∙ apart))
+        | inr past ↦ no_le from to (omega (arith, ints, greatest, least, past))
+      ]
       | inr past ↦ no_le from to (omega (arith, ints, greatest, least, past))
     ] in
     rw none refl
