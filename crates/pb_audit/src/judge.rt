@@ -51,7 +51,8 @@ pub fn judge_next(
 // Judges a block and appends its row.
 fn judge_block(alloc: Global, block: &Block, out: &mut Vec<u8>) -> Result<Judged, AllocError>
     requires { IsWellFormedBlock block.now }
-    ensures ok { IfOk result (λ judged. AppendsVerdict block.now judged out.old.items out.new.items) }
+    ensures ok { IfOk result
+        (λ judged. AppendsVerdict block.now judged out.old.items out.new.items) }
     ensures err { OnErr result (out.new.items ≡ out.old.items) }
 {
     match check(alloc, &block.stage, block.gap, block.sweeps) {

@@ -14,7 +14,8 @@ use std::alloc::{AllocError, Global};
 
 // Appends the row of a block that passes.
 pub(crate) fn write_yes(alloc: Global, block: &Block, out: &mut Vec<u8>) -> Result<(), AllocError>
-    ensures ok { OnOk result (AppendsRows Csv out.old.items out.new.items (yes_row block.now ∷ [])) }
+    ensures ok { OnOk result
+        (AppendsRows Csv out.old.items out.new.items (yes_row block.now ∷ [])) }
     ensures err { OnErr result (out.new.items ≡ out.old.items) }
 {
     write_row(&yes_row(alloc, block)?, Form::Csv, out)

@@ -57,7 +57,8 @@ impl Model for Book {
         rows_at (shelves_of a.site a.told.items a.periods a.edited.items) a.places.items };
 
     ghost invariant = { λ a. IsKept
-        (shelves_of a.site a.told.items a.periods a.edited.items) a.facts a.places.items a.edits.items };
+        (shelves_of a.site a.told.items a.periods a.edited.items)
+        a.facts a.places.items a.edits.items };
 }
 
 impl Book {

@@ -111,7 +111,8 @@ fn push_declared(alloc: Global, declared: &Declared, records: &mut Rows) -> Resu
 fn push_period(alloc: Global, period: &Period, records: &mut Rows) -> Result<(), AllocError>
     requires { IsPeriod period.now }
     ensures { OnOk result
-        (AddsRow records.old records.new (PeriodRow period.now.name period.now.first period.now.last)) }
+        (AddsRow records.old records.new
+        (PeriodRow period.now.name period.now.first period.now.last)) }
 {
     let record = period_record(alloc, &period.name, period.first, period.last)?;
     records.push(record)?;

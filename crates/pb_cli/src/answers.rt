@@ -148,7 +148,8 @@ fn answer_record<W: Sink>(
         (Adds session.old.state at fields.now) (W.seen sink.old) (W.seen sink.new)) }
     ensures no_memory { IfErr result (λ e. e ≡ Stopped.OutOfMemory → sink.new ≡ sink.old) }
     ensures cut { IfErr result (λ e. e ≡ Stopped.SinkFault → PutsSuch
-        (IsBeginningOf (Adds session.old.state at fields.now)) (W.seen sink.old) (W.seen sink.new)) }
+        (IsBeginningOf (Adds session.old.state at fields.now)) (W.seen sink.old)
+        (W.seen sink.new)) }
     ensures cause { IfErr result (λ e. e ≡ Stopped.SinkFault →
         Rose (W.seen sink.old).faults (W.seen sink.new).faults) }
     ensures no_fault { OnOk result ((W.seen sink.new).faults ≡ (W.seen sink.old).faults) }

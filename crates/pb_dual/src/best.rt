@@ -49,7 +49,8 @@ pub fn write_flows(border: &[BorderStream], prices: &[i128], group: u32, flows: 
     requires small { All (λ p. unsigned_abs p ≤ 2 ^ 120) prices.now }
     requires there { All (λ a. a.stream < length flows.old) border.now }
     ensures { (others : List ℤ) → length others ≡ length flows.old
-        → HaveFlows prices.now group border.now others → AreSameElsewhere border.now flows.old others
+        → HaveFlows prices.now group border.now others
+        → AreSameElsewhere border.now flows.old others
         → flows.new ≡ others }
 {
     for stream in border {
@@ -124,7 +125,9 @@ pub fn into_box(
     requires border { AreBorder prices.now group border.now }
     requires room { room ≡ border_room (pos (2 ^ 112)) border.now }
     requires greatest { IsGreatest greatest prices.now }
-    ensures { result ≡ clamped (border_low prices.now (neg_ℤ (pos (2 ^ 120))) border.now) (border_high prices.now (pos (2 ^ 120)) border.now) price }
+    ensures { result
+        ≡ clamped (border_low prices.now (neg_ℤ (pos (2 ^ 120))) border.now)
+        (border_high prices.now (pos (2 ^ 120)) border.now) price }
 {
     if is_within(price, greatest, room) {
         return price;

@@ -76,7 +76,10 @@ fn add_border_stream(
     requires group { k < length borders.old }
     requires ends { IsStream (length group.now) stream.now }
     requires limits { IsWithinLimits stream.now }
-    ensures { OnOk result (borders.new ≡ set borders.old k (get_or borders.old k [] ++ option_to_list (seen_at group.now k j stream.now))) }
+    ensures { OnOk result
+        (borders.new
+        ≡ set borders.old k
+        (get_or borders.old k [] ++ option_to_list (seen_at group.now k j stream.now))) }
 {
     if let Some(seen) = seen_from(group, k, j, stream) {
         let own = &mut borders[k as usize];
@@ -95,7 +98,10 @@ fn add_stream(
     requires groups { All (λ k. k < length borders.old) group.now }
     requires ends { IsStream (length group.now) stream.now }
     requires limits { IsWithinLimits stream.now }
-    ensures { OnOk result ((k : ℕ) → k < length borders.old → get_or borders.new k [] ≡ get_or borders.old k [] ++ option_to_list (seen_at group.now k j stream.now)) }
+    ensures { OnOk result
+        ((k : ℕ) → k < length borders.old
+        → get_or borders.new k []
+        ≡ get_or borders.old k [] ++ option_to_list (seen_at group.now k j stream.now)) }
 {
     let from = group[stream.from as usize];
     let to = group[stream.to as usize];
@@ -117,7 +123,9 @@ fn add_all(
     requires limits { All IsWithinLimits streams.now }
     requires few { length streams.now ≤ most_streams }
     requires none { (k : ℕ) → k < length borders.old → get_or borders.old k [] ≡ [] }
-    ensures { OnOk result ((k : ℕ) → k < length borders.old → get_or borders.new k [] ≡ border_of group.now k streams.now) }
+    ensures { OnOk result
+        ((k : ℕ) → k < length borders.old
+        → get_or borders.new k [] ≡ border_of group.now k streams.now) }
 {
     for (j, stream) in streams.iter().enumerate() {
         add_stream(borders, group, j as u32, stream)?;
@@ -149,7 +157,8 @@ pub fn all_borders(
     requires limits { All IsWithinLimits streams.now }
     requires few { length streams.now ≤ most_streams }
     ensures each { IfOk result (λ v. vec_len v ≡ groups) }
-    ensures value { IfOk result (λ v. (k : ℕ) → k < groups → get_or v.items k [] ≡ border_of group.now k streams.now) }
+    ensures value { IfOk result
+        (λ v. (k : ℕ) → k < groups → get_or v.items k [] ≡ border_of group.now k streams.now) }
 {
     let mut borders = no_borders(alloc, groups)?;
     add_all(&mut borders, group, streams)?;

@@ -44,9 +44,12 @@ impl Model for Dual {
 
     ghost Value = { Priced };
 
-    ghost view = { λ a. record { graph = a.graph; group = a.group.items; prices = a.prices.items } };
+    ghost view = { λ a.
+        record { graph = a.graph; group = a.group.items; prices = a.prices.items } };
 
-    ghost invariant = { λ a. IsDual (record { graph = a.graph; group = a.group.items; prices = a.prices.items }) a.flows.items a.borders.items a.variances.items a.rooms.items a.greatest };
+    ghost invariant = { λ a. IsDual
+        (record { graph = a.graph; group = a.group.items; prices = a.prices.items })
+        a.flows.items a.borders.items a.variances.items a.rooms.items a.greatest };
 }
 
 // The number of groups: one more than the greatest number of one.
@@ -67,7 +70,8 @@ pub fn dual_flow(stream: &Stream, from: i128, to: i128) -> i128
     requires limits { IsWithinLimits stream.now }
     requires from { unsigned_abs from ≤ 2 ^ 120 }
     requires to { unsigned_abs to ≤ 2 ^ 120 }
-    requires in_box { IfSome stream.now.meas (λ m. unsigned_abs (m.variance *ℤ (to -ℤ from)) ≤ 2 ^ 112) }
+    requires in_box { IfSome stream.now.meas
+        (λ m. unsigned_abs (m.variance *ℤ (to -ℤ from)) ≤ 2 ^ 112) }
     ensures value { result ≡ flow_at stream.now.meas (to -ℤ from) }
     ensures within { unsigned_abs result ≤ most_dual_flow }
 {
@@ -165,7 +169,8 @@ impl Dual {
     /// The dual flow of a stream, in units of 2^-56 gram; 0 where the stream is unmeasured.
     pub fn dual_flow(&self, stream: u32) -> i128
         requires { stream < length self.now.graph.streams }
-        ensures value { (s : Stream) → slice_get self.now.graph.streams stream ≡ Some s → result ≡ dual_flow (price_of self.now) s }
+        ensures value { (s : Stream) → slice_get self.now.graph.streams stream ≡ Some s
+            → result ≡ dual_flow (price_of self.now) s }
         ensures within { unsigned_abs result ≤ most_dual_flow }
     {
         self.flows[stream as usize]
@@ -182,7 +187,8 @@ impl Dual {
     /// The net dual flow of a group: what enters it less what leaves it, in units of 2^-56 gram.
     pub fn net_flow(&self, group: u32) -> i128
         requires { group < group_count self.now.group }
-        ensures value { result ≡ group_flow self.now.group (price_of self.now) group self.now.graph.streams }
+        ensures value { result
+            ≡ group_flow self.now.group (price_of self.now) group self.now.graph.streams }
         ensures within { unsigned_abs result ≤ most_streams * most_dual_flow }
     {
         net_flow(self.borders[group as usize].as_slice(), &self.flows)
@@ -202,10 +208,14 @@ impl Dual {
     fn best_price(&self, group: u32) -> i128
         requires group { group < group_count self.now.group }
         requires free { is_free_group self.now.group self.now.graph.streams group ≡ true }
-        ensures value { result ≡ best_price self.now.group (price_of self.now) group self.now.graph.streams }
+        ensures value { result
+            ≡ best_price self.now.group (price_of self.now) group self.now.graph.streams }
         ensures within { unsigned_abs result ≤ 2 ^ 120 }
-        ensures fit { PricesFit self.now.graph (with_price self.now.group (price_of self.now) group result) }
-        ensures ascent { dual_value (price_of self.now) self.now.graph.streams ≤ℤ dual_value (with_price self.now.group (price_of self.now) group result) self.now.graph.streams }
+        ensures fit { PricesFit self.now.graph
+            (with_price self.now.group (price_of self.now) group result) }
+        ensures ascent { dual_value (price_of self.now) self.now.graph.streams
+            ≤ℤ dual_value
+            (with_price self.now.group (price_of self.now) group result) self.now.graph.streams }
     {
         let k = group as usize;
         let border = self.borders[k].as_slice();
@@ -228,12 +238,15 @@ impl Dual {
     fn set_price(&mut self, group: u32, price: i128)
         requires group { group < group_count self.old.group }
         requires within { unsigned_abs price ≤ 2 ^ 120 }
-        requires fit { PricesFit self.old.graph (with_price self.old.group (price_of self.old) group price) }
-        ensures price { price_of self.new ≡ with_price self.old.group (price_of self.old) group price }
+        requires fit { PricesFit self.old.graph
+            (with_price self.old.group (price_of self.old) group price) }
+        ensures price { price_of self.new
+            ≡ with_price self.old.group (price_of self.old) group price }
         ensures graph { self.new.graph ≡ self.old.graph }
         ensures groups { self.new.group ≡ self.old.group }
         ensures own { get_or self.new.prices group (pos 0) ≡ price }
-        ensures others { (k : ℕ) → k ≢ group → get_or self.new.prices k (pos 0) ≡ get_or self.old.prices k (pos 0) }
+        ensures others { (k : ℕ) → k ≢ group
+            → get_or self.new.prices k (pos 0) ≡ get_or self.old.prices k (pos 0) }
     {
         self.prices[group as usize] = price;
         self.greatest = greater(self.greatest, price);
@@ -248,14 +261,18 @@ impl Dual {
     /// Gives a free group its best price, and leaves another group as it is. Whether its price changed.
     pub fn step(&mut self, group: u32) -> bool
         requires { group < group_count self.old.group }
-        ensures price { price_of self.new ≡ stepped self.old.group self.old.graph.streams (price_of self.old) group }
+        ensures price { price_of self.new
+            ≡ stepped self.old.group self.old.graph.streams (price_of self.old) group }
         ensures graph { self.new.graph ≡ self.old.graph }
         ensures groups { self.new.group ≡ self.old.group }
-        ensures others { (k : ℕ) → k ≢ group → get_or self.new.prices k (pos 0) ≡ get_or self.old.prices k (pos 0) }
+        ensures others { (k : ℕ) → k ≢ group
+            → get_or self.new.prices k (pos 0) ≡ get_or self.old.prices k (pos 0) }
         ensures fit { PricesFit self.new.graph (price_of self.new) }
-        ensures ascent { dual_value (price_of self.old) self.old.graph.streams ≤ℤ dual_value (price_of self.new) self.old.graph.streams }
+        ensures ascent { dual_value (price_of self.old) self.old.graph.streams
+            ≤ℤ dual_value (price_of self.new) self.old.graph.streams }
         ensures idle { result ≡ false → self.new ≡ self.old }
-        ensures moved { IsTrue result → get_or self.new.prices group (pos 0) ≢ get_or self.old.prices group (pos 0) }
+        ensures moved { IsTrue result
+            → get_or self.new.prices group (pos 0) ≢ get_or self.old.prices group (pos 0) }
     {
         if !self.is_free(group) {
             return false;
@@ -270,12 +287,15 @@ impl Dual {
 
     /// Gives each free group its best price, in order of groups. Whether a price changed.
     pub fn sweep(&mut self) -> bool
-        ensures price { price_of self.new ≡ sweep_of self.old.graph self.old.group (price_of self.old) }
+        ensures price { price_of self.new
+            ≡ sweep_of self.old.graph self.old.group (price_of self.old) }
         ensures graph { self.new.graph ≡ self.old.graph }
         ensures groups { self.new.group ≡ self.old.group }
-        ensures more { (k : ℕ) → price_of self.old ≡ prices_after self.old.graph self.old.group k → price_of self.new ≡ prices_after self.old.graph self.old.group (suc k) }
+        ensures more { (k : ℕ) → price_of self.old ≡ prices_after self.old.graph self.old.group k
+            → price_of self.new ≡ prices_after self.old.graph self.old.group (suc k) }
         ensures fit { PricesFit self.new.graph (price_of self.new) }
-        ensures ascent { dual_value (price_of self.old) self.old.graph.streams ≤ℤ dual_value (price_of self.new) self.old.graph.streams }
+        ensures ascent { dual_value (price_of self.old) self.old.graph.streams
+            ≤ℤ dual_value (price_of self.new) self.old.graph.streams }
         ensures idle { result ≡ false → self.new ≡ self.old }
         ensures moved { IsTrue result → price_of self.new ≢ price_of self.old }
     {

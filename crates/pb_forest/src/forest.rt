@@ -83,7 +83,9 @@ impl Forest {
         requires to { to < self.now.graph.nodes }
         ensures path { IfOk result (λ o. MatchOption o
             (Reaches (held_ends self.now) from to → ⊥)
-            (λ steps. IsPath (held_ends self.now) self.now.graph.nodes self.now.graph.streams from steps to)) }
+            (λ steps.
+            IsPath
+            (held_ends self.now) self.now.graph.nodes self.now.graph.streams from steps to)) }
         ensures forest { IsForest self.now.graph.streams self.now.held }
     {
         pb_graph::path(alloc, &self.graph, &self.near, &self.held, from, to)

@@ -47,7 +47,8 @@ fn above(stream: &Stream, root: i128, flow: i128) -> i128
 /// The sum of the squares of the adjustments, each rounded down and counted up to the most.
 fn capped_squares(streams: &[Stream], standard_deviations: &[i128], flows: &[i128]) -> i128
     requires { AreMeasured streams.now standard_deviations.now flows.now }
-    ensures value { result ≡ capped_squares (adjustments_by adjustment_below streams.now flows.now) }
+    ensures value { result
+        ≡ capped_squares (adjustments_by adjustment_below streams.now flows.now) }
     ensures nonneg { pos 0 ≤ℤ result }
     ensures within { result ≤ℤ pos (most_streams * 2 ^ 104) }
 {
@@ -62,7 +63,9 @@ fn capped_squares(streams: &[Stream], standard_deviations: &[i128], flows: &[i12
 fn full_squares(streams: &[Stream], standard_deviations: &[i128], flows: &[i128]) -> Option<i128>
     requires { AreMeasured streams.now standard_deviations.now flows.now }
     ensures value { let bs = adjustments_by adjustment_above streams.now flows.now in
-        result ≡ (if list_any (λ b. int_lt most_adjustment b) bs then None else Some (full_squares bs)) }
+        result
+        ≡ (if list_any (λ b. int_lt most_adjustment b) bs then None
+        else Some (full_squares bs)) }
     ensures within { IfSome result (λ t. (pos 0 ≤ℤ t) × (t ≤ℤ pos (most_streams * 2 ^ 104))) }
 {
     let mut total = 0;

@@ -41,7 +41,8 @@ pub fn deviation(flow: i128, dual_flow: i128, root: i128) -> i128
     requires dual_flow { unsigned_abs dual_flow ≤ most_dual_flow }
     requires root_from { pos (2 ^ 20) ≤ℤ root }
     requires root_to { root <ℤ pos (2 ^ 63) }
-    ensures value { result ≡ ceil_div (pos (unsigned_abs ((flow *ℤ scale) -ℤ dual_flow))) (root *ℤ pos (2 ^ 16)) }
+    ensures value { result
+        ≡ ceil_div (pos (unsigned_abs ((flow *ℤ scale) -ℤ dual_flow))) (root *ℤ pos (2 ^ 16)) }
     ensures within { IsBlockItem result }
 {
     div_ceil(distance(flow, dual_flow), root * (1 << 16))
@@ -113,7 +114,8 @@ pub fn low_end(squares: i128, size_square: i128) -> i128
     requires squares_to { squares ≤ℤ pos (most_streams * 2 ^ 104) }
     requires size_from { pos 0 ≤ℤ size_square }
     requires size_to { size_square ≤ℤ pos (2 ^ 114) }
-    ensures value { result ≡ int_max (pos 0) (floor_div (pos 1000 *ℤ (squares -ℤ size_square)) (pos (2 ^ 40))) }
+    ensures value { result
+        ≡ int_max (pos 0) (floor_div (pos 1000 *ℤ (squares -ℤ size_square)) (pos (2 ^ 40))) }
     ensures nonneg { pos 0 ≤ℤ result }
     ensures within { unsigned_abs result ≤ 2 ^ 126 }
 {

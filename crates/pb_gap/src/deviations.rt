@@ -39,11 +39,13 @@ pub fn write_deviations(
     requires measured { AreMeasured streams.now standard_deviations.now flows.now }
     requires duals { AreDualFlows streams.now dual_flows.now }
     requires room { length out.old ≡ length streams.now }
-    ensures value { IsTrue result → (price : ℕ → ℤ) → dual_flows.now ≡ dual_flows_of price streams.now
+    ensures value { IsTrue result → (price : ℕ → ℤ)
+        → dual_flows.now ≡ dual_flows_of price streams.now
         → out.new ≡ deviations_of price streams.now flows.now }
     ensures within { IsTrue result → All IsBlockItem out.new }
     ensures all { pos (2 ^ 89) ≤ℤ limit → IsTrue result }
-    ensures above { result ≡ false → (price : ℕ → ℤ) → dual_flows.now ≡ dual_flows_of price streams.now
+    ensures above { result ≡ false → (price : ℕ → ℤ)
+        → dual_flows.now ≡ dual_flows_of price streams.now
         → Any (λ a. (limit <ℤ a) × IsBlockItem a) (deviations_of price streams.now flows.now) }
 {
     for (j, stream) in streams.iter().enumerate() {

@@ -36,9 +36,11 @@ impl<'a> Model for FlowPair<'a> {
 
     ghost Value = { PairedFlows };
 
-    ghost view = { λ a. record { graph = a.graph.now; dual_flows = a.dual_flows.now; flows = a.flows.now } };
+    ghost view = { λ a.
+        record { graph = a.graph.now; dual_flows = a.dual_flows.now; flows = a.flows.now } };
 
-    ghost invariant = { λ a. ArePaired a.graph.now a.standard_deviations.now a.dual_flows.now a.flows.now };
+    ghost invariant = { λ a.
+        ArePaired a.graph.now a.standard_deviations.now a.dual_flows.now a.flows.now };
 }
 
 impl<'a> FlowPair<'a> {
@@ -51,7 +53,8 @@ impl<'a> FlowPair<'a> {
     ) -> FlowPair<'a>
         requires measured { AreMeasured graph.now.streams standard_deviations.now flows.now }
         requires duals { AreDualFlows graph.now.streams dual_flows.now }
-        ensures { result ≡ record { graph = graph.now; dual_flows = dual_flows.now; flows = flows.now } }
+        ensures { result
+            ≡ record { graph = graph.now; dual_flows = dual_flows.now; flows = flows.now } }
     {
         FlowPair {
             graph,
@@ -86,7 +89,8 @@ impl<'a> FlowPair<'a> {
     pub fn is_met(&self, thousandths: u32, deviations: &mut [i128]) -> bool
         requires { length deviations.old ≡ length self.now.graph.streams }
         ensures met { (price : ℕ → ℤ) → AreOfPrices price self.now
-            → (IsTrue result ↔ MeetsGap thousandths (gap_of price self.now.graph.streams self.now.flows)) }
+            → (IsTrue result
+            ↔ MeetsGap thousandths (gap_of price self.now.graph.streams self.now.flows)) }
     {
         let streams = self.graph.streams();
         let near = write_deviations(

@@ -45,9 +45,15 @@ impl Model for Iterate {
 
     ghost Value = { State };
 
-    ghost view = { λ a. record { graph = a.dual.graph; group = a.dual.group; prices = a.dual.prices; flows = a.flows.items } };
+    ghost view = { λ a. record {
+      graph = a.dual.graph;
+      group = a.dual.group;
+      prices = a.dual.prices;
+      flows = a.flows.items;
+    } };
 
-    ghost invariant = { λ a. IsIterate a.forest a.dual a.standard_deviations.items a.roots.items a.nearest.items a.flows.items a.deviations.items };
+    ghost invariant = { λ a. IsIterate a.forest a.dual a.standard_deviations.items a.roots.items
+        a.nearest.items a.flows.items a.deviations.items };
 }
 
 impl Iterate {
@@ -98,7 +104,8 @@ impl Iterate {
 
     /// The degrees of freedom of the graph.
     pub fn dof(&self) -> u32
-        ensures value { (held : Seq Bool) → IsForest self.now.graph.streams held → result ≡ degrees_of_freedom self.now.graph.streams held }
+        ensures value { (held : Seq Bool) → IsForest self.now.graph.streams held
+            → result ≡ degrees_of_freedom self.now.graph.streams held }
         ensures most { result ≤ length self.now.graph.streams }
     {
         self.forest.rank()
@@ -142,7 +149,8 @@ impl Iterate {
     fn sweep(&mut self) -> bool
         ensures graph { self.new.graph ≡ self.old.graph }
         ensures group { self.new.group ≡ self.old.group }
-        ensures after { (k : ℕ) → price_in self.old ≡ prices_after self.old.graph self.old.group k → price_in self.new ≡ prices_after self.old.graph self.old.group (suc k) }
+        ensures after { (k : ℕ) → price_in self.old ≡ prices_after self.old.graph self.old.group k
+            → price_in self.new ≡ prices_after self.old.graph self.old.group (suc k) }
         ensures idle { result ≡ false → price_in self.new ≡ price_in self.old }
     {
         self.dual.sweep()
@@ -184,7 +192,8 @@ impl Iterate {
         ensures prices { self.new.prices ≡ self.old.prices }
         ensures state { IsTrue result → IsState self.new }
         ensures met { IsTrue result → MeetsGap gap (gap_in self.new) }
-        ensures far { result ≡ false → (flows : Seq ℤ) → AreRoundedFlows self.old.graph (price_in self.old) flows
+        ensures far { result ≡ false → (flows : Seq ℤ)
+            → AreRoundedFlows self.old.graph (price_in self.old) flows
             → MeetsGap gap (gap_of (price_in self.old) self.old.graph.streams flows) → ⊥ }
     {
         if is_beyond(&self.dual, &self.roots, gap) {
@@ -200,7 +209,8 @@ impl Iterate {
         ensures graph { self.new.graph ≡ self.old.graph }
         ensures group { self.new.group ≡ self.old.group }
         ensures state { IsState self.new }
-        ensures solution { IsSolution self.old.graph gap sweeps result (price_in self.new) self.new.flows }
+        ensures solution { IsSolution self.old.graph gap sweeps result
+            (price_in self.new) self.new.flows }
     {
         self.reset();
         for k in 0..sweeps {

@@ -58,7 +58,8 @@ impl Solver {
         ensures graph { self.new.graph ≡ self.old.graph }
         ensures group { self.new.group ≡ self.old.group }
         ensures state { IsState self.new }
-        ensures solution { IsSolution self.old.graph gap sweeps result (price_in self.new) self.new.flows }
+        ensures solution { IsSolution self.old.graph gap sweeps result
+            (price_in self.new) self.new.flows }
     {
         let solved = self.iterate.solve(gap, sweeps);
         self.gap = self.iterate.gap();
@@ -104,7 +105,8 @@ impl Solver {
 
     /// The degrees of freedom of the graph.
     pub fn dof(&self) -> u32
-        ensures value { (held : Seq Bool) → IsForest self.now.graph.streams held → result ≡ degrees_of_freedom self.now.graph.streams held }
+        ensures value { (held : Seq Bool) → IsForest self.now.graph.streams held
+            → result ≡ degrees_of_freedom self.now.graph.streams held }
         ensures most { result ≤ length self.now.graph.streams }
     {
         self.iterate.dof()
@@ -114,10 +116,12 @@ impl Solver {
     /// is within them. They are at most 2^126 either way.
     pub fn bounds(&self, members: &[Member]) -> Bounds
         requires { AreSigned self.now.graph members.now }
-        ensures value { result ≡ bounds_of (price_in self.now) self.now.graph.streams (gap_in self.now) members.now }
+        ensures value { result
+            ≡ bounds_of (price_in self.now) self.now.graph.streams (gap_in self.now) members.now }
         ensures lo { unsigned_abs result.lo ≤ 2 ^ 126 }
         ensures hi { unsigned_abs result.hi ≤ 2 ^ 126 }
-        ensures enclosure { (x : Fractional) → IsBalancedFractional self.now.graph x → IsNoWorse self.now.graph x (whole_flows self.now.flows)
+        ensures enclosure { (x : Fractional) → IsBalancedFractional self.now.graph x
+            → IsNoWorse self.now.graph x (whole_flows self.now.flows)
             → IsWithin x members.now result }
     {
         self.iterate.pair().bounds(members, self.gap)
@@ -127,13 +131,15 @@ impl Solver {
     /// and those of the present flows at most the high one. There is no high end where an adjustment is above 2^32 standard
     /// deviations. They are at most 2^126.
     pub fn statistic(&self) -> (i128, Option<i128>)
-        ensures value { result ≡ statistic_of self.now.graph.streams self.now.flows (gap_in self.now) }
+        ensures value { result
+            ≡ statistic_of self.now.graph.streams self.now.flows (gap_in self.now) }
         ensures least { pos 0 ≤ℤ result.0 }
         ensures low_within { unsigned_abs result.0 ≤ 2 ^ 126 }
         ensures high_within { IfSome result.1 (λ v. unsigned_abs v ≤ 2 ^ 126) }
         ensures low { (x : Fractional) → IsBalancedFractional self.now.graph x
             → AreSquaresAtLeast self.now.graph x result.0 }
-        ensures high { IfSome result.1 (AreSquaresAtMost self.now.graph (whole_flows self.now.flows)) }
+        ensures high { IfSome result.1
+            (AreSquaresAtMost self.now.graph (whole_flows self.now.flows)) }
     {
         self.iterate.pair().statistic(self.gap)
     }

@@ -87,7 +87,8 @@ pub fn outward(sum: i128, half: i128) -> Bounds
     requires sum { unsigned_abs sum < 2 ^ 124 }
     requires half_from { pos 0 ≤ℤ half }
     requires half_to { half ≤ℤ pos (2 ^ 118) }
-    ensures value { result ≡ record { lo = floor_div sum scale -ℤ half; hi = ceil_div sum scale +ℤ half } }
+    ensures value { result
+        ≡ record { lo = floor_div sum scale -ℤ half; hi = ceil_div sum scale +ℤ half } }
     ensures lo { unsigned_abs result.lo ≤ 2 ^ 126 }
     ensures hi { unsigned_abs result.hi ≤ 2 ^ 126 }
 {

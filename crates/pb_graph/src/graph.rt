@@ -31,7 +31,8 @@ impl Model for Graph {
 
     ghost view = { λ a. record { nodes = a.nodes; streams = a.streams.items } };
 
-    ghost invariant = { λ a. IsProcessGraph (record { nodes = a.nodes; streams = a.streams.items }) };
+    ghost invariant = { λ a.
+        IsProcessGraph (record { nodes = a.nodes; streams = a.streams.items }) };
 }
 
 impl Graph {

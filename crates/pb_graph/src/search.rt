@@ -32,7 +32,13 @@ impl Model for Tree {
 
     ghost Value = { SearchTree };
 
-    ghost view = { λ a. record { root = a.root; place = a.place.items; way = a.way.items; order = a.order.items; found = a.found } };
+    ghost view = { λ a. record {
+      root = a.root;
+      place = a.place.items;
+      way = a.way.items;
+      order = a.order.items;
+      found = a.found;
+    } };
 }
 
 // The step along a stream that ends at this node.
@@ -167,7 +173,8 @@ impl Tree {
         requires ends { All (IsStream (length self.old.place)) streams.now }
         requires marks { length marks.now ≡ length streams.now }
         requires tree { IsTree (open_ends marks.now streams.now) (length self.old.place) self.old }
-        requires near { IsNeighbours (record { nodes = length self.old.place; streams = streams.now }) near.now }
+        requires near { IsNeighbours
+            (record { nodes = length self.old.place; streams = streams.now }) near.now }
         ensures search { IsSearch (open_ends marks.now streams.now)
             (length self.old.place) self.new }
         ensures root { self.new.root ≡ self.old.root }
@@ -224,7 +231,8 @@ fn search(
     requires near { IsNeighbours graph.now near.now }
     requires marks { length marks.now ≡ length graph.now.streams }
     requires root { root < graph.now.nodes }
-    ensures search { IfOk result (IsSearch (open_ends marks.now graph.now.streams) graph.now.nodes) }
+    ensures search { IfOk result
+        (IsSearch (open_ends marks.now graph.now.streams) graph.now.nodes) }
     ensures root { IfOk result (λ t. t.root ≡ root) }
 {
     let mut tree = begin(alloc, graph.nodes(), root)?;

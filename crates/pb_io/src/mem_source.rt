@@ -80,7 +80,8 @@ impl Source for MemSource {
         // Else it gives as many bytes as `most`, the bytes left and the buffer allow.
         ensures number { IfOk result (λ n.
             n ≡ min self.old.most (min (length self.old.remaining) (length buf.new))) }
-        ensures bytes { IfOk result (λ n. self.old.remaining ≡ take n buf.new ++ self.new.remaining) }
+        ensures bytes { IfOk result
+            (λ n. self.old.remaining ≡ take n buf.new ++ self.new.remaining) }
         ensures ok { IfOk result (λ n. self.new ≡ after_giving self.old n) }
         ensures end { IfOk result (λ n. n ≡ 0 → 0 < length buf.new → self.old.remaining ≡ []) }
     {

@@ -27,9 +27,19 @@ impl Model for Groups {
 
     ghost Value = { Grouping };
 
-    ghost view = { λ a. record { group = a.group.items; least = a.least.items; free = a.free.items; variance = a.variance.items } };
+    ghost view = { λ a. record {
+      group = a.group.items;
+      least = a.least.items;
+      free = a.free.items;
+      variance = a.variance.items;
+    } };
 
-    ghost invariant = { λ a. IsGrouping (record { group = a.group.items; least = a.least.items; free = a.free.items; variance = a.variance.items }) };
+    ghost invariant = { λ a. IsGrouping (record {
+      group = a.group.items;
+      least = a.least.items;
+      free = a.free.items;
+      variance = a.variance.items;
+    }) };
 }
 
 impl Groups {

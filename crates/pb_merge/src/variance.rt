@@ -16,7 +16,8 @@ fn add_crossing(totals: &mut [i128], from: u32, to: u32, variance: i128)
     requires room { All (λ v. unsigned_abs v ≤ most_group_variance) totals.old }
     requires variance { unsigned_abs variance ≤ most_variance }
     ensures { (k : ℕ) → k < length totals.old
-        → get_or totals.new k (pos 0) ≡ get_or totals.old k (pos 0) +ℤ (if is_one_end from to k then variance else pos 0) }
+        → get_or totals.new k (pos 0)
+        ≡ get_or totals.old k (pos 0) +ℤ (if is_one_end from to k then variance else pos 0) }
 {
     if from != to {
         totals[from as usize] += variance;
@@ -31,7 +32,8 @@ fn add_stream(totals: &mut [i128], group: &[u32], stream: &Stream)
     requires groups { All (λ k. k < length totals.old) group.now }
     requires room { All (λ v. unsigned_abs v ≤ most_group_variance) totals.old }
     ensures { (k : ℕ) → k < length totals.old
-        → get_or totals.new k (pos 0) ≡ get_or totals.old k (pos 0) +ℤ crossing_variance group.now k stream.now }
+        → get_or totals.new k (pos 0)
+        ≡ get_or totals.old k (pos 0) +ℤ crossing_variance group.now k stream.now }
 {
     if let Some(meas) = stream.meas {
         add_crossing(
@@ -90,7 +92,8 @@ fn is_free(group: usize, variance: i128) -> bool
 pub fn free_groups(alloc: Global, variance: &[i128]) -> Result<Vec<bool>, AllocError>
     ensures each { IfOk result (λ v. vec_len v ≡ length variance.now) }
     ensures value { IfOk result (λ v. (k : ℕ) → k < length variance.now
-        → get_or v.items k false ≡ (not (0 == k) && int_lt (pos 0) (get_or variance.now k (pos 0)))) }
+        → get_or v.items k false
+        ≡ (not (0 == k) && int_lt (pos 0) (get_or variance.now k (pos 0)))) }
 {
     let mut free = Vec::new(alloc);
     for (k, v) in variance.iter().enumerate() {

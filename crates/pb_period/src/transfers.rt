@@ -16,7 +16,8 @@ use pb_rows::Name;
 /// What the live transfers of a stream moved on some days.
 pub fn transferred(facts: &Facts, stream: &Name, days: Days) -> Amount
     requires { AreDays days }
-    ensures value { result ≡ total_of (filter_map (transferred days stream.now) (live_facts facts.now)) }
+    ensures value { result
+        ≡ total_of (filter_map (transferred days stream.now) (live_facts facts.now)) }
     ensures within { IsAmount most_facts result }
 {
     let places = facts.transfers_within(stream, days.first, days.last);

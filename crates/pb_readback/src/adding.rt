@@ -93,7 +93,8 @@ impl Draft {
         requires way { IsUnderWay self.old }
         requires stands { may_stand self.old Node ≡ true }
         ensures fault { IfOk result (λ fault. fault ≡ fault_of Node self.old row.now) }
-        ensures told { IfOk result (λ fault. fault ≡ None → self.new ≡ told_with Node self.old row.now) }
+        ensures told { IfOk result
+            (λ fault. fault ≡ None → self.new ≡ told_with Node self.old row.now) }
     {
         match rows::node(self, row) {
             Err(fault) => Ok(Some(fault)),
@@ -206,7 +207,8 @@ impl Draft {
     // Ends the block.
     fn add_end(&mut self, row: &Row) -> Result<Option<RowFault>, AllocError>
         ensures fault { IfOk result (λ fault. fault ≡ fault_of End self.old row.now) }
-        ensures told { IfOk result (λ fault. fault ≡ None → self.new ≡ told_with End self.old row.now) }
+        ensures told { IfOk result
+            (λ fault. fault ≡ None → self.new ≡ told_with End self.old row.now) }
     {
         match rows::end(self, row) {
             Err(fault) => Ok(Some(fault)),

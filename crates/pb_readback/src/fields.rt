@@ -108,7 +108,8 @@ pub(crate) fn wide_or_none(text: &[u8]) -> Result<Option<i128>, RowFault>
 // A measured value, in grams, which may be left out.
 pub(crate) fn value(text: &[u8]) -> Result<Option<i128>, RowFault>
     ensures value { ReadsOptional value_column text.now result }
-    ensures in_range { IfOk result (λ value. IfSome value (IsBetween (neg_ℤ (pos most_value)) (pos most_value))) }
+    ensures in_range { IfOk result
+        (λ value. IfSome value (IsBetween (neg_ℤ (pos most_value)) (pos most_value))) }
 {
     let most = MOST_VALUE as i128;
     optional(text, -most, most)
@@ -117,7 +118,8 @@ pub(crate) fn value(text: &[u8]) -> Result<Option<i128>, RowFault>
 // The variance of a measurement, in squared grams, which may be left out.
 pub(crate) fn variance(text: &[u8]) -> Result<Option<i128>, RowFault>
     ensures value { ReadsOptional variance_column text.now result }
-    ensures in_range { IfOk result (λ variance. IfSome variance (IsBetween (pos 1) (pos most_variance))) }
+    ensures in_range { IfOk result
+        (λ variance. IfSome variance (IsBetween (pos 1) (pos most_variance))) }
 {
     optional(text, 1, MOST_VARIANCE)
 }

@@ -27,7 +27,8 @@ pub fn read(alloc: Global, records: &mut Records) -> Result<Option<Block>, ReadR
         (λ found. IsNext records.old.taken records.old.left (next_by found records.new.left)) }
     ensures refused { IfErr result (Tells records.old.taken records.old.left) }
     ensures counted { OnOk result
-        (records.new.taken + length records.new.left ≡ records.old.taken + length records.old.left) }
+        (records.new.taken + length records.new.left
+        ≡ records.old.taken + length records.old.left) }
     ensures formed { IfOk result (λ found. IfSome found IsWellFormedBlock) }
 {
     match first_row(records) {
@@ -44,7 +45,8 @@ pub fn read(alloc: Global, records: &mut Records) -> Result<Option<Block>, ReadR
 fn first_row(records: &mut Records) -> Result<Option<Row>, AllocError>
     ensures skips { IfOk result (Skips records.old.left records.new.left) }
     ensures counted { OnOk result
-        (records.new.taken + length records.new.left ≡ records.old.taken + length records.old.left) }
+        (records.new.taken + length records.new.left
+        ≡ records.old.taken + length records.old.left) }
 {
     while let Some(row) = records.next()? {
         if !is_passed_over(&row) {
@@ -60,7 +62,8 @@ fn block_from(alloc: Global, first: &Row, records: &mut Records) -> Result<Block
     ensures ok { IfOk result (IsReadFrom first.now records.old.left records.new.left) }
     ensures err { IfErr result (BreaksFrom first.now records.old.left records.old.taken) }
     ensures counted { OnOk result
-        (records.new.taken + length records.new.left ≡ records.old.taken + length records.old.left) }
+        (records.new.taken + length records.new.left
+        ≡ records.old.taken + length records.old.left) }
 {
     match rows::heading(first) {
         Ok(heading) => block_of(alloc, heading, records),
@@ -78,7 +81,8 @@ fn block_of(alloc: Global, heading: Heading, records: &mut Records) -> Result<Bl
     ensures ok { IfOk result (IsReadWhole (draft_of heading) records.old.left records.new.left) }
     ensures err { IfErr result (Breaks (draft_of heading) records.old.left records.old.taken) }
     ensures counted { OnOk result
-        (records.new.taken + length records.new.left ≡ records.old.taken + length records.old.left) }
+        (records.new.taken + length records.new.left
+        ≡ records.old.taken + length records.old.left) }
 {
     let opened = records.taken() as u32;
     let mut draft = Draft::new(alloc, heading);

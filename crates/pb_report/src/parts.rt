@@ -34,7 +34,8 @@ pub fn members_text(
     members: &[Member],
 ) -> Result<String, AllocError>
     requires { All (λ (member : Member). member.stream < length streams.now) members.now }
-    ensures { IfOk result (λ text. string_bytes text ≡ spaced (member_text streams.now) members.now) }
+    ensures { IfOk result
+        (λ text. string_bytes text ≡ spaced (member_text streams.now) members.now) }
 {
     let mut text = String::new(alloc);
     for (i, member) in members.iter().enumerate() {
@@ -65,7 +66,8 @@ pub fn steps_text(alloc: Global, streams: &NameList, steps: &[Step]) -> Result<S
 // Appends a piece of a list: a mark and a name, behind a space unless it is the first.
 fn add_piece(text: &mut String, first: bool, mark: &str, name: &Name) -> Result<(), AllocError>
     ensures { OnOk result
-        (string_bytes text.new ≡ string_bytes text.old ++ (gap_before first ++ (mark.now ++ name.now))) }
+        (string_bytes text.new
+        ≡ string_bytes text.old ++ (gap_before first ++ (mark.now ++ name.now))) }
 {
     if !first {
         text.push_str(" ")?;

@@ -39,11 +39,11 @@ impl Model for Session {
 
     ghost use Rattle.pb_session.specs.Keeping.{IsKeeping, held_of};
 
-    ghost view = { λ a.
-        held_of (record { options = a.options; form = a.form; rows = a.book }) a.kept.items a.classes };
+    ghost view = { λ a. held_of
+        (record { options = a.options; form = a.form; rows = a.book }) a.kept.items a.classes };
 
-    ghost invariant = { λ a.
-        IsKeeping (record { options = a.options; form = a.form; rows = a.book }) a.kept.items a.classes };
+    ghost invariant = { λ a. IsKeeping
+        (record { options = a.options; form = a.form; rows = a.book }) a.kept.items a.classes };
 }
 
 /// What a report that was written leaves to be kept.
@@ -115,7 +115,8 @@ impl Session {
     /// was written. It takes no memory.
     pub fn classes(&self) -> Option<&Classes>
         ensures graph { option_map (λ classes. classes.now.graph) result ≡ self.now.reported }
-        ensures list { IfSome result (λ classes. IsClassification classes.now.graph classes.now.list) }
+        ensures list { IfSome result
+            (λ classes. IsClassification classes.now.graph classes.now.list) }
     {
         self.classes.as_ref()
     }
@@ -130,7 +131,8 @@ impl Session {
         ensures stored { OnOk result (self.new.state ≡ state_after self.old.state at row.now) }
         ensures kept { OnOk result (Keeps self.old.state self.old.kept at row.now self.new.kept) }
         ensures reported { OnOk result (self.new.reported
-            ≡ reported_after self.old.state self.old.reported (answer_of self.old.state.rows row.now)) }
+            ≡ reported_after self.old.state self.old.reported
+            (answer_of self.old.state.rows row.now)) }
         ensures err { OnErr result (self.new ≡ self.old) }
         ensures err_out { OnErr result (KeepsText out.old out.new) }
     {
@@ -156,7 +158,8 @@ impl Session {
         requires { period < length (periods_of self.now.state.rows) }
         ensures answer { result ≢ Err Assembly.NoMemory
             → Begins self.now.state (slice_get (periods_of self.now.state.rows) period) result }
-        ensures over { TellsAStream self.now.state (slice_get (periods_of self.now.state.rows) period) result }
+        ensures over { TellsAStream self.now.state
+            (slice_get (periods_of self.now.state.rows) period) result }
     {
         match assemble(self.alloc, &self.book, period) {
             Ok(graph) => self.stage_of(&graph),

@@ -161,7 +161,8 @@ fn put_name(names: &mut IndexSet<Name>, name: Name)
 // Puts an entry for which there is room.
 fn put<K: Eq + Hash + Drop, V: Drop>(map: &mut HashMap<K, V>, key: K, value: V)
     requires { 0 < spare map.old }
-    ensures { (q : K) → get K.eq map.new q ≡ (if K.eq key q then Some value else get K.eq map.old q) }
+    ensures { (q : K)
+        → get K.eq map.new q ≡ (if K.eq key q then Some value else get K.eq map.old q) }
 {
     if map.insert(key, value).is_err() {
         unreachable!()
