@@ -1,0 +1,95 @@
+// Rows as lines of JSON.
+
+use super::{
+    are_within, graph, is_named, metered, name, name_list, names_of_meters, options, plain,
+    report_in, two_classes, two_meters,
+};
+use crate::{Form, write_design, write_over, write_refused};
+use pb_rows::Names;
+use std::test::Fail;
+
+#[test]
+fn writes_a_refusal_as_json(rt: HostRuntime) -> Result<(), Fail> {
+    let mut out = Vec::from_slice(rt.alloc(), b"before\n")?;
+    write_refused(rt.alloc(), 1, 3, Form::Json, &mut out)?;
+    assert_eq!(rt;
+        out.as_slice(),
+        b"before
+{\"at\":\"1\",\"code\":\"3\",\"row\":\"refused\",\"word\":\"name\"}
+"
+            .as_slice()
+    );
+    Ok(())
+}
+
+#[test]
+fn writes_a_total_too_great_as_json(rt: HostRuntime) -> Result<(), Fail> {
+    let mut out = Vec::new(rt.alloc());
+    write_over(
+        rt.alloc(),
+        &name(b"d1")?,
+        &name(b"T")?,
+        Form::Json,
+        &mut out,
+    )?;
+    write_over(
+        rt.alloc(),
+        &name(b"Az_09.-")?,
+        &name(b"-._")?,
+        Form::Json,
+        &mut out,
+    )?;
+    assert_eq!(rt;
+        out.as_slice(),
+        b"{\"period\":\"d1\",\"row\":\"over\",\"stream\":\"T\"}
+{\"period\":\"Az_09.-\",\"row\":\"over\",\"stream\":\"-._\"}
+"
+            .as_slice()
+    );
+    Ok(())
+}
+
+#[test]
+fn writes_a_design_as_json(rt: HostRuntime) -> Result<(), Fail> {
+    let alloc = rt.alloc();
+    let names = Names {
+        nodes: name_list(alloc, &[b"env", b"U", b"V"])?,
+        streams: name_list(alloc, &[b"P", b"M"])?,
+    };
+    let plant = graph(alloc, 3, &[plain(1, 2), metered(1, 2, 0, 1)])?;
+    let classes = two_classes(alloc)?;
+    assert!(rt; is_named(&names, &plant) && are_within(&plant, classes.as_slice()));
+    assert!(rt; classes.len() == plant.len() as usize);
+    let mut out = Vec::new(alloc);
+    write_design(alloc, &names, &plant, &classes, Form::Json, &mut out)?;
+    assert_eq!(rt;
+        out.as_slice(),
+        b"{\"nodes\":\"3\",\"row\":\"design\",\"streams\":\"2\"}
+{\"class\":\"observable\",\"from\":\"U\",\"measured\":\"no\",\"name\":\"P\",\"parts\":\"-P -M\",\"row\":\"class\",\"shape\":\"cut\",\"side\":\"U\",\"to\":\"V\"}
+{\"class\":\"nonredundant\",\"from\":\"U\",\"measured\":\"yes\",\"name\":\"M\",\"parts\":\"+M -P\",\"row\":\"class\",\"shape\":\"cycle\",\"side\":\"\",\"to\":\"V\"}
+"
+            .as_slice()
+    );
+    Ok(())
+}
+
+#[test]
+fn two_meters_as_json(rt: HostRuntime) -> Result<(), Fail> {
+    let alloc = rt.alloc();
+    let names = names_of_meters(alloc)?;
+    let study = two_meters(alloc, None)?;
+    let options = options(false, 0);
+    assert_eq!(rt;
+        report_in(alloc, &names, b"d1", &options, &study, Form::Json)?.as_slice(),
+        b"{\"gap\":\"10\",\"nodes\":\"2\",\"period\":\"d1\",\"round\":\"0\",\"row\":\"report\",\"streams\":\"2\",\"sweeps\":\"5000\"}
+{\"name\":\"env\",\"price\":\"0\",\"row\":\"node\"}
+{\"name\":\"U\",\"price\":\"-72057594038\",\"row\":\"node\"}
+{\"class\":\"redundant\",\"flow\":\"101000000\",\"from\":\"env\",\"hi\":\"101000002\",\"lo\":\"100999997\",\"name\":\"A\",\"parts\":\"-A +B\",\"row\":\"stream\",\"shape\":\"cut\",\"side\":\"env\",\"to\":\"U\",\"value\":\"102000000\",\"variance\":\"1000000000000\"}
+{\"class\":\"redundant\",\"flow\":\"101000000\",\"from\":\"U\",\"hi\":\"101000003\",\"lo\":\"100999998\",\"name\":\"B\",\"parts\":\"+A -B\",\"row\":\"stream\",\"shape\":\"cut\",\"side\":\"U\",\"to\":\"env\",\"value\":\"100000000\",\"variance\":\"1000000000000\"}
+{\"dof\":\"1\",\"g\":\"2\",\"h\":\"0\",\"high\":\"2000\",\"k\":\"1\",\"low\":\"1999\",\"row\":\"solved\",\"state\":\"converged\"}
+{\"period\":\"d1\",\"round\":\"0\",\"row\":\"end\"}
+"
+            .as_slice()
+    );
+    Ok(())
+}

@@ -1,0 +1,445 @@
+// Rows of studies from outside, and the summary of one.
+
+use super::{
+    backward, cut, cut_at_env, cut_at_unit, cycle, enters, forward, graph, leaves, list, measure,
+    metered, meters, name_list, names_of_meters, nodal, options, plain, report, result, study,
+    two_meters,
+};
+use crate::write_summary;
+use pb_graph::{
+    Class, Classified, GlobalTest, Graph, List, MeasureTest, NodalTest, Solved, Stage, Stop,
+    Stream, StreamResult, Study, Taken, Tests, Verdict,
+};
+use pb_rows::Names;
+use std::alloc::Global;
+use std::test::Fail;
+
+#[test]
+fn two_meters_disagree(rt: HostRuntime) -> Result<(), Fail> {
+    let alloc = rt.alloc();
+    let names = names_of_meters(alloc)?;
+    let plain_study = two_meters(alloc, None)?;
+    let tests = Tests {
+        global: GlobalTest {
+            critical: Some(3841),
+            verdict: Verdict::Accept,
+        },
+        nodal: list(alloc, &[nodal(1, 2_000_000, 2_000_000_000_000)])?,
+        measure: list(
+            alloc,
+            &[
+                measure(0, 1999, 2000, None, Verdict::NoCritical),
+                measure(1, 1999, 2000, None, Verdict::NoCritical),
+            ],
+        )?,
+    };
+    let tested = two_meters(alloc, Some(tests))?;
+    assert_eq!(rt;
+        report(alloc, &names, b"d1", &options(false, 0), &plain_study)?.as_slice(),
+        b"report,d1,0,2,2,10,5000
+node,env,0
+node,U,-72057594038
+stream,A,env,U,102000000,1000000000000,redundant,101000000,100999997,101000002,cut,env,-A +B
+stream,B,U,env,100000000,1000000000000,redundant,101000000,100999998,101000003,cut,U,+A -B
+solved,1,converged,2,0,1,1999,2000
+end,d1,0
+"
+            .as_slice()
+    );
+    assert_eq!(rt;
+        report(alloc, &names, b"d1", &options(true, 0), &tested)?.as_slice(),
+        b"report,d1,0,2,2,10,5000
+node,env,0
+node,U,-72057594038
+stream,A,env,U,102000000,1000000000000,redundant,101000000,100999997,101000002,cut,env,-A +B
+stream,B,U,env,100000000,1000000000000,redundant,101000000,100999998,101000003,cut,U,+A -B
+solved,1,converged,2,0,1,1999,2000
+global,3841,accept
+nodal,U,2000000,2000000000000,,nocritical
+measure,A,1999,2000,,nocritical
+measure,B,1999,2000,,nocritical
+end,d1,0
+"
+            .as_slice()
+    );
+    Ok(())
+}
+
+#[test]
+fn half_a_gram(rt: HostRuntime) -> Result<(), Fail> {
+    let alloc = rt.alloc();
+    let names = names_of_meters(alloc)?;
+    let mut streams = List::new(alloc);
+    streams.push(result(cut_at_env(alloc)?, 1, -1, 2))?;
+    streams.push(result(cut_at_unit(alloc)?, 1, -1, 2))?;
+    let stage = Stage {
+        graph: meters(alloc, 1, 0, 1)?,
+        streams,
+        prices: list(alloc, &[0, -36_028_797_018_963_968])?,
+        solved: Solved::Unconverged(5000),
+        g: 741456,
+        h: 0,
+        dof: 1,
+        low: 499,
+        high: Some(1000),
+        tests: None,
+    };
+    assert_eq!(rt;
+        report(
+            alloc,
+            &names,
+            b"d1",
+            &options(false, 0),
+            &study(alloc, stage)?
+        )?
+        .as_slice(),
+        b"report,d1,0,2,2,10,5000
+node,env,0
+node,U,-36028797018963968
+stream,A,env,U,1,1,redundant,1,-1,2,cut,env,-A +B
+stream,B,U,env,0,1,redundant,1,-1,2,cut,U,+A -B
+solved,5000,unconverged,741456,0,1,499,1000
+end,d1,0
+"
+            .as_slice()
+    );
+    Ok(())
+}
+
+// The streams of a refinery day, each within bounds that are its flow.
+fn refinery_results(alloc: Global) -> Result<List<StreamResult>, Fail> {
+    let both = [false, true, true];
+    let members = [leaves(0), enters(1), leaves(2), leaves(4)];
+    let env = [enters(0), leaves(1), enters(2), enters(4)];
+    let unit = [enters(1), leaves(2), leaves(3)];
+    let redundant = Class::Redundant;
+    let mut streams = List::new(alloc);
+    streams.push(exact(cut(alloc, redundant, &both, &members)?, 1_416_525_000))?;
+    streams.push(exact(
+        cut(alloc, redundant, &[true, false, false], &env)?,
+        10_000_000_000,
+    ))?;
+    streams.push(exact(cut(alloc, redundant, &both, &members)?, 6_000_000_000))?;
+    streams.push(exact(
+        cut(alloc, Class::Observable, &[false, true, false], &unit)?,
+        4_000_000_000,
+    ))?;
+    streams.push(exact(cut(alloc, redundant, &both, &members)?, 2_583_475_000))?;
+    Ok(streams)
+}
+
+fn exact(classified: Classified, flow: i128) -> StreamResult {
+    result(classified, flow, flow, flow)
+}
+
+fn refinery_day_stage(alloc: Global) -> Result<Stage, Fail> {
+    Ok(Stage {
+        graph: graph(
+            alloc,
+            3,
+            &[
+                metered(2, 0, 1_416_525_000, 1_000_001_000_000),
+                metered(0, 1, 10_000_000_000, 2_500_000_000_000_001),
+                metered(1, 0, 6_000_000_000, 900_000_000_000_001),
+                plain(1, 2),
+                metered(2, 0, 2_583_475_000, 100_001_000_000),
+            ],
+        )?,
+        streams: refinery_results(alloc)?,
+        prices: list(alloc, &[0, 0, 0])?,
+        solved: Solved::Converged(0),
+        g: 0,
+        h: 0,
+        dof: 1,
+        low: 0,
+        high: Some(0),
+        tests: None,
+    })
+}
+
+#[test]
+fn refinery_day(rt: HostRuntime) -> Result<(), Fail> {
+    let alloc = rt.alloc();
+    let names = Names {
+        nodes: name_list(alloc, &[b"env", b"CDU", b"TK1"])?,
+        streams: name_list(alloc, &[b"TK1", b"CRUDE", b"RES", b"NAPH", b"SHIP"])?,
+    };
+    let day = study(alloc, refinery_day_stage(alloc)?)?;
+    assert_eq!(rt;
+        report(alloc, &names, b"may1", &options(false, 0), &day)?.as_slice(),
+        b"report,may1,0,3,5,10,5000
+node,env,0
+node,CDU,0
+node,TK1,0
+stream,TK1,TK1,env,1416525000,1000001000000,redundant,1416525000,1416525000,1416525000,cut,CDU TK1,-TK1 +CRUDE -RES -SHIP
+stream,CRUDE,env,CDU,10000000000,2500000000000001,redundant,10000000000,10000000000,10000000000,cut,env,+TK1 -CRUDE +RES +SHIP
+stream,RES,CDU,env,6000000000,900000000000001,redundant,6000000000,6000000000,6000000000,cut,CDU TK1,-TK1 +CRUDE -RES -SHIP
+stream,NAPH,CDU,TK1,,,observable,4000000000,4000000000,4000000000,cut,CDU,+CRUDE -RES -NAPH
+stream,SHIP,TK1,env,2583475000,100001000000,redundant,2583475000,2583475000,2583475000,cut,CDU TK1,-TK1 +CRUDE -RES -SHIP
+solved,0,converged,0,0,1,0,0
+end,may1,0
+"
+            .as_slice()
+    );
+    Ok(())
+}
+
+fn chain(alloc: Global, last: Stream) -> Result<Graph, Fail> {
+    let variance = 10_000_000_000;
+    graph(
+        alloc,
+        3,
+        &[
+            metered(0, 1, 100_000_000, variance),
+            metered(1, 2, 100_000_000, variance),
+            last,
+        ],
+    )
+}
+
+fn chain_tests(
+    alloc: Global,
+    global: i64,
+    verdict: Verdict,
+    nodes: &[NodalTest],
+    streams: &[MeasureTest],
+) -> Result<Option<Tests>, Fail> {
+    Ok(Some(Tests {
+        global: GlobalTest {
+            critical: Some(global),
+            verdict,
+        },
+        nodal: list(alloc, nodes)?,
+        measure: list(alloc, streams)?,
+    }))
+}
+
+// All three meters of the chain.
+fn first_stage(alloc: Global) -> Result<Stage, Fail> {
+    let flow = 101_000_122;
+    let (redundant, limit) = (Class::Redundant, Some(10828));
+    let mut streams = List::new(alloc);
+    let a = cut(
+        alloc,
+        redundant,
+        &[true, false, false],
+        &[leaves(0), enters(2)],
+    )?;
+    let b = cut(
+        alloc,
+        redundant,
+        &[false, true, false],
+        &[enters(0), leaves(1)],
+    )?;
+    let c = cut(
+        alloc,
+        redundant,
+        &[false, false, true],
+        &[enters(1), leaves(2)],
+    )?;
+    streams.push(result(a, flow, 100_999_388, 101_000_123))?;
+    streams.push(result(b, flow, 100_999_755, 101_000_490))?;
+    streams.push(result(c, flow, 100_999_755, 101_000_490))?;
+    Ok(Stage {
+        graph: chain(alloc, metered(2, 0, 103_000_000, 10_000_000_000))?,
+        streams,
+        prices: list(alloc, &[0, 7_204_000_185_188, 14_410_639_198_283])?,
+        solved: Solved::Converged(7),
+        g: 3841,
+        h: 0,
+        dof: 2,
+        low: 599_999,
+        high: Some(600_001),
+        tests: chain_tests(
+            alloc,
+            5991,
+            Verdict::Reject,
+            &[
+                nodal(1, 0, 20_000_000_000),
+                nodal(2, -3_000_000, 20_000_000_000),
+            ],
+            &[
+                measure(0, 149_999, 150_002, limit, Verdict::Reject),
+                measure(1, 149_999, 150_002, limit, Verdict::Reject),
+                measure(2, 599_999, 600_001, limit, Verdict::Reject),
+            ],
+        )?,
+    })
+}
+
+// The chain without the meter of its last stream.
+fn second_stage(alloc: Global) -> Result<Stage, Fail> {
+    let flow = 100_000_000;
+    let (redundant, limit) = (Class::Redundant, Some(10828));
+    let mut streams = List::new(alloc);
+    let a = cut(
+        alloc,
+        redundant,
+        &[true, false, true],
+        &[leaves(0), enters(1)],
+    )?;
+    let b = cut(
+        alloc,
+        redundant,
+        &[false, true, false],
+        &[enters(0), leaves(1)],
+    )?;
+    let c = cut(
+        alloc,
+        Class::Observable,
+        &[false, false, true],
+        &[enters(1), leaves(2)],
+    )?;
+    streams.push(exact(a, flow))?;
+    streams.push(exact(b, flow))?;
+    streams.push(exact(c, flow))?;
+    Ok(Stage {
+        graph: chain(alloc, plain(2, 0))?,
+        streams,
+        prices: list(alloc, &[0, 0, 0])?,
+        solved: Solved::Converged(0),
+        g: 0,
+        h: 0,
+        dof: 1,
+        low: 0,
+        high: Some(0),
+        tests: chain_tests(
+            alloc,
+            3841,
+            Verdict::Accept,
+            &[nodal(1, 0, 20_000_000_000)],
+            &[
+                measure(0, 0, 0, limit, Verdict::Accept),
+                measure(1, 0, 0, limit, Verdict::Accept),
+            ],
+        )?,
+    })
+}
+
+#[test]
+fn bad_meter_taken(rt: HostRuntime) -> Result<(), Fail> {
+    let alloc = rt.alloc();
+    let names = Names {
+        nodes: name_list(alloc, &[b"env", b"U", b"V"])?,
+        streams: name_list(alloc, &[b"A", b"B", b"C"])?,
+    };
+    let mut stages = List::new(alloc);
+    stages.push(first_stage(alloc)?)?;
+    stages.push(second_stage(alloc)?)?;
+    let taken = Taken {
+        stream: 2,
+        low: 599_999,
+    };
+    let both = Study {
+        stages,
+        taken: list(alloc, &[taken])?,
+        stop: Some(Stop::Accepted),
+    };
+    assert_eq!(rt;
+        report(alloc, &names, b"d1", &options(true, 3), &both)?.as_slice(),
+        b"report,d1,0,3,3,10,5000
+node,env,0
+node,U,7204000185188
+node,V,14410639198283
+stream,A,env,U,100000000,10000000000,redundant,101000122,100999388,101000123,cut,env,-A +C
+stream,B,U,V,100000000,10000000000,redundant,101000122,100999755,101000490,cut,U,+A -B
+stream,C,V,env,103000000,10000000000,redundant,101000122,100999755,101000490,cut,V,+B -C
+solved,7,converged,3841,0,2,599999,600001
+global,5991,reject
+nodal,U,0,20000000000,,nocritical
+nodal,V,-3000000,20000000000,,nocritical
+measure,A,149999,150002,10828,reject
+measure,B,149999,150002,10828,reject
+measure,C,599999,600001,10828,reject
+end,d1,0
+taken,d1,1,C,599999
+report,d1,1,3,3,10,5000
+node,env,0
+node,U,0
+node,V,0
+stream,A,env,U,100000000,10000000000,redundant,100000000,100000000,100000000,cut,env V,-A +B
+stream,B,U,V,100000000,10000000000,redundant,100000000,100000000,100000000,cut,U,+A -B
+stream,C,V,env,,,observable,100000000,100000000,100000000,cut,V,+B -C
+solved,0,converged,0,0,1,0,0
+global,3841,accept
+nodal,U,0,20000000000,,nocritical
+measure,A,0,0,10828,accept
+measure,B,0,0,10828,accept
+end,d1,1
+stop,d1,accepted,1
+"
+            .as_slice()
+    );
+    Ok(())
+}
+
+#[test]
+fn parallel_plain_streams(rt: HostRuntime) -> Result<(), Fail> {
+    let alloc = rt.alloc();
+    let names = Names {
+        nodes: name_list(alloc, &[b"env", b"U", b"V"])?,
+        streams: name_list(alloc, &[b"P", b"R"])?,
+    };
+    let mut streams = List::new(alloc);
+    for _stream in 0..2 {
+        streams.push(StreamResult {
+            classified: cycle(alloc, Class::Unobservable, &[forward(1), backward(0)])?,
+            flow: 0,
+            bounds: None,
+        })?;
+    }
+    let stage = Stage {
+        graph: graph(alloc, 3, &[plain(1, 2), plain(1, 2)])?,
+        streams,
+        prices: list(alloc, &[0, 0, 0])?,
+        solved: Solved::Converged(0),
+        g: 0,
+        h: 0,
+        dof: 0,
+        low: 0,
+        high: None,
+        tests: Some(Tests {
+            global: GlobalTest {
+                critical: None,
+                verdict: Verdict::NoTest,
+            },
+            nodal: List::new(alloc),
+            measure: List::new(alloc),
+        }),
+    };
+    assert_eq!(rt;
+        report(
+            alloc,
+            &names,
+            b"d1",
+            &options(true, 0),
+            &study(alloc, stage)?
+        )?
+        .as_slice(),
+        b"report,d1,0,3,2,10,5000
+node,env,0
+node,U,0
+node,V,0
+stream,P,U,V,,,unobservable,0,,,cycle,,+R -P
+stream,R,U,V,,,unobservable,0,,,cycle,,+R -P
+solved,0,converged,0,0,0,0,
+global,,notest
+end,d1,0
+"
+            .as_slice()
+    );
+    Ok(())
+}
+
+#[test]
+fn writes_a_summary(rt: HostRuntime) -> Result<(), Fail> {
+    let alloc = rt.alloc();
+    let stage = refinery_day_stage(alloc)?;
+    let mut out = Vec::from_slice(alloc, b"before\n")?;
+    write_summary(alloc, 4294967295, 5, 42, &stage, &mut out)?;
+    assert_eq!(rt;
+        out.as_slice(),
+        b"before\nsummary,4294967295,5,42,1,0,4,0,1,converged,0,0,0\n".as_slice()
+    );
+    Ok(())
+}
