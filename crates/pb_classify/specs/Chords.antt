@@ -6,13 +6,7 @@ use Rattle.pb_graph.specs.declared.records.Step.{Step}
 use Rattle.pb_graph.specs.ProcessGraph.{ProcessGraph, is_measured}
 use Rattle.pb_graph.specs.Walk.{ends_of, Reaches}
 use Rattle.pb_graph.specs.Path.{is_open}
-use Rattle.pb_forest.specs.Forest.{SpanningForest, IsForest}
 use Rattle.pb_classify.specs.Certificate.{IsCycleOf, IsFirstCycle, has_stream}
-
--- the spanning forest of the graph
-pub record IsForestOf (g : ProcessGraph) (forest : SpanningForest) : Type 0 where
-  pub graph : forest.graph ≡ g
-  pub marks : IsForest g.streams forest.held
 
 -- held streams join the ends of stream j
 abbrev pub IsJoined : ProcessGraph → List Bool → ℕ → Type 0

@@ -4,7 +4,8 @@ ghost use Rattle.std.specs.Prelude.{◌≡◌, ◌<◌, Some, length, slice_get,
 ghost use Rattle.pb_graph.specs.ProcessGraph.{IsProcessGraph, is_measured};
 ghost use Rattle.pb_graph.specs.Walk.{ends_of, unmeasured_but, is_in, Reaches};
 ghost use Rattle.pb_graph.specs.Neighbours.{IsNeighbours};
-ghost use Rattle.pb_classify.specs.Chords.{IsForestOf, IsFirstBefore, AreFirstBefore};
+ghost use Rattle.pb_forest.specs.Forest.{IsForestOf};
+ghost use Rattle.pb_classify.specs.Chords.{IsFirstBefore, AreFirstBefore};
 ghost use Rattle.pb_classify.specs.Classification.{IsClassified, IsClassification};
 
 use crate::cut::side_of;
@@ -118,12 +119,24 @@ fn classify_each(
     Ok(classes)
 }
 
+/// The class of each stream, in order, with its canonical certificate, where the graph's spanning forest is at hand.
+pub fn classify_in(
+    alloc: Global,
+    graph: &Graph,
+    forest: &Forest,
+) -> Result<List<Classified>, AllocError>
+    requires { IsForestOf graph.now forest.now }
+    ensures { IfOk result (λ classes. IsClassification graph.now classes) }
+{
+    let near = Neighbours::of(alloc, graph)?;
+    let mut cycles = first_cycles(alloc, graph, forest)?;
+    classify_each(alloc, graph, &near, forest, &mut cycles)
+}
+
 /// The class of each stream, in order, with its canonical certificate.
 pub fn classify(alloc: Global, graph: &Graph) -> Result<List<Classified>, AllocError>
     ensures { IfOk result (λ classes. IsClassification graph.now classes) }
 {
-    let near = Neighbours::of(alloc, graph)?;
     let forest = Forest::of(alloc, graph)?;
-    let mut cycles = first_cycles(alloc, graph, &forest)?;
-    classify_each(alloc, graph, &near, &forest, &mut cycles)
+    classify_in(alloc, graph, &forest)
 }

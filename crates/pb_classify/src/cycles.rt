@@ -2,8 +2,9 @@
 
 ghost use Rattle.std.specs.Prelude.{◌≡◌, ℕ, ◌+◌, ◌<◌, ◌∷◌, true, false, None, All, length, get_or, IfOk, OnOk};
 ghost use Rattle.pb_graph.specs.ProcessGraph.{IsProcessGraph};
+ghost use Rattle.pb_forest.specs.Forest.{IsForestOf};
 ghost use Rattle.pb_classify.specs.Certificate.{IsCycleOf};
-ghost use Rattle.pb_classify.specs.Chords.{IsForestOf, IsJoined, AreFirstBefore, after_cycle};
+ghost use Rattle.pb_classify.specs.Chords.{IsJoined, AreFirstBefore, after_cycle};
 
 use pb_forest::Forest;
 use pb_graph::{Graph, List, Step};

@@ -10,5 +10,5 @@ mod laws;
 #[cfg(test)]
 mod tests;
 
-pub use classes::classify;
+pub use classes::{classify, classify_in};
 pub use laws::{alike_law, one_classification_law, some_classification_law};

@@ -43,6 +43,11 @@ pub record SpanningForest : Type 0 where
   pub graph : ProcessGraph
   pub held : List Bool
 
+-- the spanning forest of the graph
+pub record IsForestOf (g : ProcessGraph) (forest : SpanningForest) : Type 0 where
+  pub graph : forest.graph ≡ g
+  pub marks : IsForest g.streams forest.held
+
 -- the ends of a step along a held stream
 abbrev pub held_ends : SpanningForest → Step → Option (ℕ × ℕ)
 held_ends forest = ends_of (is_open forest.held) forest.graph.streams
