@@ -3,6 +3,7 @@ ghost use Rattle.std.specs.Prelude.{◌≡◌, ◌<◌, ◌↔◌, [], ◌++◌,
 ghost use Rattle.pb_io.specs.Counts.{Rose};
 ghost use Rattle.pb_io.specs.MemSource.{FailsNext, after_giving, after_fault, seen_in_memory};
 
+use crate::copying::copy_front;
 use crate::counts::{idle_calls, is_named, saturating_count};
 use crate::reading::{Source, SourceFailed};
 use std::marker::Model;
@@ -95,14 +96,4 @@ impl Source for MemSource {
         self.idle = saturating_count(self.idle, idle_calls(count));
         Ok(count)
     }
-}
-
-// Copies as many bytes from the front of `from` as `most` and `to` allow, and gives their number.
-fn copy_front(from: &[u8], most: usize, to: &mut [u8]) -> usize
-    ensures count { result ≡ min most (min (length from.now) (length to.old)) }
-    ensures copied { take result to.new ≡ take result from.now }
-{
-    let count = most.min(from.len()).min(to.len());
-    to[..count].copy_from_slice(&from[..count]);
-    count
 }

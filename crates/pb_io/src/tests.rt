@@ -144,3 +144,21 @@ fn reader_that_fails_in_mid_stream_is_a_fault(rt: HostRuntime) -> Result<(), Fai
     assert_eq!(rt; read.err(), Some(ReadEnd::Fault));
     Ok(())
 }
+
+#[test]
+fn sure_ends_never_fail(rt: HostRuntime) -> Result<(), Fail> {
+    let mut source = SureSource::new(Vec::from_slice(rt.alloc(), b"unit,U\nunit,V\n")?);
+    let mut few = [0_u8; 5];
+    assert_eq!(rt; source.take(&mut few), Ok(5));
+    assert_eq!(rt; &few, b"unit,");
+    let rest = read_all(rt.alloc(), &mut source, 9)?;
+    assert_eq!(rt; rest.as_slice(), b"U\nunit,V\n".as_slice());
+    assert_eq!(rt; source.take(&mut few), Ok(0));
+
+    let mut sink = SureSink::new();
+    write_all(&mut sink, rest.as_slice())?;
+    write_all(&mut sink, b"".as_slice())?;
+    assert_eq!(rt; sink.put(b"report"), Ok(6));
+    assert_eq!(rt; sink.taken(), 15);
+    Ok(())
+}
