@@ -24,8 +24,8 @@ use std::marker::Model;
 ///
 /// Prices are in units of 2^-56 per gram.
 #[derive(Debug, Drop)]
-pub struct Dual {
-    graph: Graph,
+pub struct Dual<'a> {
+    graph: &'a Graph,
     group: Vec<u32>,
     prices: Vec<i128>,
     // The dual flow of each stream at these prices.
@@ -38,17 +38,17 @@ pub struct Dual {
     greatest: i128,
 }
 
-impl Model for Dual {
+impl<'a> Model for Dual<'a> {
     ghost use Rattle.pb_dual.specs.Priced.{Priced};
     ghost use Rattle.pb_dual.specs.Border.{IsDual};
 
     ghost Value = { Priced };
 
     ghost view = { λ a.
-        record { graph = a.graph; group = a.group.items; prices = a.prices.items } };
+        record { graph = a.graph.now; group = a.group.items; prices = a.prices.items } };
 
     ghost invariant = { λ a. IsDual
-        (record { graph = a.graph; group = a.group.items; prices = a.prices.items })
+        (record { graph = a.graph.now; group = a.group.items; prices = a.prices.items })
         a.flows.items a.borders.items a.variances.items a.rooms.items a.greatest };
 }
 
@@ -101,9 +101,13 @@ fn write_measured(streams: &[Stream], out: &mut [i128])
     }
 }
 
-impl Dual {
+impl<'a> Dual<'a> {
     /// Prices of 0. `group_of` is the number of each node's group.
-    pub fn new(alloc: Global, graph: &Graph, group_of: &[u32]) -> Result<Dual, AllocError>
+    pub fn new(
+        alloc: Global,
+        graph: &'a Graph,
+        group_of: &[u32],
+    ) -> Result<Dual<'a>, AllocError>
         requires { AreGroups graph.now group_of.now }
         ensures graph { IfOk result (λ d. d.graph ≡ graph.now) }
         ensures group { IfOk result (λ d. d.group ≡ group_of.now) }
@@ -121,7 +125,7 @@ impl Dual {
         let mut flows = vec![in alloc; 0i128; streams.len()]?;
         write_measured(streams, &mut flows);
         Ok(Dual {
-            graph: graph.copy(alloc)?,
+            graph,
             group,
             prices,
             flows,
@@ -136,7 +140,7 @@ impl Dual {
     pub fn graph(&self) -> &Graph
         ensures { result.now ≡ self.now.graph }
     {
-        &self.graph
+        self.graph
     }
 
     /// The number of groups.

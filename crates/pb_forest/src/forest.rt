@@ -21,28 +21,28 @@ use std::marker::Model;
 /// Streams are taken in order, the unmeasured ones by id and then the measured ones by id. A stream is held exactly where no
 /// walk of streams before it joins its ends.
 #[derive(Debug, Drop)]
-pub struct Forest {
-    graph: Graph,
+pub struct Forest<'a> {
+    graph: &'a Graph,
     near: Neighbours,
     held: Vec<bool>,
     // The trees of the held streams, each from a root.
     trees: Trees,
 }
 
-impl Model for Forest {
+impl<'a> Model for Forest<'a> {
     ghost use Rattle.pb_forest.specs.Forest.{SpanningForest};
     ghost use Rattle.pb_forest.specs.Balancing.{IsKept};
 
     ghost Value = { SpanningForest };
 
-    ghost view = { λ a. record { graph = a.graph; held = a.held.items } };
+    ghost view = { λ a. record { graph = a.graph.now; held = a.held.items } };
 
-    ghost invariant = { λ a. IsKept a.graph a.near a.held.items a.trees };
+    ghost invariant = { λ a. IsKept a.graph.now a.near a.held.items a.trees };
 }
 
-impl Forest {
+impl<'a> Forest<'a> {
     /// The spanning forest of a graph.
-    pub fn of(alloc: Global, graph: &Graph) -> Result<Forest, AllocError>
+    pub fn of(alloc: Global, graph: &'a Graph) -> Result<Forest<'a>, AllocError>
         ensures graph { IfOk result (λ forest. forest.graph ≡ graph.now) }
         ensures forest { IfOk result (λ forest. IsForest graph.now.streams forest.held) }
     {
@@ -50,7 +50,7 @@ impl Forest {
         let near = Neighbours::of(alloc, graph)?;
         let trees = Trees::of(alloc, graph, &near, &held)?;
         Ok(Forest {
-            graph: graph.copy(alloc)?,
+            graph,
             near,
             held,
             trees,
@@ -88,7 +88,7 @@ impl Forest {
             (held_ends self.now) self.now.graph.nodes self.now.graph.streams from steps to)) }
         ensures forest { IsForest self.now.graph.streams self.now.held }
     {
-        pb_graph::path(alloc, &self.graph, &self.near, &self.held, from, to)
+        pb_graph::path(alloc, self.graph, &self.near, &self.held, from, to)
     }
 
     /// Writes the one balanced flow vector that has given flows off the forest, in grams: `off` and `out` have one item for each

@@ -18,7 +18,7 @@ use Rattle.pb_dual.proofs.dual.Dual.best_price.Goals as goal
 
 -- the value of the fields
 abbrev view : Inside → Priced
-view a = record { graph = a.graph; group = a.group.items; prices = a.prices.items }
+view a = record { graph = a.graph.now; group = a.group.items; prices = a.prices.items }
 
 below : (c : After-deref) → c.args.group < group_count (view c.self.inside).group
 below c = omega (arith, c.requires.group, ap (λ (p : Priced). group_count p.group) c.self.view_is)

@@ -15,7 +15,7 @@ use Rattle.pb_dual.proofs.dual.Dual.dual_flow.Goals as goal
 
 -- the value of the fields
 abbrev view : Inside → Priced
-view a = record { graph = a.graph; group = a.group.items; prices = a.prices.items }
+view a = record { graph = a.graph.now; group = a.group.items; prices = a.prices.items }
 
 below : (c : After-index) → c.args.stream < length (view c.self.inside).graph.streams
 below c = omega (arith, c.requires, ap (λ (p : Priced). length p.graph.streams) c.self.view_is)

@@ -9,4 +9,4 @@ returns-clause-within c =
     let i = c.self.inside in
     let h = c.self.invariant in
     subst (λ (us : List ℤ). All (λ u. unsigned_abs u ≤ most_dual_flow) us) (sym c.as_slice.ensures.value)
-    (kept_small (record { graph = i.graph; group = i.group.items; prices = i.prices.items }) i.flows.items h.priced h.kept)
+    (kept_small (record { graph = i.graph.now; group = i.group.items; prices = i.prices.items }) i.flows.items h.priced h.kept)

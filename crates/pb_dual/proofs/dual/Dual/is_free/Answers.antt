@@ -11,7 +11,7 @@ use Rattle.pb_dual.proofs.dual.Dual.is_free.Goals as goal
 pub returns-then-group-ne0-clause-value : goal.returns-then-group-ne0-clause-value
 returns-then-group-ne0-clause-value c =
     let k = c.args.group in
-    let d : Priced = record { graph = c.self.inside.graph; group = c.self.inside.group.items; prices = c.self.inside.prices.items } in
+    let d : Priced = record { graph = c.self.inside.graph.now; group = c.self.inside.group.items; prices = c.self.inside.prices.items } in
     let border = c.self.inside.borders.items in
     let h = c.self.invariant in
     let view : d ≡ c.args.self.now = c.self.view_is in

@@ -18,7 +18,7 @@ use Rattle.pb_dual.proofs.dual.Dual.net_flow.Goals as goal
 
 -- the value of the fields
 abbrev view : Inside → Priced
-view a = record { graph = a.graph; group = a.group.items; prices = a.prices.items }
+view a = record { graph = a.graph.now; group = a.group.items; prices = a.prices.items }
 
 border_is : (c : After-deref) → c.as_slice.result.now ≡ border_of (view c.self.inside).group c.args.group (view c.self.inside).graph.streams
 border_is c =

@@ -1,7 +1,6 @@
 use Rattle.std.proofs.Common.{◌≡◌, ◌∙◌, ◌≤◌, ◌^◌, ℕ, ℤ, pos, List, length, map, get_or, take, drop, ◌++◌, replicate, ap, sym, subst, arith}
 use Rattle.std.specs.Prelude.{All}
 use Rattle.pb_limits.specs.Limits.{most_streams}
-use Rattle.pb_graph.specs.ProcessGraph.{ProcessGraph}
 use Rattle.pb_merge.proofs.GroupLaws.{numbers_few, numbers_below}
 use Rattle.pb_dual.specs.declared.border.BorderStream.{BorderStream}
 use Rattle.pb_dual.specs.DualValue.{dual_flows_of}
@@ -63,14 +62,13 @@ invariant_of-result c =
     let kept = zero_dual g group_of prices out c.in_ok-variances.variances.items c.in_ok-rooms.rooms.items borders c.streams-streams.ensures.limits c.requires
     (omega (arith, c.in_ok-prices.ensures.len, c.in_ok-prices.prices.ok.0, count)) (none prices c.count-groups.result zeros)
     (c.write_measured.ensures ∙ ap (dual_flows_of (λ n. pos 0)) c.streams-streams.ensures.value) around in
-    subst (λ (h : ProcessGraph). IsDual (record { graph = h; group = c.in_ok-group.group.items; prices = prices }) flows borders c.in_ok-variances.variances.items c.in_ok-rooms.rooms.items (pos 0)) (sym c.in_ok-copy.ensures)
-    (subst (λ (ks : List ℕ). IsDual (record { graph = g; group = ks; prices = prices }) flows borders c.in_ok-variances.variances.items c.in_ok-rooms.rooms.items (pos 0)) (sym c.in_ok-group.ensures.items)
-    (subst (λ (us : List ℤ). IsDual (record { graph = g; group = group_of; prices = prices }) us borders c.in_ok-variances.variances.items c.in_ok-rooms.rooms.items (pos 0)) (sym flows_back) kept))
+    subst (λ (ks : List ℕ). IsDual (record { graph = g; group = ks; prices = prices }) flows borders c.in_ok-variances.variances.items c.in_ok-rooms.rooms.items (pos 0)) (sym c.in_ok-group.ensures.items)
+    (subst (λ (us : List ℤ). IsDual (record { graph = g; group = group_of; prices = prices }) us borders c.in_ok-variances.variances.items c.in_ok-rooms.rooms.items (pos 0)) (sym flows_back) kept)
 
 pub returns-clause-price : goal.returns-clause-price
 returns-clause-price c =
     let zeros = c.in_ok-prices.ensures.items_if_clones_equal (λ y e. e) in
-    zero_price (record { graph = c.in_ok-copy.field-0; group = c.in_ok-group.group.items; prices = c.in_ok-prices.prices.items }) (none c.in_ok-prices.prices.items c.count-groups.result zeros)
+    zero_price (record { graph = c.args.graph.now; group = c.in_ok-group.group.items; prices = c.in_ok-prices.prices.items }) (none c.in_ok-prices.prices.items c.count-groups.result zeros)
 
 pub returns-clause-fit : goal.returns-clause-fit
 returns-clause-fit c = (invariant_of-result c).priced.fit

@@ -10,7 +10,7 @@ use Rattle.pb_dual.proofs.dual.Dual.price.Goals as goal
 
 pub returns-clause-within : goal.returns-clause-within
 returns-clause-within c =
-    let d : Priced = record { graph = c.self.inside.graph; group = c.self.inside.group.items; prices = c.self.inside.prices.items } in
+    let d : Priced = record { graph = c.self.inside.graph.now; group = c.self.inside.group.items; prices = c.self.inside.prices.items } in
     let h = c.self.invariant.priced in
     let k = c.args.group in
     let x : ℤ = c.index.result.now in

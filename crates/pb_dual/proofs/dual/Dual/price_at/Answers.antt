@@ -11,7 +11,7 @@ use Rattle.pb_dual.proofs.dual.Dual.price_at.Goals as goal
 
 -- the value of the fields
 abbrev view : Inside → Priced
-view a = record { graph = a.graph; group = a.group.items; prices = a.prices.items }
+view a = record { graph = a.graph.now; group = a.group.items; prices = a.prices.items }
 
 there : (c : After-index) → c.args.node < length (view c.self.inside).group
 there c = omega (arith, c.requires, ap (λ (p : Priced). p.graph.nodes) c.self.view_is, c.self.invariant.priced.groups.each)

@@ -18,7 +18,7 @@ use Rattle.pb_dual.proofs.dual.Dual.set_price.Goals as goal
 
 -- the value of the fields
 abbrev view : Inside → Priced
-view a = record { graph = a.graph; group = a.group.items; prices = a.prices.items }
+view a = record { graph = a.graph.now; group = a.group.items; prices = a.prices.items }
 
 abbrev next : Inside → ℕ → ℤ → Priced
 next a k price = record (view a) { prices = set (view a).prices k price }
