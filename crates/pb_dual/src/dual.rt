@@ -103,11 +103,7 @@ fn write_measured(streams: &[Stream], out: &mut [i128])
 
 impl<'a> Dual<'a> {
     /// Prices of 0. `group_of` is the number of each node's group.
-    pub fn new(
-        alloc: Global,
-        graph: &'a Graph,
-        group_of: &[u32],
-    ) -> Result<Dual<'a>, AllocError>
+    pub fn new(alloc: Global, graph: &'a Graph, group_of: &[u32]) -> Result<Dual<'a>, AllocError>
         requires { AreGroups graph.now group_of.now }
         ensures graph { IfOk result (λ d. d.graph ≡ graph.now) }
         ensures group { IfOk result (λ d. d.group ≡ group_of.now) }

@@ -3,7 +3,7 @@
 ghost use Rattle.std.specs.Prelude.{◌≡◌, ◌↔◌, ℕ, suc, ◌<◌, ◌≤◌, ◌^◌, ℤ, Bool, false, List as Seq, Some, length, slice_get, unsigned_abs, IsTrue, IfOk};
 ghost use Rattle.pb_graph.specs.Groups.{AreGroups};
 ghost use Rattle.pb_graph.specs.Prices.{PricesFit};
-ghost use Rattle.pb_forest.specs.Forest.{IsForest, degrees_of_freedom};
+ghost use Rattle.pb_forest.specs.Forest.{IsForest, IsForestOf, degrees_of_freedom};
 ghost use Rattle.pb_dual.specs.Sweeps.{prices_after};
 ghost use Rattle.pb_gap.specs.Gap.{MeetsGap, gap_of};
 ghost use Rattle.pb_gap.specs.FlowPair.{AreOfPrices};
@@ -26,9 +26,9 @@ use std::marker::Model;
 /// Prices of the sweeps with flows beside them, and room for all that the next sweeps need. The flows
 /// belong to the prices once they are settled.
 #[derive(Drop)]
-pub struct Iterate {
-    forest: Forest,
-    dual: Dual,
+pub struct Iterate<'a> {
+    forest: Forest<'a>,
+    dual: Dual<'a>,
     standard_deviations: Vec<i128>,
     // For each group the standard deviation of its imbalance.
     roots: Vec<i128>,
@@ -39,7 +39,7 @@ pub struct Iterate {
     deviations: Vec<i128>,
 }
 
-impl Model for Iterate {
+impl<'a> Model for Iterate<'a> {
     ghost use Rattle.pb_gap.specs.State.{State};
     ghost use Rattle.pb_gap.specs.Iterate.{IsIterate};
 
@@ -56,16 +56,20 @@ impl Model for Iterate {
         a.nearest.items a.flows.items a.deviations.items };
 }
 
-impl Iterate {
-    /// The state of a graph after 0 sweeps.
-    pub fn new(alloc: Global, graph: &Graph) -> Result<Iterate, AllocError>
+impl<'a> Iterate<'a> {
+    /// The state of a graph after 0 sweeps. `forest` is its spanning forest.
+    pub fn new(
+        alloc: Global,
+        graph: &'a Graph,
+        forest: Forest<'a>,
+    ) -> Result<Iterate<'a>, AllocError>
+        requires { IsForestOf graph.now forest }
         ensures graph { IfOk result (λ s. s.graph ≡ graph.now) }
         ensures state { IfOk result IsState }
         ensures after { IfOk result (λ s. IsStateAfter graph.now 0 (price_in s) s.flows) }
     {
         let count = graph.streams().len();
         let groups = Groups::of(alloc, graph)?;
-        let forest = Forest::of(alloc, graph)?;
         let dual = Dual::new(alloc, graph, groups.numbers())?;
         let standard_deviations = standard_deviations(alloc, graph.streams())?;
         let roots = imbalance_roots(alloc, &groups)?;

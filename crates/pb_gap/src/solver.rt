@@ -5,7 +5,7 @@ ghost use Rattle.pb_limits.specs.Limits.{most_gap, most_sweeps};
 ghost use Rattle.pb_graph.specs.Balance.{IsBalanced};
 ghost use Rattle.pb_graph.specs.Squares.{Fractional, IsBalancedFractional, IsNoWorse, AreSquaresAtLeast, AreSquaresAtMost, whole_flows};
 ghost use Rattle.pb_graph.specs.Prices.{PricesFit};
-ghost use Rattle.pb_forest.specs.Forest.{IsForest, degrees_of_freedom};
+ghost use Rattle.pb_forest.specs.Forest.{IsForest, IsForestOf, degrees_of_freedom};
 ghost use Rattle.pb_gap.specs.Bounds.{AreSigned, IsWithin, bounds_of};
 ghost use Rattle.pb_gap.specs.Statistic.{statistic_of};
 ghost use Rattle.pb_gap.specs.State.{IsState, IsStateAfter, price_in, gap_in};
@@ -13,6 +13,7 @@ ghost use Rattle.pb_gap.specs.Solution.{IsSolution};
 
 use crate::gap::Gap;
 use crate::iterate::Iterate;
+use pb_forest::Forest;
 use pb_graph::{Bounds, Graph, Member, Solved};
 use std::alloc::{AllocError, Global};
 use std::marker::Model;
@@ -21,12 +22,12 @@ use std::marker::Model;
 ///
 /// Prices are in units of 2^-56 per gram, flows in grams. All memory is taken when a solver is made.
 #[derive(Drop)]
-pub struct Solver {
-    iterate: Iterate,
+pub struct Solver<'a> {
+    iterate: Iterate<'a>,
     gap: Gap,
 }
 
-impl Model for Solver {
+impl<'a> Model for Solver<'a> {
     ghost use Rattle.pb_gap.specs.State.{State};
     ghost use Rattle.pb_gap.specs.Iterate.{IsSettled};
 
@@ -37,14 +38,29 @@ impl Model for Solver {
     ghost invariant = { λ a. IsSettled a.iterate a.gap };
 }
 
-impl Solver {
+impl<'a> Solver<'a> {
     /// The state of a graph after 0 sweeps.
-    pub fn new(alloc: Global, graph: &Graph) -> Result<Solver, AllocError>
+    pub fn new(alloc: Global, graph: &'a Graph) -> Result<Solver<'a>, AllocError>
         ensures graph { IfOk result (λ s. s.graph ≡ graph.now) }
         ensures state { IfOk result IsState }
         ensures after { IfOk result (λ s. IsStateAfter graph.now 0 (price_in s) s.flows) }
     {
-        let mut iterate = Iterate::new(alloc, graph)?;
+        let forest = Forest::of(alloc, graph)?;
+        Solver::with_forest(alloc, graph, forest)
+    }
+
+    /// The same, where the spanning forest of the graph is at hand.
+    pub fn with_forest(
+        alloc: Global,
+        graph: &'a Graph,
+        forest: Forest<'a>,
+    ) -> Result<Solver<'a>, AllocError>
+        requires { IsForestOf graph.now forest }
+        ensures graph { IfOk result (λ s. s.graph ≡ graph.now) }
+        ensures state { IfOk result IsState }
+        ensures after { IfOk result (λ s. IsStateAfter graph.now 0 (price_in s) s.flows) }
+    {
+        let mut iterate = Iterate::new(alloc, graph, forest)?;
         let gap = iterate.gap();
         Ok(Solver { iterate, gap })
     }

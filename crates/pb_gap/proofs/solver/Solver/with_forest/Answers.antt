@@ -1,7 +1,7 @@
 use Rattle.std.proofs.Common.{subst, sym}
 use Rattle.pb_gap.specs.State.{State}
 use Rattle.pb_gap.specs.Iterate.{IsSettled}
-use Rattle.pb_gap.proofs.solver.Solver.new.Goals as goal
+use Rattle.pb_gap.proofs.solver.Solver.with_forest.Goals as goal
 
 pub invariant_of-result : goal.invariant_of-result
 invariant_of-result c =
