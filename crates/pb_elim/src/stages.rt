@@ -4,6 +4,7 @@ ghost use Rattle.std.specs.Prelude.{◌≡◌, ℕ, ◌<◌, ◌≤◌, None, Al
 ghost use Rattle.pb_integers.specs.Sums.{item};
 ghost use Rattle.pb_graph.specs.ProcessGraph.{IsProcessGraph};
 ghost use Rattle.pb_graph.specs.WellFormed.{AreBoundsWithin, IsPrice, IsWellFormed};
+ghost use Rattle.pb_forest.specs.Forest.{IsForestOf};
 ghost use Rattle.pb_classify.specs.Classification.{IsClassified, IsClassification};
 ghost use Rattle.pb_gap.specs.State.{IsState, price_in, gap_in};
 ghost use Rattle.pb_gap.specs.StreamBounds.{stream_bounds};
@@ -15,7 +16,8 @@ ghost use Rattle.pb_elim.specs.Stage.{IsReconciliationOf, IsStageOf};
 
 use crate::members::sum_for;
 use crate::testing::asked_tests;
-use pb_classify::classify;
+use pb_classify::classify_in;
+use pb_forest::Forest;
 use pb_gap::{Solver, stream_law};
 use pb_graph::{Bounds, Classified, Critical, Graph, List, Options, Solved, Stage, StreamResult};
 use std::alloc::{AllocError, Global};
@@ -129,21 +131,23 @@ fn collected(
     })
 }
 
-/// The reconciliation of a graph whose classes are known: its stage without tests.
-fn reconciled(
+/// The reconciliation of a graph whose forest and classes are known: its stage without tests.
+fn reconciled<'a>(
     alloc: Global,
-    graph: &Graph,
+    graph: &'a Graph,
+    forest: Forest<'a>,
     classes: List<Classified>,
     options: &Options,
 ) -> Result<Stage, AllocError>
     requires limits { AreOptions options.now }
+    requires forest { IsForestOf graph.now forest }
     requires classes { IsClassification graph.now classes }
     ensures stage { IfOk result (IsReconciliationOf graph.now options.now) }
     ensures graph { IfOk result (λ stage. IsProcessGraph stage.graph) }
     ensures untested { IfOk result (λ stage. stage.tests ≡ None) }
     ensures formed { IfOk result IsWellFormed }
 {
-    let mut solver = Solver::new(alloc, graph)?;
+    let mut solver = Solver::with_forest(alloc, graph, forest)?;
     let solved = solver.solve(options.gap, options.sweeps);
     collected(alloc, graph, options, classes, &solver, solved)
 }
@@ -161,8 +165,9 @@ pub fn stage(
     ensures graph { IfOk result (λ stage. IsProcessGraph stage.graph) }
     ensures formed { IfOk result IsWellFormed }
 {
-    let classes = classify(alloc, graph)?;
-    stage_classed(alloc, graph, classes, options, critical)
+    let forest = Forest::of(alloc, graph)?;
+    let classes = classify_in(alloc, graph, &forest)?;
+    stage_in(alloc, graph, forest, classes, options, critical)
 }
 
 /// The stage of a graph whose classes are known.
@@ -180,7 +185,28 @@ pub fn stage_classed(
     ensures graph { IfOk result (λ stage. IsProcessGraph stage.graph) }
     ensures formed { IfOk result IsWellFormed }
 {
-    let mut stage = reconciled(alloc, graph, classes, options)?;
+    let forest = Forest::of(alloc, graph)?;
+    stage_in(alloc, graph, forest, classes, options, critical)
+}
+
+/// The stage of a graph whose forest and classes are known.
+fn stage_in<'a>(
+    alloc: Global,
+    graph: &'a Graph,
+    forest: Forest<'a>,
+    classes: List<Classified>,
+    options: &Options,
+    critical: &Critical,
+) -> Result<Stage, AllocError>
+    requires limits { AreOptions options.now }
+    requires critical { AreCritical critical.now }
+    requires forest { IsForestOf graph.now forest }
+    requires classes { IsClassification graph.now classes }
+    ensures stage { IfOk result (IsStageOf graph.now options.now critical.now) }
+    ensures graph { IfOk result (λ stage. IsProcessGraph stage.graph) }
+    ensures formed { IfOk result IsWellFormed }
+{
+    let mut stage = reconciled(alloc, graph, forest, classes, options)?;
     let tests = asked_tests(alloc, graph, options, critical, &stage)?;
     stage.tests = tests;
     Ok(stage)

@@ -1,5 +1,5 @@
 use Rattle.pb_elim.proofs.StageLemmas.{stage_tested, tested_formed}
-use Rattle.pb_elim.proofs.stages.stage_classed.Goals as goal
+use Rattle.pb_elim.proofs.stages.stage_in.Goals as goal
 
 pub returns-clause-stage : goal.returns-clause-stage
 returns-clause-stage c =
