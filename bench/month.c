@@ -22,15 +22,36 @@ static int asked;
 
 /* ---- names, by a table of their hashes */
 enum { SLOTS = 1 << 14 };
-static struct { const char *name; int id; } node_slots[SLOTS], stream_slots[SLOTS];
+typedef struct { const char *name; int id; } Slot;
+static Slot node_slots[SLOTS], stream_slots[SLOTS];
 
-static unsigned hash(const char *s) { unsigned h = 2166136261u; while (*s) h = (h ^ (unsigned char)*s++) * 16777619u; return h; }
+static unsigned hash(const char *s)
+{
+    unsigned h = 2166136261u;
+    while (*s) h = (h ^ (unsigned char)*s++) * 16777619u;
+    return h;
+}
 
-#define PUT(table, text, number) do { unsigned i_ = hash(text) % SLOTS; while (table[i_].name) i_ = (i_ + 1) % SLOTS; \
-    table[i_].name = text; table[i_].id = number; } while (0)
+/* the slot of a name, or the free one where it belongs */
+static Slot *slot_of(Slot *table, const char *name)
+{
+    unsigned i = hash(name) % SLOTS;
+    while (table[i].name && strcmp(table[i].name, name)) i = (i + 1) % SLOTS;
+    return &table[i];
+}
 
-static int find_node(const char *s) { unsigned i = hash(s) % SLOTS; while (node_slots[i].name) { if (!strcmp(node_slots[i].name, s)) return node_slots[i].id; i = (i + 1) % SLOTS; } return -1; }
-static int find_stream(const char *s) { unsigned i = hash(s) % SLOTS; while (stream_slots[i].name) { if (!strcmp(stream_slots[i].name, s)) return stream_slots[i].id; i = (i + 1) % SLOTS; } return -1; }
+static void put(Slot *table, const char *name, int id)
+{
+    Slot *slot = slot_of(table, name);
+    slot->name = name;
+    slot->id = id;
+}
+
+static int find(Slot *table, const char *name)
+{
+    Slot *slot = slot_of(table, name);
+    return slot->name ? slot->id : -1;
+}
 
 static wide number(const char *s)
 {
@@ -60,23 +81,23 @@ static void read_row(char *line)
     for (char *p = line; p && count < 8; count++) { field[count] = p; p = strchr(p, ','); if (p) *p++ = 0; }
     if (!strcmp(field[0], "unit")) {
         strcpy(nodes[node_count], field[1]);
-        PUT(node_slots, nodes[node_count], node_count);
+        put(node_slots, nodes[node_count], node_count);
         node_count++;
     } else if (!strcmp(field[0], "stream")) {
         Stream *s = &streams[stream_count];
         strcpy(s->name, field[1]);
-        s->from = find_node(field[2]);
-        s->to = find_node(field[3]);
+        s->from = find(node_slots, field[2]);
+        s->to = find(node_slots, field[3]);
         s->metered = !strcmp(field[4], "metered");
         s->variance = number(field[5]);
-        PUT(stream_slots, s->name, stream_count);
+        put(stream_slots, s->name, stream_count);
         stream_count++;
     } else if (!strcmp(field[0], "period")) {
         strcpy(first_day, field[2]);
         strcpy(last_day, field[3]);
     } else if (!strcmp(field[0], "reading")) {
         if (reading_count == reading_room) readings = realloc(readings, (reading_room = 2 * reading_room + 1024) * sizeof *readings);
-        Reading r = { find_stream(field[2]), day_of(field[3]), number(field[4]), number(field[5]) };
+        Reading r = { find(stream_slots, field[2]), day_of(field[3]), number(field[4]), number(field[5]) };
         readings[reading_count++] = r;
     } else if (!strcmp(field[0], "report")) {
         asked = 1;
@@ -99,39 +120,49 @@ static void add_readings(void)
 /* ---- groups and the forest */
 static int parent[MOST_NODES], group[MOST_NODES], group_count;
 static int held[MOST_STREAMS], order[MOST_NODES], up[MOST_NODES];
+
 static int root(int n) { while (parent[n] != n) n = parent[n] = parent[parent[n]]; return n; }
+
 static int is_measured(int j) { return streams[j].metered && streams[j].days == day_count; }
 
+static void hold(int j)
+{
+    int from = root(streams[j].from), to = root(streams[j].to);
+    if (from == to) return;
+    held[j] = 1;
+    parent[from] = to;
+}
+
+/* the unmeasured streams are taken first; the groups are numbered between */
 static void join_all(void)
 {
     static int number_of[MOST_NODES];
     for (int n = 0; n < node_count; n++) { parent[n] = n; number_of[n] = -1; }
-    for (int j = 0; j < stream_count; j++)
-        if (!is_measured(j) && root(streams[j].from) != root(streams[j].to)) { held[j] = 1; parent[root(streams[j].from)] = root(streams[j].to); }
+    for (int j = 0; j < stream_count; j++) if (!is_measured(j)) hold(j);
     for (int n = 0; n < node_count; n++) {
         int r = root(n);
         if (number_of[r] < 0) number_of[r] = group_count++;
         group[n] = number_of[r];
     }
-    for (int j = 0; j < stream_count; j++)
-        if (is_measured(j) && root(streams[j].from) != root(streams[j].to)) { held[j] = 1; parent[root(streams[j].from)] = root(streams[j].to); }
+    for (int j = 0; j < stream_count; j++) if (is_measured(j)) hold(j);
 }
 
 /* nodes in an order in which each comes behind its parent, with the held stream that leads up */
 static void walk_forest(void)
 {
-    static int near[MOST_NODES][2], next[2 * MOST_STREAMS], at[2 * MOST_STREAMS], seen[MOST_NODES];
+    static int near[MOST_NODES], next[2 * MOST_STREAMS], at[2 * MOST_STREAMS], seen[MOST_NODES];
     int count = 0, used = 0;
-    for (int n = 0; n < node_count; n++) near[n][0] = -1;
-    for (int j = 0; j < stream_count; j++) if (held[j]) {
-        at[used] = j; next[used] = near[streams[j].from][0]; near[streams[j].from][0] = used++;
-        at[used] = j; next[used] = near[streams[j].to][0]; near[streams[j].to][0] = used++;
+    for (int n = 0; n < node_count; n++) near[n] = -1;
+    for (int j = 0; j < stream_count; j++) {
+        if (!held[j]) continue;
+        int ends[2] = { streams[j].from, streams[j].to };
+        for (int e = 0; e < 2; e++) { at[used] = j; next[used] = near[ends[e]]; near[ends[e]] = used++; }
     }
     for (int r = 0; r < node_count; r++) {
         if (seen[r]) continue;
         seen[r] = 1; up[r] = -1; order[count++] = r;
         for (int i = count - 1; i < count; i++)
-            for (int e = near[order[i]][0]; e >= 0; e = next[e]) {
+            for (int e = near[order[i]]; e >= 0; e = next[e]) {
                 Stream *s = &streams[at[e]];
                 int other = s->from == order[i] ? s->to : s->from;
                 if (!seen[other]) { seen[other] = 1; up[other] = at[e]; order[count++] = other; }
@@ -140,7 +171,8 @@ static void walk_forest(void)
 }
 
 /* ---- prices and flows, in 128 bits */
-static wide price[MOST_NODES], dual[MOST_STREAMS], flow[MOST_STREAMS], deviation_root[MOST_STREAMS], group_variance[MOST_NODES], group_room[MOST_NODES], net_root[MOST_NODES];
+static wide price[MOST_NODES], group_variance[MOST_NODES], group_room[MOST_NODES], net_root[MOST_NODES];
+static wide dual[MOST_STREAMS], flow[MOST_STREAMS], deviation_root[MOST_STREAMS];
 static Border border[2 * MOST_STREAMS];
 static int border_at[MOST_NODES + 1];
 static wide greatest;
@@ -159,8 +191,12 @@ static uint64_t root_floor(uwide n)
 static void make_borders(void)
 {
     static int fill[MOST_NODES];
-    for (int j = 0; j < stream_count; j++)
-        if (is_measured(j) && group[streams[j].from] != group[streams[j].to]) { border_at[group[streams[j].from] + 1]++; border_at[group[streams[j].to] + 1]++; }
+    for (int j = 0; j < stream_count; j++) {
+        int f = group[streams[j].from], t = group[streams[j].to];
+        if (!is_measured(j) || f == t) continue;
+        border_at[f + 1]++;
+        border_at[t + 1]++;
+    }
     for (int k = 0; k < group_count; k++) { border_at[k + 1] += border_at[k]; fill[k] = border_at[k]; group_room[k] = (wide)1 << 112; }
     for (int j = 0; j < stream_count; j++) {
         int f = group[streams[j].from], t = group[streams[j].to];
@@ -270,7 +306,7 @@ int main(void)
 {
     static char line[4096];
     strcpy(nodes[0], "env");
-    PUT(node_slots, nodes[0], 0);
+    put(node_slots, nodes[0], 0);
     while (fgets(line, sizeof line, stdin)) { line[strcspn(line, "\n")] = 0; read_row(line); }
     if (!asked) return 0;
     add_readings();
@@ -278,7 +314,10 @@ int main(void)
     walk_forest();
     make_borders();
     int k = 0, met = is_met(10);
-    for (; !met && k < 5000; k++) { if (!sweep()) { k = 5000; break; } met = is_met(10); }
+    for (; !met && k < 5000; k++) {
+        if (!sweep()) { k = 5000; break; }
+        met = is_met(10);
+    }
     write_flows();
     fprintf(stderr, "%s,%d\n", met ? "converged" : "unconverged", k);
     for (int j = 0; j < stream_count; j++) { printf("flow,%s,", streams[j].name); print_wide(flow[j]); putchar('\n'); }
