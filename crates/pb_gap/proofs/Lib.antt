@@ -20,3 +20,5 @@ mod SmallFlowLemmas
 mod RangeLemmas
 mod NetLemmas
 mod SolveLemmas
+mod HypercircleLemmas
+mod LeastRangeLemmas

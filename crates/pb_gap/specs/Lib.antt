@@ -12,6 +12,8 @@ pub mod Residuals
 pub mod Laws
 pub mod RangeLaws
 pub mod Least
+pub mod LeastBounds
+pub mod LeastBoundsLaws
 -- Inside
 pub mod Members
 pub mod Iterate

@@ -4,12 +4,14 @@ ghost use Rattle.std.specs.Prelude.{◌≡◌, ◌↔◌, ◌≤◌, ◌^◌, �
 ghost use Rattle.pb_gap.specs.Gap.{MeetsGap, gap_of};
 ghost use Rattle.pb_gap.specs.GapRange.{IsGapInRange};
 ghost use Rattle.pb_gap.specs.Bounds.{AreSigned, bounds_of};
+ghost use Rattle.pb_gap.specs.LeastBounds.{least_bounds_of};
 ghost use Rattle.pb_gap.specs.Statistic.{statistic_of};
 ghost use Rattle.pb_gap.specs.FlowPair.{AreMeasured, AreDualFlows, AreOfPrices};
 
 use crate::adjustments::{high, low};
 use crate::deviations::write_deviations;
 use crate::gap::{Gap, gap_from, is_met, most_deviation};
+use crate::least::{about_middle, flow_sum};
 use crate::sums::{dual_flow_sum, half_width_of, outward};
 use pb_graph::{Bounds, Graph, Member};
 use std::marker::Model;
@@ -120,6 +122,23 @@ impl<'a> FlowPair<'a> {
         let streams = self.graph.streams();
         let sum = dual_flow_sum(streams, self.dual_flows, members);
         outward(sum, half_width_of(streams, members, gap))
+    }
+
+    /// The least bounds of a signed sum of measured flows at a gap, in grams. They are at most 2^126
+    /// either way.
+    pub fn least(&self, members: &[Member], gap: Gap) -> Bounds
+        requires members { AreSigned self.now.graph members.now }
+        requires gap { IsGapInRange gap }
+        ensures value { (price : ℕ → ℤ) → AreOfPrices price self.now
+            → result
+            ≡ least_bounds_of price self.now.graph.streams self.now.flows gap members.now }
+        ensures lo { unsigned_abs result.lo ≤ 2 ^ 126 }
+        ensures hi { unsigned_abs result.hi ≤ 2 ^ 126 }
+    {
+        let streams = self.graph.streams();
+        let flows = flow_sum(streams, self.flows, members);
+        let dual_flows = dual_flow_sum(streams, self.dual_flows, members);
+        about_middle(flows, dual_flows, half_width_of(streams, members, gap))
     }
 
     /// The ends of the statistic at a gap, in thousandths. There is no high end where an adjustment

@@ -3,6 +3,7 @@
 ghost use Rattle.pb_gap.specs.Laws.{WeightLaw, SchwarzLaw, IdentityLaw, DualityLaw, AreGaps, GapLaw, EnclosureLaw, StreamSumLaw, StreamLaw, LowLaw, HighLaw};
 ghost use Rattle.pb_gap.specs.Nets.{NetLaw};
 ghost use Rattle.pb_gap.specs.Least.{OrthogonalityLaw, ExcessLaw, DistanceLaw};
+ghost use Rattle.pb_gap.specs.LeastBoundsLaws.{HypercircleLaw, LeastWidthLaw, LeastBoundsLaw, LeastStreamLaw, LeastRangeLaw};
 ghost use Rattle.pb_gap.specs.RangeLaws.{RangeLaw};
 ghost use Rattle.pb_gap.specs.Solution.{SomeStateLaw, OneStateLaw, OutsideLaw, SomeSolutionLaw, OneSolutionLaw, SomeSolvedStatisticLaw, OneSolvedStatisticLaw};
 
@@ -96,4 +97,14 @@ pub fn one_solution_law()
 pub fn solved_statistic_law()
     ensures some { SomeSolvedStatisticLaw }
     ensures one { OneSolvedStatisticLaw }
+{}
+
+/// A least vector is half as far from the middle of balanced flows and dual flows as these are from each other. So each signed sum of
+/// measured flows, and each stream that has least bounds, is within its least bounds. These are in the range of bounds.
+pub fn least_bounds_law()
+    ensures hypercircle { HypercircleLaw }
+    ensures width { LeastWidthLaw }
+    ensures sum { LeastBoundsLaw }
+    ensures stream { LeastStreamLaw }
+    ensures range { LeastRangeLaw }
 {}

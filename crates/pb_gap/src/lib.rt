@@ -14,6 +14,7 @@ mod flows;
 mod gap;
 mod iterate;
 mod laws;
+mod least;
 mod measurements;
 mod nets;
 mod solver;
@@ -25,9 +26,9 @@ pub use dual_flows::write_dual_flows;
 pub use flow_pair::FlowPair;
 pub use gap::Gap;
 pub use laws::{
-    duality_law, enclosure_law, gap_law, least_law, net_law, one_solution_law, one_state_law,
-    outside_law, range_law, schwarz_law, solved_statistic_law, some_solution_law, some_state_law,
-    statistic_law, stream_law, weight_law,
+    duality_law, enclosure_law, gap_law, least_bounds_law, least_law, net_law, one_solution_law,
+    one_state_law, outside_law, range_law, schwarz_law, solved_statistic_law, some_solution_law,
+    some_state_law, statistic_law, stream_law, weight_law,
 };
 pub use measurements::standard_deviations;
 pub use solver::Solver;

@@ -3,10 +3,11 @@
 ghost use Rattle.std.specs.Prelude.{◌≡◌, ℕ, ◌<◌, ◌≤◌, ◌^◌, pos, ◌≤ℤ◌, Bool, List as Seq, Some, length, slice_get, unsigned_abs, IfOk, IfSome};
 ghost use Rattle.pb_limits.specs.Limits.{most_gap, most_sweeps};
 ghost use Rattle.pb_graph.specs.Balance.{IsBalanced};
-ghost use Rattle.pb_graph.specs.Squares.{Fractional, IsBalancedFractional, IsNoWorse, AreSquaresAtLeast, AreSquaresAtMost, whole_flows};
+ghost use Rattle.pb_graph.specs.Squares.{Fractional, IsBalancedFractional, IsLeast, IsNoWorse, AreSquaresAtLeast, AreSquaresAtMost, whole_flows};
 ghost use Rattle.pb_graph.specs.Prices.{PricesFit};
 ghost use Rattle.pb_forest.specs.Forest.{IsForest, IsForestOf, degrees_of_freedom};
 ghost use Rattle.pb_gap.specs.Bounds.{AreSigned, IsWithin, bounds_of};
+ghost use Rattle.pb_gap.specs.LeastBounds.{least_bounds_of};
 ghost use Rattle.pb_gap.specs.Statistic.{statistic_of};
 ghost use Rattle.pb_gap.specs.State.{IsState, IsStateAfter, price_in, gap_in};
 ghost use Rattle.pb_gap.specs.Solution.{IsSolution};
@@ -141,6 +142,22 @@ impl<'a> Solver<'a> {
             → IsWithin x members.now result }
     {
         self.iterate.pair().bounds(members, self.gap)
+    }
+
+    /// Least bounds of a signed sum of measured flows, in grams: every least vector is within them. They stand about the middle of the
+    /// present flows and the dual flows, with half the width of the bounds (Synge, The Hypercircle in Mathematical Physics). They are at
+    /// most 2^126 either way.
+    pub fn least(&self, members: &[Member]) -> Bounds
+        requires { AreSigned self.now.graph members.now }
+        ensures value { result
+            ≡ least_bounds_of (price_in self.now) self.now.graph.streams self.now.flows
+            (gap_in self.now) members.now }
+        ensures lo { unsigned_abs result.lo ≤ 2 ^ 126 }
+        ensures hi { unsigned_abs result.hi ≤ 2 ^ 126 }
+        ensures least { (x : Fractional) → IsLeast self.now.graph x
+            → IsWithin x members.now result }
+    {
+        self.iterate.pair().least(members, self.gap)
     }
 
     /// The ends of the statistic in thousandths: the weighted squares of every balanced fractional vector are at least the low one,
