@@ -46,11 +46,16 @@ impl Output {
         write_row(row, self.form, &mut self.text)
     }
 
-    /// Appends all rows to a text. After an `Err`, want of memory, the text is as it was.
-    pub fn append_to(&self, out: &mut Vec<u8>) -> Result<(), AllocError>
-        ensures ok { OnOk result (out.new.items ≡ out.old.items ++ self.now.text) }
+    /// Appends all rows to a text. An empty text takes them over, and they aren't copied. After an `Err`, want of memory, the text is
+    /// as it was.
+    pub fn append_to(self, out: &mut Vec<u8>) -> Result<(), AllocError>
+        ensures ok { OnOk result (out.new.items ≡ out.old.items ++ self.text) }
         ensures err { OnErr result (out.new.items ≡ out.old.items) }
     {
-        out.extend_from_slice(self.text.as_slice())
+        if !out.is_empty() {
+            return out.extend_from_slice(self.text.as_slice());
+        }
+        *out = self.text;
+        Ok(())
     }
 }
