@@ -8,7 +8,7 @@ ghost use Rattle.pb_elim.specs.Signs.{HasSign, AreWitnessSigns};
 use pb_graph::{Class, Classified, List, Member, Witness};
 use std::alloc::{AllocError, Global};
 
-/// The sign of a stream in a list of members, 0 where it isn't one of them.
+// The sign of a stream in a list of members, 0 where it isn't one of them.
 fn sign_in(stream: u32, members: &[Member]) -> i8
     requires { All HasSign members.now }
     ensures value { result ≡ sign_in stream members.now }
@@ -22,7 +22,7 @@ fn sign_in(stream: u32, members: &[Member]) -> i8
     0
 }
 
-/// A sign, turned round.
+// A sign, turned round.
 fn turned(z: i8) -> i8
     requires { unsigned_abs z ≤ 1 }
     ensures value { result ≡ neg_ℤ z }
@@ -31,7 +31,7 @@ fn turned(z: i8) -> i8
     -z
 }
 
-/// The product of a sign and a number of at most 1.
+// The product of a sign and a number of at most 1.
 fn product(sign: i8, z: i8) -> i8
     requires sign { IsSign sign }
     requires within { unsigned_abs z ≤ 1 }
@@ -40,7 +40,7 @@ fn product(sign: i8, z: i8) -> i8
     sign * z
 }
 
-/// The members other than a stream, each with its sign times z.
+// The members other than a stream, each with its sign times z.
 fn others_times(
     alloc: Global,
     stream: u32,
@@ -63,7 +63,7 @@ fn others_times(
     Ok(others)
 }
 
-/// A stream alone, with the sign 1.
+// A stream alone, with the sign 1.
 fn itself(alloc: Global, stream: u32) -> Result<List<Member>, AllocError>
     ensures { IfOk result (λ members. members ≡ record { stream = stream; sign = pos 1 } ∷ []) }
 {
@@ -72,7 +72,7 @@ fn itself(alloc: Global, stream: u32) -> Result<List<Member>, AllocError>
     Ok(members)
 }
 
-/// The other members of the cut of a stream, whose signed sum is its flow.
+// The other members of the cut of a stream, whose signed sum is its flow.
 fn others(alloc: Global, stream: u32, members: &[Member]) -> Result<List<Member>, AllocError>
     requires { All HasSign members.now }
     ensures { IfOk result (λ others. others

@@ -22,7 +22,7 @@ use pb_gap::{Solver, stream_law};
 use pb_graph::{Bounds, Classified, Critical, Graph, List, Options, Solved, Stage, StreamResult};
 use std::alloc::{AllocError, Global};
 
-/// The bounds of the flow of a stream by its class and its certificate, none where it is unobservable.
+// The bounds of the flow of a stream by its class and its certificate, none where it is unobservable.
 fn stream_bounds(
     alloc: Global,
     solver: &Solver,
@@ -43,7 +43,7 @@ fn stream_bounds(
     }
 }
 
-/// What is printed of a stream.
+// What is printed of a stream.
 fn stream_result(
     alloc: Global,
     solver: &Solver,
@@ -63,7 +63,7 @@ fn stream_result(
     })
 }
 
-/// What is printed of each stream, in order.
+// What is printed of each stream, in order.
 fn stream_results(
     alloc: Global,
     solver: &Solver,
@@ -81,7 +81,7 @@ fn stream_results(
     Ok(results)
 }
 
-/// The price of each node, in order.
+// The price of each node, in order.
 fn node_prices(alloc: Global, solver: &Solver, nodes: u32) -> Result<List<i128>, AllocError>
     requires some { 1 ≤ nodes }
     requires nodes { nodes ≡ solver.now.graph.nodes }
@@ -96,7 +96,7 @@ fn node_prices(alloc: Global, solver: &Solver, nodes: u32) -> Result<List<i128>,
     Ok(prices)
 }
 
-/// The stage of a graph that is classified and solved, without tests.
+// The stage of a graph that is classified and solved, without tests.
 fn collected(
     alloc: Global,
     graph: &Graph,
@@ -131,7 +131,7 @@ fn collected(
     })
 }
 
-/// The reconciliation of a graph whose forest and classes are known: its stage without tests.
+// The reconciliation of a graph whose forest and classes are known: its stage without tests.
 fn reconciled<'a>(
     alloc: Global,
     graph: &'a Graph,
@@ -189,7 +189,7 @@ pub fn stage_classed(
     stage_in(alloc, graph, forest, classes, options, critical)
 }
 
-/// The stage of a graph whose forest and classes are known.
+// The stage of a graph whose forest and classes are known.
 fn stage_in<'a>(
     alloc: Global,
     graph: &'a Graph,

@@ -1,4 +1,4 @@
-//! How far each stream's flow is from its measured value, and the two ends of the statistic.
+// How far each stream's flow is from its measured value, and the two ends of the statistic.
 
 ghost use Rattle.std.specs.Prelude.{◌≡◌, ◌*◌, ◌<◌, ◌≤◌, ◌^◌, pos, ◌≤ℤ◌, int_lt, None, Some, unsigned_abs, IfSome, if◌then◌else◌};
 ghost use Rattle.std.specs.List.{list_any};
@@ -16,7 +16,7 @@ use crate::gap::{Gap, size};
 use pb_fixed::{div_ceil, div_floor};
 use pb_graph::Stream;
 
-/// The adjustment of a flow in standard deviations, in units of 2^-20, rounded down; 0 where the stream is unmeasured.
+// The adjustment of a flow in standard deviations, in units of 2^-20, rounded down; 0 where the stream is unmeasured.
 fn below(stream: &Stream, root: i128, flow: i128) -> i128
     requires limits { IsWithinLimits stream.now }
     requires root { root ≡ standard_deviation_of stream.now.meas }
@@ -30,7 +30,7 @@ fn below(stream: &Stream, root: i128, flow: i128) -> i128
     }
 }
 
-/// The same, rounded up.
+// The same, rounded up.
 fn above(stream: &Stream, root: i128, flow: i128) -> i128
     requires limits { IsWithinLimits stream.now }
     requires root { root ≡ standard_deviation_of stream.now.meas }
@@ -44,7 +44,7 @@ fn above(stream: &Stream, root: i128, flow: i128) -> i128
     }
 }
 
-/// The sum of the squares of the adjustments, each rounded down and counted up to the most.
+// The sum of the squares of the adjustments, each rounded down and counted up to the most.
 fn capped_squares(streams: &[Stream], standard_deviations: &[i128], flows: &[i128]) -> i128
     requires { AreMeasured streams.now standard_deviations.now flows.now }
     ensures value { result
@@ -59,7 +59,7 @@ fn capped_squares(streams: &[Stream], standard_deviations: &[i128], flows: &[i12
     total
 }
 
-/// The sum of the squares of the adjustments, each rounded up; None where one is above the most.
+// The sum of the squares of the adjustments, each rounded up; None where one is above the most.
 fn full_squares(streams: &[Stream], standard_deviations: &[i128], flows: &[i128]) -> Option<i128>
     requires { AreMeasured streams.now standard_deviations.now flows.now }
     ensures value { let bs = adjustments_by adjustment_above streams.now flows.now in

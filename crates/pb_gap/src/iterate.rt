@@ -129,7 +129,7 @@ impl<'a> Iterate<'a> {
         )
     }
 
-    /// Writes the flows that belong to the prices.
+    // Writes the flows that belong to the prices.
     fn settle(&mut self)
         ensures graph { self.new.graph ≡ self.old.graph }
         ensures group { self.new.group ≡ self.old.group }
@@ -139,7 +139,7 @@ impl<'a> Iterate<'a> {
         write_flows(&self.forest, &self.dual, &mut self.nearest, &mut self.flows);
     }
 
-    /// Begins again at prices of 0. The flows stay.
+    // Begins again at prices of 0. The flows stay.
     fn reset(&mut self)
         ensures graph { self.new.graph ≡ self.old.graph }
         ensures group { self.new.group ≡ self.old.group }
@@ -149,7 +149,7 @@ impl<'a> Iterate<'a> {
         self.dual.reset();
     }
 
-    /// Sweeps once. The flows stay. Whether a price changed.
+    // Sweeps once. The flows stay. Whether a price changed.
     fn sweep(&mut self) -> bool
         ensures graph { self.new.graph ≡ self.old.graph }
         ensures group { self.new.group ≡ self.old.group }
@@ -174,7 +174,7 @@ impl<'a> Iterate<'a> {
         pair.gap(&mut self.deviations)
     }
 
-    /// Whether the gap of the flows and the prices is met.
+    // Whether the gap of the flows and the prices is met.
     fn is_near(&mut self, gap: u32) -> bool
         ensures met { IsTrue result ↔ MeetsGap gap (gap_in self.old) }
         ensures same { self.new ≡ self.old }
@@ -188,8 +188,8 @@ impl<'a> Iterate<'a> {
         pair.is_met(gap, &mut self.deviations)
     }
 
-    /// Whether the gap of the flows that belong to the prices is met. They are written, unless the
-    /// groups' net dual flows tell that it isn't.
+    // Whether the gap of the flows that belong to the prices is met. They are written, unless the
+    // groups' net dual flows tell that it isn't.
     fn is_met(&mut self, gap: u32) -> bool
         ensures graph { self.new.graph ≡ self.old.graph }
         ensures group { self.new.group ≡ self.old.group }

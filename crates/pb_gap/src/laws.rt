@@ -1,4 +1,4 @@
-//! What is proved of the definitions alone. The functions are empty: the contract of each is a law.
+// What is proved of the definitions alone. The functions are empty: the contract of each is a law.
 
 ghost use Rattle.pb_gap.specs.Laws.{WeightLaw, SchwarzLaw, IdentityLaw, DualityLaw, AreGaps, GapLaw, EnclosureLaw, StreamSumLaw, StreamLaw, LowLaw, HighLaw};
 ghost use Rattle.pb_gap.specs.Nets.{NetLaw};

@@ -1,4 +1,4 @@
-//! Sums over a signed list of measured streams.
+// Sums over a signed list of measured streams.
 
 ghost use Rattle.std.specs.Prelude.{◌≡◌, ◌<◌, ◌≤◌, ◌^◌, ℕ, ℤ, pos, ◌≤ℤ◌, ◌+ℤ◌, ◌-ℤ◌, length, unsigned_abs, All};
 ghost use Rattle.pb_limits.specs.Limits.{most_streams, most_variance};
@@ -33,7 +33,7 @@ pub fn dual_flow_sum(streams: &[Stream], dual_flows: &[i128], members: &[Member]
     total
 }
 
-/// The variance of a stream, 0 where it is unmeasured.
+// The variance of a stream, 0 where it is unmeasured.
 fn variance(stream: &Stream) -> i128
     requires { IsWithinLimits stream.now }
     ensures value { result ≡ variance_of stream.now.meas }
@@ -46,7 +46,7 @@ fn variance(stream: &Stream) -> i128
     }
 }
 
-/// The sum of the variances, in squared grams.
+// The sum of the variances, in squared grams.
 fn variance_sum(streams: &[Stream], members: &[Member]) -> i128
     requires few { length members.now ≤ most_streams }
     requires limits { All IsWithinLimits streams.now }
