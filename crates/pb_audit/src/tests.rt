@@ -1,0 +1,49 @@
+// What no clause says: that a report is judged where memory is ample, and the exact bytes of the rows. Files of more
+// blocks, and more faults, stand in `block_cases`.
+
+use crate::{Judged, judge_next};
+use pb_rows::Records;
+use std::alloc::AllocError;
+
+#[test]
+fn says_yes_to_a_good_report(rt: HostRuntime) -> Result<(), AllocError> {
+    let text = b"report,d1,3,1,0,10,0\nnode,env,0\nsolved,0,converged,0,0,0,0,0\nend,d1,3\n";
+    let mut records = Records::of(rt.alloc(), text);
+    let mut row = Vec::new(rt.alloc());
+    let judged = judge_next(rt.alloc(), &mut records, &mut row)?;
+    assert_eq!(rt; judged, Some(Judged::Passed));
+    assert_eq!(rt; row.as_slice(), b"yes,d1,3\n".as_slice());
+    Ok(())
+}
+
+#[test]
+fn says_no_to_a_bad_report(rt: HostRuntime) -> Result<(), AllocError> {
+    let text = b"report,d1,0,1,0,10,0\nnode,env,0\nsolved,0,converged,0,0,7,0,0\nend,d1,0\n";
+    let mut records = Records::of(rt.alloc(), text);
+    let mut row = Vec::new(rt.alloc());
+    let judged = judge_next(rt.alloc(), &mut records, &mut row)?;
+    assert_eq!(rt; judged, Some(Judged::Failed));
+    assert_eq!(rt; row.as_slice(), b"no,d1,0,6,dof,,7,0\n".as_slice());
+    Ok(())
+}
+
+#[test]
+fn finds_nothing_in_empty_input(rt: HostRuntime) -> Result<(), AllocError> {
+    let mut records = Records::of(rt.alloc(), b"");
+    let mut row = Vec::new(rt.alloc());
+    let judged = judge_next(rt.alloc(), &mut records, &mut row)?;
+    assert_eq!(rt; judged, None);
+    assert!(rt; row.is_empty());
+    Ok(())
+}
+
+#[test]
+fn tells_the_number_of_a_record(rt: HostRuntime) -> Result<(), AllocError> {
+    let text = b"stop,d0,accepted,0\nreport,d1,0,2,0,10,0\nnode,env,0\nnode,U,x\n";
+    let mut records = Records::of(rt.alloc(), text);
+    let mut row = Vec::new(rt.alloc());
+    let judged = judge_next(rt.alloc(), &mut records, &mut row)?;
+    assert_eq!(rt; judged, Some(Judged::Unreadable));
+    assert_eq!(rt; row.as_slice(), b"unreadable,4,4,number\n".as_slice());
+    Ok(())
+}
