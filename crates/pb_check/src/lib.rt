@@ -17,6 +17,8 @@ mod laws;
 mod numbers;
 mod prices;
 mod rows;
+#[cfg(test)]
+mod tests;
 mod verdicts;
 
 pub use faults::{CheckFault, Fault, Place, Test};
