@@ -1,6 +1,7 @@
 /* The flows of one month, in plain C: reads the rows of a session (unit, stream, period, reading, report), sweeps best prices in 128
- * bits until the gap is met, and writes one row `flow,STREAM,GRAMS` for each stream. It stands beside plantbal in bench/c, and knows
- * metered and plain streams alone. */
+ * bits until the gap is met, and writes one row `flow,STREAM,GRAMS` for each stream. With the word `tests` it goes on and solves the
+ * plant once more for each redundant stream, without its measurement. It stands beside plantbal in bench/c, and knows metered and
+ * plain streams alone. */
 #include <stdint.h>
 #include <stdio.h>
 #include <stdlib.h>
@@ -152,7 +153,7 @@ static void walk_forest(void)
 {
     static int near[MOST_NODES], next[2 * MOST_STREAMS], at[2 * MOST_STREAMS], seen[MOST_NODES];
     int count = 0, used = 0;
-    for (int n = 0; n < node_count; n++) near[n] = -1;
+    for (int n = 0; n < node_count; n++) { near[n] = -1; seen[n] = 0; }
     for (int j = 0; j < stream_count; j++) {
         if (!held[j]) continue;
         int ends[2] = { streams[j].from, streams[j].to };
@@ -302,14 +303,15 @@ static void print_wide(wide x)
     fwrite(p, 1, text + sizeof text - p, stdout);
 }
 
-int main(void)
+/* sweeps from prices of 0 until the gap is met, at most 5,000 times, and writes the flows */
+static int solve(void)
 {
-    static char line[4096];
-    strcpy(nodes[0], "env");
-    put(node_slots, nodes[0], 0);
-    while (fgets(line, sizeof line, stdin)) { line[strcspn(line, "\n")] = 0; read_row(line); }
-    if (!asked) return 0;
-    add_readings();
+    group_count = 0;
+    greatest = 0;
+    memset(held, 0, sizeof held);
+    memset(price, 0, sizeof price);
+    memset(border_at, 0, sizeof border_at);
+    memset(group_variance, 0, sizeof group_variance);
     join_all();
     walk_forest();
     make_borders();
@@ -319,7 +321,34 @@ int main(void)
         met = is_met(10);
     }
     write_flows();
-    fprintf(stderr, "%s,%d\n", met ? "converged" : "unconverged", k);
+    return k;
+}
+
+/* a redundant stream is measured, and its ends are in two groups */
+static void solve_without_each(void)
+{
+    static int redundant[MOST_STREAMS];
+    int count = 0, sweeps = 0;
+    for (int j = 0; j < stream_count; j++)
+        if (is_measured(j) && group[streams[j].from] != group[streams[j].to]) redundant[count++] = j;
+    for (int i = 0; i < count; i++) {
+        streams[redundant[i]].metered = 0;
+        sweeps += solve();
+        streams[redundant[i]].metered = 1;
+    }
+    printf("tests,%d,%d\n", count, sweeps);
+}
+
+int main(int count, char **words)
+{
+    static char line[4096];
+    strcpy(nodes[0], "env");
+    put(node_slots, nodes[0], 0);
+    while (fgets(line, sizeof line, stdin)) { line[strcspn(line, "\n")] = 0; read_row(line); }
+    if (!asked) return 0;
+    add_readings();
+    solve();
     for (int j = 0; j < stream_count; j++) { printf("flow,%s,", streams[j].name); print_wide(flow[j]); putchar('\n'); }
+    if (count > 1 && !strcmp(words[1], "tests")) solve_without_each();
     return 0;
 }
