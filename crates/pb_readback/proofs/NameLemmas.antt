@@ -2,7 +2,7 @@
 use Rattle.std.specs.Prelude.{not, nat_lt, slice_set, is_some, ◌&&◌, ◌||◌}
 use Rattle.std.specs.Cmp.Lexicographic.{bytes_decides}
 use Rattle.std.specs.List.{list_all, list_any, position, position_or_len}
-use Rattle.std.proofs.Common.{◌≡◌, ◌∙◌, ℕ, suc, ◌+◌, ◌<◌, ◌≤◌, List, [], ◌∷◌, ◌++◌, length, replicate, drop, get_or, Bool, true, false, true≢false, Some, None, refl, sym, ap, arith, inl, inr, length-append}
+use Rattle.std.proofs.Common.{◌≡◌, ◌∙◌, ℕ, zero, suc, ◌+◌, ◌<◌, ◌≤◌, List, [], ◌∷◌, ◌++◌, length, replicate, drop, get_or, Bool, true, false, true≢false, Some, None, refl, sym, ap, arith, inl, inr, length-append}
 use Rattle.std.proofs.lemmas.Bool.{and_parts, cases_Bool, lt-ltb, or_parts}
 use Rattle.std.proofs.lemmas.List.Sums.{prefix_len-drop_no, prefix_len-drop_yes, prefix_len-le-length}
 use Rattle.pb_limits.specs.Limits.{most_streams}
@@ -108,6 +108,37 @@ is_placed names text = elim (cases_Bool (is_among names text)) [
   | inl some ↦ rw (some_found (same_name text) names some, some) refl
   | inr none ↦ rw (none_found (same_name text) names none, none) refl
 ]
+
+-- a name at a place is among the names
+among_at : (names : List (List ℕ)) (place : ℕ) (text : List ℕ) → place < length names → get_or names place text ≡ text → is_among names text ≡ true
+among_at [] place text within is = absurd (omega (arith, within))
+among_at (name ∷ names) zero text within is = rw ((bytes_decides text name).1 (sym is)) refl
+among_at (name ∷ names) (suc place) text within is =
+    let rest = among_at names place text (omega (arith, within)) is in
+    elim (cases_Bool (same_name text name)) [
+      | inl here ↦ rw here refl
+      | inr apart ↦ rw apart rest
+    ]
+
+-- and where no name comes twice, it is found there
+placed_at : (names : List (List ℕ)) (place : ℕ) (text : List ℕ) → differ names ≡ true → place < length names → get_or names place text ≡ text
+    → position_or_len (same_name text) names ≡ place
+placed_at [] place text all within is = absurd (omega (arith, within))
+placed_at (name ∷ names) zero text all within is = rw ((bytes_decides text name).1 (sym is)) refl
+placed_at (name ∷ names) (suc place) text all within is =
+    let parts = and_parts (not (is_among names name)) (differ names) all in
+    let less : place < length names = omega (arith, within) in
+    let rest = placed_at names place text parts.1 less is in
+    elim (cases_Bool (same_name text name)) [
+      | inl same ↦
+          let other = not_true (is_among names name) parts.0 in
+          absurd (true≢false (sym (among_at names place text less is) ∙ ap (is_among names) ((bytes_decides text name).0 same) ∙ other))
+      | inr apart ↦ rw apart (omega (arith, rest))
+    ]
+
+pub found_at : (names : List (List ℕ)) (place : ℕ) (text : List ℕ) → differ names ≡ true → place < length names → get_or names place text ≡ text
+    → position (same_name text) names ≡ Some place
+found_at names place text all within is = rw (placed_at names place text all within is, lt-ltb place (length names) within) refl
 
 -- ---- sides
 

@@ -56,11 +56,35 @@ impl Known {
         Some(place as u32)
     }
 
+    /// The same, asked first at the place where the name is thought to be.
+    pub fn find_near(&self, text: &[u8], near: u32) -> Option<u32>
+        ensures { result ≡ position (same_name text.now) self.now }
+    {
+        let names = self.names.as_slice();
+        if (near as usize) < names.len() && names[near as usize].bytes() == text {
+            return Some(near);
+        }
+        self.find(text)
+    }
+
     /// Whether a text is one of the names.
     pub fn has(&self, text: &[u8]) -> bool
         ensures { result ≡ is_among self.now text.now }
     {
         self.find(text).is_some()
+    }
+
+    /// The same, asked first at the place where the name is thought to be; where it is found, that is then the place behind it.
+    pub fn has_near(&self, text: &[u8], near: &mut u32) -> bool
+        ensures { result ≡ is_among self.now text.now }
+    {
+        match self.find_near(text, *near) {
+            Some(place) => {
+                *near = place.wrapping_add(1);
+                true
+            }
+            None => false,
+        }
     }
 
     /// The place of the name that a text is; the number of names where it is none of them.
@@ -71,6 +95,21 @@ impl Known {
         let len = self.len();
         match self.find(text) {
             Some(place) => place,
+            None => len,
+        }
+    }
+
+    /// The same, asked first at the place where the name is thought to be; where it is found, that is then the place behind it.
+    pub fn place_near(&self, text: &[u8], near: &mut u32) -> u32
+        ensures value { result ≡ place_of self.now text.now }
+        ensures within { result ≤ most_streams }
+    {
+        let len = self.len();
+        match self.find_near(text, *near) {
+            Some(place) => {
+                *near = place.wrapping_add(1);
+                place
+            }
             None => len,
         }
     }

@@ -62,19 +62,22 @@ pub(crate) fn are_parts(text: &[u8]) -> bool
 pub(crate) fn has_unknown_part(streams: &Known, text: &[u8]) -> bool
     ensures { result ≡ list_any (names_no_stream streams.now) (items text.now) }
 {
+    let mut near = 0;
     let mut items = Items::of(text);
     while let Some(item) = items.next() {
-        if names_no_stream(streams, item) {
+        if names_no_stream(streams, item, &mut near) {
             return true;
         }
     }
     false
 }
 
-fn names_no_stream(streams: &Known, item: &[u8]) -> bool
+// Whether a part names none of these streams. The parts of a certificate often come in the order of streams, so each is looked for
+// behind the one before.
+fn names_no_stream(streams: &Known, item: &[u8], near: &mut u32) -> bool
     ensures { result ≡ names_no_stream streams.now item.now }
 {
-    !streams.has(name_in(item))
+    !streams.has_near(name_in(item), near)
 }
 
 // For each node whether it is among the items.
@@ -110,18 +113,19 @@ pub(crate) fn members_of(
     ensures { IfOk result (λ members. members ≡ map (member_of streams.now) (items text.now)) }
 {
     let mut members = List::new(alloc);
+    let mut near = 0;
     let mut items = Items::of(text);
     while let Some(item) = items.next() {
-        members.push(member_of(streams, item))?;
+        members.push(member_of(streams, item, &mut near))?;
     }
     Ok(members)
 }
 
-fn member_of(streams: &Known, item: &[u8]) -> Member
+fn member_of(streams: &Known, item: &[u8], near: &mut u32) -> Member
     ensures { result ≡ member_of streams.now item.now }
 {
     Member {
-        stream: streams.place(name_in(item)),
+        stream: streams.place_near(name_in(item), near),
         sign: if is_plus(item) { 1 } else { -1 },
     }
 }
@@ -135,18 +139,19 @@ pub(crate) fn steps_of(
     ensures { IfOk result (λ steps. steps ≡ map (step_of streams.now) (items text.now)) }
 {
     let mut steps = List::new(alloc);
+    let mut near = 0;
     let mut items = Items::of(text);
     while let Some(item) = items.next() {
-        steps.push(step_of(streams, item))?;
+        steps.push(step_of(streams, item, &mut near))?;
     }
     Ok(steps)
 }
 
-fn step_of(streams: &Known, item: &[u8]) -> Step
+fn step_of(streams: &Known, item: &[u8], near: &mut u32) -> Step
     ensures { result ≡ step_of streams.now item.now }
 {
     Step {
-        stream: streams.place(name_in(item)),
+        stream: streams.place_near(name_in(item), near),
         forward: is_plus(item),
     }
 }
