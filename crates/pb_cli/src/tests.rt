@@ -1,6 +1,9 @@
 // What no clause says: the exact bytes of worked sessions, that a run succeeds with ample memory, and failing ends in mid-stream.
+ghost use Rattle.std.specs.Prelude.{◌≢◌};
+ghost use Rattle.pb_cli.specs.declared.status.Status.TheVariants.{ReadFault, WriteFault};
+
 use super::*;
-use pb_io::{MemSink, MemSource};
+use pb_io::{MemSink, MemSource, SureSink, SureSource, sure_law};
 use pb_limits::MOST_BYTES;
 use std::alloc::{AllocError, Global};
 
@@ -11,8 +14,15 @@ const LINE: &str =
 const LINE_OUT: &str =
     "design,3,3\nclass,A,env,U,yes,redundant,cut,env,-A +C\nclass,B,U,V,no,observable,cut,U,+A -B\nclass,C,V,env,yes,redundant,cut,U V,+A -C\n";
 
-/// How a run over ends in memory goes: its words, the most bytes of a take and of a put, and the number of the take and of the
-/// put that fails, counted from 1; 0 names none.
+/// The session of two meters that disagree, and its report, with tests.
+const TWO_METERS: &str =
+    "unit,U\nstream,A,env,U,metered,1\nstream,B,U,env,metered,1\nperiod,d1,2024-03-01,2024-03-01\ncritical,global,1,3841\nreading,r1,A,2024-03-01,102000000,999999999999\nreading,r2,B,2024-03-01,100000000,999999999999\nreport,d1\n";
+
+const REPORT: &str =
+    "report,d1,0,2,2,10,5000\nnode,env,0\nnode,U,-72057594038\nstream,A,env,U,102000000,1000000000000,redundant,101000000,100999997,101000002,cut,env,-A +B\nstream,B,U,env,100000000,1000000000000,redundant,101000000,100999998,101000003,cut,U,+A -B\nsolved,1,converged,2,0,1,1999,2000\nglobal,3841,accept\nnodal,U,2000000,2000000000000,,nocritical\nmeasure,A,1999,2000,,nocritical\nmeasure,B,1999,2000,,nocritical\nend,d1,0\n";
+
+/// How a run over ends in memory goes: its words, the most bytes of a take and of a put, the number of the take and of the put that
+/// fails, counted from 1 (0 names none), and how many bytes there is room for.
 #[derive(Clone, Copy)]
 struct Ends<'a> {
     words: &'a [&'a str],
@@ -20,6 +30,7 @@ struct Ends<'a> {
     put: usize,
     failing_take: u32,
     failing_put: u32,
+    room: usize,
 }
 
 const PLAIN: Ends<'static> = Ends {
@@ -28,17 +39,41 @@ const PLAIN: Ends<'static> = Ends {
     put: 4_096,
     failing_take: 0,
     failing_put: 0,
+    room: 65_536,
 };
 
-fn outcome(alloc: Global, ends: Ends<'_>, input: Vec<u8>) -> Result<(Status, Vec<u8>), AllocError> {
+const TESTS: Ends<'static> = Ends {
+    words: &["run", "--tests"],
+    take: 4_096,
+    put: 4_096,
+    failing_take: 0,
+    failing_put: 0,
+    room: 65_536,
+};
+
+const CHECK: Ends<'static> = Ends {
+    words: &["check"],
+    take: 4_096,
+    put: 4_096,
+    failing_take: 0,
+    failing_put: 0,
+    room: 65_536,
+};
+
+fn words_of(alloc: Global, list: &[&str]) -> Result<Words, AllocError> {
     let mut words = Words::new(alloc);
-    for word in ends.words {
+    for word in list {
         words.push(word)?;
     }
+    Ok(words)
+}
+
+fn outcome(alloc: Global, ends: Ends<'_>, input: Vec<u8>) -> Result<(Status, Vec<u8>), AllocError> {
+    let words = words_of(alloc, ends.words)?;
     let mut source = MemSource::new(input, ends.take.max(1), vec![in alloc; ends.failing_take]?);
     let mut sink = MemSink::new(
         alloc,
-        65_536,
+        ends.room,
         ends.put.max(1),
         vec![in alloc; ends.failing_put]?,
     )?;
@@ -213,18 +248,18 @@ fn refuses_other_words(rt: HostRuntime) -> Result<(), AllocError> {
 /// The k-th put fails, one byte a put: the first k - 1 bytes are written.
 #[test]
 fn stops_where_a_put_fails(rt: HostRuntime) -> Result<(), AllocError> {
-    for k in 1..LINE_OUT.len() as u32 + 2 {
+    for k in 1..REPORT.len() as u32 + 2 {
         let ends = Ends {
             put: 1,
             failing_put: k,
-            ..PLAIN
+            ..TESTS
         };
         let (ended, written) = outcome(
             rt.alloc(),
             ends,
-            Vec::from_slice(rt.alloc(), LINE.as_bytes())?,
+            Vec::from_slice(rt.alloc(), TWO_METERS.as_bytes())?,
         )?;
-        let fails = k as usize <= LINE_OUT.len();
+        let fails = k as usize <= REPORT.len();
         assert_eq!(rt;
             ended,
             if fails {
@@ -235,10 +270,10 @@ fn stops_where_a_put_fails(rt: HostRuntime) -> Result<(), AllocError> {
         );
         assert_eq!(rt;
             written.as_slice(),
-            LINE_OUT
+            REPORT
                 .as_bytes()
                 .get(..k as usize - 1)
-                .unwrap_or(LINE_OUT.as_bytes())
+                .unwrap_or(REPORT.as_bytes())
         );
     }
     Ok(())
@@ -247,17 +282,17 @@ fn stops_where_a_put_fails(rt: HostRuntime) -> Result<(), AllocError> {
 /// The k-th take fails, seven bytes a take: nothing is written.
 #[test]
 fn stops_where_a_take_fails(rt: HostRuntime) -> Result<(), AllocError> {
-    let takes = LINE.len() as u32 / 7 + 2;
+    let takes = TWO_METERS.len() as u32 / 7 + 2;
     for k in 1..takes + 2 {
         let ends = Ends {
             take: 7,
             failing_take: k,
-            ..PLAIN
+            ..TESTS
         };
         let (ended, written) = outcome(
             rt.alloc(),
             ends,
-            Vec::from_slice(rt.alloc(), LINE.as_bytes())?,
+            Vec::from_slice(rt.alloc(), TWO_METERS.as_bytes())?,
         )?;
         let fails = k <= takes;
         assert_eq!(rt;
@@ -268,8 +303,98 @@ fn stops_where_a_take_fails(rt: HostRuntime) -> Result<(), AllocError> {
                 Status::Done
             }
         );
-        assert_eq!(rt; written.len(), if fails { 0 } else { LINE_OUT.len() });
+        assert_eq!(rt; written.len(), if fails { 0 } else { REPORT.len() });
     }
+    Ok(())
+}
+
+/// A sink with room for 100 bytes holds the first 100 of the output.
+#[test]
+fn stops_where_a_sink_is_full(rt: HostRuntime) -> Result<(), AllocError> {
+    let input = Vec::from_slice(rt.alloc(), TWO_METERS.as_bytes())?;
+    let (ended, written) = outcome(rt.alloc(), Ends { room: 100, ..TESTS }, input)?;
+    assert_eq!(rt; ended, Status::WriteFault);
+    assert_eq!(rt; written.as_slice(), &REPORT.as_bytes()[..100]);
+    Ok(())
+}
+
+/// A run over ends that never fail, and how many bytes it writes. No fault is its answer: that is proved.
+fn sure_run(alloc: Global, words: &Words, input: Vec<u8>) -> (Status, u64)
+    ensures read { result.0 ≢ ReadFault }
+    ensures written { result.0 ≢ WriteFault }
+{
+    sure_law();
+    let mut source = SureSource::new(input);
+    let mut sink = SureSink::new();
+    let status = run(alloc, words, &mut source, &mut sink);
+    (status, sink.taken())
+}
+
+#[test]
+fn runs_over_sure_ends(rt: HostRuntime) -> Result<(), AllocError> {
+    let words = words_of(rt.alloc(), TESTS.words)?;
+    let input = Vec::from_slice(rt.alloc(), TWO_METERS.as_bytes())?;
+    let (ended, count) = sure_run(rt.alloc(), &words, input);
+    assert_eq!(rt; ended, Status::Done);
+    assert_eq!(rt; count, REPORT.len() as u64);
+    Ok(())
+}
+
+/// Input that is cut, and names and numbers of another form.
+#[test]
+fn refuses_what_is_cut_or_strange(rt: HostRuntime) -> Result<(), AllocError> {
+    let cases: [(&[u8], &str); 3] = [
+        (b"unit,U\nstream,A,en", "refused,2,2,fields\n"),
+        (
+            b"unit,a\x00\nunit,\xff\nunit,nnnnnnnnnnnnnnnnnnnnnnnnnnnnnnnn\nunit,mmmmmmmmmmmmmmmmmmmmmmmmmmmmmmmmm\n",
+            "refused,1,3,name\nrefused,2,3,name\nrefused,4,3,name\n",
+        ),
+        (
+            b"tank,K,+1\ntank,K,1e3\n",
+            "refused,1,4,number\nrefused,2,4,number\n",
+        ),
+    ];
+    for (input, output) in cases {
+        let (ended, written) = outcome(rt.alloc(), PLAIN, Vec::from_slice(rt.alloc(), input)?)?;
+        assert_eq!(rt; ended, Status::DoneRefused, "at {output}");
+        assert_eq!(rt; written.as_slice(), output.as_bytes());
+    }
+    Ok(())
+}
+
+/// A number of 100,000 digits, and a record of 1,000,000 fields.
+#[test]
+fn refuses_what_is_absurd(rt: HostRuntime) -> Result<(), AllocError> {
+    let mut input = Vec::from_slice(rt.alloc(), b"tank,K,")?;
+    for _ in 0..100_000 {
+        input.push(b'9')?;
+    }
+    input.push(b'\n')?;
+    for _ in 1..1_000_000 {
+        input.extend_from_slice(b"x,")?;
+    }
+    input.extend_from_slice(b"x\n")?;
+    let (ended, written) = outcome(rt.alloc(), PLAIN, input)?;
+    assert_eq!(rt; ended, Status::DoneRefused);
+    let rows = "refused,1,4,number\nrefused,2,1,kind\n";
+    assert_eq!(rt; written.as_slice(), rows.as_bytes());
+    Ok(())
+}
+
+/// Two meters that contradict each other by the greatest amounts: the statistic has no high end.
+#[test]
+fn reports_a_contradiction(rt: HostRuntime) -> Result<(), AllocError> {
+    let session =
+        "unit,U\nstream,A,env,U,metered,1\nstream,B,U,env,metered,1\nperiod,d1,2024-03-01,2024-03-01\ncritical,global,1,3841\nreading,r1,A,2024-03-01,10000000000000,0\nreading,r2,B,2024-03-01,-10000000000000,0\nreport,d1\n";
+    let report =
+        "report,d1,0,2,2,10,5000\nnode,env,0\nnode,U,-720575940379279360000000000000\nstream,A,env,U,10000000000000,1,redundant,0,0,0,cut,env,-A +B\nstream,B,U,env,-10000000000000,1,redundant,0,0,0,cut,U,+A -B\nsolved,1,converged,0,0,1,36893488147419103232000,\nglobal,3841,reject\nnodal,U,20000000000000,2,,nocritical\nmeasure,A,36893488147419103232000,,,nocritical\nmeasure,B,36893488147419103232000,,,nocritical\nend,d1,0\n";
+    let (ended, written) = outcome(
+        rt.alloc(),
+        TESTS,
+        Vec::from_slice(rt.alloc(), session.as_bytes())?,
+    )?;
+    assert_eq!(rt; ended, Status::Done);
+    assert_eq!(rt; written.as_slice(), report.as_bytes());
     Ok(())
 }
 
@@ -286,18 +411,6 @@ fn refuses_one_byte_too_many(rt: HostRuntime) -> Result<(), AllocError> {
     assert!(rt; written.is_empty());
     Ok(())
 }
-
-/// The report of two meters that disagree, with tests.
-const REPORT: &str =
-    "report,d1,0,2,2,10,5000\nnode,env,0\nnode,U,-72057594038\nstream,A,env,U,102000000,1000000000000,redundant,101000000,100999997,101000002,cut,env,-A +B\nstream,B,U,env,100000000,1000000000000,redundant,101000000,100999998,101000003,cut,U,+A -B\nsolved,1,converged,2,0,1,1999,2000\nglobal,3841,accept\nnodal,U,2000000,2000000000000,,nocritical\nmeasure,A,1999,2000,,nocritical\nmeasure,B,1999,2000,,nocritical\nend,d1,0\n";
-
-const CHECK: Ends<'static> = Ends {
-    words: &["check"],
-    take: 4_096,
-    put: 4_096,
-    failing_take: 0,
-    failing_put: 0,
-};
 
 /// One field of the report is another, and the first test that fails is told, or the row that can't be read.
 #[test]
