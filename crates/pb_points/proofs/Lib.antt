@@ -1,0 +1,7 @@
+mod BridgeLemmas
+mod EntryLemmas
+mod StackLemmas
+mod OverLemmas
+mod SpanLemmas
+mod PointLemmas
+mod SideLemmas

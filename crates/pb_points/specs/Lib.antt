@@ -1,0 +1,7 @@
+-- Statement
+pub mod Points
+pub mod Tables
+pub mod Laws
+-- Inside
+pub mod Walk
+pub mod Spans

@@ -1,0 +1,13 @@
+//! Which held unmeasured streams are bridges of the unmeasured ones: entry numbers of one walk of their trees, with the low and
+//! high point of each node (Tarjan 1974, "A note on finding the bridges of a graph").
+#![tactic(auto)]
+
+mod laws;
+mod points;
+mod spans;
+#[cfg(test)]
+mod tests;
+mod walk;
+
+pub use laws::points_law;
+pub use points::Points;

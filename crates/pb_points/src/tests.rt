@@ -1,0 +1,102 @@
+ghost use Rattle.std.specs.Prelude.{◌≡◌, ◌≤◌, length, IfOk};
+
+use crate::Points;
+use pb_forest::Forest;
+use pb_graph::{Graph, Meas, Neighbours, Stream, reach};
+use std::alloc::{AllocError, Global};
+use std::process::Abort;
+
+const METER: Option<Meas> = Some(Meas {
+    value: 5_000,
+    variance: 100,
+});
+
+fn stream(from: u32, to: u32, meas: Option<Meas>) -> Stream {
+    Stream { from, to, meas }
+}
+
+fn graph_of(
+    rt: &impl Abort,
+    alloc: Global,
+    nodes: u32,
+    streams: &[Stream],
+) -> Result<Graph, AllocError>
+    requires env { 1 ≤ nodes }
+    requires most { nodes ≤ 1001 }
+{
+    let mut g = Graph::new(alloc, nodes);
+    for s in streams {
+        assert!(rt; g.fits(s));
+        g.push(*s)?;
+    }
+    Ok(g)
+}
+
+// Marks the unmeasured streams but the j-th.
+fn others(alloc: Global, streams: &[Stream], j: u32) -> Result<Vec<bool>, AllocError>
+    requires { length streams.now ≤ 2000 }
+    ensures { IfOk result (λ marks. length marks.items ≡ length streams.now) }
+{
+    let mut marks = Vec::new(alloc);
+    for (k, stream) in streams.iter().enumerate() {
+        marks.push(stream.meas.is_none() && k as u32 != j)?;
+    }
+    Ok(marks)
+}
+
+// Each stream's points tell what a search of the graph finds.
+fn assert_as_searched(rt: &impl Abort, alloc: Global, g: &Graph) -> Result<(), AllocError> {
+    let near = Neighbours::of(alloc, g)?;
+    let forest = Forest::of(alloc, g)?;
+    let points = Points::of(alloc, g, &near, &forest)?;
+    for j in 0..g.len() {
+        let s = g.stream(j);
+        let side = reach(alloc, g, &near, &others(alloc, g.streams(), j)?, s.from)?;
+        let apart = !*side.at(s.to as usize);
+        assert_eq!(rt; points.is_apart(g, j), apart, "stream {j}");
+        if points.is_apart(g, j) {
+            assert_eq!(rt; points.side_of(alloc, g, j)?, side, "stream {j}");
+        }
+    }
+    Ok(())
+}
+
+/// A tree with a stream from a leaf up, two parallel streams, meters, and a tree that the environment isn't in.
+#[test]
+fn as_searched(rt: HostRuntime) -> Result<(), AllocError> {
+    let alloc = rt.alloc();
+    let g = graph_of(
+        &rt,
+        alloc,
+        10,
+        &[
+            stream(0, 1, None),
+            stream(2, 1, None),
+            stream(2, 3, None),
+            stream(3, 4, None),
+            stream(4, 2, None),
+            stream(1, 5, None),
+            stream(5, 1, None),
+            stream(3, 6, None),
+            stream(7, 8, None),
+            stream(9, 8, None),
+            stream(6, 8, METER),
+            stream(4, 6, METER),
+            stream(9, 7, METER),
+        ],
+    )?;
+    assert_as_searched(&rt, alloc, &g)
+}
+
+/// A line of 1,000 plain streams from the environment: each is a bridge, and what it cuts off is the units behind it.
+#[test]
+fn line_of_plain_streams(rt: HostRuntime) -> Result<(), AllocError> {
+    let alloc = rt.alloc();
+    let mut g = Graph::new(alloc, 1_001);
+    for n in 0..1_000 {
+        let s = stream(n, n + 1, None);
+        assert!(rt; g.fits(&s));
+        g.push(s)?;
+    }
+    assert_as_searched(&rt, alloc, &g)
+}
