@@ -3,7 +3,6 @@ mod UniqueLemmas
 mod RoundLemmas
 mod ChordLemmas
 mod CycleLemmas
-mod MarkLemmas
 mod ItemLemmas
 mod SomeClassificationLemmas
 pub mod ClassificationLaws

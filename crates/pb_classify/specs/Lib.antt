@@ -3,5 +3,4 @@ pub mod Certificate
 pub mod Classification
 pub mod Laws
 -- Inside
-pub mod Marks
 pub mod Chords

@@ -2,16 +2,17 @@
 
 ghost use Rattle.std.specs.Prelude.{◌≡◌, ◌<◌, Some, length, slice_get, IfOk, if◌then◌else◌};
 ghost use Rattle.pb_graph.specs.ProcessGraph.{IsProcessGraph, is_measured};
-ghost use Rattle.pb_graph.specs.Walk.{ends_of, unmeasured_but, is_in, Reaches};
-ghost use Rattle.pb_graph.specs.Neighbours.{IsNeighbours};
+ghost use Rattle.pb_graph.specs.Walk.{ends_of, unmeasured_but, Reaches};
 ghost use Rattle.pb_forest.specs.Forest.{IsForestOf};
+ghost use Rattle.pb_points.specs.Points.{ArePoints};
+ghost use Rattle.pb_points.specs.Tables.{points_of};
 ghost use Rattle.pb_classify.specs.Chords.{IsFirstBefore, AreFirstBefore};
 ghost use Rattle.pb_classify.specs.Classification.{IsClassified, IsClassification};
 
-use crate::cut::side_of;
 use crate::cycles::{cycle_of, first_cycles};
 use pb_forest::Forest;
 use pb_graph::{Class, Classified, Graph, List, Neighbours, Step, Stream, Witness, boundary};
+use pb_points::Points;
 use std::alloc::{AllocError, Global};
 
 // Stream j, whose ends other unmeasured streams join, with its cycle: a measured stream has its own, another the first that
@@ -60,37 +61,28 @@ fn determined_class(stream: &Stream) -> Class
     }
 }
 
-// Whether a stream's `to` end is in a side.
-fn ends_in(side: &[bool], stream: &Stream) -> bool
-    requires { stream.now.to < length side.now }
-    ensures { result ≡ is_in side.now stream.now.to }
-{
-    side[stream.to as usize]
-}
-
 // The class of stream j with its canonical certificate.
 fn classified(
     alloc: Global,
     graph: &Graph,
-    near: &Neighbours,
+    points: &Points,
     forest: &Forest,
     j: u32,
     first: Option<List<Step>>,
 ) -> Result<Classified, AllocError>
     requires limits { IsProcessGraph graph.now }
-    requires near { IsNeighbours graph.now near.now }
+    requires points { ArePoints graph.now (points_of points.now) }
     requires forest { IsForestOf graph.now forest.now }
     requires stream { j < length graph.now.streams }
     requires first { IsFirstBefore graph.now forest.now.held (length graph.now.streams) j first }
     ensures { IfOk result (λ c. IsClassified graph.now j c) }
 {
     let stream = graph.stream(j);
-    let side = side_of(alloc, graph, near, j, &stream)?;
-    let within = side.as_slice();
-    if ends_in(within, &stream) {
+    if !points.is_apart(graph, j) {
         return free_stream(alloc, graph, forest, j, &stream, first);
     }
-    let members = boundary(alloc, graph.streams(), within)?;
+    let side = points.side_of(alloc, graph, j)?;
+    let members = boundary(alloc, graph.streams(), side.as_slice())?;
     Ok(Classified {
         class: determined_class(&stream),
         witness: Witness::Cut { side, members },
@@ -101,11 +93,11 @@ fn classified(
 fn classify_each(
     alloc: Global,
     graph: &Graph,
-    near: &Neighbours,
+    points: &Points,
     forest: &Forest,
     cycles: &mut [Option<List<Step>>],
 ) -> Result<List<Classified>, AllocError>
-    requires near { IsNeighbours graph.now near.now }
+    requires points { ArePoints graph.now (points_of points.now) }
     requires forest { IsForestOf graph.now forest.now }
     requires cycles { AreFirstBefore graph.now forest.now.held
         (length graph.now.streams) cycles.old }
@@ -114,7 +106,7 @@ fn classify_each(
     let mut classes = List::new(alloc);
     for j in 0..graph.len() {
         let first = cycles[j as usize].take();
-        classes.push(classified(alloc, graph, near, forest, j, first)?)?;
+        classes.push(classified(alloc, graph, points, forest, j, first)?)?;
     }
     Ok(classes)
 }
@@ -129,8 +121,9 @@ pub fn classify_in(
     ensures { IfOk result (λ classes. IsClassification graph.now classes) }
 {
     let near = Neighbours::of(alloc, graph)?;
+    let points = Points::of(alloc, graph, &near, forest)?;
     let mut cycles = first_cycles(alloc, graph, forest)?;
-    classify_each(alloc, graph, &near, forest, &mut cycles)
+    classify_each(alloc, graph, &points, forest, &mut cycles)
 }
 
 /// The class of each stream, in order, with its canonical certificate.

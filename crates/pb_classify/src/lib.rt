@@ -4,7 +4,6 @@
 #![tactic(auto)]
 
 mod classes;
-mod cut;
 mod cycles;
 mod laws;
 #[cfg(test)]
