@@ -1,0 +1,22 @@
+//! Graphs of the environment and one unit, with as many streams as there may be and the most extreme values and variances: how the
+//! solver ends, whether the flows balance, and whether the stage of the study passes its check.
+//!
+//! The streams stand in `stdin`, those of a graph in a line, and what is to come out of each, worked by another program, in `stdout`.
+#![tactic(auto)]
+
+mod extremes;
+
+use extremes::append_outcome;
+use pb_io::{StdSink, write_all};
+use std::io;
+
+fn main(rt: HostRuntime) -> io::Result<()> {
+    let mut text = Vec::new(rt.alloc());
+    for line in rt.lines(rt.alloc()) {
+        append_outcome(rt.alloc(), line?.as_str().as_bytes(), &mut text)?;
+    }
+    match write_all(&mut StdSink::new(rt.stdout()), &text) {
+        Ok(()) => Ok(()),
+        Err(_) => Err(io::Error::from(io::ErrorKind::Other)),
+    }
+}
