@@ -4,6 +4,7 @@ mod NameLemmas
 mod StreamLemmas
 mod ReadingLemmas
 mod NextLemmas
+mod ResultLemmas
 mod FormedLemmas
 mod WrittenFieldLemmas
 mod WrittenListLemmas

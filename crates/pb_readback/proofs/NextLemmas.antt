@@ -68,7 +68,7 @@ outcome draft rows (row ∷ rest) =
     (by_end (is_end draft.last) draft (row ∷ rest) (by_fault (fault_behind draft row) rows (outcome (with_row draft row) (rows + 1) rest)))
 
 -- a draft whose last row is the end has all its nodes and streams
-abbrev EndsComplete : Draft → Type 0
+abbrev pub EndsComplete : Draft → Type 0
 EndsComplete draft = is_end draft.last ≡ true → (nat_lt (length draft.nodes) draft.heading.nodes ≡ false) × (nat_lt (length draft.streams) draft.heading.streams ≡ false)
 
 behind_nodes : (a b z : Bool) → (if a then false else if b then false else z) ≡ true → (a ≡ false) × (b ≡ false)
@@ -208,7 +208,7 @@ opens_new row opens = elim (cases_Bool (bytes_eq (field row 0) (codes "report"))
 complete_at_first : (row : List (List ℕ)) → EndsComplete (opened row)
 complete_at_first row = λ ends. cc ends
 
-rows_complete : (draft : Draft) (rows : List (List (List ℕ))) → EndsComplete draft → AreSound draft rows → EndsComplete (with_rows draft rows)
+pub rows_complete : (draft : Draft) (rows : List (List (List ℕ))) → EndsComplete draft → AreSound draft rows → EndsComplete (with_rows draft rows)
 rows_complete draft [] complete sound = complete
 rows_complete draft (row ∷ rows) complete sound = rows_complete (with_row draft row) rows (stays_complete draft row complete sound.1) sound.2
 

@@ -1,7 +1,13 @@
 -- Inside. A draft under way, and what reading on has shown of the records.
-use Rattle.std.specs.Prelude.{◌≡◌, ◌⊎◌, ◌≤◌, ◌+◌, ◌≤ℤ◌, ℕ, ℤ, Bool, pos, true, false, List, [], ◌∷◌, ◌++◌, length, Option, Some, None}
+use Rattle.std.specs.Prelude.{◌≡◌, ◌⊎◌, ◌≤◌, ◌+◌, ◌≤ℤ◌, ◌==◌, ℕ, ℤ, Bool, pos, true, false, List, [], ◌∷◌, ◌++◌, length, map, Option, Some, None}
+use Rattle.std.specs.List.{list_any}
 use Rattle.pb_limits.specs.Limits.{most_nodes, most_streams}
+use Rattle.pb_graph.specs.declared.records.Member.{Member}
+use Rattle.pb_graph.specs.declared.records.Step.{Step}
 use Rattle.pb_graph.specs.declared.records.Stream.{Stream}
+use Rattle.pb_graph.specs.declared.records.Witness.{Witness}
+use Rattle.pb_graph.specs.declared.records.Witness.TheVariants.{Cut as CutWitness, Cycle as CycleWitness}
+use Rattle.pb_graph.specs.declared.results.StreamResult.{StreamResult}
 use Rattle.pb_graph.specs.ProcessGraph.{IsStream, IsWithinLimits}
 use Rattle.pb_readback.specs.declared.block.Block.{Block}
 use Rattle.pb_readback.specs.declared.draft.Draft.{Draft}
@@ -12,7 +18,7 @@ use Rattle.pb_readback.specs.declared.fault.RowFault.{RowFault}
 use Rattle.pb_readback.specs.declared.fault.RowFault.TheVariants.{Unknown, Ended}
 use Rattle.pb_readback.specs.declared.kind.RowKind.{RowKind}
 use Rattle.pb_readback.specs.declared.kind.RowKind.TheVariants.{End}
-use Rattle.pb_readback.specs.Blocks.{block_of}
+use Rattle.pb_readback.specs.Blocks.{block_of, result_of}
 use Rattle.pb_readback.specs.Drafts.{with_rows}
 use Rattle.pb_readback.specs.Faults.{fault_behind, first_unknown, opening_fault}
 use Rattle.pb_readback.specs.Kinds.{is_passed_over}
@@ -44,6 +50,20 @@ pub record IsUnderWay (draft : Draft) : Type 0 where
 pub record IsStreamOf (draft : Draft) (stream : Stream) : Type 0 where
   pub joins : IsStream draft.graph.nodes stream
   pub limits : IsWithinLimits stream
+
+-- a certificate that has the stream of this number
+abbrev pub has_stream : ℕ → Witness → Bool
+has_stream stream (CutWitness side members) = list_any (λ (m : Member). m.stream == stream) members
+has_stream stream (CycleWitness steps) = list_any (λ (t : Step). t.stream == stream) steps
+
+-- a result whose certificate has the stream of this number
+abbrev pub is_on_stream : ℕ → StreamResult → Bool
+is_on_stream stream found = has_stream stream found.classified.witness
+
+-- once all streams are read, these are the results of their rows
+abbrev pub KeepsResults : Draft → List StreamResult → Type 0
+KeepsResults draft results =
+    length draft.streams ≡ draft.heading.streams → results ≡ map (result_of draft.streams) draft.rows
 
 -- the row that ends a block
 abbrev pub is_end : RowKind → Bool

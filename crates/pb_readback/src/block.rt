@@ -1,15 +1,18 @@
 // A block that was read, and how it is made of what its rows told.
 
-ghost use Rattle.std.specs.Prelude.{◌≡◌, ◌≢◌, ◌<◌, true, false, length, map, position, IfOk, IfSome};
-ghost use Rattle.pb_readback.specs.declared.kind.RowKind.TheVariants.{End};
+ghost use Rattle.std.specs.Prelude.{◌≡◌, ◌≢◌, ◌==◌, ◌<◌, true, false, length, map, position, IfOk, IfSome};
+ghost use Rattle.std.specs.List.{list_any};
+ghost use Rattle.pb_graph.specs.declared.records.Member.{Member};
+ghost use Rattle.pb_graph.specs.declared.records.Step.{Step};
+ghost use Rattle.pb_readback.specs.declared.kind.RowKind.TheVariants.{Stream as StreamKind, End};
 ghost use Rattle.pb_readback.specs.Blocks.{block_of, result_of, witness_by};
-ghost use Rattle.pb_readback.specs.Faults.{first_unknown, has_unknown_part};
+ghost use Rattle.pb_readback.specs.Reading.{has_stream, is_on_stream};
 
 use crate::draft::{Draft, Shape, StreamRow};
 use crate::kind::RowKind;
 use crate::known::Known;
-use crate::lists::{has_unknown_part, members_of, steps_of};
-use pb_graph::{Classified, List, Stage, StreamResult, Witness};
+use crate::lists::{members_of, steps_of};
+use pb_graph::{Classified, List, Member, Stage, Step, StreamResult, Witness};
 use pb_rows::{Name, Names};
 use std::alloc::{AllocError, Global};
 
@@ -34,19 +37,30 @@ impl Draft {
         matches!(self.last, RowKind::End)
     }
 
-    // The first stream whose parts name one that the block hasn't, once all streams are read.
-    pub(crate) fn first_unknown(&self) -> Option<usize>
-        ensures value { result ≡ first_unknown self.now }
-        ensures within { IfSome result (λ stream. stream < length self.now.rows) }
+    // Whether the last row is that of the last stream.
+    pub(crate) fn is_at_last_stream(&self) -> bool
+        ensures all { result ≡ true → length self.now.streams ≡ self.now.heading.streams }
+        ensures other { result ≡ false → self.now.last ≡ StreamKind
+            → length self.now.streams ≢ self.now.heading.streams }
     {
-        if self.streams.len() != self.heading.streams {
-            return None;
-        }
-        position_of_unknown(&self.streams, self.rows.as_slice())
+        matches!(self.last, RowKind::Stream) && self.streams.len() == self.heading.streams
     }
 
-    // The block that the rows give, with the streams of its certificates looked up.
-    pub(crate) fn block(self, alloc: Global) -> Result<Block, AllocError>
+    // The results of the streams, with the streams of their certificates looked up.
+    pub(crate) fn results(&self, alloc: Global) -> Result<List<StreamResult>, AllocError>
+        ensures { IfOk result
+            (λ results. results ≡ map (result_of self.now.streams) self.now.rows) }
+    {
+        results_of(alloc, &self.streams, self.rows.as_slice())
+    }
+
+    // The block that the rows give, whose results are these.
+    pub(crate) fn block(
+        self,
+        results: List<StreamResult>,
+        alloc: Global,
+    ) -> Result<Block, AllocError>
+        requires { results ≡ map (result_of self.streams) self.rows }
         ensures { IfOk result (λ block. block ≡ block_of self) }
     {
         let Draft {
@@ -56,7 +70,7 @@ impl Draft {
             prices,
             streams,
             graph,
-            rows,
+            rows: _,
             solution,
             tests,
         } = self;
@@ -64,7 +78,6 @@ impl Draft {
             nodes: nodes.list(alloc)?,
             streams: streams.list(alloc)?,
         };
-        let results = results_of(alloc, &streams, rows.as_slice())?;
         Ok(Block {
             period: heading.period,
             round: heading.round,
@@ -87,24 +100,45 @@ impl Draft {
     }
 }
 
-// The first row whose parts name none of these streams.
+// The first of these results whose certificate has the stream of this number.
 #[tactic(auto, using(crate::proofs::NameLemmas::found_here, crate::proofs::NameLemmas::not_here, crate::proofs::NameLemmas::found_nowhere))]
-fn position_of_unknown(streams: &Known, rows: &[StreamRow]) -> Option<usize>
-    ensures value { result ≡ position (has_unknown_part streams.now) rows.now }
-    ensures within { IfSome result (λ place. place < length rows.now) }
+pub(crate) fn first_on_stream(results: &[StreamResult], stream: u32) -> Option<usize>
+    ensures value { result ≡ position (is_on_stream stream) results.now }
+    ensures within { IfSome result (λ place. place < length results.now) }
 {
-    for (place, row) in rows.iter().enumerate() {
-        if is_unknown_in(streams, row) {
+    for (place, found) in results.iter().enumerate() {
+        if is_on_stream(found, stream) {
             return Some(place);
         }
     }
     None
 }
 
-fn is_unknown_in(streams: &Known, row: &StreamRow) -> bool
-    ensures { result ≡ has_unknown_part streams.now row.now }
+fn is_on_stream(found: &StreamResult, stream: u32) -> bool
+    ensures { result ≡ is_on_stream stream found.now }
 {
-    has_unknown_part(streams, row.parts.as_slice())
+    has_stream(&found.classified.witness, stream)
+}
+
+fn has_stream(witness: &Witness, stream: u32) -> bool
+    ensures { result ≡ has_stream stream witness.now }
+{
+    match witness {
+        Witness::Cut { side: _, members } => has_member(members.as_slice(), stream),
+        Witness::Cycle { steps } => has_step(steps.as_slice(), stream),
+    }
+}
+
+fn has_member(members: &[Member], stream: u32) -> bool
+    ensures { result ≡ list_any (λ (m : Member). m.stream == stream) members.now }
+{
+    members.iter().any(|member| member.stream == stream)
+}
+
+fn has_step(steps: &[Step], stream: u32) -> bool
+    ensures { result ≡ list_any (λ (t : Step). t.stream == stream) steps.now }
+{
+    steps.iter().any(|step| step.stream == stream)
 }
 
 // The results of streams, with the streams of their certificates looked up.

@@ -74,19 +74,6 @@ impl Known {
         self.find(text).is_some()
     }
 
-    /// The same, asked first at the place where the name is thought to be; where it is found, that is then the place behind it.
-    pub fn has_near(&self, text: &[u8], near: &mut u32) -> bool
-        ensures { result ≡ is_among self.now text.now }
-    {
-        match self.find_near(text, *near) {
-            Some(place) => {
-                *near = place.wrapping_add(1);
-                true
-            }
-            None => false,
-        }
-    }
-
     /// The place of the name that a text is; the number of names where it is none of them.
     pub fn place(&self, text: &[u8]) -> u32
         ensures value { result ≡ place_of self.now text.now }

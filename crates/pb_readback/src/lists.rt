@@ -3,7 +3,7 @@
 ghost use Rattle.std.specs.Prelude.{◌≡◌, map, [], IfOk};
 ghost use Rattle.std.specs.List.{list_all, list_any};
 ghost use Rattle.pb_readback.specs.Held.{AreKnown};
-ghost use Rattle.pb_readback.specs.Lists.{is_part, is_plus, is_side, is_unknown_item, items, member_of, names_no_stream, side_of, step_of};
+ghost use Rattle.pb_readback.specs.Lists.{is_part, is_plus, is_side, is_unknown_item, items, member_of, side_of, step_of};
 
 use crate::items::{Items, is_name, is_part, name_in};
 use crate::known::Known;
@@ -56,28 +56,6 @@ pub(crate) fn are_parts(text: &[u8]) -> bool
         }
     }
     true
-}
-
-// Whether some part names none of these streams.
-pub(crate) fn has_unknown_part(streams: &Known, text: &[u8]) -> bool
-    ensures { result ≡ list_any (names_no_stream streams.now) (items text.now) }
-{
-    let mut near = 0;
-    let mut items = Items::of(text);
-    while let Some(item) = items.next() {
-        if names_no_stream(streams, item, &mut near) {
-            return true;
-        }
-    }
-    false
-}
-
-// Whether a part names none of these streams. The parts of a certificate often come in the order of streams, so each is looked for
-// behind the one before.
-fn names_no_stream(streams: &Known, item: &[u8], near: &mut u32) -> bool
-    ensures { result ≡ names_no_stream streams.now item.now }
-{
-    !streams.has_near(name_in(item), near)
 }
 
 // For each node whether it is among the items.

@@ -1,21 +1,23 @@
 // Block after block out of records.
 
-ghost use Rattle.std.specs.Prelude.{◌≡◌, ◌+◌, ◌^◌, ◌<◌, length, Some, None, IfOk, IfErr, OnOk, IfSome};
+ghost use Rattle.std.specs.Prelude.{◌≡◌, ◌≢◌, ◌+◌, ◌^◌, ◌<◌, length, map, Some, None, IfOk, IfErr, OnOk, IfSome};
 ghost use Rattle.pb_readback.specs.declared.kind.RowKind.TheVariants.{Stream as StreamKind};
 ghost use Rattle.pb_readback.specs.declared.fault.ReadRefused.TheVariants.{At};
 ghost use Rattle.pb_rows.specs.RecordsLeft.{TakesNext};
 ghost use Rattle.pb_limits.specs.Limits.{most_streams};
+ghost use Rattle.pb_readback.specs.Blocks.{result_of};
 ghost use Rattle.pb_readback.specs.Faults.{fault_behind, first_unknown};
 ghost use Rattle.pb_readback.specs.Drafts.{draft_of, with_row};
 ghost use Rattle.pb_readback.specs.Next.{IsNext, Tells, next_by};
-ghost use Rattle.pb_readback.specs.Reading.{Breaks, BreaksFrom, Ends, IsHeading, IsReadFrom, IsReadWhole, IsUnderWay, RefusesPart, RefusesRow, Skips};
+ghost use Rattle.pb_readback.specs.Reading.{Breaks, BreaksFrom, Ends, IsHeading, IsReadFrom, IsReadWhole, IsUnderWay, KeepsResults, RefusesPart, RefusesRow, Skips};
 ghost use Rattle.pb_readback.specs.WellFormed.{IsWellFormedBlock};
 
-use crate::block::Block;
+use crate::block::{Block, first_on_stream};
 use crate::draft::{Draft, Heading};
 use crate::fault::{ReadRefused, RowFault};
-use crate::kind::{RowKind, is_passed_over};
+use crate::kind::is_passed_over;
 use crate::rows;
+use pb_graph::{List, StreamResult};
 use pb_rows::{Records, Row};
 use std::alloc::{AllocError, Global};
 
@@ -86,12 +88,13 @@ fn block_of(alloc: Global, heading: Heading, records: &mut Records) -> Result<Bl
 {
     let opened = records.taken() as u32;
     let mut draft = Draft::new(alloc, heading);
+    let mut results = List::new(alloc);
     while !draft.is_ended() {
         let row = next_row(records)?;
         add_row(alloc, &mut draft, &row, records.taken() as u32)?;
-        look_up(&draft, opened)?;
+        look_up(alloc, &draft, opened, &mut results)?;
     }
-    match draft.block(alloc) {
+    match draft.block(results, alloc) {
         Ok(block) => Ok(block),
         Err(_) => Err(ReadRefused::NoMemory),
     }
@@ -124,14 +127,28 @@ fn add_row(alloc: Global, draft: &mut Draft, row: &Row, number: u32) -> Result<(
     }
 }
 
-// Looks up the names in the parts of a block, whose first row has this number, once its last stream is read.
-fn look_up(draft: &Draft, opened: u32) -> Result<(), ReadRefused>
+// Looks up the names in the parts of a block, whose first row has this number, once its last stream is read, and keeps the results.
+fn look_up(
+    alloc: Global,
+    draft: &Draft,
+    opened: u32,
+    results: &mut List<StreamResult>,
+) -> Result<(), ReadRefused>
     requires way { IsUnderWay draft.now }
     requires few { opened < 2 ^ 31 }
+    requires kept { draft.now.last ≢ StreamKind → KeepsResults draft.now results.old }
     ensures ok { OnOk result (draft.now.last ≡ StreamKind → first_unknown draft.now ≡ None) }
+    ensures kept { OnOk result (KeepsResults draft.now results.new) }
     ensures err { IfErr result (RefusesPart draft.now opened) }
 {
-    match unknown_behind(draft) {
+    if !draft.is_at_last_stream() {
+        return Ok(());
+    }
+    match draft.results(alloc) {
+        Ok(found) => *results = found,
+        Err(_) => return Err(ReadRefused::NoMemory),
+    }
+    match unknown_in(draft, results.as_slice()) {
         Some(stream) => {
             let row = opened + draft.heading.nodes + stream + 1;
             Err(refused(row, RowFault::Unknown))
@@ -140,17 +157,15 @@ fn look_up(draft: &Draft, opened: u32) -> Result<(), ReadRefused>
     }
 }
 
-// The first stream with an unknown part, where the last row is that of a stream: behind the other rows it was asked before.
-fn unknown_behind(draft: &Draft) -> Option<u32>
-    requires { IsUnderWay draft.now }
-    ensures some { IfSome result (λ stream. first_unknown draft.now ≡ Some stream) }
+// The first stream with an unknown part, by the results of all streams: a name that is none of theirs has their number as its place.
+fn unknown_in(draft: &Draft, results: &[StreamResult]) -> Option<u32>
+    requires way { IsUnderWay draft.now }
+    requires all { length draft.now.streams ≡ draft.now.heading.streams }
+    requires results { results.now ≡ map (result_of draft.now.streams) draft.now.rows }
+    ensures value { result ≡ first_unknown draft.now }
     ensures few { IfSome result (λ stream. stream < most_streams) }
-    ensures none { result ≡ None → draft.now.last ≡ StreamKind → first_unknown draft.now ≡ None }
 {
-    if !matches!(draft.last, RowKind::Stream) {
-        return None;
-    }
-    match draft.first_unknown() {
+    match first_on_stream(results, draft.heading.streams) {
         Some(stream) => Some(stream as u32),
         None => None,
     }

@@ -2,15 +2,17 @@ use Rattle.std.proofs.Common.{List, ℕ, length, ap, arith, refl}
 use Rattle.std.proofs.lemmas.Result.{err_from_is_err_and}
 use Rattle.pb_readback.specs.Drafts.{draft_of}
 use Rattle.pb_readback.proofs.ReadingLemmas.{begins_known, begins_under_way, broke_at, broke_before, broke_ended, read_none, read_one, read_whole, same_heading, still_way}
+use Rattle.pb_readback.proofs.ResultLemmas.{begins_kept, kept_whole, still_kept}
 use Rattle.pb_readback.proofs.reading.block_of.Goals as goal
 
 pub loop-records-init : goal.loop-records-init
 loop-records-init c =
-    rw c.new-draft.ensures
+    rw (c.new-draft.ensures, c.new-results.ensures)
     (record {
       read = read_none (draft_of c.args.heading) c.args.records.now.left (begins_known c.args.heading);
       way = begins_under_way c.args.heading c.requires.heading;
       counted = refl;
+      kept = begins_kept c.args.heading;
       same = refl;
     })
 
@@ -41,6 +43,15 @@ pub look_up-requires-clause-way : goal.look_up-requires-clause-way
 look_up-requires-clause-way c =
     still_way c.loop-records.draft c.add_row.new.draft c.in_ok-row.row c.loop-records.invariant.way c.in_ok-add_row.ensures.fine c.in_ok-add_row.ensures.told
 
+pub look_up-requires-clause-kept : goal.look_up-requires-clause-kept
+look_up-requires-clause-kept c = λ other.
+    still_kept c.loop-records.draft c.add_row.new.draft c.in_ok-row.row c.loop-records.results c.loop-records.invariant.kept c.in_ok-add_row.ensures.told other
+
+pub block-requires : goal.block-requires
+block-requires c =
+    kept_whole c.args.heading c.loop-records.draft c.args.records.now.left c.loop-records.records.left c.loop-records.results c.loop-records.invariant.read c.loop-records.invariant.way
+    (c.is_ended.ensures.ended c.loop-records-test.false) c.loop-records.invariant.kept
+
 pub returns-in_err-look_up-clause-err : goal.returns-in_err-look_up-clause-err
 returns-in_err-look_up-clause-err c =
     let inv = c.loop-records.invariant in
@@ -63,6 +74,7 @@ loop-records-preserved c =
           taken.0 c.in_ok-add_row.ensures.fine c.in_ok-add_row.ensures.told c.in_ok-look_up.ensures.ok;
       way = still_way c.loop-records.draft c.add_row.new.draft c.in_ok-row.row inv.way c.in_ok-add_row.ensures.fine c.in_ok-add_row.ensures.told;
       counted = omega (arith, long, one, count);
+      kept = c.in_ok-look_up.ensures.kept;
       same = same_heading c.loop-records.draft c.add_row.new.draft c.in_ok-row.row c.args.heading inv.same c.in_ok-add_row.ensures.told;
     }
 
