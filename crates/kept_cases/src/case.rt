@@ -1,0 +1,268 @@
+// A case: a session, and the lines that ask it.
+
+ghost use Rattle.std.specs.Prelude.{◌≡◌, ◌<◌, ◌↔◌, length, Contains, IfSome, IsTrue};
+ghost use Rattle.pb_book.specs.Rows.{periods_of};
+ghost use Rattle.pb_elim.specs.Options.{AreOptions};
+
+use pb_book::Book;
+use pb_graph::{Class, Options, Study};
+use pb_report::Form;
+use pb_rows::{Name, Row, Rows, whole_bytes};
+use pb_session::Session;
+use std::alloc::{AllocError, Global};
+
+/// A session, with the records that it has taken.
+#[derive(Drop)]
+pub struct Case {
+    alloc: Global,
+    eliminates: bool,
+    session: Session,
+    taken: Rows,
+}
+
+/// The first word of a line: one that asks, or that of a record.
+#[derive(Clone, Copy)]
+enum Word {
+    Case,
+    Rounds,
+    Try,
+    Study,
+    Classes,
+    Record,
+}
+
+/// What a session answers to a record.
+#[derive(Drop)]
+struct Answer {
+    added: Vec<u8>,
+    refused: bool,
+    is_report: bool,
+}
+
+impl Case {
+    /// A session without rows, whose studies have three rounds of elimination or no tests.
+    pub fn new(alloc: Global, eliminates: bool) -> Case {
+        Case {
+            alloc,
+            eliminates,
+            session: Session::new(alloc, asked(eliminates), Form::Csv),
+            taken: Rows::new(alloc),
+        }
+    }
+
+    /// Appends what is told of a line, and the line. `case,..` begins a case, and `rounds,..` one with rounds of elimination;
+    /// `try,RECORD` tells the answer to a record behind those taken, and they stay as they are; `study,PERIOD` tells the number
+    /// of stages and the flows of the study that is kept of a period; `classes` the kept classes of the streams. Any other line
+    /// is a record that the session takes.
+    pub fn line(&mut self, line: &[u8], text: &mut Vec<u8>) -> Result<(), AllocError> {
+        let row = fields_of(self.alloc, line)?;
+        self.row(row, text)?;
+        text.extend_from_slice(line)?;
+        text.push(b'\n')?;
+        Ok(())
+    }
+
+    // Appends what is told of the fields of a line.
+    fn row(&mut self, row: Row, text: &mut Vec<u8>) -> Result<(), AllocError> {
+        match word_of(field(&row, 0)) {
+            Word::Case => self.begin(false),
+            Word::Rounds => self.begin(true),
+            Word::Try => self.try_behind(&row, text),
+            Word::Study => self.tell_study(field(&row, 1), text),
+            Word::Classes => self.tell_classes(text),
+            Word::Record => self.take(row, text),
+        }
+    }
+
+    // Begins a case.
+    fn begin(&mut self, eliminates: bool) -> Result<(), AllocError> {
+        *self = Case::new(self.alloc, eliminates);
+        Ok(())
+    }
+
+    // The session takes a record.
+    fn take(&mut self, row: Row, text: &mut Vec<u8>) -> Result<(), AllocError> {
+        let answer = take_record(self.alloc, &mut self.session, &row)?;
+        if answer.is_report {
+            let plain = self.plain_report(&row)?;
+            tell_same(text, answer.added == plain)?;
+        }
+        tell_kept(text, &self.session, answer.refused)?;
+        self.taken.push(row)
+    }
+
+    // A session that has taken the same records takes the record behind the first field.
+    fn try_behind(&self, row: &Row, text: &mut Vec<u8>) -> Result<(), AllocError> {
+        let mut record = Row::new(self.alloc);
+        for i in 1..row.len() {
+            record.push(row.field(i))?;
+        }
+        let mut session = self.behind(&self.taken)?;
+        let answer = take_record(self.alloc, &mut session, &record)?;
+        tell_kept(text, &session, answer.refused)
+    }
+
+    // What a report adds behind the plain rows alone.
+    fn plain_report(&self, report: &Row) -> Result<Vec<u8>, AllocError> {
+        let plain = self.session.book().plain(self.alloc)?;
+        let mut session = self.behind(&plain)?;
+        Ok(take_record(self.alloc, &mut session, report)?.added)
+    }
+
+    // A session that has taken these records.
+    fn behind(&self, rows: &Rows) -> Result<Session, AllocError> {
+        let mut session = Session::new(self.alloc, asked(self.eliminates), Form::Csv);
+        for row in rows.iter() {
+            take_record(self.alloc, &mut session, row)?;
+        }
+        Ok(session)
+    }
+
+    fn tell_study(&self, period: &[u8], text: &mut Vec<u8>) -> Result<(), AllocError> {
+        match place_of(self.session.book(), period) {
+            Some(place) => match self.session.kept(place) {
+                Some(study) => self.tell_flows(study, text),
+                None => tell(text, b"none"),
+            },
+            None => tell(text, b"unknown"),
+        }
+    }
+
+    // The number of stages, and the flows of the first one.
+    fn tell_flows(&self, study: &Study, text: &mut Vec<u8>) -> Result<(), AllocError> {
+        self.tell_number(study.stages.len() as i128, text)?;
+        if study.stages.len() > 0 {
+            for result in study.stages.at(0).streams.as_slice() {
+                self.tell_number(result.flow, text)?;
+            }
+        }
+        Ok(())
+    }
+
+    fn tell_number(&self, number: i128, text: &mut Vec<u8>) -> Result<(), AllocError> {
+        tell(text, whole_bytes(self.alloc, number)?.as_slice())
+    }
+
+    fn tell_classes(&self, text: &mut Vec<u8>) -> Result<(), AllocError> {
+        match self.session.classes() {
+            Some(classes) => {
+                for classified in classes.list.as_slice() {
+                    tell(text, class_word(classified.class))?;
+                }
+                Ok(())
+            }
+            None => tell(text, b"none"),
+        }
+    }
+}
+
+// A session takes a record.
+fn take_record(alloc: Global, session: &mut Session, row: &Row) -> Result<Answer, AllocError> {
+    let mut added = Vec::new(alloc);
+    let refused = session.row(1, row, &mut added)?;
+    Ok(Answer {
+        is_report: is(field(row, 0), b"report") && !refused,
+        added,
+        refused,
+    })
+}
+
+fn word_of(field: &[u8]) -> Word {
+    if is(field, b"case") {
+        Word::Case
+    } else if is(field, b"rounds") {
+        Word::Rounds
+    } else if is(field, b"try") {
+        Word::Try
+    } else if is(field, b"study") {
+        Word::Study
+    } else if is(field, b"classes") {
+        Word::Classes
+    } else {
+        Word::Record
+    }
+}
+
+// The fields of a line, between commas.
+fn fields_of(alloc: Global, line: &[u8]) -> Result<Row, AllocError> {
+    let mut row = Row::new(alloc);
+    for field in line.split(|byte| *byte == b',') {
+        row.push(field)?;
+    }
+    Ok(row)
+}
+
+// What is asked of the studies.
+fn asked(eliminates: bool) -> Options
+    ensures { AreOptions result }
+{
+    Options {
+        gap: 10,
+        sweeps: 5_000,
+        tests: eliminates,
+        eliminate: if eliminates { 3 } else { 0 },
+    }
+}
+
+// The place of the period of a name.
+fn place_of(book: &Book, name: &[u8]) -> Option<u32>
+    ensures { IfSome result (λ place. place < length (periods_of book.now)) }
+{
+    let place = book.period_of(&Name::read(name)?)?;
+    if place < book.periods() {
+        Some(place)
+    } else {
+        None
+    }
+}
+
+// Whether a study of the period at a place is kept.
+fn is_kept(session: &Session, place: u32) -> bool
+    requires { place < length (periods_of session.now.state.rows) }
+    ensures { IsTrue result ↔ Contains session.now.kept place }
+{
+    session.kept(place).is_some()
+}
+
+// Whether the record was refused, and the names of the kept periods in their order of declaration.
+fn tell_kept(text: &mut Vec<u8>, session: &Session, refused: bool) -> Result<(), AllocError> {
+    if refused {
+        tell(text, b"refused")?;
+    }
+    for place in 0..session.book().periods() {
+        if is_kept(session, place) {
+            tell(text, session.book().period(place).name.bytes())?;
+        }
+    }
+    tell(text, b":")
+}
+
+// Whether a report has the text of the plain file's.
+fn tell_same(text: &mut Vec<u8>, same: bool) -> Result<(), AllocError> {
+    tell(text, if same { b"plain" } else { b"other" })
+}
+
+// The field at a place, or an empty one.
+fn field(row: &Row, i: usize) -> &[u8] {
+    if i < row.len() { row.field(i) } else { b"" }
+}
+
+fn is(field: &[u8], word: &[u8]) -> bool {
+    field == word
+}
+
+// Appends a word and a blank.
+fn tell(text: &mut Vec<u8>, word: &[u8]) -> Result<(), AllocError> {
+    text.extend_from_slice(word)?;
+    text.push(b' ')?;
+    Ok(())
+}
+
+fn class_word(class: Class) -> &'static [u8] {
+    match class {
+        Class::Observable => b"observable",
+        Class::Unobservable => b"unobservable",
+        Class::Redundant => b"redundant",
+        Class::Nonredundant => b"nonredundant",
+    }
+}

@@ -1,0 +1,22 @@
+//! Of which periods a session keeps a study after each record of cases: each line again, with the names of the kept periods in front.
+//!
+//! The cases stand in `stdin`, and their answers, which come from outside, in `stdout`.
+#![tactic(auto)]
+
+mod case;
+
+use case::Case;
+use pb_io::{StdSink, write_all};
+use std::io;
+
+fn main(rt: HostRuntime) -> io::Result<()> {
+    let mut case = Case::new(rt.alloc(), false);
+    let mut text = Vec::new(rt.alloc());
+    for line in rt.lines(rt.alloc()) {
+        case.line(line?.as_str().as_bytes(), &mut text)?;
+    }
+    match write_all(&mut StdSink::new(rt.stdout()), &text) {
+        Ok(()) => Ok(()),
+        Err(_) => Err(io::Error::from(io::ErrorKind::Other)),
+    }
+}
