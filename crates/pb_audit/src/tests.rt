@@ -1,5 +1,5 @@
-// What no clause says: that a report is judged where memory is ample, and the exact bytes of the rows. Files of more
-// blocks, and more faults, stand in `block_cases`.
+// What no clause says: that a report is judged where memory is ample, and the exact bytes of the rows. More files are
+// checked in `pb_cli`.
 
 use crate::{Judged, judge_next};
 use pb_rows::Records;

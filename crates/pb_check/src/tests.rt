@@ -1,5 +1,5 @@
 // What no clause says: that a stage is judged where memory is ample. Eight of the tests fail once each, at the stage of two meters with
-// one thing changed. The others, and more cases, stand in `block_cases`.
+// one thing changed. Balance and bounds fail in the tests of `pb_cli`.
 
 ghost use Rattle.std.specs.Prelude.{◌≡◌, ◌≤◌, length, unsigned_abs, All, IfOk};
 ghost use Rattle.pb_graph.specs.Prices.{most_price};

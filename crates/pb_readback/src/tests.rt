@@ -1,4 +1,4 @@
-// What no clause says: that a block is read where memory is ample. More cases stand in `block_cases`.
+// What no clause says: that a block is read where memory is ample.
 
 use crate::{ReadRefused, read};
 use pb_rows::Records;
