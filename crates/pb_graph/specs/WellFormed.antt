@@ -55,6 +55,7 @@ pub record IsResultWithin (graph : ProcessGraph) (stream : StreamResult) : Type 
   pub witness : IsWitnessWithin graph stream.classified.witness
   pub flow : IsFlow stream.flow
   pub bounds : IfSome stream.bounds AreBoundsWithin
+  pub least : IfSome stream.least AreBoundsWithin
 
 -- a test of a group of nodes is named by one of the nodes
 pub record IsNodalWithin (graph : ProcessGraph) (test : NodalTest) : Type 0 where

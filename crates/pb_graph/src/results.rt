@@ -35,13 +35,15 @@ pub enum Solved {
     Unconverged(u32),
 }
 
-/// A stream of a stage: its class with certificate, its reconciled flow in grams, and the bounds of it (none where the stream is
-/// unobservable).
+/// A stream of a stage: its class with certificate, its reconciled flow in grams, the bounds of it in each balanced vector no worse
+/// than the flows (none where the stream is unobservable), and the narrower bounds of it in each least vector (none where it is
+/// unobservable, or where the stage has no least bounds).
 #[derive(Debug, Drop, PartialEq, Eq)]
 pub struct StreamResult {
     pub classified: Classified,
     pub flow: i128,
     pub bounds: Option<Bounds>,
+    pub least: Option<Bounds>,
 }
 
 /// The global test. The critical value is in thousandths.

@@ -179,6 +179,7 @@ fn result(alloc: Global, members: &[Member]) -> Result<StreamResult, AllocError>
         classified: classified.copy(alloc)?,
         flow: 7,
         bounds: Some(Bounds { lo: 6, hi: 8 }),
+        least: Some(Bounds { lo: 6, hi: 7 }),
     })
 }
 

@@ -113,7 +113,10 @@ fn are_bounds(bounds: &Option<Bounds>) -> bool
 fn is_result(graph: &Graph, stream: &StreamResult) -> bool
     ensures { IsTrue result ↔ IsResultWithin graph.now stream.now }
 {
-    stream.classified.witness.is_within(graph) && is_flow(stream.flow) && are_bounds(&stream.bounds)
+    stream.classified.witness.is_within(graph)
+        && is_flow(stream.flow)
+        && are_bounds(&stream.bounds)
+        && are_bounds(&stream.least)
 }
 
 // Whether each result keeps the ranges.
