@@ -17,6 +17,7 @@ use Rattle.pb_graph.specs.Squares.{Fractional, IsBalancedFractional, IsLeast, Is
 use Rattle.pb_graph.specs.Prices.{PricesFit}
 use Rattle.pb_gap.specs.Gap.{IsGap, deviations_of}
 use Rattle.pb_gap.specs.StreamBounds.{IsStreamWithin, stream_bounds}
+use Rattle.pb_gap.specs.LeastBounds.{stream_least_bounds}
 use Rattle.pb_gap.specs.Statistic.{low_of, high_of}
 use Rattle.pb_gap.specs.Least.{AreWithinGap}
 use Rattle.pb_tests.specs.Verdicts.{global_verdict, measure_verdict, nodal_verdict}
@@ -24,10 +25,17 @@ use Rattle.pb_tests.specs.Nodal.{AreNodalTests}
 use Rattle.pb_tests.specs.Decided.{AreSquaresAbove}
 use Rattle.pb_elim.specs.StageTests.{redundant_streams}
 use Rattle.pb_elim.specs.Stage.{HasFreedom}
-use Rattle.pb_elim.specs.Printed.{printed_price, printed_flows, printed_gap, EachStream}
+use Rattle.pb_elim.specs.Printed.{printed_price, printed_flows, printed_gap, EachStream, HasLeastBounds}
 
--- The gap, the bounds, the degrees of freedom and the statistic are what the rules make of the printed flows, prices and
--- certificates.
+-- the least bounds of each stream are what the rules make of the printed flows, prices and certificates
+abbrev pub AreLeastBounds : Stage → Type 0
+AreLeastBounds stage =
+    EachStream stage (λ j r. r.least
+    ≡ stream_least_bounds (printed_price stage) stage.graph.streams (printed_flows stage)
+    (printed_gap stage) j r.classified)
+
+-- The gap, the bounds, the least bounds where the stage has any, the degrees of freedom and the statistic are what the rules make of the
+-- printed flows, prices and certificates.
 pub record AreNumbersOf (stage : Stage) : Type 0 where
   pub deviation :
       IsGap (deviations_of (printed_price stage) stage.graph.streams (printed_flows stage))
@@ -35,6 +43,7 @@ pub record AreNumbersOf (stage : Stage) : Type 0 where
   pub bounded :
       EachStream stage (λ j r. r.bounds
       ≡ stream_bounds (printed_price stage) stage.graph.streams (printed_gap stage) j r.classified)
+  pub least_bounded : HasLeastBounds stage → AreLeastBounds stage
   pub freedom : HasFreedom stage.graph.streams stage.dof
   pub from_below : stage.low ≡ low_of stage.graph.streams (printed_flows stage) (printed_gap stage)
   pub from_above : stage.high ≡ high_of stage.graph.streams (printed_flows stage)
@@ -84,6 +93,10 @@ pub record IsShownStage (stage : Stage) : Type 0 where
 abbrev pub IsEnclosed : Fractional → ℕ → StreamResult → Type 0
 IsEnclosed x j r = MatchOption r.bounds (r.classified.class ≡ Unobservable) (IsStreamWithin x j)
 
+-- x keeps a stream within its printed least bounds; only an unobservable stream has none
+abbrev pub IsEnclosedLeast : Fractional → ℕ → StreamResult → Type 0
+IsEnclosedLeast x j r = MatchOption r.least (r.classified.class ≡ Unobservable) (IsStreamWithin x j)
+
 -- balanced fractional flows that are no worse than the printed ones
 pub record IsAsGood (stage : Stage) (x : Fractional) : Type 0 where
   pub balanced : IsBalancedFractional stage.graph x
@@ -116,6 +129,9 @@ pub record IsCertifiedStage (stage : Stage) : Type 0 where
   pub classes : EachStream stage (λ j r. IsClassOf stage.graph j r.classified.class)
   -- balanced flows no worse than the printed ones have each measured and each observable stream within its bounds
   pub enclosed : (x : Fractional) → IsAsGood stage x → EachStream stage (IsEnclosed x)
+  -- least flows have each measured and each observable stream within its least bounds, where the stage has any
+  pub hypercircle : HasLeastBounds stage → (x : Fractional) → IsLeast stage.graph x
+      → EachStream stage (IsEnclosedLeast x)
   -- the printed flows are at most the printed gap from a least vector
   pub near : (x : Fractional) → IsLeast stage.graph x
       → AreWithinGap stage.graph (printed_gap stage) (whole_flows (printed_flows stage)) x

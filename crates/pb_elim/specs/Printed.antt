@@ -1,5 +1,5 @@
 -- Statement. What stands in a stage, as it is printed.
-use Rattle.std.specs.Prelude.{◌≡◌, ℕ, ℤ, List, map, Some, slice_get}
+use Rattle.std.specs.Prelude.{◌≡◌, ℕ, ℤ, Bool, List, map, Some, is_some, list_any, slice_get, IsTrue}
 use Rattle.pb_integers.specs.Sums.{item}
 use Rattle.pb_graph.specs.declared.records.Classified.{Classified}
 use Rattle.pb_graph.specs.declared.results.StreamResult.{StreamResult}
@@ -25,3 +25,11 @@ printed_gap stage = record { g = stage.g; h = stage.h }
 -- what holds of each stream and its result
 abbrev pub EachStream : Stage → (ℕ → StreamResult → Type 0) → Type 0
 EachStream stage P = (j : ℕ) (r : StreamResult) → slice_get stage.streams j ≡ Some r → P j r
+
+-- whether some stream of these has least bounds
+abbrev pub have_least : List StreamResult → Bool
+have_least results = list_any (λ (r : StreamResult). is_some r.least) results
+
+-- a stage has least bounds where some stream of it has
+abbrev pub HasLeastBounds : Stage → Type 0
+HasLeastBounds stage = IsTrue (have_least stage.streams)

@@ -9,6 +9,7 @@ use Rattle.pb_forest.specs.Forest.{IsForest, degrees_of_freedom}
 use Rattle.pb_classify.specs.Classification.{IsClassification}
 use Rattle.pb_gap.specs.Gap.{gap_of}
 use Rattle.pb_gap.specs.StreamBounds.{stream_bounds}
+use Rattle.pb_gap.specs.LeastBounds.{stream_least_bounds}
 use Rattle.pb_gap.specs.Statistic.{low_of, high_of}
 use Rattle.pb_gap.specs.Solution.{IsSolution}
 use Rattle.pb_elim.specs.Printed.{printed_price, printed_flows, printed_classes, printed_gap, EachStream}
@@ -21,8 +22,8 @@ pub record HasFreedom (streams : List Stream) (dof : ℕ) : Type 0 where
   pub count : dof ≡ degrees_of_freedom streams held
 
 -- The reconciliation of a graph, which is its stage but for the tests: each stream's class with its canonical certificate, the solution
--- of the graph, which gives prices and flows, and what follows from these: the gap, each stream's bounds by its certificate, the
--- degrees of freedom, and the statistic (Narasimhan and Jordache, on steady linear reconciliation).
+-- of the graph, which gives prices and flows, and what follows from these: the gap, each stream's bounds and least bounds by its
+-- certificate, the degrees of freedom, and the statistic (Narasimhan and Jordache, on steady linear reconciliation).
 pub record IsReconciliationOf (graph : ProcessGraph) (options : Options) (stage : Stage) : Type 0 where
   pub graph_is : stage.graph ≡ graph
   pub classes : IsClassification graph (printed_classes stage)
@@ -34,6 +35,10 @@ pub record IsReconciliationOf (graph : ProcessGraph) (options : Options) (stage 
   pub bounds :
       EachStream stage (λ j r. r.bounds
       ≡ stream_bounds (printed_price stage) graph.streams (printed_gap stage) j r.classified)
+  pub least :
+      EachStream stage (λ j r. r.least
+      ≡ stream_least_bounds (printed_price stage) graph.streams (printed_flows stage)
+      (printed_gap stage) j r.classified)
   pub freedom : HasFreedom graph.streams stage.dof
   pub low : stage.low ≡ low_of graph.streams (printed_flows stage) (printed_gap stage)
   pub high : stage.high ≡ high_of graph.streams (printed_flows stage)

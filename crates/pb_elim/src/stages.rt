@@ -8,6 +8,7 @@ ghost use Rattle.pb_forest.specs.Forest.{IsForestOf};
 ghost use Rattle.pb_classify.specs.Classification.{IsClassified, IsClassification};
 ghost use Rattle.pb_gap.specs.State.{IsState, price_in, gap_in};
 ghost use Rattle.pb_gap.specs.StreamBounds.{stream_bounds};
+ghost use Rattle.pb_gap.specs.LeastBounds.{stream_least_bounds};
 ghost use Rattle.pb_gap.specs.Solution.{IsSolution};
 ghost use Rattle.pb_elim.specs.Options.{AreOptions};
 ghost use Rattle.pb_elim.specs.Results.{IsResultOf, AreResultsOf};
@@ -22,24 +23,41 @@ use pb_gap::{Solver, stream_law};
 use pb_graph::{Bounds, Classified, Critical, Graph, List, Options, Solved, Stage, StreamResult};
 use std::alloc::{AllocError, Global};
 
+/// The bounds of a stream, and its least bounds.
+#[derive(Clone, Copy)]
+struct Enclosure {
+    bounds: Option<Bounds>,
+    least: Option<Bounds>,
+}
+
 // The bounds of the flow of a stream by its class and its certificate, none where it is unobservable.
-fn stream_bounds(
+fn enclosure(
     alloc: Global,
     solver: &Solver,
     stream: u32,
     classified: &Classified,
-) -> Result<Option<Bounds>, AllocError>
+) -> Result<Enclosure, AllocError>
     requires state { IsState solver.now }
     requires classified { IsClassified solver.now.graph stream classified.now }
-    ensures value { IfOk result (λ bounds. bounds
+    ensures value { IfOk result (λ enclosure. enclosure.bounds
         ≡ stream_bounds (price_in solver.now) solver.now.graph.streams (gap_in solver.now)
         stream classified.now) }
-    ensures within { IfOk result (λ bounds. IfSome bounds AreBoundsWithin) }
+    ensures least { IfOk result (λ enclosure. enclosure.least
+        ≡ stream_least_bounds (price_in solver.now) solver.now.graph.streams solver.now.flows
+        (gap_in solver.now) stream classified.now) }
+    ensures within { IfOk result (λ enclosure. IfSome enclosure.bounds AreBoundsWithin) }
+    ensures least_within { IfOk result (λ enclosure. IfSome enclosure.least AreBoundsWithin) }
 {
     stream_law();
     match sum_for(alloc, stream, classified)? {
-        None => Ok(None),
-        Some(members) => Ok(Some(solver.bounds(members.as_slice()))),
+        None => Ok(Enclosure {
+            bounds: None,
+            least: None,
+        }),
+        Some(members) => Ok(Enclosure {
+            bounds: Some(solver.bounds(members.as_slice())),
+            least: Some(solver.least(members.as_slice())),
+        }),
     }
 }
 
@@ -55,11 +73,12 @@ fn stream_result(
     requires classified { IsClassified solver.now.graph stream classified }
     ensures { IfOk result (IsResultOf solver.now stream classified) }
 {
-    let bounds = stream_bounds(alloc, solver, stream, &classified)?;
+    let enclosure = enclosure(alloc, solver, stream, &classified)?;
     Ok(StreamResult {
         classified,
         flow: solver.flow(stream),
-        bounds,
+        bounds: enclosure.bounds,
+        least: enclosure.least,
     })
 }
 
