@@ -1,5 +1,6 @@
 -- Statement. The block of a stage: what frames it, its nodes, its streams, and how it was solved.
-use Rattle.std.specs.Prelude.{ℕ, ℤ, pos, List, [], ◌∷◌, ◌++◌, length, option_map, codes}
+use Rattle.std.specs.Prelude.{ℕ, ℤ, pos, List, [], ◌∷◌, ◌++◌, Option, length, option_map, codes}
+use Rattle.std.specs.Option.{option_and}
 use Rattle.pb_rows.specs.declared.name.Names.{Names}
 use Rattle.pb_graph.specs.declared.records.Meas.{Meas}
 use Rattle.pb_graph.specs.declared.records.Stream.{Stream}
@@ -55,13 +56,25 @@ bounds_columns result =
     optional (codes "lo") (option_map (λ (bounds : Bounds). bounds.lo) result.bounds)
     ∷ optional (codes "hi") (option_map (λ (bounds : Bounds). bounds.hi) result.bounds) ∷ []
 
+-- the least bounds that are written of a stream: of one without bounds none are
+abbrev pub written_least : StreamResult → Option Bounds
+written_least result = option_and result.bounds result.least
+
+-- the bounds of a stream's flow in every least vector, if any are written
+abbrev pub least_columns : StreamResult → Columns
+least_columns result =
+    optional (codes "least_lo") (option_map (λ (bounds : Bounds). bounds.lo) (written_least result))
+    ∷ optional (codes "least_hi") (option_map (λ (bounds : Bounds). bounds.hi) (written_least result)) ∷ []
+
 -- the row of the stream at a place with its result: at the end the certificate of its class
 abbrev pub result_row : Names → ℕ → Stream → StreamResult → Columns
 result_row names id stream result =
     row_of (codes "stream")
     (stream_columns names id stream
     ++ (measured_columns stream
-    ++ (flow_columns result ++ (bounds_columns result ++ certificate_columns names result.classified.witness))))
+    ++ (flow_columns result
+    ++ (bounds_columns result
+    ++ (least_columns result ++ certificate_columns names result.classified.witness)))))
 
 -- the rows of the streams
 abbrev pub result_rows : Names → List Stream → List StreamResult → List Columns

@@ -5,7 +5,7 @@ ghost use Rattle.pb_graph.specs.declared.records.Meas.{Meas};
 ghost use Rattle.pb_graph.specs.declared.results.Bounds.{Bounds};
 ghost use Rattle.pb_graph.specs.ProcessGraph.{IsStream};
 ghost use Rattle.pb_graph.specs.WellFormed.{IsResultWithin, IsWellFormed, IsWitnessWithin, sweeps_of};
-ghost use Rattle.pb_report.specs.Block.{block_rows, bounds_columns, end_row, flow_columns, measured_columns, node_row, node_rows, report_row, result_row, result_rows, solved_row, state_word};
+ghost use Rattle.pb_report.specs.Block.{block_rows, bounds_columns, end_row, flow_columns, least_columns, measured_columns, node_row, node_rows, report_row, result_row, result_rows, solved_row, state_word, written_least};
 ghost use Rattle.pb_report.specs.Names.{IsNamed};
 ghost use Rattle.pb_report.specs.Output.{AddsRows};
 
@@ -126,7 +126,7 @@ fn result_row(
 {
     let row = stream_row(alloc, "stream", names, graph, id, stream)?;
     let row = with_flow(with_measured(row, stream)?, result_of)?;
-    let row = with_bounds(row, result_of)?;
+    let row = with_least(with_bounds(row, result_of)?, result_of)?;
     with_certificate(alloc, row, names, graph, &result_of.classified.witness)
 }
 
@@ -176,6 +176,22 @@ fn high_end(result_of: &StreamResult) -> Option<i128>
     ensures { result ≡ option_map (λ (bounds : Bounds). bounds.hi) result_of.now.bounds }
 {
     result_of.bounds.map(|bounds| bounds.hi)
+}
+
+// The row with the least bounds of a stream's flow behind its columns.
+fn with_least(row: OutputRow, result_of: &StreamResult) -> Result<OutputRow, AllocError>
+    ensures { IfOk result (λ whole. whole ≡ row ++ least_columns result_of.now) }
+{
+    let least = written_least(result_of);
+    row.optional("least_lo", least.map(|bounds| bounds.lo))?
+        .optional("least_hi", least.map(|bounds| bounds.hi))
+}
+
+// The least bounds that are written of a stream: of one without bounds none are.
+fn written_least(result_of: &StreamResult) -> Option<Bounds>
+    ensures { result ≡ written_least result_of.now }
+{
+    result_of.bounds.and(result_of.least)
 }
 
 // The row that says how the stage was solved.

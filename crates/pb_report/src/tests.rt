@@ -134,12 +134,17 @@ fn cycle(alloc: Global, class: Class, steps: &[Step]) -> Result<Classified, Fail
     })
 }
 
-fn result(classified: Classified, flow: i128, lo: i128, hi: i128) -> StreamResult {
+fn result(classified: Classified, flow: i128, bounds: Bounds, least: Bounds) -> StreamResult {
     StreamResult {
         classified,
         flow,
-        bounds: Some(Bounds { lo, hi }),
+        bounds: Some(bounds),
+        least: Some(least),
     }
+}
+
+fn between(lo: i128, hi: i128) -> Bounds {
+    Bounds { lo, hi }
 }
 
 fn options(tests: bool, eliminate: u32) -> Options {
