@@ -1,5 +1,6 @@
 -- Statement. What stands in a stage, as it is printed.
-use Rattle.std.specs.Prelude.{◌≡◌, ℕ, ℤ, Bool, List, map, Some, is_some, list_any, slice_get, IsTrue}
+use Rattle.std.specs.Prelude.{◌≡◌, ℕ, ℤ, Bool, List, map, Some, is_some, slice_get, IsTrue}
+use Rattle.std.specs.List.{list_any}
 use Rattle.pb_integers.specs.Sums.{item}
 use Rattle.pb_graph.specs.declared.records.Classified.{Classified}
 use Rattle.pb_graph.specs.declared.results.StreamResult.{StreamResult}

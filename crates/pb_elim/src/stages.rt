@@ -23,15 +23,14 @@ use pb_gap::{Solver, stream_law};
 use pb_graph::{Bounds, Classified, Critical, Graph, List, Options, Solved, Stage, StreamResult};
 use std::alloc::{AllocError, Global};
 
-/// The bounds of a stream, and its least bounds.
-#[derive(Clone, Copy)]
+// The bounds of the flow of a stream, and its least bounds.
 struct Enclosure {
     bounds: Option<Bounds>,
     least: Option<Bounds>,
 }
 
-// The bounds of the flow of a stream by its class and its certificate, none where it is unobservable.
-fn enclosure(
+// The bounds and the least bounds of the flow of a stream by its class and its certificate, none where it is unobservable.
+fn enclosure_of(
     alloc: Global,
     solver: &Solver,
     stream: u32,
@@ -73,12 +72,12 @@ fn stream_result(
     requires classified { IsClassified solver.now.graph stream classified }
     ensures { IfOk result (IsResultOf solver.now stream classified) }
 {
-    let enclosure = enclosure(alloc, solver, stream, &classified)?;
+    let Enclosure { bounds, least } = enclosure_of(alloc, solver, stream, &classified)?;
     Ok(StreamResult {
         classified,
         flow: solver.flow(stream),
-        bounds: enclosure.bounds,
-        least: enclosure.least,
+        bounds,
+        least,
     })
 }
 

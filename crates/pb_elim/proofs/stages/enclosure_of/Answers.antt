@@ -4,7 +4,7 @@ use Rattle.pb_graph.specs.declared.records.Member.{Member}
 use Rattle.pb_gap.specs.Bounds.{AreSigned}
 use Rattle.pb_gap.specs.Laws.{SumsTo}
 use Rattle.pb_elim.proofs.StageLemmas.{witness_signs}
-use Rattle.pb_elim.proofs.stages.stream_bounds.Goals as goal
+use Rattle.pb_elim.proofs.stages.enclosure_of.Goals as goal
 
 pub sum_for-requires : goal.sum_for-requires
 sum_for-requires c = witness_signs c.args.solver.now.graph c.args.stream c.args.classified.now c.requires.classified.certified
