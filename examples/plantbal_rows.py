@@ -13,7 +13,7 @@ COLUMNS = {
     'edit': 'at word id reason',
     'report': 'period round nodes streams gap sweeps',
     'node': 'name price',
-    'stream': 'name from to value variance class flow lo hi shape side parts',
+    'stream': 'name from to value variance class flow lo hi least_lo least_hi shape side parts',
     'solved': 'k state g h dof low high',
     'global': 'critical verdict',
     'nodal': 'node net variance critical verdict',
@@ -24,6 +24,8 @@ COLUMNS = {
     'summary': 'number streams rows observable unobservable redundant nonredundant dof state k low high',
 }
 COLUMNS = {kind: names.split() for kind, names in COLUMNS.items()}
+# The columns of a stream in a report without least bounds.
+WITHOUT_LEAST = [column for column in COLUMNS['stream'] if column not in ('least_lo', 'least_hi')]
 
 
 class Fault(Exception):
@@ -40,6 +42,8 @@ def row_of(source, number, fields):
     kind, values = fields[0], fields[1:]
     if kind not in COLUMNS:
         raise Fault('%s: line %d, column 1: plantbal writes no row of the kind %r' % (source, number, kind))
+    if kind == 'stream' and len(values) == len(WITHOUT_LEAST):
+        return dict(zip(WITHOUT_LEAST, values), row=kind, least_lo='', least_hi='')
     if len(values) != len(COLUMNS[kind]):
         raise Fault('%s: line %d: a %s row has %d columns, this one has %d'
                     % (source, number, kind, len(COLUMNS[kind]) + 1, len(values) + 1))
@@ -55,6 +59,8 @@ def row_of_json(source, number, line):
     kind = row.get('row') if isinstance(row, dict) else None
     if kind not in COLUMNS:
         raise Fault('%s: line %d: no row of plantbal: its "row" is %r' % (source, number, kind))
+    if kind == 'stream' and sorted(row) == sorted(WITHOUT_LEAST + ['row']):
+        return dict(row, least_lo='', least_hi='')
     if sorted(row) != sorted(COLUMNS[kind] + ['row']):
         raise Fault('%s: line %d: the keys of the row %s are %s' % (source, number, kind, ', '.join(COLUMNS[kind] + ['row'])))
     return row
