@@ -26,12 +26,16 @@ use std::alloc::Global;
 /// The clauses speak of the bytes that were taken and put. Where an end doesn't tell its bytes, as standard input and output
 /// don't, they speak of the numbers of bytes alone; [`answer`] and [`judge`] say the same of bytes in hand.
 pub fn run<R: Source, W: Sink>(alloc: Global, words: &Words, source: &mut R, sink: &mut W) -> Status
-    // Whatever rows come in, the bytes written are the texts of the rows in order: the row of each refusal, the classes of each
-    // design, and the report of each period from the rows before it. In each report every stream's class stands with a true
-    // cutset or cycle, the flows balance at every node, every balanced fractional vector whose weighted squares don't exceed
-    // those of the printed flows lies within the printed bounds, and unconverged comes only where none of the allowed sweeps of
-    // best prices meets the gap: so says the text of a run. In a check the bytes written are the judgement, and each block that
-    // gets a yes is certified in the same way, wherever it came from.
+    // Whatever rows come in, the bytes written are the reports of the rows before them with amendments applied; in each, every
+    // class stands with a true cutset or cycle, flows balance, every balanced fractional vector no worse than the printed flows
+    // lies within the bounds that the printed prices give, every least one within the least bounds, and Unconverged comes only
+    // after the allowed sweeps of best prices.
+    //
+    // So says the text of a run, which besides reports has the row of each refusal, the classes of each design and the edits of
+    // each history. A vector lies within bounds where each measured and each observable stream does. A least one is balanced and
+    // no worse than each balanced fractional vector. After none of the allowed sweeps the gap is met where it is Unconverged. In a
+    // check the bytes written are the judgement, and each block that gets a yes is certified in the same way, wherever it came
+    // from, though it may have no least bounds.
     ensures done { result ≡ Done → Does (IsWhole false) words.now
         (R.seen source.old) (R.seen source.new) (W.seen sink.old) (W.seen sink.new) }
     ensures done_refused { result ≡ DoneRefused → Does (IsWhole true) words.now

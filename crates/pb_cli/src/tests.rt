@@ -19,7 +19,11 @@ const TWO_METERS: &str =
     "unit,U\nstream,A,env,U,metered,1\nstream,B,U,env,metered,1\nperiod,d1,2024-03-01,2024-03-01\ncritical,global,1,3841\nreading,r1,A,2024-03-01,102000000,999999999999\nreading,r2,B,2024-03-01,100000000,999999999999\nreport,d1\n";
 
 const REPORT: &str =
-    "report,d1,0,2,2,10,5000\nnode,env,0\nnode,U,-72057594038\nstream,A,env,U,102000000,1000000000000,redundant,101000000,100999997,101000002,cut,env,-A +B\nstream,B,U,env,100000000,1000000000000,redundant,101000000,100999998,101000003,cut,U,+A -B\nsolved,1,converged,2,0,1,1999,2000\nglobal,3841,accept\nnodal,U,2000000,2000000000000,,nocritical\nmeasure,A,1999,2000,,nocritical\nmeasure,B,1999,2000,,nocritical\nend,d1,0\n";
+    "report,d1,0,2,2,10,5000\nnode,env,0\nnode,U,-72057594038\nstream,A,env,U,102000000,1000000000000,redundant,101000000,100999997,101000002,100999998,101000001,cut,env,-A +B\nstream,B,U,env,100000000,1000000000000,redundant,101000000,100999998,101000003,100999999,101000002,cut,U,+A -B\nsolved,1,converged,2,0,1,1999,2000\nglobal,3841,accept\nnodal,U,2000000,2000000000000,,nocritical\nmeasure,A,1999,2000,,nocritical\nmeasure,B,1999,2000,,nocritical\nend,d1,0\n";
+
+/// The session of two meters between which there is half a gram.
+const HALF_A_GRAM: &str =
+    "unit,U\nstream,A,env,U,metered,1\nstream,B,U,env,metered,1\nperiod,d1,2024-03-01,2024-03-01\nreading,r1,A,2024-03-01,1,0\nreading,r2,B,2024-03-01,0,0\nreport,d1\n";
 
 /// How a run over ends in memory goes: its words, the most bytes of a take and of a put, the number of the take and of the put that
 /// fails, counted from 1 (0 names none), and how many bytes there is room for.
@@ -116,7 +120,7 @@ fn writes_worked_sessions(rt: HostRuntime) -> Result<(), AllocError> {
         (
             "unit,U\nstream,A,env,U,metered,1\nstream,B,U,env,metered,1\nperiod,d1,2024-03-01,2024-03-01\nreading,r1,A,2024-03-01,102000000,999999999999\nreading,r2,B,2024-03-01,100000000,999999999999\nreport,d1\nreport,d2\n",
             Status::DoneRefused,
-            "report,d1,0,2,2,10,5000\nnode,env,0\nnode,U,-72057594038\nstream,A,env,U,102000000,1000000000000,redundant,101000000,100999997,101000002,cut,env,-A +B\nstream,B,U,env,100000000,1000000000000,redundant,101000000,100999998,101000003,cut,U,+A -B\nsolved,1,converged,2,0,1,1999,2000\nend,d1,0\nrefused,8,6,unknown\n",
+            "report,d1,0,2,2,10,5000\nnode,env,0\nnode,U,-72057594038\nstream,A,env,U,102000000,1000000000000,redundant,101000000,100999997,101000002,100999998,101000001,cut,env,-A +B\nstream,B,U,env,100000000,1000000000000,redundant,101000000,100999998,101000003,100999999,101000002,cut,U,+A -B\nsolved,1,converged,2,0,1,1999,2000\nend,d1,0\nrefused,8,6,unknown\n",
         ),
         (
             ",,,\nunit,U,,,\n\"unit\n",
@@ -136,16 +140,17 @@ fn writes_worked_sessions(rt: HostRuntime) -> Result<(), AllocError> {
     Ok(())
 }
 
-/// The gap that is asked decides how many sweeps are made: half a gram between two meters.
+/// The gap that is asked decides how many sweeps are made.
 #[test]
 fn hands_options_on(rt: HostRuntime) -> Result<(), AllocError> {
-    let session =
-        "unit,U\nstream,A,env,U,metered,1\nstream,B,U,env,metered,1\nperiod,d1,2024-03-01,2024-03-01\nreading,r1,A,2024-03-01,1,0\nreading,r2,B,2024-03-01,0,0\nreport,d1\n";
     let wide =
-        "report,d1,0,2,2,1000,5000\nnode,env,0\nnode,U,0\nstream,A,env,U,1,1,redundant,0,-1,3,cut,env,-A +B\nstream,B,U,env,0,1,redundant,0,-2,2,cut,U,+A -B\nsolved,0,converged,1048576,0,1,0,1000\nend,d1,0\n";
+        "report,d1,0,2,2,1000,5000\nnode,env,0\nnode,U,0\nstream,A,env,U,1,1,redundant,0,-1,3,-1,2,cut,env,-A +B\nstream,B,U,env,0,1,redundant,0,-2,2,-1,1,cut,U,+A -B\nsolved,0,converged,1048576,0,1,0,1000\nend,d1,0\n";
     let narrow =
-        "report,d1,0,2,2,999,7\nnode,env,0\nnode,U,-36028797018963968\nstream,A,env,U,1,1,redundant,1,-1,2,cut,env,-A +B\nstream,B,U,env,0,1,redundant,1,-1,2,cut,U,+A -B\nsolved,1,converged,741456,0,1,499,1000\nend,d1,0\n";
-    let lists: [(&[&str], &str); 3] = [
+        "report,d1,0,2,2,999,7\nnode,env,0\nnode,U,-36028797018963968\nstream,A,env,U,1,1,redundant,1,-1,2,-1,2,cut,env,-A +B\nstream,B,U,env,0,1,redundant,1,-1,2,-1,2,cut,U,+A -B\nsolved,1,converged,741456,0,1,499,1000\nend,d1,0\n";
+    let unmet =
+        "report,d1,0,2,2,10,5000\nnode,env,0\nnode,U,-36028797018963968\nstream,A,env,U,1,1,redundant,1,-1,2,-1,2,cut,env,-A +B\nstream,B,U,env,0,1,redundant,1,-1,2,-1,2,cut,U,+A -B\nsolved,5000,unconverged,741456,0,1,499,1000\nend,d1,0\n";
+    let lists: [(&[&str], &str); 4] = [
+        (&["run"], unmet),
         (&["run", "--gap", "1000"], wide),
         (&["--gap=1000", "run", "--format", "csv"], wide),
         (&["run", "--sweeps=7", "--gap", "999"], narrow),
@@ -154,7 +159,7 @@ fn hands_options_on(rt: HostRuntime) -> Result<(), AllocError> {
         let (ended, written) = outcome(
             rt.alloc(),
             Ends { words, ..PLAIN },
-            Vec::from_slice(rt.alloc(), session.as_bytes())?,
+            Vec::from_slice(rt.alloc(), HALF_A_GRAM.as_bytes())?,
         )?;
         assert_eq!(rt; ended, Status::Done, "at {words:?}");
         assert_eq!(rt; written.as_slice(), output.as_bytes(), "at {words:?}");
@@ -175,6 +180,23 @@ fn writes_lines_of_objects(rt: HostRuntime) -> Result<(), AllocError> {
     assert_eq!(rt; ended, Status::DoneRefused);
     let line = "{\"at\":\"1\",\"code\":\"3\",\"row\":\"refused\",\"word\":\"name\"}\n";
     assert_eq!(rt; written.as_slice(), line.as_bytes());
+    Ok(())
+}
+
+#[test]
+fn writes_a_report_as_objects(rt: HostRuntime) -> Result<(), AllocError> {
+    let (ended, written) = outcome(
+        rt.alloc(),
+        Ends {
+            words: &["run", "--gap=1000", "--format=json"],
+            ..PLAIN
+        },
+        Vec::from_slice(rt.alloc(), HALF_A_GRAM.as_bytes())?,
+    )?;
+    let lines =
+        "{\"gap\":\"1000\",\"nodes\":\"2\",\"period\":\"d1\",\"round\":\"0\",\"row\":\"report\",\"streams\":\"2\",\"sweeps\":\"5000\"}\n{\"name\":\"env\",\"price\":\"0\",\"row\":\"node\"}\n{\"name\":\"U\",\"price\":\"0\",\"row\":\"node\"}\n{\"class\":\"redundant\",\"flow\":\"0\",\"from\":\"env\",\"hi\":\"3\",\"least_hi\":\"2\",\"least_lo\":\"-1\",\"lo\":\"-1\",\"name\":\"A\",\"parts\":\"-A +B\",\"row\":\"stream\",\"shape\":\"cut\",\"side\":\"env\",\"to\":\"U\",\"value\":\"1\",\"variance\":\"1\"}\n{\"class\":\"redundant\",\"flow\":\"0\",\"from\":\"U\",\"hi\":\"2\",\"least_hi\":\"1\",\"least_lo\":\"-1\",\"lo\":\"-2\",\"name\":\"B\",\"parts\":\"+A -B\",\"row\":\"stream\",\"shape\":\"cut\",\"side\":\"U\",\"to\":\"env\",\"value\":\"0\",\"variance\":\"1\"}\n{\"dof\":\"1\",\"g\":\"1048576\",\"h\":\"0\",\"high\":\"1000\",\"k\":\"0\",\"low\":\"0\",\"row\":\"solved\",\"state\":\"converged\"}\n{\"period\":\"d1\",\"round\":\"0\",\"row\":\"end\"}\n";
+    assert_eq!(rt; ended, Status::Done);
+    assert_eq!(rt; written.as_slice(), lines.as_bytes());
     Ok(())
 }
 
@@ -387,7 +409,7 @@ fn reports_a_contradiction(rt: HostRuntime) -> Result<(), AllocError> {
     let session =
         "unit,U\nstream,A,env,U,metered,1\nstream,B,U,env,metered,1\nperiod,d1,2024-03-01,2024-03-01\ncritical,global,1,3841\nreading,r1,A,2024-03-01,10000000000000,0\nreading,r2,B,2024-03-01,-10000000000000,0\nreport,d1\n";
     let report =
-        "report,d1,0,2,2,10,5000\nnode,env,0\nnode,U,-720575940379279360000000000000\nstream,A,env,U,10000000000000,1,redundant,0,0,0,cut,env,-A +B\nstream,B,U,env,-10000000000000,1,redundant,0,0,0,cut,U,+A -B\nsolved,1,converged,0,0,1,36893488147419103232000,\nglobal,3841,reject\nnodal,U,20000000000000,2,,nocritical\nmeasure,A,36893488147419103232000,,,nocritical\nmeasure,B,36893488147419103232000,,,nocritical\nend,d1,0\n";
+        "report,d1,0,2,2,10,5000\nnode,env,0\nnode,U,-720575940379279360000000000000\nstream,A,env,U,10000000000000,1,redundant,0,0,0,0,0,cut,env,-A +B\nstream,B,U,env,-10000000000000,1,redundant,0,0,0,0,0,cut,U,+A -B\nsolved,1,converged,0,0,1,36893488147419103232000,\nglobal,3841,reject\nnodal,U,20000000000000,2,,nocritical\nmeasure,A,36893488147419103232000,,,nocritical\nmeasure,B,36893488147419103232000,,,nocritical\nend,d1,0\n";
     let (ended, written) = outcome(
         rt.alloc(),
         TESTS,
@@ -471,6 +493,36 @@ fn judges_reports(rt: HostRuntime) -> Result<(), AllocError> {
             Status::DoneRefused,
             "no,d1,0,12,verdict,,0,0\n",
         ),
+        (
+            ",100999999,101000002,cut",
+            ",100999999,101000001,cut",
+            Status::DoneRefused,
+            "no,d1,0,13,least,B,101000001,101000002\n",
+        ),
+        (
+            ",100999998,101000001,cut",
+            ",100999999,101000001,cut",
+            Status::DoneRefused,
+            "no,d1,0,13,least,A,100999999,100999998\n",
+        ),
+        (
+            ",100999998,101000001,cut",
+            ",,,cut",
+            Status::DoneRefused,
+            "no,d1,0,1,class,A,0,0\n",
+        ),
+        (
+            ",100999998,101000001,cut",
+            ",cut",
+            Status::DoneRefused,
+            "unreadable,5,2,fields\n",
+        ),
+        (
+            ",100999999,101000002,cut",
+            ",100999999,,cut",
+            Status::DoneRefused,
+            "unreadable,5,4,number\n",
+        ),
     ];
     for (from, to, status, output) in cases {
         let input = if from.is_empty() {
@@ -481,6 +533,19 @@ fn judges_reports(rt: HostRuntime) -> Result<(), AllocError> {
         let (ended, written) = outcome(rt.alloc(), CHECK, input.into_bytes())?;
         assert_eq!(rt; ended, status, "at {to}");
         assert_eq!(rt; written.as_slice(), output.as_bytes(), "at {to}");
+    }
+    Ok(())
+}
+
+/// A report without least bounds: without their columns, and with these empty.
+#[test]
+fn judges_reports_without_least_bounds(rt: HostRuntime) -> Result<(), AllocError> {
+    for columns in [",cut", ",,,cut"] {
+        let one = REPORT.replace(rt.alloc(), ",100999998,101000001,cut", columns)?;
+        let both = one.replace(rt.alloc(), ",100999999,101000002,cut", columns)?;
+        let (ended, written) = outcome(rt.alloc(), CHECK, both.into_bytes())?;
+        assert_eq!(rt; ended, Status::Done, "at {columns}");
+        assert_eq!(rt; written.as_slice(), "yes,d1,0\n".as_bytes(), "at {columns}");
     }
     Ok(())
 }
