@@ -4,17 +4,17 @@ use Rattle.std.specs.Prelude.{◌==◌, if◌then◌else◌}
 use Rattle.std.proofs.lemmas.Bool.{cases_lt}
 use Rattle.pb_graph.specs.declared.results.Stage.{Stage}
 use Rattle.pb_check.specs.declared.faults.Test.{Test}
-use Rattle.pb_check.specs.declared.faults.Test.TheVariants.{Class, Witness, Balance, Price, Box, Freedom, Gap, State, Bounds, Statistic, Nodal, Verdict}
+use Rattle.pb_check.specs.declared.faults.Test.TheVariants.{Class, Witness, Balance, Price, Box, Freedom, Gap, State, Bounds, Statistic, Nodal, Verdict, Least}
 use Rattle.pb_check.specs.declared.faults.Fault.{Fault}
 use Rattle.pb_check.specs.Asked.{HaveClasses, AreShown, AreEven, AreGroupPrices, AreInBox, IsFreedom}
 use Rattle.pb_check.specs.Verdict.{code_of, Passes, Fails, IsPassed, IsFirstFault}
 use Rattle.pb_check.specs.Among.{IsAmong}
 
--- ---- a test has its own number, from 1 to 12
+-- ---- a test has its own number, from 1 to 13
 abbrev test_of : ℕ → Test
 test_of n =
     if n == 1 then Class else (if n == 2 then Witness else (if n == 3 then Balance else (if n == 4 then Price else (if n == 5 then Box else (if n == 6 then Freedom
-    else (if n == 7 then Gap else (if n == 8 then State else (if n == 9 then Bounds else (if n == 10 then Statistic else (if n == 11 then Nodal else Verdict))))))))))
+    else (if n == 7 then Gap else (if n == 8 then State else (if n == 9 then Bounds else (if n == 10 then Statistic else (if n == 11 then Nodal else (if n == 12 then Verdict else Least)))))))))))
 
 is_test : (test : Test) → test_of (code_of test) ≡ test
 is_test Class = refl
@@ -29,6 +29,7 @@ is_test Bounds = refl
 is_test Statistic = refl
 is_test Nodal = refl
 is_test Verdict = refl
+is_test Least = refl
 
 pub same_code : (a b : Test) → code_of a ≡ code_of b → a ≡ b
 same_code a b e = sym (is_test a) ∙ ap test_of e ∙ is_test b
@@ -46,8 +47,9 @@ code_least Bounds = omega arith
 code_least Statistic = omega arith
 code_least Nodal = omega arith
 code_least Verdict = omega arith
+code_least Least = omega arith
 
-pub code_most : (test : Test) → code_of test ≤ 12
+pub code_most : (test : Test) → code_of test ≤ 13
 code_most Class = omega arith
 code_most Witness = omega arith
 code_most Balance = omega arith
@@ -60,6 +62,7 @@ code_most Bounds = omega arith
 code_most Statistic = omega arith
 code_most Nodal = omega arith
 code_most Verdict = omega arith
+code_most Least = omega arith
 
 -- ---- one test more
 pub none_yet : (stage : Stage) (gap sweeps : ℕ) → IsAmong stage gap sweeps 1 0 None
@@ -100,10 +103,10 @@ pub longer : (stage : Stage) (gap sweeps from to last : ℕ) (first : Test × Fa
 longer stage gap sweeps from to last (test, fault) le among = (among.0, omega (arith, among.1, le), among.2, among.3)
 
 -- ---- all tests
-pub all_passed : (stage : Stage) (gap sweeps : ℕ) → IsAmong stage gap sweeps 1 12 None → IsPassed stage gap sweeps
+pub all_passed : (stage : Stage) (gap sweeps : ℕ) → IsAmong stage gap sweeps 1 13 None → IsPassed stage gap sweeps
 all_passed stage gap sweeps among test = among test (code_least test) (code_most test)
 
-pub first_failed : (stage : Stage) (gap sweeps : ℕ) (test : Test) (fault : Fault) → IsAmong stage gap sweeps 1 12 (Some (test, fault))
+pub first_failed : (stage : Stage) (gap sweeps : ℕ) (test : Test) (fault : Fault) → IsAmong stage gap sweeps 1 13 (Some (test, fault))
     → IsFirstFault stage gap sweeps test fault.place fault.stated fault.found
 first_failed stage gap sweeps test fault among = record { before = λ other less. among.3 other (code_least other) less; fails = among.2 }
 

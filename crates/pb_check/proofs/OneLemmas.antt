@@ -22,16 +22,17 @@ use Rattle.pb_graph.specs.Balance.{net_of}
 use Rattle.pb_graph.specs.Prices.{IsInBox, rise_of}
 use Rattle.pb_dual.specs.Candidates.{room_of}
 use Rattle.pb_gap.specs.StreamBounds.{stream_bounds}
+use Rattle.pb_gap.specs.LeastBounds.{stream_least_bounds}
 use Rattle.pb_elim.specs.Printed.{printed_price, printed_flows, printed_gap}
 use Rattle.pb_elim.specs.Stage.{HasFreedom}
 use Rattle.pb_elim.specs.Certified.{IsMeasureVerdict, IsNodalVerdict, unjudged}
 use Rattle.pb_check.specs.declared.faults.Test.{Test}
-use Rattle.pb_check.specs.declared.faults.Test.TheVariants.{Class, Witness, Balance, Price, Box, Freedom, Gap, State, Bounds, Statistic, Nodal, Verdict}
+use Rattle.pb_check.specs.declared.faults.Test.TheVariants.{Class, Witness, Balance, Price, Box, Freedom, Gap, State, Bounds, Statistic, Nodal, Verdict, Least}
 use Rattle.pb_check.specs.declared.faults.Place.{Place}
 use Rattle.pb_check.specs.declared.faults.Place.TheVariants.{Node, Stream as StreamAt, Whole}
 use Rattle.pb_check.specs.declared.faults.Fault.{Fault}
-use Rattle.pb_check.specs.Asked.{HasClassAt, IsShownAt, IsEvenAt, HasGroupPriceAt, IsInBoxAt, HasBoundsAt, IsLeastOfGroup, AreVerdicts, AreNodalRows}
-use Rattle.pb_check.specs.Faults.{bounds_numbers, row_numbers, IsStreamFault, IsBalanceFault, IsPriceFault, IsBoxFault, IsFreedomFault, IsBoundsFault, IsRowAt, IsCountFault, IsRowFault, IsNodalRowsFault, IsNodalVerdictAt, IsMeasureVerdictAt, IsGlobalFault, IsNodalVerdictFault, IsMeasureVerdictFault}
+use Rattle.pb_check.specs.Asked.{HasClassAt, IsShownAt, IsEvenAt, HasGroupPriceAt, IsInBoxAt, HasBoundsAt, HasLeastBoundsAt, IsLeastOfGroup, AreVerdicts, AreNodalRows}
+use Rattle.pb_check.specs.Faults.{bounds_numbers, row_numbers, IsStreamFault, IsBalanceFault, IsPriceFault, IsBoxFault, IsFreedomFault, IsBoundsFault, IsRowAt, IsCountFault, IsRowFault, IsNodalRowsFault, IsNodalVerdictAt, IsMeasureVerdictAt, IsGlobalFault, IsNodalVerdictFault, IsMeasureVerdictFault, IsLeastFault}
 use Rattle.pb_check.specs.Verdict.{code_of, Passes, Fails}
 use Rattle.pb_check.specs.VerdictLaws.{HasFault, NotBothLaw, OneFaultLaw}
 use Rattle.pb_check.proofs.DecideLemmas.{one_first}
@@ -57,6 +58,9 @@ freedom_at stage dof = record { place = Whole; stated = pos stage.dof; found = p
 
 abbrev rule_at : Stage → ℕ → StreamResult → Option BoundsOf
 rule_at stage j r = stream_bounds (printed_price stage) stage.graph.streams (printed_gap stage) j r.classified
+
+abbrev least_rule_at : Stage → ℕ → StreamResult → Option BoundsOf
+least_rule_at stage j r = stream_least_bounds (printed_price stage) stage.graph.streams (printed_flows stage) (printed_gap stage) j r.classified
 
 abbrev bounds_at : ℕ → BoundsOf → BoundsOf → Fault
 bounds_at j stated found = record { place = StreamAt j; stated = (bounds_numbers stated found).0; found = (bounds_numbers stated found).1 }
@@ -118,6 +122,7 @@ not_both_of law stage gap sweeps Bounds fault passes fails = fails.first.without
 not_both_of law stage gap sweeps Statistic fault passes fails = fails.differs passes
 not_both_of law stage gap sweeps Nodal fault passes fails = no_nodal_fault law stage stage.tests fault passes fails
 not_both_of law stage gap sweeps Verdict fault passes fails = no_verdict_fault stage stage.tests fault passes fails
+not_both_of law stage gap sweeps Least fault passes fails = fails.first.without (λ result here. passes fails.have fails.stream result here)
 
 pub not_both_by : OneNodalTestsLaw → NotBothLaw
 not_both_by law stage gap sweeps limits formed passed fault =
@@ -156,6 +161,14 @@ bounds_one stage a b one other =
     let result : one.result ≡ other.result = some_same (sym one.result_is ∙ ap (slice_get stage.streams) same ∙ other.result_is) in
     let stated : one.stated ≡ other.stated = some_same (sym one.stated_is ∙ ap (λ (r : StreamResult). r.bounds) result ∙ other.stated_is) in
     let found : one.found ≡ other.found = some_same (sym one.found_is ∙ ap₂ (rule_at stage) same result ∙ other.found_is) in
+    one.is ∙ ap (λ (j : ℕ). bounds_at j one.stated one.found) same ∙ ap₂ (bounds_at other.stream) stated found ∙ sym other.is
+
+least_one : (stage : Stage) (a b : Fault) → IsLeastFault stage a → IsLeastFault stage b → a ≡ b
+least_one stage a b one other =
+    let same = one_first (HasLeastBoundsAt stage) (length stage.graph.streams) one.stream other.stream one.first other.first in
+    let result : one.result ≡ other.result = some_same (sym one.result_is ∙ ap (slice_get stage.streams) same ∙ other.result_is) in
+    let stated : one.stated ≡ other.stated = some_same (sym one.stated_is ∙ ap (λ (r : StreamResult). r.least) result ∙ other.stated_is) in
+    let found : one.found ≡ other.found = some_same (sym one.found_is ∙ ap₂ (least_rule_at stage) same result ∙ other.found_is) in
     one.is ∙ ap (λ (j : ℕ). bounds_at j one.stated one.found) same ∙ ap₂ (bounds_at other.stream) stated found ∙ sym other.is
 
 -- rows
@@ -213,6 +226,7 @@ one_of law stage gap sweeps Bounds a b one other = bounds_one stage a b one othe
 one_of law stage gap sweeps Statistic a b one other = one.is ∙ sym other.is
 one_of law stage gap sweeps Nodal a b one other = nodal_one law stage stage.tests a b one other
 one_of law stage gap sweeps Verdict a b one other = verdict_one stage stage.tests a b one other
+one_of law stage gap sweeps Least a b one other = least_one stage a b one other
 
 -- of two first faults neither test comes before the other
 abbrev fault_of : {stage : Stage} {gap sweeps : ℕ} → HasFault stage gap sweeps → Fault

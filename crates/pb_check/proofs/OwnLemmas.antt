@@ -1,6 +1,8 @@
 -- Each stage of a study passes.
-use Rattle.std.proofs.Common.{◌≡◌, ◌∙◌, ℕ, ℤ, List, Option, Some, None, is_some, slice_get, get_or, refl, sym, ap, subst, arith}
+use Rattle.std.proofs.Common.{◌≡◌, ◌∙◌, ◌&&◌, ℕ, ℤ, Bool, List, Option, Some, None, is_some, slice_get, get_or, refl, sym, ap, ap₂, subst, inl, inr, arith}
 use Rattle.std.specs.Prelude.{IfSome}
+use Rattle.std.proofs.lemmas.Bool.{cases_Bool}
+use Rattle.std.proofs.Math.Bool.{and-false, and-true}
 use Rattle.pb_integers.proofs.Lists.{some_same}
 use Rattle.pb_graph.specs.declared.records.Stream.{Stream}
 use Rattle.pb_graph.specs.declared.records.Class.{Class}
@@ -17,15 +19,17 @@ use Rattle.pb_graph.specs.Certificates.{Shows}
 use Rattle.pb_gap.specs.declared.gap.Gap.{Gap}
 use Rattle.pb_gap.specs.Gap.{MeetsGap, deviations_of, gap_of}
 use Rattle.pb_gap.specs.StreamBounds.{stream_bounds}
+use Rattle.pb_gap.specs.LeastBounds.{stream_least_bounds}
 use Rattle.pb_gap.specs.Solution.{IsSolution, OneStateLaw}
 use Rattle.pb_gap.specs.Laws.{AreGaps}
-use Rattle.pb_elim.specs.Printed.{printed_flows, printed_gap, printed_price}
-use Rattle.pb_elim.specs.Certified.{AreShownTests, IsShownStage}
+use Rattle.pb_elim.specs.Printed.{have_least, printed_flows, printed_gap, printed_price, HasLeastBounds}
+use Rattle.pb_elim.specs.Certified.{AreLeastBounds, AreShownTests, IsShownStage}
 use Rattle.pb_elim.specs.Laws.{CertifiedLaw, SolutionLaw}
-use Rattle.pb_check.specs.declared.faults.Test.TheVariants.{Class as ClassTest, Witness as WitnessTest, Balance, Price, Box, Freedom, Gap as GapTest, State, Bounds as BoundsTest, Statistic, Nodal, Verdict as VerdictTest}
+use Rattle.pb_check.specs.declared.faults.Test.TheVariants.{Class as ClassTest, Witness as WitnessTest, Balance, Price, Box, Freedom, Gap as GapTest, State, Bounds as BoundsTest, Statistic, Nodal, Verdict as VerdictTest, Least}
 use Rattle.pb_check.specs.Asked.{AreNodalRows, AreVerdicts, HasClass, IsStateAt, found_gap, is_bounded, is_of_measured}
 use Rattle.pb_check.specs.Verdict.{IsPassed}
 use Rattle.pb_check.specs.Laws.{OwnLaw}
+use Rattle.pb_check.proofs.FirstLemmas.{each_fails}
 
 -- ---- classes
 -- a class that is shown is that of the stream
@@ -48,14 +52,38 @@ class_bounded g j s Unobservable w price ss gap shows = refl
 class_bounded g j s Nonredundant w price ss gap shows = refl
 class_bounded g j s Observable (Cycle steps) price ss gap shows = absurd shows
 
-has_class : (stage : Stage) (j : ℕ) (s : Stream) (r : StreamResult) → IsShownStage stage → slice_get stage.graph.streams j ≡ Some s → slice_get stage.streams j ≡ Some r → HasClass s r
+-- and least bounds with them
+pub class_least_bounded : (g : ProcessGraph) (j : ℕ) (s : Stream) (class : Class) (w : Witness) (price : ℕ → ℤ) (ss : List Stream) (flows : List ℤ) (gap : Gap) → Shows g j s class w
+    → is_some (stream_least_bounds price ss flows gap j (record { class = class; witness = w })) ≡ is_bounded class
+class_least_bounded g j s Observable (Cut side members) price ss flows gap shows = refl
+class_least_bounded g j s Redundant w price ss flows gap shows = refl
+class_least_bounded g j s Unobservable w price ss flows gap shows = refl
+class_least_bounded g j s Nonredundant w price ss flows gap shows = refl
+class_least_bounded g j s Observable (Cycle steps) price ss flows gap shows = absurd shows
+
+-- a stream that has bounds has least bounds, where some stream has; none has, where none has
+least_beside : (stage : Stage) (j : ℕ) (s : Stream) (r : StreamResult) → (HasLeastBounds stage → AreLeastBounds stage) → slice_get stage.streams j ≡ Some r
+    → Shows stage.graph j s r.classified.class r.classified.witness → is_some r.bounds ≡ is_bounded r.classified.class
+    → is_some r.least ≡ (is_some r.bounds && have_least stage.streams)
+least_beside stage j s r numbers there shows bounded = elim (cases_Bool (have_least stage.streams)) [
+  | inl have ↦
+      let rule = class_least_bounded stage.graph j s r.classified.class r.classified.witness (printed_price stage) stage.graph.streams (printed_flows stage) (printed_gap stage) shows in
+      ap is_some (numbers have j r there) ∙ rule ∙ sym bounded ∙ sym (and-true (is_some r.bounds)) ∙ ap (λ (b : Bool). is_some r.bounds && b) (sym have)
+  | inr none ↦
+      each_fails (λ (r : StreamResult). is_some r.least) stage.streams j r none there ∙ sym (and-false (is_some r.bounds)) ∙ ap (λ (b : Bool). is_some r.bounds && b) (sym none)
+]
+
+has_class : (stage : Stage) (j : ℕ) (s : Stream) (r : StreamResult) → IsShownStage stage → slice_get stage.graph.streams j ≡ Some s → slice_get stage.streams j ≡ Some r
+    → HasClass (have_least stage.streams) s r
 has_class stage j s r shown at there =
     let (t, at_t, shows) = shown.shown j r there in
     let c = r.classified in
     let here : Shows stage.graph j s c.class c.witness = subst (λ (u : Stream). Shows stage.graph j u c.class c.witness) (some_same (sym at_t ∙ at)) shows in
+    let bounded = ap is_some (shown.numbers.bounded j r there) ∙ class_bounded stage.graph j s c.class c.witness (printed_price stage) stage.graph.streams (printed_gap stage) here in
     record {
       measured = class_measured stage.graph j s c.class c.witness here;
-      bounded = ap is_some (shown.numbers.bounded j r there) ∙ class_bounded stage.graph j s c.class c.witness (printed_price stage) stage.graph.streams (printed_gap stage) here;
+      bounded = bounded;
+      least_bounded = least_beside stage j s r shown.numbers.least_bounded there here bounded;
     }
 
 -- ---- the state
@@ -97,6 +125,7 @@ shown_passed gaps one stage gap sweeps shown solution =
     passes same Statistic = record { low = shown.numbers.from_below; high = shown.numbers.from_above }
     passes same Nodal = rows_if stage stage.tests shown.tests
     passes same VerdictTest = verdicts_if stage stage.tests shown.tests
+    passes same Least = shown.numbers.least_bounded
 
 pub own_by : AreGaps → CertifiedLaw → SolutionLaw → OneStateLaw → OwnLaw
 own_by gaps certified solved one graph options critical study limits is = λ k d lt.

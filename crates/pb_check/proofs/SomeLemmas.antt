@@ -1,16 +1,12 @@
 -- Each stage passes a test or fails it.
-use Rattle.std.proofs.Common.{◌≡◌, ◌∙◌, ◌⊎◌, ℕ, zero, suc, ◌<◌, ◌≤◌, ℤ, pos, ◌*ℤ◌, ◌==◌, true, false, List, [], ◌∷◌, length, map, All, Option, Some, None, slice_get, get_or, refl, sym, ap, ap₂, subst, inl, inr, arith}
+use Rattle.std.proofs.Common.{◌≡◌, ◌∙◌, ◌⊎◌, ℕ, zero, suc, ◌<◌, ◌≤◌, ℤ, pos, ◌*ℤ◌, ◌==◌, Bool, List, [], ◌∷◌, length, map, All, Option, Some, None, slice_get, get_or, refl, sym, ap, ap₂, subst, inl, inr, arith}
 use Rattle.std.specs.Prelude.{IfSome, IsSomeAnd, is_some, unsigned_abs, if◌then◌else◌}
 use Rattle.std.proofs.lemmas.List.{length-map}
-use Rattle.std.proofs.lemmas.Bool.{cases_eq, cases_lt}
+use Rattle.std.proofs.lemmas.Bool.{cases_Bool, cases_eq, cases_lt}
 use Rattle.std.proofs.lemmas.Option.{slice_get_within, slice_get-get_or}
 use Rattle.pb_integers.proofs.Lists.{some_same}
 use Rattle.pb_graph.specs.declared.records.Meas.{Meas}
 use Rattle.pb_graph.specs.declared.records.Stream.{Stream}
-use Rattle.pb_graph.specs.declared.records.Class.{Class}
-use Rattle.pb_graph.specs.declared.records.Class.TheVariants.{Observable, Unobservable, Redundant, Nonredundant}
-use Rattle.pb_graph.specs.declared.records.Witness.{Witness}
-use Rattle.pb_graph.specs.declared.records.Witness.TheVariants.{Cut, Cycle}
 use Rattle.pb_graph.specs.declared.results.Bounds.{Bounds as BoundsOf}
 use Rattle.pb_graph.specs.declared.results.Solved.{Solved}
 use Rattle.pb_graph.specs.declared.results.Solved.TheVariants.{Converged, Unconverged}
@@ -32,18 +28,21 @@ use Rattle.pb_forest.specs.Forest.{degrees_of_freedom}
 use Rattle.pb_forest.proofs.ForestLaws.{some_forest_law}
 use Rattle.pb_gap.specs.declared.gap.Gap.{Gap as GapOf}
 use Rattle.pb_gap.specs.StreamBounds.{stream_bounds}
+use Rattle.pb_gap.specs.LeastBounds.{stream_least_bounds}
 use Rattle.pb_gap.specs.Statistic.{high_of}
 use Rattle.pb_tests.specs.Laws.{SomeNodalTestsLaw}
 use Rattle.pb_tests.specs.Nodal.{AreNodalTests}
 use Rattle.pb_tests.specs.Verdicts.{global_verdict}
-use Rattle.pb_elim.specs.Printed.{printed_price, printed_flows, printed_gap}
+use Rattle.pb_elim.specs.Printed.{printed_price, printed_flows, printed_gap, have_least}
 use Rattle.pb_elim.specs.Certified.{IsMeasureVerdict, IsNodalVerdict, unjudged}
 use Rattle.pb_check.specs.declared.faults.Place.TheVariants.{Node, Stream as StreamAt}
 use Rattle.pb_check.specs.declared.faults.Fault.{Fault}
-use Rattle.pb_check.specs.Asked.{is_bounded, HasClass, HasClassAt, HaveClasses, IsShownAt, AreShown, IsEvenAt, AreEven, HasGroupPriceAt, AreGroupPrices, IsInBoxAt, AreInBox, IsFreedom, found_gap, IsGapOfFlows, IsStateAt, IsStateOfGap, HasBoundsAt, HaveBounds, found_low, IsStatistic, AreNodalRows, IsNodal, IsGlobalVerdict, AreVerdicts, IsJudged}
-use Rattle.pb_check.specs.Faults.{bounds_numbers, IsStreamFault, IsClassFault, IsWitnessFault, IsBalanceFault, IsPriceFault, IsBoxFault, IsFreedomFault, IsGapFault, IsStateFault, IsBoundsFault, IsStatisticFault, IsRowAt, IsCountFault, IsRowFault, IsNodalRowsFault, IsNodalFault, IsNodalVerdictAt, IsMeasureVerdictAt, IsGlobalFault, IsNodalVerdictFault, IsMeasureVerdictFault, IsVerdictFault}
+use Rattle.pb_check.specs.Asked.{is_bounded, HasClass, HasClassAt, HaveClasses, IsShownAt, AreShown, IsEvenAt, AreEven, HasGroupPriceAt, AreGroupPrices, IsInBoxAt, AreInBox, IsFreedom, found_gap, IsGapOfFlows, IsStateAt, IsStateOfGap, HasBoundsAt, HaveBounds, found_low, IsStatistic, AreNodalRows, IsNodal, IsGlobalVerdict, AreVerdicts, IsJudged, HasLeastBoundsAt, HaveLeastBounds}
+use Rattle.pb_check.specs.Faults.{bounds_numbers, IsStreamFault, IsClassFault, IsWitnessFault, IsBalanceFault, IsPriceFault, IsBoxFault, IsFreedomFault, IsGapFault, IsStateFault, IsBoundsFault, IsStatisticFault, IsRowAt, IsCountFault, IsRowFault, IsNodalRowsFault, IsNodalFault, IsNodalVerdictAt, IsMeasureVerdictAt, IsGlobalFault, IsNodalVerdictFault, IsMeasureVerdictFault, IsVerdictFault, IsLeastFault}
 use Rattle.pb_check.proofs.DecideLemmas.{decided_both, decided_as, decided_not, decided_if, each_or_first}
 use Rattle.pb_check.proofs.GroupLemmas.{prices_by_nodes, some_least, has_price}
+use Rattle.pb_check.proofs.OwnLemmas.{class_bounded}
+use Rattle.pb_check.proofs.StateLemmas.{result_least_bounded}
 use Rattle.pb_check.proofs.ShownLemmas.{int_decided, true_decided, bits_decided, option_decided, at_decided, shows_decided}
 
 -- a test is passed, or fails with a fault
@@ -67,9 +66,9 @@ stream_either stage P decided = elim (each_or_first P (length stage.graph.stream
 class_at_decided : (stage : Stage) (j : ℕ) → IsDecidable (HasClassAt stage j)
 class_at_decided stage j =
     decided_as (λ each s r here there. each s here r there) (λ each s here r there. each s r here there)
-    (at_decided (λ (s : Stream). (r : StreamResult) → slice_get stage.streams j ≡ Some r → HasClass s r)
-    (λ s. at_decided (λ (r : StreamResult). HasClass s r) (λ r. decided_as (λ p. record { measured = p.0; bounded = p.1 }) (λ h. (h.measured, h.bounded))
-    (decided_both (bits_decided _ _) (bits_decided _ _))) (slice_get stage.streams j)) (slice_get stage.graph.streams j))
+    (at_decided (λ (s : Stream). (r : StreamResult) → slice_get stage.streams j ≡ Some r → HasClass (have_least stage.streams) s r)
+    (λ s. at_decided (λ (r : StreamResult). HasClass (have_least stage.streams) s r) (λ r. decided_as (λ p. record { measured = p.0; bounded = p.1.0; least_bounded = p.1.1 }) (λ h. (h.measured, (h.bounded, h.least_bounded)))
+    (decided_both (bits_decided _ _) (decided_both (bits_decided _ _) (bits_decided _ _)))) (slice_get stage.streams j)) (slice_get stage.graph.streams j))
 
 pub class_either : (stage : Stage) → Either (HaveClasses stage) (IsClassFault stage)
 class_either stage = elim (stream_either stage (HasClassAt stage) (λ j lt. class_at_decided stage j)) [
@@ -198,23 +197,11 @@ pub record AreOther (printed rule : Option BoundsOf) : Type 0 where
   pub stated_is : printed ≡ Some stated
   pub found_is : rule ≡ Some found
 
-both_there : (printed rule : Option BoundsOf) → is_some printed ≡ true → is_some rule ≡ true → AreOther printed rule
-both_there None rule true_is also = cc true_is
-both_there (Some a) None true_is also = cc also
-both_there (Some a) (Some b) true_is also = record { stated = a; found = b; stated_is = refl; found_is = refl }
-
-both_absent : (printed rule : Option BoundsOf) → is_some printed ≡ false → rule ≡ None → printed ≡ rule
-both_absent None rule false_is none = sym none
-both_absent (Some a) rule false_is none = cc false_is
-
-other_bounds : (price : ℕ → ℤ) (ss : List Stream) (gap : GapOf) (g : ProcessGraph) (j : ℕ) (s : Stream) (class : Class) (w : Witness) (printed : Option BoundsOf)
-    → Shows g j s class w → is_some printed ≡ is_bounded class → (printed ≡ stream_bounds price ss gap j (record { class = class; witness = w }) → ⊥)
-    → AreOther printed (stream_bounds price ss gap j (record { class = class; witness = w }))
-other_bounds price ss gap g j s Unobservable w printed shows has ne = absurd (ne (both_absent printed _ has refl))
-other_bounds price ss gap g j s Redundant w printed shows has ne = both_there printed _ has refl
-other_bounds price ss gap g j s Nonredundant w printed shows has ne = both_there printed _ has refl
-other_bounds price ss gap g j s Observable (Cut side members) printed shows has ne = both_there printed _ has refl
-other_bounds price ss gap g j s Observable (Cycle steps) printed shows has ne = absurd shows
+other_of : (printed rule : Option BoundsOf) (b : Bool) → is_some printed ≡ b → is_some rule ≡ b → (printed ≡ rule → ⊥) → AreOther printed rule
+other_of None None b here there ne = absurd (ne refl)
+other_of None (Some y) b here there ne = cc (here, there)
+other_of (Some x) None b here there ne = cc (here, there)
+other_of (Some x) (Some y) b here there ne = record { stated = x; found = y; stated_is = refl; found_is = refl }
 
 pub bounds_either : (stage : Stage) → IsWellFormed stage → HaveClasses stage → AreShown stage → Either (HaveBounds stage) (IsBoundsFault stage)
 bounds_either stage formed classes shown =
@@ -227,8 +214,8 @@ bounds_either stage formed classes shown =
       | inr (j, first) ↦
           let (r, there) = some_at stage.streams j (omega (arith, first.within, formed.each_stream)) in
           let (s, here, shows) = shown j r there in
-          let has = classes j s r here there in
-          let other = other_bounds price ss gap stage.graph j s r.classified.class r.classified.witness r.bounds shows has.bounded
+          let rule = class_bounded stage.graph j s r.classified.class r.classified.witness price ss gap shows in
+          let other = other_of r.bounds (stream_bounds price ss gap j r.classified) (is_bounded r.classified.class) (classes j s r here there).bounded rule
           (λ e. first.without (λ t at. subst (λ (u : StreamResult). u.bounds ≡ stream_bounds price ss gap j u.classified) (some_same (sym there ∙ at)) e)) in
           let fault : Fault = record { place = StreamAt j; stated = (bounds_numbers other.stated other.found).0; found = (bounds_numbers other.stated other.found).1 } in
           inr (fault, record { stream = j; result = r; stated = other.stated; found = other.found; first = first; result_is = there; stated_is = other.stated_is; found_is = other.found_is; is = refl {a = fault} })
@@ -341,3 +328,24 @@ judged_by stage (Some tests) = verdicts_by stage tests
 
 pub verdict_either : (stage : Stage) → Either (IsJudged stage) (IsVerdictFault stage)
 verdict_either stage = judged_by stage stage.tests
+
+-- ---- 13
+pub least_either : (stage : Stage) → IsWellFormed stage → HaveClasses stage → AreShown stage → Either (HaveLeastBounds stage) (IsLeastFault stage)
+least_either stage formed classes shown =
+    let price = printed_price stage in
+    let ss = stage.graph.streams in
+    let flows = printed_flows stage in
+    let gap = printed_gap stage in
+    elim (cases_Bool (have_least stage.streams)) [
+      | inr none ↦ inl (λ have. cc (none, have))
+      | inl have ↦ elim (each_or_first (HasLeastBoundsAt stage) (length ss)
+          (λ j lt. at_decided (λ (r : StreamResult). r.least ≡ stream_least_bounds price ss flows gap j r.classified) (λ r. option_decided bounds_decided _ _) (slice_get stage.streams j))) [
+            | inl each ↦ inl (λ have j r there. each j (omega (arith, slice_get_within stage.streams j r there, formed.each_stream)) r there)
+            | inr (j, first) ↦
+                let (r, there) = some_at stage.streams j (omega (arith, first.within, formed.each_stream)) in
+                let other = other_of r.least (stream_least_bounds price ss flows gap j r.classified) _ (result_least_bounded stage j r have classes shown there) refl
+                (λ e. first.without (λ t at. subst (λ (u : StreamResult). u.least ≡ stream_least_bounds price ss flows gap j u.classified) (some_same (sym there ∙ at)) e)) in
+                let fault : Fault = record { place = StreamAt j; stated = (bounds_numbers other.stated other.found).0; found = (bounds_numbers other.stated other.found).1 } in
+                inr (fault, record { have = have; stream = j; result = r; stated = other.stated; found = other.found; first = first; result_is = there; stated_is = other.stated_is; found_is = other.found_is; is = refl {a = fault} })
+          ]
+    ]

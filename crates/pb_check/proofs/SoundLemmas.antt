@@ -13,7 +13,7 @@ use Rattle.pb_gap.specs.Laws.{AreGaps}
 use Rattle.pb_elim.specs.Printed.{printed_flows, printed_gap, printed_price}
 use Rattle.pb_elim.specs.Certified.{AreShownTests, IsShownStage}
 use Rattle.pb_elim.specs.Laws.{ShownLaw}
-use Rattle.pb_check.specs.declared.faults.Test.TheVariants.{Witness as WitnessTest, Balance, Price, Box, Freedom, Gap as GapTest, State, Bounds, Statistic, Nodal, Verdict as VerdictTest}
+use Rattle.pb_check.specs.declared.faults.Test.TheVariants.{Witness as WitnessTest, Balance, Price, Box, Freedom, Gap as GapTest, State, Bounds, Statistic, Nodal, Verdict as VerdictTest, Least}
 use Rattle.pb_check.specs.Asked.{AreNodalRows, AreVerdicts, IsStateAt, found_gap}
 use Rattle.pb_check.specs.Verdict.{IsPassed}
 use Rattle.pb_check.specs.Laws.{SoundLaw, is_converged}
@@ -41,6 +41,7 @@ passed_shown gaps stage gap sweeps limits formed passed =
       numbers = record {
         deviation = subst (IsGap deviations) (sym (passed GapTest)) (gaps.is deviations);
         bounded = passed Bounds;
+        least_bounded = passed Least;
         freedom = passed Freedom;
         from_below = (passed Statistic).low;
         from_above = (passed Statistic).high;

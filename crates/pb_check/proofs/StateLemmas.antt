@@ -1,6 +1,7 @@
 -- What the pair of a stage says of its gap, its bounds and its measured flows.
-use Rattle.std.proofs.Common.{◌≡◌, ◌∙◌, ◌↔◌, ℕ, zero, suc, ◌<◌, ◌≤◌, ℤ, List, [], ◌∷◌, length, map, Option, Some, is_some, slice_get, get_or, All, refl, sym, ap, subst, arith}
+use Rattle.std.proofs.Common.{◌≡◌, ◌∙◌, ◌↔◌, ◌&&◌, Bool, ℕ, zero, suc, ◌<◌, ◌≤◌, ℤ, List, [], ◌∷◌, length, map, Option, Some, is_some, slice_get, get_or, All, refl, sym, ap, ap₂, subst, arith}
 use Rattle.std.specs.Prelude.{IfSome}
+use Rattle.std.proofs.Math.Bool.{and-true}
 use Rattle.std.proofs.lemmas.List.{length-map}
 use Rattle.std.proofs.lemmas.Option.{slice_get-get_or, slice_get_within}
 use Rattle.pb_integers.proofs.Lists.{all_each, some_same}
@@ -19,14 +20,15 @@ use Rattle.pb_gap.specs.Gap.{MeetsGap, gap_of, standard_deviations_of}
 use Rattle.pb_gap.specs.FlowPair.{AreMeasured, PairedFlows}
 use Rattle.pb_gap.specs.Bounds.{AreSigned}
 use Rattle.pb_gap.specs.StreamBounds.{stream_bounds, sum_for}
+use Rattle.pb_gap.specs.LeastBounds.{stream_least_bounds}
 use Rattle.pb_gap.specs.Laws.{StreamSumLaw, SumsTo}
-use Rattle.pb_elim.specs.Printed.{printed_flows, printed_gap, printed_price}
+use Rattle.pb_elim.specs.Printed.{printed_flows, printed_gap, printed_price, HasLeastBounds}
 use Rattle.pb_elim.specs.Signs.{AreWitnessSigns}
 use Rattle.pb_check.specs.declared.faults.Fault.{Fault}
-use Rattle.pb_check.specs.Asked.{AreShown, HasBoundsAt, HaveBounds, HaveClasses, IsGapOfFlows, found_gap}
-use Rattle.pb_check.specs.Faults.{IsBoundsFault}
+use Rattle.pb_check.specs.Asked.{AreShown, HasBoundsAt, HasLeastBoundsAt, HaveBounds, HaveClasses, HaveLeastBounds, IsGapOfFlows, found_gap, is_bounded}
+use Rattle.pb_check.specs.Faults.{IsBoundsFault, IsLeastFault}
 use Rattle.pb_check.specs.Pairs.{DifferAt, IsPairOf}
-use Rattle.pb_check.proofs.OwnLemmas.{class_bounded}
+use Rattle.pb_check.proofs.OwnLemmas.{class_bounded, class_least_bounded}
 
 -- ---- the gap
 pub found_is : (stage : Stage) (pair : PairedFlows) → IsPairOf stage pair → gap_of (printed_price stage) pair.graph.streams pair.flows ≡ found_gap stage
@@ -56,6 +58,15 @@ pub result_bounded : (stage : Stage) (j : ℕ) (r : StreamResult) → HaveClasse
 result_bounded stage j r classes shown at =
     let (s, there, shows) = shown j r at in
     (classes j s r there at).bounded ∙ sym (class_bounded stage.graph j s r.classified.class r.classified.witness (printed_price stage) stage.graph.streams (printed_gap stage) shows)
+
+-- and least bounds, where the stage has any, exactly where the rule gives it some
+pub result_least_bounded : (stage : Stage) (j : ℕ) (r : StreamResult) → HasLeastBounds stage → HaveClasses stage → AreShown stage → slice_get stage.streams j ≡ Some r
+    → is_some r.least ≡ is_some (stream_least_bounds (printed_price stage) stage.graph.streams (printed_flows stage) (printed_gap stage) j r.classified)
+result_least_bounded stage j r have classes shown at =
+    let (s, there, shows) = shown j r at in
+    let has = classes j s r there at in
+    has.least_bounded ∙ ap₂ (λ (a b : Bool). a && b) has.bounded have ∙ and-true (is_bounded r.classified.class)
+    ∙ sym (class_least_bounded stage.graph j s r.classified.class r.classified.witness (printed_price stage) stage.graph.streams (printed_flows stage) (printed_gap stage) shows)
 
 -- ---- flows
 from_map : (xs : List StreamResult) (k : ℕ) (y : ℤ) → slice_get (map (λ (r : StreamResult). r.flow) xs) k ≡ Some y → (x : StreamResult) × (slice_get xs k ≡ Some x) × (x.flow ≡ y)
@@ -117,3 +128,35 @@ bounds_here stage j r found at found_is same q there =
 
 pub all_bounds : (stage : Stage) (n : ℕ) → length stage.streams ≤ n → ((k : ℕ) → k < n → HasBoundsAt stage k) → HaveBounds stage
 all_bounds stage n end each j r at = each j (omega (arith, slice_get_within stage.streams j r at, end)) r at
+
+-- the first stream that has other least bounds than the rule gives
+pub least_fail : (stage : Stage) (j : ℕ) (r : StreamResult) (found : Option Bounds) (fault : Fault) → HasLeastBounds stage → IsWellFormed stage → slice_get stage.streams j ≡ Some r
+    → found ≡ stream_least_bounds (printed_price stage) stage.graph.streams (printed_flows stage) (printed_gap stage) j r.classified
+    → ((k : ℕ) → k < j → HasLeastBoundsAt stage k) → DifferAt j r.least found fault
+    → IsLeastFault stage fault
+least_fail stage j r found fault have formed at found_is before differ = record {
+  have = have;
+  stream = j;
+  result = r;
+  stated = differ.here;
+  found = differ.there;
+  first = record {
+    within = omega (arith, slice_get_within stage.streams j r at, formed.each_stream);
+    before = before;
+    without = λ all. differ.differ (some_same (sym differ.stated_is ∙ all r at ∙ sym found_is ∙ differ.found_is));
+  };
+  result_is = at;
+  stated_is = differ.stated_is;
+  found_is = sym found_is ∙ differ.found_is;
+  is = differ.is;
+}
+
+-- the stream at a place has the least bounds that the rule gives
+pub least_here : (stage : Stage) (j : ℕ) (r : StreamResult) (found : Option Bounds) → slice_get stage.streams j ≡ Some r
+    → found ≡ stream_least_bounds (printed_price stage) stage.graph.streams (printed_flows stage) (printed_gap stage) j r.classified → r.least ≡ found → HasLeastBoundsAt stage j
+least_here stage j r found at found_is same q there =
+    subst (λ (r : StreamResult). r.least ≡ stream_least_bounds (printed_price stage) stage.graph.streams (printed_flows stage) (printed_gap stage) j r.classified)
+    (some_same (sym at ∙ there)) (same ∙ found_is)
+
+pub all_least : (stage : Stage) (n : ℕ) → length stage.streams ≤ n → ((k : ℕ) → k < n → HasLeastBoundsAt stage k) → HaveLeastBounds stage
+all_least stage n end each have j r at = each j (omega (arith, slice_get_within stage.streams j r at, end)) r at

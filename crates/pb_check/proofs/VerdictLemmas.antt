@@ -7,14 +7,14 @@ use Rattle.pb_graph.specs.declared.results.Stage.{Stage}
 use Rattle.pb_graph.specs.WellFormed.{IsNodalWithin, IsMeasureWithin, AreTestsWithin, IsWellFormed}
 use Rattle.pb_tests.specs.Laws.{SomeNodalTestsLaw}
 use Rattle.pb_check.specs.declared.faults.Test.{Test}
-use Rattle.pb_check.specs.declared.faults.Test.TheVariants.{Class, Witness, Balance, Price, Box, Freedom, Gap, State, Bounds, Statistic, Nodal, Verdict}
+use Rattle.pb_check.specs.declared.faults.Test.TheVariants.{Class, Witness, Balance, Price, Box, Freedom, Gap, State, Bounds, Statistic, Nodal, Verdict, Least}
 use Rattle.pb_check.specs.declared.faults.Fault.{Fault}
 use Rattle.pb_check.specs.Faults.{IsNodalRowsFault, IsGlobalFault, IsNodalVerdictFault, IsMeasureVerdictFault}
 use Rattle.pb_check.specs.Verdict.{code_of, Passes, Fails, IsPlaceWithin}
 use Rattle.pb_check.specs.VerdictLaws.{HasFault, SomeVerdictLaw, PlaceLaw}
 use Rattle.pb_check.specs.Among.{IsAmong}
 use Rattle.pb_check.proofs.AmongLemmas.{none_yet, passed, code_least, all_passed}
-use Rattle.pb_check.proofs.SomeLemmas.{Either, class_either, witness_either, balance_either, price_either, box_either, freedom_either, gap_either, state_either, bounds_either, statistic_either, nodal_either, verdict_either}
+use Rattle.pb_check.proofs.SomeLemmas.{Either, class_either, witness_either, balance_either, price_either, box_either, freedom_either, gap_either, state_either, bounds_either, statistic_either, nodal_either, verdict_either, least_either}
 
 -- ---- one test more
 abbrev Outcome : Stage → ℕ → ℕ → ℕ → Type 0
@@ -51,7 +51,8 @@ some_verdict_by law stage gap sweeps limits formed =
     let ten = step stage gap sweeps 9 Statistic refl nine (λ among. statistic_either stage) in
     let eleven = step stage gap sweeps 10 Nodal refl ten (λ among. nodal_either law stage limits) in
     let twelve = step stage gap sweeps 11 Verdict refl eleven (λ among. verdict_either stage) in
-    elim twelve [ inl among ↦ inl (all_passed stage gap sweeps among) | inr fault ↦ inr fault ]
+    let thirteen = step stage gap sweeps 12 Least refl twelve (λ among. least_either stage formed (among Class (omega arith) (omega arith)) (among Witness (omega arith) (omega arith))) in
+    elim thirteen [ inl among ↦ inl (all_passed stage gap sweeps among) | inr fault ↦ inr fault ]
 
 -- ---- places
 within_by : (stage : Stage) (a b : Fault) → a ≡ b → IsPlaceWithin stage b.place → IsPlaceWithin stage a.place
@@ -88,6 +89,7 @@ place_of stage gap sweeps Bounds fault formed fails = within_by stage fault _ fa
 place_of stage gap sweeps Statistic fault formed fails = within_by stage fault _ fails.is tt
 place_of stage gap sweeps Nodal fault formed fails = rows_within stage stage.tests fault formed.tests fails
 place_of stage gap sweeps Verdict fault formed fails = verdicts_within stage stage.tests fault formed.each_stream formed.tests fails
+place_of stage gap sweeps Least fault formed fails = within_by stage fault _ fails.is (omega (arith, fails.first.within, formed.each_stream))
 
 pub place_law : PlaceLaw
 place_law stage gap sweeps formed fault =

@@ -1,5 +1,5 @@
 -- Statement. What each test asks of a stage, and of each of its nodes and streams.
-use Rattle.std.specs.Prelude.{◌≡◌, ◌≤◌, ◌<◌, ℕ, ℤ, pos, Bool, true, false, map, None, Some, All, IfSome, is_some, slice_get}
+use Rattle.std.specs.Prelude.{◌≡◌, ◌≤◌, ◌<◌, ◌&&◌, ℕ, ℤ, pos, Bool, true, false, map, None, Some, All, IfSome, is_some, slice_get}
 use Rattle.pb_graph.specs.declared.records.Stream.{Stream}
 use Rattle.pb_graph.specs.declared.records.Class.{Class}
 use Rattle.pb_graph.specs.declared.records.Class.TheVariants.{Unobservable, Redundant, Nonredundant}
@@ -16,12 +16,13 @@ use Rattle.pb_graph.specs.Prices.{IsInBox}
 use Rattle.pb_gap.specs.declared.gap.Gap.{Gap}
 use Rattle.pb_gap.specs.Gap.{MeetsGap, gap_of}
 use Rattle.pb_gap.specs.StreamBounds.{stream_bounds}
+use Rattle.pb_gap.specs.LeastBounds.{stream_least_bounds}
 use Rattle.pb_gap.specs.Statistic.{low_of, high_of}
 use Rattle.pb_tests.specs.Nodal.{AreNodalTests}
 use Rattle.pb_tests.specs.Verdicts.{global_verdict}
-use Rattle.pb_elim.specs.Printed.{printed_price, printed_flows, printed_gap, EachStream}
+use Rattle.pb_elim.specs.Printed.{printed_price, printed_flows, printed_gap, have_least, EachStream, HasLeastBounds}
 use Rattle.pb_elim.specs.Stage.{HasFreedom}
-use Rattle.pb_elim.specs.Certified.{IsMeasureVerdict, IsNodalVerdict, unjudged}
+use Rattle.pb_elim.specs.Certified.{AreLeastBounds, IsMeasureVerdict, IsNodalVerdict, unjudged}
 
 -- ---- 1. class
 -- whether a class is that of a measured stream
@@ -35,16 +36,18 @@ abbrev pub is_bounded : Class → Bool
 is_bounded Unobservable = false
 is_bounded class = true
 
--- a stream has a class of measured streams exactly where it is measured, and bounds exactly where it isn't unobservable
-pub record HasClass (stream : Stream) (result : StreamResult) : Type 0 where
+-- A stream has a class of measured streams exactly where it is measured, bounds exactly where it isn't unobservable, and least bounds
+-- exactly where it has bounds and its stage has least bounds.
+pub record HasClass (in_stage : Bool) (stream : Stream) (result : StreamResult) : Type 0 where
   pub measured : is_of_measured result.classified.class ≡ is_measured stream
   pub bounded : is_some result.bounds ≡ is_bounded result.classified.class
+  pub least_bounded : is_some result.least ≡ (is_some result.bounds && in_stage)
 
 -- the stream at a place has
 abbrev pub HasClassAt : Stage → ℕ → Type 0
 HasClassAt stage j =
     (stream : Stream) (result : StreamResult) → slice_get stage.graph.streams j ≡ Some stream
-    → slice_get stage.streams j ≡ Some result → HasClass stream result
+    → slice_get stage.streams j ≡ Some result → HasClass (have_least stage.streams) stream result
 
 -- each stream has
 abbrev pub HaveClasses : Stage → Type 0
@@ -174,3 +177,16 @@ pub record AreVerdicts (stage : Stage) (tests : Tests) : Type 0 where
 -- where there are tests
 abbrev pub IsJudged : Stage → Type 0
 IsJudged stage = IfSome stage.tests (AreVerdicts stage)
+
+-- ---- 13. least bounds
+-- the least bounds of the stream at a place are those of the printed flows, prices, gap and certificate
+abbrev pub HasLeastBoundsAt : Stage → ℕ → Type 0
+HasLeastBoundsAt stage j =
+    (result : StreamResult) → slice_get stage.streams j ≡ Some result
+    → result.least
+    ≡ stream_least_bounds (printed_price stage) stage.graph.streams (printed_flows stage)
+    (printed_gap stage) j result.classified
+
+-- those of each stream are, where the stage has least bounds
+abbrev pub HaveLeastBounds : Stage → Type 0
+HaveLeastBounds stage = HasLeastBounds stage → AreLeastBounds stage

@@ -16,15 +16,16 @@ use Rattle.pb_graph.specs.WellFormed.{sweeps_of}
 use Rattle.pb_dual.specs.Candidates.{room_of}
 use Rattle.pb_gap.specs.declared.gap.Gap.{Gap}
 use Rattle.pb_gap.specs.StreamBounds.{stream_bounds}
+use Rattle.pb_gap.specs.LeastBounds.{stream_least_bounds}
 use Rattle.pb_gap.specs.Statistic.{high_of}
 use Rattle.pb_tests.specs.Nodal.{AreNodalTests}
-use Rattle.pb_elim.specs.Printed.{printed_price, printed_flows, printed_gap}
+use Rattle.pb_elim.specs.Printed.{printed_price, printed_flows, printed_gap, HasLeastBounds}
 use Rattle.pb_elim.specs.Stage.{HasFreedom}
 use Rattle.pb_elim.specs.Certified.{IsMeasureVerdict, IsNodalVerdict, unjudged}
 use Rattle.pb_check.specs.declared.faults.Fault.{Fault}
 use Rattle.pb_check.specs.declared.faults.Place.TheVariants.{Node, Stream as StreamAt, Whole}
 use Rattle.pb_check.specs.First.{IsFirstWithout}
-use Rattle.pb_check.specs.Asked.{HasClassAt, IsShownAt, IsEvenAt, IsLeastOfGroup, HasGroupPriceAt, IsInBoxAt, found_gap, IsGapOfFlows, IsStateOfGap, HasBoundsAt, found_low, IsStatistic, IsGlobalVerdict}
+use Rattle.pb_check.specs.Asked.{HasClassAt, IsShownAt, IsEvenAt, IsLeastOfGroup, HasGroupPriceAt, IsInBoxAt, found_gap, IsGapOfFlows, IsStateOfGap, HasBoundsAt, HasLeastBoundsAt, found_low, IsStatistic, IsGlobalVerdict}
 
 -- of two pairs of numbers, each stated and found, the first that differ; the second where the first agree
 abbrev pub first_differing : ℤ → ℤ → ℤ → ℤ → ℤ × ℤ
@@ -233,3 +234,25 @@ abbrev pub IsVerdictFault : Stage → Fault → Type 0
 IsVerdictFault stage fault =
     IsSomeAnd stage.tests (λ tests. IsGlobalFault stage tests fault
     ⊎ (IsNodalVerdictFault stage tests fault ⊎ IsMeasureVerdictFault stage tests fault))
+
+-- ---- 13: least_lo of the first stream with other least bounds, in a stage that has some, beside that of the rule; where it is that,
+-- least_hi
+pub record IsLeastFault (stage : Stage) (fault : Fault) : Type 0 where
+  pub have : HasLeastBounds stage
+  pub stream : ℕ
+  pub result : StreamResult
+  pub stated : Bounds
+  pub found : Bounds
+  pub first : IsFirstWithout (HasLeastBoundsAt stage) (length stage.graph.streams) stream
+  pub result_is : slice_get stage.streams stream ≡ Some result
+  pub stated_is : result.least ≡ Some stated
+  pub found_is :
+      stream_least_bounds (printed_price stage) stage.graph.streams (printed_flows stage)
+      (printed_gap stage) stream result.classified
+      ≡ Some found
+  pub is :
+      fault ≡ record {
+        place = StreamAt stream;
+        stated = (bounds_numbers stated found).0;
+        found = (bounds_numbers stated found).1;
+      }

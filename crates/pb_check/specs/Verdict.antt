@@ -2,14 +2,14 @@
 use Rattle.std.specs.Prelude.{ℕ, ℤ, ◌<◌, length}
 use Rattle.pb_graph.specs.declared.results.Stage.{Stage}
 use Rattle.pb_check.specs.declared.faults.Test.{Test}
-use Rattle.pb_check.specs.declared.faults.Test.TheVariants.{Class, Witness, Balance, Price, Box, Freedom, Gap, State, Bounds, Statistic, Nodal, Verdict}
+use Rattle.pb_check.specs.declared.faults.Test.TheVariants.{Class, Witness, Balance, Price, Box, Freedom, Gap, State, Bounds, Statistic, Nodal, Verdict, Least}
 use Rattle.pb_check.specs.declared.faults.Place.{Place}
 use Rattle.pb_check.specs.declared.faults.Place.TheVariants.{Node, Stream, Whole}
 use Rattle.pb_check.specs.declared.faults.CheckFault.{CheckFault}
 use Rattle.pb_check.specs.declared.faults.CheckFault.TheVariants.{At, NoMemory}
 use Rattle.pb_check.specs.declared.faults.Fault.{Fault}
-use Rattle.pb_check.specs.Asked.{HaveClasses, AreShown, AreEven, AreGroupPrices, AreInBox, IsFreedom, IsGapOfFlows, IsStateOfGap, HaveBounds, IsStatistic, IsNodal, IsJudged}
-use Rattle.pb_check.specs.Faults.{IsClassFault, IsWitnessFault, IsBalanceFault, IsPriceFault, IsBoxFault, IsFreedomFault, IsGapFault, IsStateFault, IsBoundsFault, IsStatisticFault, IsNodalFault, IsVerdictFault}
+use Rattle.pb_check.specs.Asked.{HaveClasses, AreShown, AreEven, AreGroupPrices, AreInBox, IsFreedom, IsGapOfFlows, IsStateOfGap, HaveBounds, IsStatistic, IsNodal, IsJudged, HaveLeastBounds}
+use Rattle.pb_check.specs.Faults.{IsClassFault, IsWitnessFault, IsBalanceFault, IsPriceFault, IsBoxFault, IsFreedomFault, IsGapFault, IsStateFault, IsBoundsFault, IsStatisticFault, IsNodalFault, IsVerdictFault, IsLeastFault}
 
 -- the number of a test, from 1: the tests are made in this order
 abbrev pub code_of : Test → ℕ
@@ -25,6 +25,7 @@ code_of Bounds = 9
 code_of Statistic = 10
 code_of Nodal = 11
 code_of Verdict = 12
+code_of Least = 13
 
 -- what a test asks of a stage that was to meet this gap in these sweeps
 abbrev pub Passes : Stage → ℕ → ℕ → Test → Type 0
@@ -40,6 +41,7 @@ Passes stage gap sweeps Bounds = HaveBounds stage
 Passes stage gap sweeps Statistic = IsStatistic stage
 Passes stage gap sweeps Nodal = IsNodal stage
 Passes stage gap sweeps Verdict = IsJudged stage
+Passes stage gap sweeps Least = HaveLeastBounds stage
 
 -- what it answers where it fails
 abbrev pub Fails : Stage → ℕ → ℕ → Test → Fault → Type 0
@@ -55,6 +57,7 @@ Fails stage gap sweeps Bounds = IsBoundsFault stage
 Fails stage gap sweeps Statistic = IsStatisticFault stage
 Fails stage gap sweeps Nodal = IsNodalFault stage
 Fails stage gap sweeps Verdict = IsVerdictFault stage
+Fails stage gap sweeps Least = IsLeastFault stage
 
 -- A stage passes where it passes all tests.
 abbrev pub IsPassed : Stage → ℕ → ℕ → Type 0

@@ -55,8 +55,12 @@ fn bounds_at(stream: u32, stated: i128, found: i128) -> Fault
     }
 }
 
-// Where the bounds of a stream differ, the first number that does: lo, and then hi.
-fn bounds_difference(stream: u32, stated: Option<Bounds>, found: Option<Bounds>) -> Option<Fault>
+/// Where the bounds of a stream differ, the first number that does: lo, and then hi.
+pub fn bounds_difference(
+    stream: u32,
+    stated: Option<Bounds>,
+    found: Option<Bounds>,
+) -> Option<Fault>
     requires { is_some stated ≡ is_some found }
     ensures { MatchOption result (stated ≡ found) (DifferAt stream stated found) }
 {

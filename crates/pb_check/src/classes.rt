@@ -7,11 +7,13 @@ ghost use Rattle.pb_graph.specs.declared.records.Step.{Step};
 ghost use Rattle.pb_graph.specs.declared.records.Stream.{Stream};
 ghost use Rattle.pb_graph.specs.Certificates.{CutsOff, GoesRound, Shows};
 ghost use Rattle.pb_graph.specs.WellFormed.{IsWellFormed};
+ghost use Rattle.pb_elim.specs.Printed.{have_least};
 ghost use Rattle.pb_check.specs.Others.{IsOtherMeasured, IsOtherUnmeasured};
 ghost use Rattle.pb_check.specs.Asked.{is_of_measured, is_bounded, HasClass, HasClassAt, HaveClasses, IsShownAt, AreShown};
 ghost use Rattle.pb_check.specs.Faults.{IsClassFault, IsWitnessFault};
 
 use crate::faults::{Fault, at_stream};
+use crate::least::have_least;
 use pb_graph::{Class, Graph, Member, Stage, Step, Stream, StreamResult, Witness};
 
 // Whether a class is that of a measured stream.
@@ -28,30 +30,41 @@ fn is_bounded(class: Class) -> bool
     !matches!(class, Class::Unobservable)
 }
 
-// Whether a stream has a class of measured streams exactly where it is measured, and bounds exactly where it isn't unobservable.
-fn has_class(stream: &Stream, printed: &StreamResult) -> bool
-    ensures { IsTrue result ↔ HasClass stream.now printed.now }
+// Whether a stream has a class of measured streams exactly where it is measured, bounds exactly where it isn't unobservable, and least
+// bounds exactly where it has bounds and its stage has least bounds.
+fn has_class(in_stage: bool, stream: &Stream, printed: &StreamResult) -> bool
+    ensures { IsTrue result ↔ HasClass in_stage stream.now printed.now }
 {
     let class = printed.classified.class;
-    is_of_measured(class) == stream.meas.is_some() && printed.bounds.is_some() == is_bounded(class)
+    let bounded = printed.bounds.is_some();
+    is_of_measured(class) == stream.meas.is_some()
+        && bounded == is_bounded(class)
+        && printed.least.is_some() == (bounded && in_stage)
 }
 
 // Whether the stream at a place has.
-fn has_class_at(stage: &Stage, j: u32) -> bool
+fn has_class_at(stage: &Stage, in_stage: bool, j: u32) -> bool
     requires formed { IsWellFormed stage.now }
+    requires in_stage { in_stage ≡ have_least stage.now.streams }
     requires place { j < length stage.now.graph.streams }
     ensures { IsTrue result ↔ HasClassAt stage.now j }
 {
-    has_class(&stage.graph.stream(j), stage.streams.at(j as usize))
+    has_class(
+        in_stage,
+        &stage.graph.stream(j),
+        stage.streams.at(j as usize),
+    )
 }
 
-/// Test 1: each stream has a class of measured streams exactly where it is measured, and bounds exactly where it isn't unobservable.
+/// Test 1: each stream has a class of measured streams exactly where it is measured, bounds exactly where it isn't unobservable, and
+/// least bounds exactly where it has bounds and some stream has least bounds.
 pub fn class_fault(stage: &Stage) -> Option<Fault>
     requires { IsWellFormed stage.now }
     ensures { MatchOption result (HaveClasses stage.now) (IsClassFault stage.now) }
 {
+    let in_stage = have_least(stage.streams.as_slice());
     for j in 0..stage.graph.len() {
-        if !has_class_at(stage, j) {
+        if !has_class_at(stage, in_stage, j) {
             return Some(at_stream(j));
         }
     }

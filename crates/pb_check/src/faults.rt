@@ -7,7 +7,8 @@ ghost use Rattle.pb_check.specs.Verdict.{code_of};
 /// The tests of a stage, in their order.
 #[derive(Clone, Copy, Debug, PartialEq, Eq)]
 pub enum Test {
-    /// The class is one of a measured stream exactly where the stream is measured, and there are bounds unless it is unobservable.
+    /// The class is one of a measured stream exactly where the stream is measured, there are bounds unless it is unobservable, and there
+    /// are least bounds beside the bounds where the stage has any, and else none.
     Class,
     /// The printed cut or cycle shows the class.
     Witness,
@@ -31,6 +32,8 @@ pub enum Test {
     Nodal,
     /// Each verdict follows from the printed numbers.
     Verdict,
+    /// The least bounds, where there are any, are those of the flows, the prices, the gap and the certificate.
+    Least,
 }
 
 impl Test {
@@ -51,6 +54,7 @@ impl Test {
             Test::Statistic => 10,
             Test::Nodal => 11,
             Test::Verdict => 12,
+            Test::Least => 13,
         }
     }
 }

@@ -7,9 +7,8 @@ ghost use Rattle.pb_check.specs.Verdict.{IsPassed, IsRefusal, IsRefusalWithin};
 ghost use Rattle.pb_check.specs.Among.{IsAmong};
 
 use crate::faults::{CheckFault, Fault, Test};
+use crate::flows::first_of_flows;
 use crate::graphs::first_of_graph;
-use crate::numbers::first_of_numbers;
-use crate::rows::first_of_tests;
 use pb_graph::Stage;
 use std::alloc::{AllocError, Global};
 
@@ -24,15 +23,12 @@ fn first_of_all(
     requires some { 1 ≤ gap }
     requires most { gap ≤ most_gap }
     requires sweeps { sweeps ≤ most_sweeps }
-    ensures { IfOk result (IsAmong stage.now gap sweeps 1 12) }
+    ensures { IfOk result (IsAmong stage.now gap sweeps 1 13) }
 {
     if let Some(first) = first_of_graph(alloc, stage)? {
         return Ok(Some(first));
     }
-    if let Some(first) = first_of_numbers(alloc, stage, gap, sweeps)? {
-        return Ok(Some(first));
-    }
-    first_of_tests(alloc, stage, gap, sweeps)
+    first_of_flows(alloc, stage, gap, sweeps)
 }
 
 /// Whether a stage of a report, wherever it came from, passes the tests of a judge, at the gap in thousandths of a standard deviation

@@ -1,6 +1,6 @@
 //! Judging: a stage of a study, wherever it came from, is checked by its own numbers.
 //!
-//! Twelve tests are made in order, each over all nodes, streams or rows in order. The answer is that the stage passes all of them, or
+//! Thirteen tests are made in order, each over all nodes, streams or rows in order. The answer is that the stage passes all of them, or
 //! the first failure: its test, its place, and what is stated there beside what the rule gives. It doesn't ask how the stage was made:
 //! any true certificate, any balanced flows and any fitting prices will do.
 #![tactic(auto)]
@@ -10,10 +10,12 @@ mod bounds;
 mod boxes;
 mod classes;
 mod faults;
+mod flows;
 mod freedom;
 mod graphs;
 mod judge;
 mod laws;
+mod least;
 mod numbers;
 mod prices;
 mod rows;

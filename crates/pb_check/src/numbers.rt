@@ -1,7 +1,6 @@
 // Tests 7 to 10: the numbers that follow from the flows and the prices.
 
-ghost use Rattle.std.specs.Prelude.{◌≡◌, ◌↔◌, ℕ, ◌<◌, ◌≤◌, map, length, IfOk, IsTrue, MatchOption};
-ghost use Rattle.pb_limits.specs.Limits.{most_gap, most_sweeps};
+ghost use Rattle.std.specs.Prelude.{◌≡◌, ◌↔◌, ℕ, ◌<◌, length, IfOk, IsTrue, MatchOption};
 ghost use Rattle.pb_graph.specs.WellFormed.{IsWellFormed, sweeps_of};
 ghost use Rattle.pb_gap.specs.declared.gap.Gap.{Gap as GapValue};
 ghost use Rattle.pb_gap.specs.Gap.{MeetsGap};
@@ -16,8 +15,8 @@ ghost use Rattle.pb_check.specs.Pairs.{IsPairOf, GapsDiffer, EndsDiffer};
 
 use crate::bounds::bounds_fault;
 use crate::faults::{Fault, Test, whole};
-use pb_gap::{FlowPair, Gap, standard_deviations, write_dual_flows};
-use pb_graph::{Solved, Stage, StreamResult};
+use pb_gap::{FlowPair, Gap};
+use pb_graph::{Solved, Stage};
 use std::alloc::{AllocError, Global};
 
 // Where two gaps differ, the first number that does: h, and then g.
@@ -33,8 +32,8 @@ fn gap_difference(stated: Gap, found: Gap) -> Option<Fault>
     None
 }
 
-// The printed gap.
-fn printed_gap(stage: &Stage) -> Gap
+/// The printed gap.
+pub fn printed_gap(stage: &Stage) -> Gap
     requires { IsWellFormed stage.now }
     ensures value { result ≡ printed_gap stage.now }
     ensures range { IsGapInRange result }
@@ -150,19 +149,9 @@ fn statistic_fault(stage: &Stage, pair: &FlowPair) -> Option<Fault>
     ends_difference(stage.low, stage.high, low, high)
 }
 
-// The printed flows.
-fn printed_flows(alloc: Global, streams: &[StreamResult]) -> Result<Vec<i128>, AllocError>
-    ensures { IfOk result (λ flows. flows.items ≡ map (λ r. r.flow) streams.now) }
-{
-    let mut flows = Vec::new(alloc);
-    for stream in streams {
-        flows.push(stream.flow)?;
-    }
-    Ok(flows)
-}
-
-// The first of the tests 7 to 10 that fails, by the flows beside the dual flows.
-fn first_of_pair(
+/// The first of the tests 7 to 10 that a stage fails, which passes those before, by its flows beside the dual flows of its prices.
+/// `deviations` is room for one number of each stream.
+pub fn first_of_numbers(
     alloc: Global,
     stage: &Stage,
     pair: &FlowPair,
@@ -189,31 +178,4 @@ fn first_of_pair(
         return Ok(Some((Test::Statistic, fault)));
     }
     Ok(None)
-}
-
-/// The first of the tests 7 to 10 that a stage fails, which passes those before.
-///
-/// The work is in proportion to streams and members of cuts.
-pub fn first_of_numbers(
-    alloc: Global,
-    stage: &Stage,
-    gap: u32,
-    sweeps: u32,
-) -> Result<Option<(Test, Fault)>, AllocError>
-    requires formed { IsWellFormed stage.now }
-    requires gap_from { 1 ≤ gap }
-    requires gap_to { gap ≤ most_gap }
-    requires sweeps { sweeps ≤ most_sweeps }
-    requires earlier { (test : TestValue) → code_of test < 7 → Passes stage.now gap sweeps test }
-    ensures { IfOk result (IsAmong stage.now gap sweeps 7 10) }
-{
-    let _nodes = stage.graph.nodes();
-    let streams = stage.graph.streams();
-    let roots = standard_deviations(alloc, streams)?;
-    let flows = printed_flows(alloc, stage.streams.as_slice())?;
-    let mut dual_flows = vec![in alloc; 0i128; streams.len()]?;
-    write_dual_flows(&stage.graph, stage.prices.as_slice(), &mut dual_flows);
-    let mut deviations = vec![in alloc; 0i128; streams.len()]?;
-    let pair = FlowPair::new(&stage.graph, &roots, &dual_flows, &flows);
-    first_of_pair(alloc, stage, &pair, &mut deviations, gap, sweeps)
 }

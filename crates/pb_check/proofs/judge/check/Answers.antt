@@ -8,6 +8,6 @@ returns-in-Ok-Some-clause-place c =
     let stage = c.args.stage.now in
     let test = c.in-Ok-Some.test in
     let fault = c.in-Ok-Some.fault in
-    let among : IsAmong stage c.args.gap c.args.sweeps 1 12 (Some (test, fault)) =
-    subst (IsAmong stage c.args.gap c.args.sweeps 1 12) c.in-Ok-Some.field-0-is c.in-Ok-Some.ensures in
+    let among : IsAmong stage c.args.gap c.args.sweeps 1 13 (Some (test, fault)) =
+    subst (IsAmong stage c.args.gap c.args.sweeps 1 13) c.in-Ok-Some.field-0-is c.in-Ok-Some.ensures in
     place_of stage c.args.gap c.args.sweeps test fault c.requires.formed among.2

@@ -1,6 +1,6 @@
 use Rattle.std.proofs.Common.{◌≡◌, map, take}
 use Rattle.pb_graph.specs.declared.results.StreamResult.{StreamResult}
-use Rattle.pb_check.proofs.numbers.printed_flows.Given as goal
+use Rattle.pb_check.proofs.flows.printed_flows.Given as goal
 
 -- the flows so far
 abbrev pub invariant-loop-stream : goal.invariant-loop-stream
