@@ -27,6 +27,7 @@ test_word test.Bounds = codes "bounds"
 test_word test.Statistic = codes "statistic"
 test_word test.Nodal = codes "nodal"
 test_word test.Verdict = codes "verdict"
+test_word test.Least = codes "least"
 
 -- the word of a fault of a record
 abbrev pub fault_word : RowFault → List ℕ

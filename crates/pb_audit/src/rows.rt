@@ -125,6 +125,7 @@ fn test_word(test: Test) -> &'static str
         Test::Statistic => "statistic",
         Test::Nodal => "nodal",
         Test::Verdict => "verdict",
+        Test::Least => "least",
     }
 }
 
