@@ -162,29 +162,28 @@ fn with_flow(row: OutputRow, result_of: &StreamResult) -> Result<OutputRow, Allo
 fn with_bounds(row: OutputRow, result_of: &StreamResult) -> Result<OutputRow, AllocError>
     ensures { IfOk result (λ whole. whole ≡ row ++ bounds_columns result_of.now) }
 {
-    row.optional("lo", low_end(result_of))?
-        .optional("hi", high_end(result_of))
+    row.optional("lo", low_end(result_of.bounds))?
+        .optional("hi", high_end(result_of.bounds))
 }
 
-fn low_end(result_of: &StreamResult) -> Option<i128>
-    ensures { result ≡ option_map (λ (bounds : Bounds). bounds.lo) result_of.now.bounds }
+fn low_end(bounds: Option<Bounds>) -> Option<i128>
+    ensures { result ≡ option_map (λ (bounds : Bounds). bounds.lo) bounds }
 {
-    result_of.bounds.map(|bounds| bounds.lo)
+    bounds.map(|bounds| bounds.lo)
 }
 
-fn high_end(result_of: &StreamResult) -> Option<i128>
-    ensures { result ≡ option_map (λ (bounds : Bounds). bounds.hi) result_of.now.bounds }
+fn high_end(bounds: Option<Bounds>) -> Option<i128>
+    ensures { result ≡ option_map (λ (bounds : Bounds). bounds.hi) bounds }
 {
-    result_of.bounds.map(|bounds| bounds.hi)
+    bounds.map(|bounds| bounds.hi)
 }
 
 // The row with the least bounds of a stream's flow behind its columns.
 fn with_least(row: OutputRow, result_of: &StreamResult) -> Result<OutputRow, AllocError>
     ensures { IfOk result (λ whole. whole ≡ row ++ least_columns result_of.now) }
 {
-    let least = written_least(result_of);
-    row.optional("least_lo", least.map(|bounds| bounds.lo))?
-        .optional("least_hi", least.map(|bounds| bounds.hi))
+    row.optional("least_lo", low_end(written_least(result_of)))?
+        .optional("least_hi", high_end(written_least(result_of)))
 }
 
 // The least bounds that are written of a stream: of one without bounds none are.

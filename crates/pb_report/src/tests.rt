@@ -300,8 +300,18 @@ fn study(alloc: Global, stage: Stage) -> Result<Study, Fail> {
 
 fn two_meters(alloc: Global, tests: Option<Tests>) -> Result<Study, Fail> {
     let mut streams = List::new(alloc);
-    streams.push(result(cut_at_env(alloc)?, 101_000_000, 100_999_997, 101_000_002))?;
-    streams.push(result(cut_at_unit(alloc)?, 101_000_000, 100_999_998, 101_000_003))?;
+    streams.push(result(
+        cut_at_env(alloc)?,
+        101_000_000,
+        between(100_999_997, 101_000_002),
+        between(100_999_998, 101_000_001),
+    ))?;
+    streams.push(result(
+        cut_at_unit(alloc)?,
+        101_000_000,
+        between(100_999_998, 101_000_003),
+        between(100_999_999, 101_000_002),
+    ))?;
     study(
         alloc,
         Stage {

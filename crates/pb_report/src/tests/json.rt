@@ -84,8 +84,8 @@ fn two_meters_as_json(rt: HostRuntime) -> Result<(), Fail> {
         b"{\"gap\":\"10\",\"nodes\":\"2\",\"period\":\"d1\",\"round\":\"0\",\"row\":\"report\",\"streams\":\"2\",\"sweeps\":\"5000\"}
 {\"name\":\"env\",\"price\":\"0\",\"row\":\"node\"}
 {\"name\":\"U\",\"price\":\"-72057594038\",\"row\":\"node\"}
-{\"class\":\"redundant\",\"flow\":\"101000000\",\"from\":\"env\",\"hi\":\"101000002\",\"lo\":\"100999997\",\"name\":\"A\",\"parts\":\"-A +B\",\"row\":\"stream\",\"shape\":\"cut\",\"side\":\"env\",\"to\":\"U\",\"value\":\"102000000\",\"variance\":\"1000000000000\"}
-{\"class\":\"redundant\",\"flow\":\"101000000\",\"from\":\"U\",\"hi\":\"101000003\",\"lo\":\"100999998\",\"name\":\"B\",\"parts\":\"+A -B\",\"row\":\"stream\",\"shape\":\"cut\",\"side\":\"U\",\"to\":\"env\",\"value\":\"100000000\",\"variance\":\"1000000000000\"}
+{\"class\":\"redundant\",\"flow\":\"101000000\",\"from\":\"env\",\"hi\":\"101000002\",\"least_hi\":\"101000001\",\"least_lo\":\"100999998\",\"lo\":\"100999997\",\"name\":\"A\",\"parts\":\"-A +B\",\"row\":\"stream\",\"shape\":\"cut\",\"side\":\"env\",\"to\":\"U\",\"value\":\"102000000\",\"variance\":\"1000000000000\"}
+{\"class\":\"redundant\",\"flow\":\"101000000\",\"from\":\"U\",\"hi\":\"101000003\",\"least_hi\":\"101000002\",\"least_lo\":\"100999999\",\"lo\":\"100999998\",\"name\":\"B\",\"parts\":\"+A -B\",\"row\":\"stream\",\"shape\":\"cut\",\"side\":\"U\",\"to\":\"env\",\"value\":\"100000000\",\"variance\":\"1000000000000\"}
 {\"dof\":\"1\",\"g\":\"2\",\"h\":\"0\",\"high\":\"2000\",\"k\":\"1\",\"low\":\"1999\",\"row\":\"solved\",\"state\":\"converged\"}
 {\"period\":\"d1\",\"round\":\"0\",\"row\":\"end\"}
 "

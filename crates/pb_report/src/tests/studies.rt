@@ -1,14 +1,14 @@
 // Rows of studies from outside, and the summary of one.
 
 use super::{
-    backward, cut, cut_at_env, cut_at_unit, cycle, enters, forward, graph, leaves, list, measure,
-    metered, meters, name_list, names_of_meters, nodal, options, plain, report, result, study,
-    two_meters,
+    backward, between, cut, cut_at_env, cut_at_unit, cycle, enters, forward, graph, leaves, list,
+    measure, metered, meters, name_list, names_of_meters, nodal, options, plain, report, result,
+    study, two_meters,
 };
 use crate::write_summary;
 use pb_graph::{
-    Class, Classified, GlobalTest, Graph, List, MeasureTest, NodalTest, Solved, Stage, Stop,
-    Stream, StreamResult, Study, Taken, Tests, Verdict,
+    Bounds, Class, Classified, GlobalTest, Graph, List, MeasureTest, NodalTest, Solved, Stage,
+    Stop, Stream, StreamResult, Study, Taken, Tests, Verdict,
 };
 use pb_rows::Names;
 use std::alloc::Global;
@@ -39,8 +39,8 @@ fn two_meters_disagree(rt: HostRuntime) -> Result<(), Fail> {
         b"report,d1,0,2,2,10,5000
 node,env,0
 node,U,-72057594038
-stream,A,env,U,102000000,1000000000000,redundant,101000000,100999997,101000002,cut,env,-A +B
-stream,B,U,env,100000000,1000000000000,redundant,101000000,100999998,101000003,cut,U,+A -B
+stream,A,env,U,102000000,1000000000000,redundant,101000000,100999997,101000002,100999998,101000001,cut,env,-A +B
+stream,B,U,env,100000000,1000000000000,redundant,101000000,100999998,101000003,100999999,101000002,cut,U,+A -B
 solved,1,converged,2,0,1,1999,2000
 end,d1,0
 "
@@ -51,8 +51,8 @@ end,d1,0
         b"report,d1,0,2,2,10,5000
 node,env,0
 node,U,-72057594038
-stream,A,env,U,102000000,1000000000000,redundant,101000000,100999997,101000002,cut,env,-A +B
-stream,B,U,env,100000000,1000000000000,redundant,101000000,100999998,101000003,cut,U,+A -B
+stream,A,env,U,102000000,1000000000000,redundant,101000000,100999997,101000002,100999998,101000001,cut,env,-A +B
+stream,B,U,env,100000000,1000000000000,redundant,101000000,100999998,101000003,100999999,101000002,cut,U,+A -B
 solved,1,converged,2,0,1,1999,2000
 global,3841,accept
 nodal,U,2000000,2000000000000,,nocritical
@@ -65,14 +65,18 @@ end,d1,0
     Ok(())
 }
 
-#[test]
-fn half_a_gram(rt: HostRuntime) -> Result<(), Fail> {
-    let alloc = rt.alloc();
-    let names = names_of_meters(alloc)?;
+// A meter that says a gram and one that says none, of variance 1 each.
+fn half_a_gram_stage(alloc: Global, least: Option<Bounds>) -> Result<Stage, Fail> {
     let mut streams = List::new(alloc);
-    streams.push(result(cut_at_env(alloc)?, 1, -1, 2))?;
-    streams.push(result(cut_at_unit(alloc)?, 1, -1, 2))?;
-    let stage = Stage {
+    for classified in [cut_at_env(alloc)?, cut_at_unit(alloc)?] {
+        streams.push(StreamResult {
+            classified,
+            flow: 1,
+            bounds: Some(between(-1, 2)),
+            least,
+        })?;
+    }
+    Ok(Stage {
         graph: meters(alloc, 1, 0, 1)?,
         streams,
         prices: list(alloc, &[0, -36_028_797_018_963_968])?,
@@ -83,21 +87,41 @@ fn half_a_gram(rt: HostRuntime) -> Result<(), Fail> {
         low: 499,
         high: Some(1000),
         tests: None,
-    };
+    })
+}
+
+#[test]
+fn half_a_gram(rt: HostRuntime) -> Result<(), Fail> {
+    let alloc = rt.alloc();
+    let names = names_of_meters(alloc)?;
+    let day = study(alloc, half_a_gram_stage(alloc, Some(between(-1, 2)))?)?;
     assert_eq!(rt;
-        report(
-            alloc,
-            &names,
-            b"d1",
-            &options(false, 0),
-            &study(alloc, stage)?
-        )?
-        .as_slice(),
+        report(alloc, &names, b"d1", &options(false, 0), &day)?.as_slice(),
         b"report,d1,0,2,2,10,5000
 node,env,0
 node,U,-36028797018963968
-stream,A,env,U,1,1,redundant,1,-1,2,cut,env,-A +B
-stream,B,U,env,0,1,redundant,1,-1,2,cut,U,+A -B
+stream,A,env,U,1,1,redundant,1,-1,2,-1,2,cut,env,-A +B
+stream,B,U,env,0,1,redundant,1,-1,2,-1,2,cut,U,+A -B
+solved,5000,unconverged,741456,0,1,499,1000
+end,d1,0
+"
+            .as_slice()
+    );
+    Ok(())
+}
+
+#[test]
+fn bounds_without_least_ones(rt: HostRuntime) -> Result<(), Fail> {
+    let alloc = rt.alloc();
+    let names = names_of_meters(alloc)?;
+    let day = study(alloc, half_a_gram_stage(alloc, None)?)?;
+    assert_eq!(rt;
+        report(alloc, &names, b"d1", &options(false, 0), &day)?.as_slice(),
+        b"report,d1,0,2,2,10,5000
+node,env,0
+node,U,-36028797018963968
+stream,A,env,U,1,1,redundant,1,-1,2,,,cut,env,-A +B
+stream,B,U,env,0,1,redundant,1,-1,2,,,cut,U,+A -B
 solved,5000,unconverged,741456,0,1,499,1000
 end,d1,0
 "
@@ -129,7 +153,7 @@ fn refinery_results(alloc: Global) -> Result<List<StreamResult>, Fail> {
 }
 
 fn exact(classified: Classified, flow: i128) -> StreamResult {
-    result(classified, flow, flow, flow)
+    result(classified, flow, between(flow, flow), between(flow, flow))
 }
 
 fn refinery_day_stage(alloc: Global) -> Result<Stage, Fail> {
@@ -171,11 +195,11 @@ fn refinery_day(rt: HostRuntime) -> Result<(), Fail> {
 node,env,0
 node,CDU,0
 node,TK1,0
-stream,TK1,TK1,env,1416525000,1000001000000,redundant,1416525000,1416525000,1416525000,cut,CDU TK1,-TK1 +CRUDE -RES -SHIP
-stream,CRUDE,env,CDU,10000000000,2500000000000001,redundant,10000000000,10000000000,10000000000,cut,env,+TK1 -CRUDE +RES +SHIP
-stream,RES,CDU,env,6000000000,900000000000001,redundant,6000000000,6000000000,6000000000,cut,CDU TK1,-TK1 +CRUDE -RES -SHIP
-stream,NAPH,CDU,TK1,,,observable,4000000000,4000000000,4000000000,cut,CDU,+CRUDE -RES -NAPH
-stream,SHIP,TK1,env,2583475000,100001000000,redundant,2583475000,2583475000,2583475000,cut,CDU TK1,-TK1 +CRUDE -RES -SHIP
+stream,TK1,TK1,env,1416525000,1000001000000,redundant,1416525000,1416525000,1416525000,1416525000,1416525000,cut,CDU TK1,-TK1 +CRUDE -RES -SHIP
+stream,CRUDE,env,CDU,10000000000,2500000000000001,redundant,10000000000,10000000000,10000000000,10000000000,10000000000,cut,env,+TK1 -CRUDE +RES +SHIP
+stream,RES,CDU,env,6000000000,900000000000001,redundant,6000000000,6000000000,6000000000,6000000000,6000000000,cut,CDU TK1,-TK1 +CRUDE -RES -SHIP
+stream,NAPH,CDU,TK1,,,observable,4000000000,4000000000,4000000000,4000000000,4000000000,cut,CDU,+CRUDE -RES -NAPH
+stream,SHIP,TK1,env,2583475000,100001000000,redundant,2583475000,2583475000,2583475000,2583475000,2583475000,cut,CDU TK1,-TK1 +CRUDE -RES -SHIP
 solved,0,converged,0,0,1,0,0
 end,may1,0
 "
@@ -237,9 +261,18 @@ fn first_stage(alloc: Global) -> Result<Stage, Fail> {
         &[false, false, true],
         &[enters(1), leaves(2)],
     )?;
-    streams.push(result(a, flow, 100_999_388, 101_000_123))?;
-    streams.push(result(b, flow, 100_999_755, 101_000_490))?;
-    streams.push(result(c, flow, 100_999_755, 101_000_490))?;
+    let (bounds, least) = (
+        between(100_999_755, 101_000_490),
+        between(100_999_938, 101_000_307),
+    );
+    streams.push(result(
+        a,
+        flow,
+        between(100_999_388, 101_000_123),
+        between(100_999_754, 101_000_123),
+    ))?;
+    streams.push(result(b, flow, bounds, least))?;
+    streams.push(result(c, flow, bounds, least))?;
     Ok(Stage {
         graph: chain(alloc, metered(2, 0, 103_000_000, 10_000_000_000))?,
         streams,
@@ -341,9 +374,9 @@ fn bad_meter_taken(rt: HostRuntime) -> Result<(), Fail> {
 node,env,0
 node,U,7204000185188
 node,V,14410639198283
-stream,A,env,U,100000000,10000000000,redundant,101000122,100999388,101000123,cut,env,-A +C
-stream,B,U,V,100000000,10000000000,redundant,101000122,100999755,101000490,cut,U,+A -B
-stream,C,V,env,103000000,10000000000,redundant,101000122,100999755,101000490,cut,V,+B -C
+stream,A,env,U,100000000,10000000000,redundant,101000122,100999388,101000123,100999754,101000123,cut,env,-A +C
+stream,B,U,V,100000000,10000000000,redundant,101000122,100999755,101000490,100999938,101000307,cut,U,+A -B
+stream,C,V,env,103000000,10000000000,redundant,101000122,100999755,101000490,100999938,101000307,cut,V,+B -C
 solved,7,converged,3841,0,2,599999,600001
 global,5991,reject
 nodal,U,0,20000000000,,nocritical
@@ -357,9 +390,9 @@ report,d1,1,3,3,10,5000
 node,env,0
 node,U,0
 node,V,0
-stream,A,env,U,100000000,10000000000,redundant,100000000,100000000,100000000,cut,env V,-A +B
-stream,B,U,V,100000000,10000000000,redundant,100000000,100000000,100000000,cut,U,+A -B
-stream,C,V,env,,,observable,100000000,100000000,100000000,cut,V,+B -C
+stream,A,env,U,100000000,10000000000,redundant,100000000,100000000,100000000,100000000,100000000,cut,env V,-A +B
+stream,B,U,V,100000000,10000000000,redundant,100000000,100000000,100000000,100000000,100000000,cut,U,+A -B
+stream,C,V,env,,,observable,100000000,100000000,100000000,100000000,100000000,cut,V,+B -C
 solved,0,converged,0,0,1,0,0
 global,3841,accept
 nodal,U,0,20000000000,,nocritical
@@ -386,6 +419,8 @@ fn parallel_plain_streams(rt: HostRuntime) -> Result<(), Fail> {
             classified: cycle(alloc, Class::Unobservable, &[forward(1), backward(0)])?,
             flow: 0,
             bounds: None,
+            // Without bounds these aren't written.
+            least: Some(between(-1, 1)),
         })?;
     }
     let stage = Stage {
@@ -420,8 +455,8 @@ fn parallel_plain_streams(rt: HostRuntime) -> Result<(), Fail> {
 node,env,0
 node,U,0
 node,V,0
-stream,P,U,V,,,unobservable,0,,,cycle,,+R -P
-stream,R,U,V,,,unobservable,0,,,cycle,,+R -P
+stream,P,U,V,,,unobservable,0,,,,,cycle,,+R -P
+stream,R,U,V,,,unobservable,0,,,,,cycle,,+R -P
 solved,0,converged,0,0,0,0,
 global,,notest
 end,d1,0
