@@ -12,3 +12,4 @@ mod UniqueLemmas
 mod StageLemmas
 mod SomeStudyLemmas
 mod WithinLemmas
+mod ThroughoutLemmas

@@ -1,8 +1,9 @@
 -- A shown stage is certified.
 use Rattle.std.proofs.Common.{◌≡◌, ◌∙◌, ◌==◌, ℕ, ℤ, Bool, true, false, List, Option, Some, None, refl, sym, ap, subst, arith}
-use Rattle.std.specs.Prelude.{IfSome, MatchOption, if◌then◌else◌}
+use Rattle.std.specs.Prelude.{IfSome, MatchOption, option_map, if◌then◌else◌}
 use Rattle.std.proofs.lemmas.Int.{ints}
 use Rattle.pb_graph.specs.declared.records.Stream.{Stream}
+use Rattle.pb_graph.specs.declared.records.Member.{Member}
 use Rattle.pb_graph.specs.declared.records.Class.{Class}
 use Rattle.pb_graph.specs.declared.records.Class.TheVariants.{Observable, Unobservable, Redundant, Nonredundant}
 use Rattle.pb_graph.specs.declared.records.Witness.{Witness}
@@ -18,10 +19,13 @@ use Rattle.pb_graph.specs.Squares.{Fractional, IsBalancedFractional, AreSquaresA
 use Rattle.pb_balance.specs.Laws.{CertificateLaw}
 use Rattle.pb_gap.specs.declared.gap.Gap.{Gap}
 use Rattle.pb_gap.specs.Gap.{deviations_of, gap_of}
-use Rattle.pb_gap.specs.StreamBounds.{IsStreamWithin, stream_bounds}
+use Rattle.pb_gap.specs.Bounds.{bounds_of}
+use Rattle.pb_gap.specs.StreamBounds.{IsStreamWithin, sum_for, stream_bounds}
+use Rattle.pb_gap.specs.LeastBounds.{least_bounds_of, stream_least_bounds}
 use Rattle.pb_gap.specs.Statistic.{low_of}
 use Rattle.pb_gap.specs.Laws.{IsDualPair, AreGaps, StreamLaw, LowLaw, HighLaw}
 use Rattle.pb_gap.specs.Least.{AreWithinGap, DistanceLaw}
+use Rattle.pb_gap.specs.LeastBoundsLaws.{LeastStreamLaw}
 use Rattle.pb_tests.specs.Verdicts.{global_verdict}
 use Rattle.pb_tests.specs.Decided.{AreEnds}
 use Rattle.pb_tests.specs.Laws.{GlobalAcceptLaw, GlobalRejectLaw}
@@ -29,14 +33,21 @@ use Rattle.pb_elim.specs.Certified.{AreShownTests, IsGlobalRight, IsUndecided, I
 use Rattle.pb_elim.specs.Printed.{printed_price, printed_flows, printed_gap}
 use Rattle.pb_elim.specs.Laws.{ShownLaw}
 
--- only an unobservable stream has no bounds
-unbounded : (price : ℕ → ℤ) (ss : List Stream) (gap : Gap) (g : ProcessGraph) (j : ℕ) (s : Stream) (class : Class) (w : Witness) → Shows g j s class w
-    → stream_bounds price ss gap j (record { class = class; witness = w }) ≡ None → class ≡ Unobservable
-unbounded price ss gap g j s Unobservable w shows none = refl
-unbounded price ss gap g j s Redundant w shows none = cc none
-unbounded price ss gap g j s Nonredundant w shows none = cc none
-unbounded price ss gap g j s Observable (Cut side members) shows none = cc none
-unbounded price ss gap g j s Observable (Cycle steps) shows none = absurd shows
+-- only an unobservable stream has no sum, and so no bounds and no least bounds
+no_sum : (g : ProcessGraph) (j : ℕ) (s : Stream) (class : Class) (w : Witness) → Shows g j s class w → sum_for j class w ≡ None → class ≡ Unobservable
+no_sum g j s Unobservable w shows none = refl
+no_sum g j s Redundant w shows none = cc none
+no_sum g j s Nonredundant w shows none = cc none
+no_sum g j s Observable (Cut side members) shows none = cc none
+no_sum g j s Observable (Cycle steps) shows none = absurd shows
+
+none_in : {A B : Type 0} (f : A → B) (o : Option A) → option_map f o ≡ None → o ≡ None
+none_in f None none = refl
+none_in f (Some x) none = cc none
+
+unbounded : {B : Type 0} (of : List Member → B) (g : ProcessGraph) (j : ℕ) (s : Stream) (class : Class) (w : Witness) → Shows g j s class w → option_map of (sum_for j class w) ≡ None
+    → class ≡ Unobservable
+unbounded of g j s class w shows none = no_sum g j s class w shows (none_in of (sum_for j class w) none)
 
 enclosed_by : (x : Fractional) (j : ℕ) (class : Class) (bounds : Option Bounds) → IfSome bounds (IsStreamWithin x j) → (bounds ≡ None → class ≡ Unobservable)
     → MatchOption bounds (class ≡ Unobservable) (IsStreamWithin x j)
@@ -80,6 +91,7 @@ pub record Laws : Type 0 where
   pub certificate : CertificateLaw
   pub gaps : AreGaps
   pub stream : StreamLaw
+  pub least_stream : LeastStreamLaw
   pub distance : DistanceLaw
   pub low : LowLaw
   pub high : HighLaw
@@ -95,6 +107,7 @@ shown_by laws stage is =
     let pair : (x : Fractional) → IsBalancedFractional g x → IsDualPair g price x = λ x even. record { limits = is.limits; fit = is.fit; balanced = even } in
     let least : (x : Fractional) → IsBalancedFractional g x → AreSquaresAtLeast g x stage.low =
     λ x even. subst (AreSquaresAtLeast g x) (sym (numbers.from_below ∙ ap (low_of g.streams flows) gap)) (laws.low g price flows x (pair x even) is.balanced) in
+    let whole : IsBalancedFractional g (whole_flows flows) = record { positive = omega (arith, ints); balanced = is.balanced } in
     let most = high_by g (whole_flows flows) stage.high _ numbers.from_above (laws.high g flows is.limits) in
     record {
       shown = is;
@@ -105,9 +118,15 @@ shown_by laws stage is =
           let same : r.bounds ≡ stream_bounds price g.streams (gap_of price g.streams flows) j r.classified =
           numbers.bounded j r at ∙ ap (λ (gap : Gap). stream_bounds price g.streams gap j r.classified) gap in
           enclosed_by x j r.classified.class r.bounds (subst (λ (o : Option Bounds). IfSome o (IsStreamWithin x j)) (sym same) within)
-          (λ none. unbounded price g.streams (gap_of price g.streams flows) g j s r.classified.class r.classified.witness shows (sym same ∙ none));
+          (λ none. unbounded (bounds_of price g.streams (gap_of price g.streams flows)) g j s r.classified.class r.classified.witness shows (sym same ∙ none));
+      hypercircle = λ has x least j r at.
+          let (s, here, shows) = is.shown j r at in
+          let within = laws.least_stream g price flows x j r.classified (pair (whole_flows flows) whole) least (is.shown j r at) in
+          let same : r.least ≡ stream_least_bounds price g.streams flows (gap_of price g.streams flows) j r.classified =
+          numbers.least_bounded has j r at ∙ ap (λ (gap : Gap). stream_least_bounds price g.streams flows gap j r.classified) gap in
+          enclosed_by x j r.classified.class r.least (subst (λ (o : Option Bounds). IfSome o (IsStreamWithin x j)) (sym same) within)
+          (λ none. unbounded (least_bounds_of price g.streams flows (gap_of price g.streams flows)) g j s r.classified.class r.classified.witness shows (sym same ∙ none));
       near = λ x least.
-          let whole : IsBalancedFractional g (whole_flows flows) = record { positive = omega (arith, ints); balanced = is.balanced } in
           subst (λ (gap : Gap). AreWithinGap g gap (whole_flows flows) x) (sym gap) (laws.distance g price flows x (pair (whole_flows flows) whole) least);
       least = least;
       most = most;

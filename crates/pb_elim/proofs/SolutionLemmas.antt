@@ -68,6 +68,7 @@ stage_shown ascent gaps h options critical stage within whole =
       numbers = record {
         deviation = subst (IsGap deviations) (sym is.gap) (gaps.is deviations);
         bounded = is.bounds;
+        least_bounded = λ has. is.least;
         freedom = is.freedom;
         from_below = is.low;
         from_above = is.high;

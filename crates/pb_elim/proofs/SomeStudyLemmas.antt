@@ -23,6 +23,7 @@ use Rattle.pb_classify.specs.Classification.{IsClassification}
 use Rattle.pb_gap.specs.declared.gap.Gap.{Gap}
 use Rattle.pb_gap.specs.Gap.{gap_of}
 use Rattle.pb_gap.specs.StreamBounds.{stream_bounds}
+use Rattle.pb_gap.specs.LeastBounds.{stream_least_bounds}
 use Rattle.pb_gap.specs.Statistic.{low_of, high_of}
 use Rattle.pb_gap.specs.Solution.{IsSolution, OutsideLaw, SomeSolutionLaw}
 use Rattle.pb_tests.specs.Verdicts.{global_test_of}
@@ -62,33 +63,40 @@ item_each price n none k = elim (cases_lt k n) [
 ]
 
 -- ---- the result of each stream
-abbrev results_of : (ℕ → ℤ) → List Stream → Gap → ℕ → List Classified → List ℤ → List StreamResult
-results_of price ss gap j [] flows = []
-results_of price ss gap j (c ∷ cs) [] = []
-results_of price ss gap j (c ∷ cs) (y ∷ flows) =
-    record { classified = c; flow = y; bounds = stream_bounds price ss gap j c } ∷ results_of price ss gap (suc j) cs flows
+-- all flows are given, those of the streams at hand besides
+abbrev results_of : (ℕ → ℤ) → List Stream → List ℤ → Gap → ℕ → List Classified → List ℤ → List StreamResult
+results_of price ss all gap j [] flows = []
+results_of price ss all gap j (c ∷ cs) [] = []
+results_of price ss all gap j (c ∷ cs) (y ∷ flows) =
+    record { classified = c; flow = y; bounds = stream_bounds price ss gap j c; least = stream_least_bounds price ss all gap j c } ∷ results_of price ss all gap (suc j) cs flows
 
-classes_same : (price : ℕ → ℤ) (ss : List Stream) (gap : Gap) (j : ℕ) (cs : List Classified) (flows : List ℤ) → length flows ≡ length cs
-    → map (λ (r : StreamResult). r.classified) (results_of price ss gap j cs flows) ≡ cs
-classes_same price ss gap j [] flows each = refl
-classes_same price ss gap j (c ∷ cs) [] each = absurd (omega (arith, each))
-classes_same price ss gap j (c ∷ cs) (y ∷ flows) each = ap (λ (rest : List Classified). c ∷ rest) (classes_same price ss gap (suc j) cs flows (omega (arith, each)))
+classes_same : (price : ℕ → ℤ) (ss : List Stream) (all : List ℤ) (gap : Gap) (j : ℕ) (cs : List Classified) (flows : List ℤ) → length flows ≡ length cs
+    → map (λ (r : StreamResult). r.classified) (results_of price ss all gap j cs flows) ≡ cs
+classes_same price ss all gap j [] flows each = refl
+classes_same price ss all gap j (c ∷ cs) [] each = absurd (omega (arith, each))
+classes_same price ss all gap j (c ∷ cs) (y ∷ flows) each = ap (λ (rest : List Classified). c ∷ rest) (classes_same price ss all gap (suc j) cs flows (omega (arith, each)))
 
-flows_same : (price : ℕ → ℤ) (ss : List Stream) (gap : Gap) (j : ℕ) (cs : List Classified) (flows : List ℤ) → length flows ≡ length cs
-    → map (λ (r : StreamResult). r.flow) (results_of price ss gap j cs flows) ≡ flows
-flows_same price ss gap j [] [] each = refl
-flows_same price ss gap j [] (y ∷ flows) each = absurd (omega (arith, each))
-flows_same price ss gap j (c ∷ cs) [] each = absurd (omega (arith, each))
-flows_same price ss gap j (c ∷ cs) (y ∷ flows) each = ap (λ (rest : List ℤ). y ∷ rest) (flows_same price ss gap (suc j) cs flows (omega (arith, each)))
+flows_same : (price : ℕ → ℤ) (ss : List Stream) (all : List ℤ) (gap : Gap) (j : ℕ) (cs : List Classified) (flows : List ℤ) → length flows ≡ length cs
+    → map (λ (r : StreamResult). r.flow) (results_of price ss all gap j cs flows) ≡ flows
+flows_same price ss all gap j [] [] each = refl
+flows_same price ss all gap j [] (y ∷ flows) each = absurd (omega (arith, each))
+flows_same price ss all gap j (c ∷ cs) [] each = absurd (omega (arith, each))
+flows_same price ss all gap j (c ∷ cs) (y ∷ flows) each = ap (λ (rest : List ℤ). y ∷ rest) (flows_same price ss all gap (suc j) cs flows (omega (arith, each)))
 
-bounds_at : (price : ℕ → ℤ) (ss : List Stream) (gap : Gap) (j : ℕ) (cs : List Classified) (flows : List ℤ) (i k : ℕ) (r : StreamResult) → i ≡ j + k
-    → slice_get (results_of price ss gap j cs flows) k ≡ Some r → r.bounds ≡ stream_bounds price ss gap i r.classified
-bounds_at price ss gap j [] flows i k r e at = absurd cc
-bounds_at price ss gap j (c ∷ cs) [] i k r e at = absurd cc
-bounds_at price ss gap j (c ∷ cs) (y ∷ flows) i zero r e at =
-    let is : i ≡ j = omega (arith, e) in
-    subst (λ (r : StreamResult). r.bounds ≡ stream_bounds price ss gap i r.classified) (some_same at) (ap (λ (n : ℕ). stream_bounds price ss gap n c) (sym is))
-bounds_at price ss gap j (c ∷ cs) (y ∷ flows) i (suc k) r e at = bounds_at price ss gap (suc j) cs flows i k r (omega (arith, e)) at
+-- a stream's bounds and least bounds are those by its certificate
+record IsEnclosedBy (price : ℕ → ℤ) (ss : List Stream) (all : List ℤ) (gap : Gap) (j : ℕ) (r : StreamResult) : Type 0 where
+  bounds : r.bounds ≡ stream_bounds price ss gap j r.classified
+  least : r.least ≡ stream_least_bounds price ss all gap j r.classified
+
+enclosed_at : (price : ℕ → ℤ) (ss : List Stream) (all : List ℤ) (gap : Gap) (j : ℕ) (cs : List Classified) (flows : List ℤ) (i k : ℕ) (r : StreamResult) → i ≡ j + k
+    → slice_get (results_of price ss all gap j cs flows) k ≡ Some r → IsEnclosedBy price ss all gap i r
+enclosed_at price ss all gap j [] flows i k r e at = absurd cc
+enclosed_at price ss all gap j (c ∷ cs) [] i k r e at = absurd cc
+enclosed_at price ss all gap j (c ∷ cs) (y ∷ flows) i zero r e at =
+    let is : j ≡ i = omega (arith, e) in
+    subst (λ (r : StreamResult). IsEnclosedBy price ss all gap i r) (some_same at)
+    (record { bounds = ap (λ (n : ℕ). stream_bounds price ss gap n c) is; least = ap (λ (n : ℕ). stream_least_bounds price ss all gap n c) is })
+enclosed_at price ss all gap j (c ∷ cs) (y ∷ flows) i (suc k) r e at = enclosed_at price ss all gap (suc j) cs flows i k r (omega (arith, e)) at
 
 -- what the laws below give
 pub record Laws : Type 0 where
@@ -102,7 +110,7 @@ pub record Laws : Type 0 where
 abbrev stage_by : ProcessGraph → List Classified → Solved → (ℕ → ℤ) → List ℤ → ℕ → Stage
 stage_by g classes solved price flows dof = record {
   graph = g;
-  streams = results_of price g.streams (gap_of price g.streams flows) 0 classes flows;
+  streams = results_of price g.streams flows (gap_of price g.streams flows) 0 classes flows;
   prices = firsts price g.nodes;
   solved = solved;
   g = (gap_of price g.streams flows).g;
@@ -125,8 +133,8 @@ some_reconciliation laws g options limits =
     let stage = stage_by g classes solved price flows (degrees_of_freedom ss held) in
     let each : length flows ≡ length classes = state.rounded.balanced.each ∙ sym classified.each in
     let same_price : price ≡ printed_price stage = λ i n. sym (item_each price g.nodes none n) i in
-    let same_flows : flows ≡ printed_flows stage = sym (flows_same price ss gap 0 classes flows each) in
-    let same_classes : classes ≡ printed_classes stage = sym (classes_same price ss gap 0 classes flows each) in (
+    let same_flows : flows ≡ printed_flows stage = sym (flows_same price ss flows gap 0 classes flows each) in
+    let same_classes : classes ≡ printed_classes stage = sym (classes_same price ss flows gap 0 classes flows each) in (
       stage,
       record {
         graph_is = refl;
@@ -136,7 +144,9 @@ some_reconciliation laws g options limits =
             subst (λ (f : ℕ → ℤ). IsSolution g options.gap options.sweeps solved f (printed_flows stage)) same_price
             (subst (IsSolution g options.gap options.sweeps solved price) same_flows solution);
         gap = λ i. gap_of (same_price i) ss (same_flows i);
-        bounds = λ j r at. bounds_at price ss gap 0 classes flows j j r (omega arith) at ∙ (λ i. stream_bounds (same_price i) ss gap j r.classified);
+        bounds = λ j r at. (enclosed_at price ss flows gap 0 classes flows j j r (omega arith) at).bounds ∙ (λ i. stream_bounds (same_price i) ss gap j r.classified);
+        least = λ j r at.
+            (enclosed_at price ss flows gap 0 classes flows j j r (omega arith) at).least ∙ (λ i. stream_least_bounds (same_price i) ss (same_flows i) gap j r.classified);
         freedom = record { held = held; forest = state.rounded.forest; count = refl };
         low = λ i. low_of ss (same_flows i) gap;
         high = λ i. high_of ss (same_flows i);

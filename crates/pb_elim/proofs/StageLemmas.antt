@@ -27,6 +27,7 @@ use Rattle.pb_forest.specs.Forest.{IsForest, degrees_of_freedom}
 use Rattle.pb_classify.specs.Classification.{IsClassification}
 use Rattle.pb_gap.specs.Gap.{gap_of}
 use Rattle.pb_gap.specs.StreamBounds.{stream_bounds}
+use Rattle.pb_gap.specs.LeastBounds.{stream_least_bounds}
 use Rattle.pb_gap.specs.Statistic.{low_of, high_of}
 use Rattle.pb_gap.specs.State.{State, IsState, price_in, gap_in}
 use Rattle.pb_gap.specs.Solution.{IsSolution, IsSolvedStatistic}
@@ -135,6 +136,11 @@ stage_is options s classes stage parts =
           let (c, there) = some_at classes j within in
           let is = parts.results.right j c r there at in
           is.bounds ∙ (λ i. stream_bounds (sym price i) ss (sym gap i) j (sym is.classified i));
+      least = λ j r at.
+          let within : j < length classes = omega (arith, slice_get_within stage.streams j r at, parts.results.each) in
+          let (c, there) = some_at classes j within in
+          let is = parts.results.right j c r there at in
+          is.least ∙ (λ i. stream_least_bounds (sym price i) ss (sym flows i) (sym gap i) j (sym is.classified i));
       freedom = record { held = parts.state.rounded.held; forest = parts.state.rounded.forest; count = parts.dof parts.state.rounded.held parts.state.rounded.forest };
       low = parts.low ∙ (λ i. low_of ss (sym flows i) (sym gap i));
       high = parts.high ∙ (λ i. high_of ss (sym flows i));
@@ -164,6 +170,7 @@ results_within s classes results classified are k d lt =
       witness = witness_within s.graph k r.classified (subst (IsCertified s.graph k) (sym is.classified) (classified.right k c there).certified);
       flow = is.narrow;
       bounds = is.within;
+      least = is.least_within;
     }
 
 pub stage_formed : (options : Options) (s : State) (classes : List Classified) (stage : Stage) → AreOptions options → AreParts options s classes stage → AreNarrow stage → IsWellFormed stage
@@ -190,6 +197,7 @@ retested g options stage tests is = record {
   solution = is.solution;
   gap = is.gap;
   bounds = is.bounds;
+  least = is.least;
   freedom = is.freedom;
   low = is.low;
   high = is.high;

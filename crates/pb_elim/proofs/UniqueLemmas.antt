@@ -22,6 +22,7 @@ use Rattle.pb_classify.specs.Laws.{OneClassificationLaw}
 use Rattle.pb_gap.specs.declared.gap.Gap.{Gap}
 use Rattle.pb_gap.specs.Gap.{gap_of}
 use Rattle.pb_gap.specs.StreamBounds.{stream_bounds}
+use Rattle.pb_gap.specs.LeastBounds.{stream_least_bounds}
 use Rattle.pb_gap.specs.Statistic.{low_of, high_of}
 use Rattle.pb_gap.specs.Solution.{OneSolutionLaw}
 use Rattle.pb_tests.specs.Verdicts.{global_test_of}
@@ -79,7 +80,11 @@ one_result g options one other x y s k r q at there =
     let here : stream_bounds (printed_price one) g.streams (printed_gap one) k r.classified ≡ stream_bounds (printed_price other) g.streams (printed_gap other) k q.classified =
     λ i. stream_bounds (s.price i) g.streams (s.gap i) k (class i) in
     let bounds : r.bounds ≡ q.bounds = x.bounds k r at ∙ here ∙ sym (y.bounds k q there) in
-    λ i. record { classified = class i; flow = flow i; bounds = bounds i }
+    let least_here : stream_least_bounds (printed_price one) g.streams (printed_flows one) (printed_gap one) k r.classified
+    ≡ stream_least_bounds (printed_price other) g.streams (printed_flows other) (printed_gap other) k q.classified =
+    λ i. stream_least_bounds (s.price i) g.streams (s.flows i) (s.gap i) k (class i) in
+    let least : r.least ≡ q.least = x.least k r at ∙ least_here ∙ sym (y.least k q there) in
+    λ i. record { classified = class i; flow = flow i; bounds = bounds i; least = least i }
 
 -- ---- tests
 -- two stages without their tests

@@ -23,6 +23,7 @@ use Rattle.pb_graph.specs.declared.results.Taken.{Taken}
 use Rattle.pb_graph.specs.declared.results.Options.{Options}
 use Rattle.pb_graph.specs.declared.results.Critical.{Critical}
 use Rattle.pb_graph.specs.ProcessGraph.{ProcessGraph, IsProcessGraph, is_measured}
+use Rattle.pb_graph.specs.Prices.{PricesFit}
 use Rattle.pb_graph.specs.Groups.{group_count, is_free_group}
 use Rattle.pb_graph.specs.WellFormed.{AreBoundsWithin, AreTestsWithin, HasShapeOf, IsFlow, IsMeasureWithin, IsNodalWithin, IsPrice, IsResultWithin, IsTakenWithin, IsWellFormed, IsWellFormedStudy, IsWide}
 use Rattle.pb_graph.proofs.CertificateLemmas.{witness_within}
@@ -32,10 +33,13 @@ use Rattle.pb_gap.specs.declared.gap.Gap.{Gap}
 use Rattle.pb_gap.specs.Gap.{gap_of}
 use Rattle.pb_gap.specs.Bounds.{bounds_of}
 use Rattle.pb_gap.specs.StreamBounds.{stream_bounds, sum_for}
+use Rattle.pb_gap.specs.LeastBounds.{least_bounds_of, stream_least_bounds}
+use Rattle.pb_gap.specs.State.{AreRoundedFlows}
 use Rattle.pb_gap.specs.Statistic.{low_of, high_of}
 use Rattle.pb_gap.specs.Solution.{IsSolvedStatistic}
 use Rattle.pb_gap.specs.Laws.{StreamSumLaw, SumsTo}
 use Rattle.pb_gap.specs.RangeLaws.{AreNumbersWithin, IsEnd, RangeLaw}
+use Rattle.pb_gap.specs.LeastBoundsLaws.{LeastRangeLaw}
 use Rattle.pb_tests.specs.Verdicts.{global_critical}
 use Rattle.pb_tests.specs.Nodal.{AreNodalTests, nodal_test, nodal_tests_below, test_of_group}
 use Rattle.pb_tests.specs.Drop.{AreMeasureTests, drop_high, drop_low, without_measurement}
@@ -57,45 +61,60 @@ use Rattle.pb_elim.proofs.StageLemmas.{global_within, redundant_within, sweeps_w
 pub record RangeLaws : Type 0 where
   pub ascent : AscentLaw
   pub range : RangeLaw
+  pub least_range : LeastRangeLaw
   pub sums : StreamSumLaw
   pub free : FreeGroupsLaw
   pub nodal : NodalRangeLaw
 
 -- ---- the reconciliation
-numbers_of : RangeLaws → (options : Options) (stage : Stage) → IsProcessGraph stage.graph → IsReconciliationOf stage.graph options stage
-    → AreNumbersWithin stage.graph (printed_price stage) (printed_flows stage)
-numbers_of laws options stage limits is =
-    let g = stage.graph in
-    let (k, state) = state_of g options.gap options.sweeps stage.solved (printed_price stage) (printed_flows stage) is.solution in
-    laws.range g (printed_price stage) (printed_flows stage) limits (state_fits laws.ascent g k (printed_price stage) (printed_flows stage) limits state) state.rounded
+-- prices that fit, the flows that belong to them, and their numbers within the ranges
+record IsFitted (g : ProcessGraph) (price : ℕ → ℤ) (flows : List ℤ) : Type 0 where
+  limits : IsProcessGraph g
+  fit : PricesFit g price
+  rounded : AreRoundedFlows g price flows
+  within : AreNumbersWithin g price flows
 
-prices_within : RangeLaws → (options : Options) (stage : Stage) → IsProcessGraph stage.graph → IsReconciliationOf stage.graph options stage → All IsPrice stage.prices
-prices_within laws options stage limits is = λ n d lt.
+fitted : RangeLaws → (options : Options) (stage : Stage) → IsProcessGraph stage.graph → IsReconciliationOf stage.graph options stage
+    → IsFitted stage.graph (printed_price stage) (printed_flows stage)
+fitted laws options stage limits is =
     let g = stage.graph in
     let (k, state) = state_of g options.gap options.sweeps stage.solved (printed_price stage) (printed_flows stage) is.solution in
     let fit = state_fits laws.ascent g k (printed_price stage) (printed_flows stage) limits state in
-    subst IsPrice (sym (get_or_default stage.prices n d (pos 0) lt)) (fit.within n (omega (arith, lt, is.priced)))
+    record { limits = limits; fit = fit; rounded = state.rounded; within = laws.range g (printed_price stage) (printed_flows stage) limits fit state.rounded }
+
+prices_within : (stage : Stage) → PricesFit stage.graph (printed_price stage) → length stage.prices ≡ stage.graph.nodes → All IsPrice stage.prices
+prices_within stage fit priced = λ n d lt. subst IsPrice (sym (get_or_default stage.prices n d (pos 0) lt)) (fit.within n (omega (arith, lt, priced)))
 
 -- bounds of a signed sum, where there is one
-bounds_if : (g : ProcessGraph) (price : ℕ → ℤ) (flows : List ℤ) (j : ℕ) (o : Option (List Member)) → AreNumbersWithin g price flows → IfSome o (SumsTo g j)
+bounds_if : (g : ProcessGraph) (price : ℕ → ℤ) (flows : List ℤ) (j : ℕ) (o : Option (List Member)) → IsFitted g price flows → IfSome o (SumsTo g j)
     → IfSome (option_map (bounds_of price g.streams (gap_of price g.streams flows)) o) AreBoundsWithin
-bounds_if g price flows j None within sums = tt
-bounds_if g price flows j (Some members) within sums = within.bounds members sums.signed
+bounds_if g price flows j None fitted sums = tt
+bounds_if g price flows j (Some members) fitted sums = fitted.within.bounds members sums.signed
 
-result_within : RangeLaws → (options : Options) (stage : Stage) (j : ℕ) (r : StreamResult) → IsProcessGraph stage.graph → IsReconciliationOf stage.graph options stage
-    → AreNumbersWithin stage.graph (printed_price stage) (printed_flows stage) → slice_get stage.streams j ≡ Some r → IsResultWithin stage.graph r
-result_within laws options stage j r limits is within at =
+-- and least bounds of it
+least_if : RangeLaws → (g : ProcessGraph) (price : ℕ → ℤ) (flows : List ℤ) (j : ℕ) (o : Option (List Member)) → IsFitted g price flows → IfSome o (SumsTo g j)
+    → IfSome (option_map (least_bounds_of price g.streams flows (gap_of price g.streams flows)) o) AreBoundsWithin
+least_if laws g price flows j None fitted sums = tt
+least_if laws g price flows j (Some members) fitted sums = laws.least_range g price flows members fitted.limits fitted.fit fitted.rounded sums.signed
+
+result_within : RangeLaws → (options : Options) (stage : Stage) (j : ℕ) (r : StreamResult) → IsReconciliationOf stage.graph options stage
+    → IsFitted stage.graph (printed_price stage) (printed_flows stage) → slice_get stage.streams j ≡ Some r → IsResultWithin stage.graph r
+result_within laws options stage j r is fitted at =
     let g = stage.graph in
     let price = printed_price stage in
     let flows = printed_flows stage in
     let certified = (is.classes.right j r.classified (at_map (λ (r : StreamResult). r.classified) stage.streams j r at)).certified in
-    let bounds : IfSome (stream_bounds price g.streams (gap_of price g.streams flows) j r.classified) AreBoundsWithin =
-    bounds_if g price flows j (sum_for j r.classified.class r.classified.witness) within (laws.sums g j r.classified limits certified) in
+    let sum = sum_for j r.classified.class r.classified.witness in
+    let sums : IfSome sum (SumsTo g j) = laws.sums g j r.classified fitted.limits certified in
+    let bounds : IfSome (stream_bounds price g.streams (gap_of price g.streams flows) j r.classified) AreBoundsWithin = bounds_if g price flows j sum fitted sums in
+    let least : IfSome (stream_least_bounds price g.streams flows (gap_of price g.streams flows) j r.classified) AreBoundsWithin = least_if laws g price flows j sum fitted sums in
     let same = is.bounds j r at ∙ ap (λ (gap : Gap). stream_bounds price g.streams gap j r.classified) is.gap in
+    let least_same = is.least j r at ∙ ap (λ (gap : Gap). stream_least_bounds price g.streams flows gap j r.classified) is.gap in
     record {
       witness = witness_within g j r.classified certified;
-      flow = all_each IsFlow flows within.each_flow j r.flow (at_map (λ (r : StreamResult). r.flow) stage.streams j r at);
+      flow = all_each IsFlow flows fitted.within.each_flow j r.flow (at_map (λ (r : StreamResult). r.flow) stage.streams j r at);
       bounds = subst (λ (o : Option Bounds). IfSome o AreBoundsWithin) (sym same) bounds;
+      least = subst (λ (o : Option Bounds). IfSome o AreBoundsWithin) (sym least_same) least;
     }
 
 count_more : (b : Bool) (n m : ℕ) → n ≤ m → (if b then 1 else 0) + n ≤ suc m
@@ -197,7 +216,8 @@ stage_within laws h options critical stage limits asked values whole =
     let graph_is = whole.reconciled.graph_is in
     let is = own_stage h options stage whole.reconciled in
     let here : IsProcessGraph g = subst IsProcessGraph (sym graph_is) limits in
-    let within = numbers_of laws options stage here is in
+    let of = fitted laws options stage here is in
+    let within = of.within in
     let each : length stage.streams ≡ length g.streams = sym (length-map stage.streams (λ (r : StreamResult). r.classified)) ∙ is.classes.each in
     let low : IsEnd stage.low = subst IsEnd (sym (is.low ∙ ap (low_of g.streams (printed_flows stage)) is.gap)) within.low in
     let high : IfSome stage.high IsEnd = subst (λ (o : Option ℤ). IfSome o IsEnd) (sym is.high) within.high in
@@ -207,8 +227,8 @@ stage_within laws h options critical stage limits asked values whole =
     record {
       each_price = is.priced;
       each_stream = each;
-      results = λ j d lt. result_within laws options stage j (get_or stage.streams j d) here is within (slice_get-get_or stage.streams j d lt);
-      prices = prices_within laws options stage here is;
+      results = λ j d lt. result_within laws options stage j (get_or stage.streams j d) is of (slice_get-get_or stage.streams j d lt);
+      prices = prices_within stage of.fit is.priced;
       sweeps = sweeps_within g options.gap options.sweeps stage.solved (printed_price stage) (printed_flows stage) is.solution asked.greatest_sweeps;
       g = omega (arith, within.gap.most_g, ap (λ (gap : Gap). gap.g) is.gap);
       h = omega (arith, within.gap.most_h, ap (λ (gap : Gap). gap.h) is.gap);

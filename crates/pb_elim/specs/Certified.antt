@@ -1,5 +1,5 @@
 -- Statement. A shown stage, which an auditor can check, and a certified stage: what a shown one promises to whoever reads it.
-use Rattle.std.specs.Prelude.{◌≡◌, ℕ, ℤ, length, map, None, All, IfSome, MatchOption}
+use Rattle.std.specs.Prelude.{◌≡◌, ℕ, ℤ, length, map, None, is_some, All, IfSome, MatchOption}
 use Rattle.pb_graph.specs.declared.records.Class.TheVariants.{Unobservable}
 use Rattle.pb_graph.specs.declared.results.StreamResult.{StreamResult}
 use Rattle.pb_graph.specs.declared.results.Verdict.{Verdict}
@@ -72,6 +72,10 @@ abbrev pub TestsEachRedundant : Stage → Type 0
 TestsEachRedundant stage =
     IfSome stage.tests (λ tests.
     map (λ (test : MeasureTest). test.stream) tests.measure ≡ redundant_streams stage.streams)
+
+-- the streams that have bounds have least bounds too, and no others have them
+abbrev pub HasLeastThroughout : Stage → Type 0
+HasLeastThroughout stage = EachStream stage (λ j r. is_some r.least ≡ is_some r.bounds)
 
 -- A stage is shown where all of this holds, which its printed numbers alone decide:
 pub record IsShownStage (stage : Stage) : Type 0 where

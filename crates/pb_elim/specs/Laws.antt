@@ -11,7 +11,7 @@ use Rattle.pb_elim.specs.Options.{AreOptions}
 use Rattle.pb_elim.specs.Criticals.{AreCritical}
 use Rattle.pb_elim.specs.Printed.{printed_price, printed_flows}
 use Rattle.pb_elim.specs.Study.{IsStudyOf}
-use Rattle.pb_elim.specs.Certified.{IsShownStage, IsCertifiedStage, TestsEachRedundant}
+use Rattle.pb_elim.specs.Certified.{IsShownStage, IsCertifiedStage, TestsEachRedundant, HasLeastThroughout}
 use Rattle.pb_elim.specs.Decided.{AreMeasuresRight}
 
 -- a stage that is shown is certified, whatever made it
@@ -28,6 +28,11 @@ CertifiedLaw = (graph : ProcessGraph) (options : Options) (critical : Critical) 
 abbrev pub TestedLaw : Type 0
 TestedLaw = (graph : ProcessGraph) (options : Options) (critical : Critical) (study : Study)
     → IsStudyOf graph options critical study → All TestsEachRedundant study.stages
+
+-- each stream of it that has bounds has least bounds
+abbrev pub LeastThroughoutLaw : Type 0
+LeastThroughoutLaw = (graph : ProcessGraph) (options : Options) (critical : Critical) (study : Study)
+    → IsStudyOf graph options critical study → All HasLeastThroughout study.stages
 
 -- and the decided tests of its measurements are right
 abbrev pub DecidedLaw : Type 0

@@ -1,14 +1,14 @@
 // What is proved of the definitions alone. The contract of each function is a law; it calls those that the proof stands on.
 
-ghost use Rattle.pb_elim.specs.Laws.{ShownLaw, CertifiedLaw, TestedLaw, DecidedLaw, FormedLaw, SolutionLaw, SomeStudyLaw, OneStudyLaw};
+ghost use Rattle.pb_elim.specs.Laws.{ShownLaw, CertifiedLaw, TestedLaw, LeastThroughoutLaw, DecidedLaw, FormedLaw, SolutionLaw, SomeStudyLaw, OneStudyLaw};
 
 use pb_balance::certificate_law;
 use pb_classify::{one_classification_law, some_classification_law};
 use pb_dual::laws::ascent_law;
 use pb_forest::one_forest_law;
 use pb_gap::{
-    gap_law, least_law, one_solution_law, outside_law, range_law, some_solution_law, statistic_law,
-    stream_law,
+    gap_law, least_bounds_law, least_law, one_solution_law, outside_law, range_law,
+    some_solution_law, statistic_law, stream_law,
 };
 use pb_tests::{
     decided_global_law, decided_measure_law, free_groups_law, measure_tests_law, nodal_range_law,
@@ -22,6 +22,7 @@ pub fn shown_law()
     certificate_law();
     gap_law();
     stream_law();
+    least_bounds_law();
     least_law();
     statistic_law();
     decided_global_law();
@@ -41,6 +42,11 @@ pub fn tested_law()
     ensures { TestedLaw }
 {}
 
+/// Each stream of each stage of a study has least bounds where it has bounds.
+pub fn least_throughout_law()
+    ensures { LeastThroughoutLaw }
+{}
+
 /// The decided tests of measurements of each stage of a study are right.
 pub fn decided_law()
     ensures { DecidedLaw }
@@ -54,6 +60,7 @@ pub fn formed_law()
 {
     ascent_law();
     range_law();
+    least_bounds_law();
     stream_law();
     free_groups_law();
     nodal_range_law();

@@ -1,5 +1,5 @@
-//! The whole study of a process graph: classes with their certificates, reconciled flows, bounds, prices, the statistic and tests; and
-//! serial elimination, which takes suspects out one after the other.
+//! The whole study of a process graph: classes with their certificates, reconciled flows, bounds, least bounds, prices, the statistic and
+//! tests; and serial elimination, which takes suspects out one after the other.
 //!
 //! Each stage of a study is certified: what it prints promises by itself what an auditor may rely on, whatever made it.
 #![tactic(auto)]
@@ -14,8 +14,8 @@ mod testing;
 mod tests;
 
 pub use laws::{
-    certified_law, decided_law, formed_law, one_study_law, shown_law, solution_law, some_study_law,
-    tested_law,
+    certified_law, decided_law, formed_law, least_throughout_law, one_study_law, shown_law,
+    solution_law, some_study_law, tested_law,
 };
 pub use members::sum_for;
 pub use stages::stage;

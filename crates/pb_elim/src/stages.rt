@@ -53,10 +53,13 @@ fn enclosure_of(
             bounds: None,
             least: None,
         }),
-        Some(members) => Ok(Enclosure {
-            bounds: Some(solver.bounds(members.as_slice())),
-            least: Some(solver.least(members.as_slice())),
-        }),
+        Some(sum) => {
+            let members = sum.as_slice();
+            Ok(Enclosure {
+                bounds: Some(solver.bounds(members)),
+                least: Some(solver.least(members)),
+            })
+        }
     }
 }
 
@@ -170,7 +173,7 @@ fn reconciled<'a>(
     collected(alloc, graph, options, classes, &solver, solved)
 }
 
-/// The stage of a graph: classes, flows, bounds, prices, the statistic, and tests where they are asked.
+/// The stage of a graph: classes, flows, bounds, least bounds, prices, the statistic, and tests where they are asked.
 pub fn stage(
     alloc: Global,
     graph: &Graph,

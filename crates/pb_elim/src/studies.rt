@@ -8,12 +8,12 @@ ghost use Rattle.pb_elim.specs.Options.{AreOptions};
 ghost use Rattle.pb_elim.specs.Criticals.{AreCritical};
 ghost use Rattle.pb_elim.specs.Stage.{IsStageOf};
 ghost use Rattle.pb_elim.specs.Study.{IsStudyOf};
-ghost use Rattle.pb_elim.specs.Certified.{IsCertifiedStage, TestsEachRedundant};
+ghost use Rattle.pb_elim.specs.Certified.{IsCertifiedStage, TestsEachRedundant, HasLeastThroughout};
 ghost use Rattle.pb_elim.specs.Decided.{AreMeasuresRight};
 ghost use Rattle.pb_elim.specs.Rounds.{AreAllRoundsOf};
 
 use crate::elimination::{next_at, stop_at};
-use crate::laws::{certified_law, decided_law, tested_law};
+use crate::laws::{certified_law, decided_law, least_throughout_law, tested_law};
 use crate::stages::{stage, stage_classed};
 use pb_graph::{Classified, Critical, Graph, List, Options, Stage, Study};
 use std::alloc::{AllocError, Global};
@@ -76,8 +76,8 @@ fn rounds(
     })
 }
 
-/// The study of a graph: its stage, with the class of each stream, reconciled flows, bounds, prices, the statistic, and tests
-/// where they are asked; and where elimination is asked, the stages of the graph without the streams that are taken one by one,
+/// The study of a graph: its stage, with the class of each stream, reconciled flows, bounds, least bounds, prices, the statistic, and
+/// tests where they are asked; and where elimination is asked, the stages of the graph without the streams that are taken one by one,
 /// each time the worst suspect, with the reason why it stopped (Narasimhan and Jordache, serial elimination).
 pub fn study(
     alloc: Global,
@@ -90,6 +90,7 @@ pub fn study(
     ensures study { IfOk result (IsStudyOf graph.now options.now critical.now) }
     ensures certified { IfOk result (λ study. All IsCertifiedStage study.stages) }
     ensures tested { IfOk result (λ study. All TestsEachRedundant study.stages) }
+    ensures least { IfOk result (λ study. All HasLeastThroughout study.stages) }
     ensures decided { IfOk result (λ study. All AreMeasuresRight study.stages) }
     ensures formed { IfOk result (IsWellFormedStudy graph.now) }
 {
@@ -111,6 +112,7 @@ pub fn study_classed(
     ensures study { IfOk result (IsStudyOf graph.now options.now critical.now) }
     ensures certified { IfOk result (λ study. All IsCertifiedStage study.stages) }
     ensures tested { IfOk result (λ study. All TestsEachRedundant study.stages) }
+    ensures least { IfOk result (λ study. All HasLeastThroughout study.stages) }
     ensures decided { IfOk result (λ study. All AreMeasuresRight study.stages) }
     ensures formed { IfOk result (IsWellFormedStudy graph.now) }
 {
@@ -134,6 +136,7 @@ fn study_from(
     ensures study { IfOk result (IsStudyOf graph.now options.now critical.now) }
     ensures certified { IfOk result (λ study. All IsCertifiedStage study.stages) }
     ensures tested { IfOk result (λ study. All TestsEachRedundant study.stages) }
+    ensures least { IfOk result (λ study. All HasLeastThroughout study.stages) }
     ensures decided { IfOk result (λ study. All AreMeasuresRight study.stages) }
     ensures formed { IfOk result (IsWellFormedStudy graph.now) }
 {
@@ -143,6 +146,7 @@ fn study_from(
     study.stop = stop_at(options, critical, count as u32, &last.tests);
     certified_law();
     tested_law();
+    least_throughout_law();
     decided_law();
     Ok(study)
 }

@@ -108,6 +108,16 @@ fn assert_flow(rt: &impl Abort, stage: &Stage, j: usize, flow: i128, bounds: Opt
     assert_eq!(rt; found, bounds);
 }
 
+/// The least bounds of a stream.
+fn assert_least(rt: &impl Abort, stage: &Stage, j: usize, least: Option<(i128, i128)>) {
+    assert!(rt; j < stage.streams.len());
+    let found = match stage.streams.at(j).least {
+        Some(b) => Some((b.lo, b.hi)),
+        None => None,
+    };
+    assert_eq!(rt; found, least);
+}
+
 fn assert_cut(
     rt: &impl Abort,
     stage: &Stage,
@@ -158,6 +168,7 @@ fn two_meters_disagree(rt: HostRuntime) -> Result<(), AllocError> {
     let stage = s.stages.at(0);
     assert_numbers(&rt, stage, (1, true), 2, 1, 1_999, Some(2_000));
     assert_flow(&rt, stage, 0, 101_000_000, Some((100_999_997, 101_000_002)));
+    assert_least(&rt, stage, 0, Some((100_999_998, 101_000_001)));
     assert_cut(
         &rt,
         stage,
@@ -167,6 +178,7 @@ fn two_meters_disagree(rt: HostRuntime) -> Result<(), AllocError> {
         &[(0, -1), (1, 1)],
     );
     assert_flow(&rt, stage, 1, 101_000_000, Some((100_999_998, 101_000_003)));
+    assert_least(&rt, stage, 1, Some((100_999_999, 101_000_002)));
     assert_cut(
         &rt,
         stage,
@@ -190,6 +202,7 @@ fn half_a_gram(rt: HostRuntime) -> Result<(), AllocError> {
         let stage = s.stages.at(0);
         assert_numbers(&rt, stage, solved, 741_456, 1, 499, Some(1_000));
         assert_flow(&rt, stage, 0, 1, Some((-1, 2)));
+        assert_least(&rt, stage, 0, Some((-1, 2)));
         assert_flow(&rt, stage, 1, 1, Some((-1, 2)));
     }
     let s = study_of(&rt, rt.alloc(), 2, &streams, 1_000, 5_000)?;
@@ -197,7 +210,9 @@ fn half_a_gram(rt: HostRuntime) -> Result<(), AllocError> {
     let stage = s.stages.at(0);
     assert_numbers(&rt, stage, (0, true), 1_048_576, 1, 0, Some(1_000));
     assert_flow(&rt, stage, 0, 0, Some((-1, 3)));
+    assert_least(&rt, stage, 0, Some((-1, 2)));
     assert_flow(&rt, stage, 1, 0, Some((-2, 2)));
+    assert_least(&rt, stage, 1, Some((-1, 1)));
     Ok(())
 }
 
@@ -222,6 +237,7 @@ fn plain_between_meters(rt: HostRuntime) -> Result<(), AllocError> {
         &[(0, -1), (2, 1)],
     );
     assert_flow(&rt, stage, 1, 101_000_000, Some((100_999_997, 101_000_002)));
+    assert_least(&rt, stage, 1, Some((100_999_998, 101_000_001)));
     assert_cut(
         &rt,
         stage,
@@ -250,6 +266,7 @@ fn meter_beside_plain_stream(rt: HostRuntime) -> Result<(), AllocError> {
     let stage = s.stages.at(0);
     assert_numbers(&rt, stage, (0, true), 0, 0, 0, Some(0));
     assert_flow(&rt, stage, 0, -500, Some((-500, -500)));
+    assert_least(&rt, stage, 0, Some((-500, -500)));
     assert_cut(
         &rt,
         stage,
@@ -365,6 +382,7 @@ fn contradiction(rt: HostRuntime) -> Result<(), AllocError> {
         None,
     );
     assert_flow(&rt, stage, 0, 0, Some((0, 0)));
+    assert_least(&rt, stage, 0, Some((0, 0)));
     assert_flow(&rt, stage, 1, 0, Some((0, 0)));
     Ok(())
 }
@@ -379,6 +397,7 @@ fn parallel_plain_streams(rt: HostRuntime) -> Result<(), AllocError> {
     assert_numbers(&rt, stage, (0, true), 0, 0, 0, Some(0));
     for j in 0..2 {
         assert_flow(&rt, stage, j, 0, None);
+        assert_least(&rt, stage, j, None);
         assert_cycle(&rt, stage, j, Class::Unobservable, &[(1, true), (0, false)]);
     }
     Ok(())
@@ -403,6 +422,7 @@ fn many_parallel_streams(rt: HostRuntime) -> Result<(), AllocError> {
     let mut total: i128 = 0;
     for result in stage.streams.as_slice() {
         assert!(rt; result.bounds.is_some());
+        assert!(rt; result.least.is_some());
         total = total.wrapping_add(result.flow);
     }
     assert_eq!(rt; total, 0);

@@ -6,6 +6,7 @@ returns c = shown_by (record {
   certificate = c.certificate_law.ensures;
   gaps = c.gap_law.ensures.numbers;
   stream = c.stream_law.ensures.within;
+  least_stream = c.least_bounds_law.ensures.stream;
   distance = c.least_law.ensures.distance;
   low = c.statistic_law.ensures.low;
   high = c.statistic_law.ensures.high;

@@ -20,6 +20,13 @@ returns-clause-decided c =
     (study_of_all c.args.graph.now c.args.options.now c.args.critical.now c.in_ok-study.study c.at-last.result.now c.len-count.result c.stop_at-study.result c.in_ok-study.ensures c.len-count.ensures
     c.at-last.ensures c.stop_at-study.ensures)
 
+pub returns-clause-least : goal.returns-clause-least
+returns-clause-least c =
+    c.least_throughout_law.ensures c.args.graph.now c.args.options.now c.args.critical.now
+    (record { stages = c.in_ok-study.study.stages; taken = c.in_ok-study.study.taken; stop = c.stop_at-study.result })
+    (study_of_all c.args.graph.now c.args.options.now c.args.critical.now c.in_ok-study.study c.at-last.result.now c.len-count.result c.stop_at-study.result c.in_ok-study.ensures c.len-count.ensures
+    c.at-last.ensures c.stop_at-study.ensures)
+
 pub returns-clause-tested : goal.returns-clause-tested
 returns-clause-tested c =
     c.tested_law.ensures c.args.graph.now c.args.options.now c.args.critical.now
