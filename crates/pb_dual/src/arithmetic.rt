@@ -21,6 +21,15 @@ pub fn rise(from: i128, to: i128) -> i128
     to - from
 }
 
+/// A value in units of dual flow.
+pub fn scaled(value: i128) -> i128
+    requires { unsigned_abs value ≤ most_value }
+    ensures value { result ≡ scale *ℤ value }
+    ensures within { unsigned_abs result < 2 ^ 106 }
+{
+    SCALE * value
+}
+
 /// The dual flow of a measurement along which the price rises.
 pub fn flow(value: i128, variance: i128, rise: i128) -> i128
     requires value { unsigned_abs value ≤ most_value }
@@ -28,7 +37,7 @@ pub fn flow(value: i128, variance: i128, rise: i128) -> i128
     ensures value { result ≡ (scale *ℤ value) +ℤ (variance *ℤ rise) }
     ensures within { unsigned_abs result ≤ most_dual_flow }
 {
-    SCALE * value + variance * rise
+    scaled(value) + variance * rise
 }
 
 /// A lower bound, raised to a price less a room.

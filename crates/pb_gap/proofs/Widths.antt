@@ -1,5 +1,5 @@
 -- Widths of the numbers of the study.
-use Rattle.std.proofs.Common.{◌≡◌, ◌∙◌, ◌^◌, ℤ, pos, ◌+ℤ◌, ◌-ℤ◌, ◌*ℤ◌, ◌≤ℤ◌, ◌<ℤ◌, unsigned_abs, Option, Some, inl, inr, ap, ap₂, sym, subst, arith}
+use Rattle.std.proofs.Common.{◌≡◌, ◌∙◌, ◌-◌, ◌^◌, ◌<◌, ◌≤◌, ℤ, pos, ◌+ℤ◌, ◌-ℤ◌, ◌*ℤ◌, ◌≤ℤ◌, ◌<ℤ◌, unsigned_abs, Option, Some, inl, inr, ap, ap₂, sym, subst, arith}
 use Rattle.std.specs.Prelude.{IfSome, int_lt, true, false}
 use Rattle.std.proofs.lemmas.Bool.{cases_Bool}
 use Rattle.std.proofs.lemmas.Int.{ints}
@@ -12,7 +12,7 @@ use Rattle.pb_fixed.proofs.QuotientLaws.{ceiling_from, ceiling_to, floor_from}
 use Rattle.pb_fixed.proofs.RootLaws.{scaled_root_is, scaled_root_width}
 use Rattle.pb_graph.specs.declared.records.Meas.{Meas}
 use Rattle.pb_graph.specs.ProcessGraph.{IsMeasurement}
-use Rattle.pb_dual.specs.DualValue.{scale, flow_at}
+use Rattle.pb_dual.specs.DualValue.{scale, flow_at, most_dual_flow}
 use Rattle.pb_gap.specs.Gap.{deviation_at, standard_deviation_of}
 use Rattle.pb_gap.specs.Statistic.{adjustment_at, adjustment_below, adjustment_above}
 
@@ -37,6 +37,14 @@ pub deviation_width : (n r : ℤ) → pos 0 ≤ℤ n → n <ℤ pos (2 ^ 125) �
 deviation_width n r n_pos n_most r_from =
     let d_pos : pos 0 <ℤ (r *ℤ pos (2 ^ 16)) = omega (arith, ints, r_from) in
     (ceiling_from (pos 0) n (r *ℤ pos (2 ^ 16)) d_pos (omega (arith, ints, n_pos)), ceiling_to (pos (2 ^ 89)) n (r *ℤ pos (2 ^ 16)) d_pos (omega (arith, ints, n_most, r_from)))
+
+pub deviation_narrow : (p u r : ℤ) → unsigned_abs p < 2 ^ 68 → unsigned_abs u ≤ most_dual_flow → pos (2 ^ 20) ≤ℤ r
+    → ceil_div (pos (unsigned_abs ((p *ℤ scale) -ℤ u))) (r *ℤ pos (2 ^ 16)) <ℤ pos (2 ^ 89)
+deviation_narrow p u r flow dual r_from =
+    let n : ℤ = pos (unsigned_abs ((p *ℤ scale) -ℤ u)) in
+    let d : ℤ = r *ℤ pos (2 ^ 16) in
+    let most : n ≤ℤ (pos (2 ^ 89 - 1) *ℤ d) = omega (arith, ints, flow, dual, r_from) in
+    let at_most = ceiling_to (pos (2 ^ 89 - 1)) n d (omega (arith, ints, r_from)) most in omega (arith, ints, at_most)
 
 pub floor_nonneg : (n d : ℤ) → pos 0 ≤ℤ n → pos 0 <ℤ d → pos 0 ≤ℤ floor_div n d
 floor_nonneg n d n_pos d_pos = floor_from (pos 0) n d d_pos (omega (arith, ints, n_pos))

@@ -44,6 +44,7 @@ pub fn deviation(flow: i128, dual_flow: i128, root: i128) -> i128
     ensures value { result
         ≡ ceil_div (pos (unsigned_abs ((flow *ℤ scale) -ℤ dual_flow))) (root *ℤ pos (2 ^ 16)) }
     ensures within { IsBlockItem result }
+    ensures width { result <ℤ pos (2 ^ 89) }
 {
     div_ceil(distance(flow, dual_flow), root * (1 << 16))
 }
@@ -94,6 +95,7 @@ pub fn signed(sign: i8, x: i128) -> i128
 pub fn thousandths(squares: i128) -> i128
     requires { unsigned_abs squares ≤ (most_streams + 1) * 2 ^ 104 }
     ensures value { result ≡ pos 1000 *ℤ squares }
+    ensures within { unsigned_abs result < 2 ^ 126 }
 {
     1_000 * squares
 }

@@ -1,6 +1,6 @@
 // A gap: its two numbers, its size, and whether it is met.
 
-ghost use Rattle.std.specs.Prelude.{◌≡◌, ◌↔◌, ◌*◌, ◌/◌, ◌^◌, ◌≤◌, pos, length, All, IsTrue};
+ghost use Rattle.std.specs.Prelude.{◌≡◌, ◌↔◌, ◌*◌, ◌/◌, ◌^◌, ◌<◌, ◌≤◌, pos, length, All, IsTrue};
 ghost use Rattle.pb_limits.specs.Limits.{most_streams};
 ghost use Rattle.pb_fixed.specs.Blocks.{IsBlockItem};
 ghost use Rattle.pb_gap.specs.Gap.{MeetsGap, gap_from, gap_size};
@@ -21,6 +21,7 @@ pub fn gap_from(deviations: &[i128]) -> Gap
     requires each { All IsBlockItem deviations.now }
     ensures value { result ≡ gap_from deviations.now }
     ensures range { IsGapInRange result }
+    ensures within { result.g < 2 ^ 63 }
 {
     let h = block_exponent(deviations);
     let g = root_ceil(block_squares(deviations, h) as u128);

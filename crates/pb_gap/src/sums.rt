@@ -1,6 +1,6 @@
 // Sums over a signed list of measured streams.
 
-ghost use Rattle.std.specs.Prelude.{◌≡◌, ◌<◌, ◌≤◌, ◌^◌, ℕ, ℤ, pos, ◌≤ℤ◌, ◌+ℤ◌, ◌-ℤ◌, length, unsigned_abs, All};
+ghost use Rattle.std.specs.Prelude.{◌≡◌, ◌<◌, ◌≤◌, ◌^◌, ℕ, ℤ, pos, ◌≤ℤ◌, ◌<ℤ◌, ◌+ℤ◌, ◌-ℤ◌, length, unsigned_abs, All};
 ghost use Rattle.pb_limits.specs.Limits.{most_streams, most_variance};
 ghost use Rattle.pb_graph.specs.ProcessGraph.{IsWithinLimits};
 ghost use Rattle.pb_merge.specs.Variance.{variance_of};
@@ -53,7 +53,7 @@ fn variance_sum(streams: &[Stream], members: &[Member]) -> i128
     requires members { AreMembers streams.now members.now }
     ensures value { result ≡ variance_sum streams.now members.now }
     ensures nonneg { pos 0 ≤ℤ result }
-    ensures within { result ≤ℤ pos (2 ^ 85) }
+    ensures within { result <ℤ pos (2 ^ 85) }
 {
     let mut total = 0;
     for member in members {
@@ -71,6 +71,7 @@ pub fn half_width_of(streams: &[Stream], members: &[Member], gap: Gap) -> i128
     ensures value { result ≡ half_width_in streams.now gap members.now }
     ensures nonneg { pos 0 ≤ℤ result }
     ensures within { result ≤ℤ pos (2 ^ 118) }
+    ensures narrow { gap.g < 2 ^ 63 → result <ℤ pos (2 ^ 118) }
 {
     if members.is_empty() {
         return 0;

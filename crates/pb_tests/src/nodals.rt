@@ -1,6 +1,6 @@
 // Nodal tests.
 
-ghost use Rattle.std.specs.Prelude.{◌≡◌, ◌*◌, ◌<◌, ◌≤◌, pos, ◌≤ℤ◌, nat_lt, unsigned_abs, length, All, IfOk, IfSome};
+ghost use Rattle.std.specs.Prelude.{◌≡◌, ◌*◌, ◌^◌, ◌<◌, ◌≤◌, pos, ◌≤ℤ◌, nat_lt, unsigned_abs, length, All, IfOk, IfSome};
 ghost use Rattle.pb_limits.specs.Limits.{most_critical, most_streams, most_value};
 ghost use Rattle.pb_limits.specs.Ranges.{IsCriticalValue};
 ghost use Rattle.pb_graph.specs.ProcessGraph.{IsProcessGraph, IsStream, IsWithinLimits};
@@ -70,6 +70,25 @@ fn group_net(numbers: &[u32], group: u32, streams: &[Stream]) -> i128
     total
 }
 
+// The square of a net flow.
+fn square(net: u128) -> u128
+    requires { net ≤ most_streams * most_value }
+    ensures value { result ≡ net * net }
+    ensures within { result < 2 ^ 122 }
+{
+    net * net
+}
+
+// A critical value times a variance.
+fn scaled_variance(critical: u128, variance: u128) -> u128
+    requires critical { critical ≤ most_critical }
+    requires variance { variance ≤ most_group_variance }
+    ensures value { result ≡ critical * variance }
+    ensures within { result < 2 ^ 125 }
+{
+    critical * variance
+}
+
 // Whether a thousand times the square of a net flow is above a critical value times a variance.
 fn is_above(net: u128, variance: u128, critical: u128) -> bool
     requires net { net ≤ most_streams * most_value }
@@ -77,7 +96,7 @@ fn is_above(net: u128, variance: u128, critical: u128) -> bool
     requires critical { critical ≤ most_critical }
     ensures { result ≡ nat_lt (critical * variance) (1000 * (net * net)) }
 {
-    net * net > critical * variance / 1_000
+    square(net) > scaled_variance(critical, variance) / 1_000
 }
 
 /// The verdict of a nodal test on a net flow in grams and its variance, by a critical value in thousandths.

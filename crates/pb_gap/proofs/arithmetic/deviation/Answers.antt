@@ -5,7 +5,7 @@ use Rattle.std.proofs.Math.Facts.{to_z-of_z}
 use Rattle.pb_fixed.specs.Quotients.{ceil_div}
 use Rattle.pb_fixed.specs.Blocks.{IsBlockItem}
 use Rattle.pb_dual.specs.DualValue.{scale}
-use Rattle.pb_gap.proofs.Widths.{deviation_width}
+use Rattle.pb_gap.proofs.Widths.{deviation_narrow, deviation_width}
 use Rattle.pb_gap.proofs.arithmetic.deviation.Goals as goal
 
 pub returns-clause-value : goal.returns-clause-value
@@ -28,3 +28,7 @@ returns-clause-within c =
     let within : pos (unsigned_abs ((c.args.flow *ℤ scale) -ℤ c.args.dual_flow)) <ℤ pos (2 ^ 125) = subst (λ (x : ℤ). x <ℤ pos (2 ^ 125)) distance c.distance.ensures.within in
     subst IsBlockItem (sym (returns-clause-value c))
     (deviation_width (pos (unsigned_abs ((c.args.flow *ℤ scale) -ℤ c.args.dual_flow))) c.args.root (omega (arith, ints)) within c.requires.root_from)
+
+pub returns-clause-width : goal.returns-clause-width
+returns-clause-width c =
+    subst (λ (x : ℤ). x <ℤ pos (2 ^ 89)) (sym (returns-clause-value c)) (deviation_narrow c.args.flow c.args.dual_flow c.args.root c.requires.flow c.requires.dual_flow c.requires.root_from)
