@@ -8,6 +8,7 @@ mod HoldsLemmas
 mod FlowLemmas
 mod SideLemmas
 mod TreeLemmas
+mod ClimbLemmas
 mod NetLemmas
 mod SomeForestLemmas
 mod SomeBalancedLemmas

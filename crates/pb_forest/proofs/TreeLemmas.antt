@@ -8,7 +8,7 @@ use Rattle.pb_graph.specs.ProcessGraph.{IsStream}
 use Rattle.pb_graph.specs.Neighbours.{touches, touching_from, touching}
 use Rattle.pb_graph.specs.ProcessGraph.{other_end, some_stream}
 use Rattle.pb_graph.proofs.WalkLemmas.{some_same}
-use Rattle.pb_forest.specs.Trees.{RootedTrees, node_at, root_of, up_of, end_from, unfound, IsBranch, AreTrees, AreWhole, AreGrowing, Extends, hung, AreFollowed, AreSearched}
+use Rattle.pb_forest.specs.Trees.{RootedTrees, node_at, place_of, root_of, up_of, end_from, unfound, IsBranch, AreTrees, AreWhole, AreGrowing, Extends, hung, AreFollowed, AreSearched}
 
 -- ---- the ends of a stream
 pub end_cases : (n : ℕ) (s : Stream) → touches n s ≡ true → ((s.to ≡ n) × (other_end n s ≡ s.from)) ⊎ ((s.from ≡ n) × (s.to ≢ n) × (other_end n s ≡ s.to))
@@ -183,7 +183,9 @@ hung_trees nodes ss held t m r up trees new lt by_ =
     let root_m : root_of u m ≡ Some r = get_or-set_same t.root m (Some r) None (omega (arith, lt, trees.roots)) in
     let up_m : up_of u m ≡ up = get_or-set_same t.up m up None (omega (arith, lt, trees.ups)) in
     let apart : (i : ℕ) → i < length t.order → node_at t i ≢ m = λ i less e. let (q, found) = trees.seen i less in cc (sym new ∙ ap (root_of t) (sym e) ∙ found) in
+    let place_m : place_of u m ≡ length t.order = get_or-set_same t.place m (length t.order) 0 (omega (arith, lt, trees.places)) in
     record {
+      places = length-set t.place m (length t.order) ∙ trees.places;
       roots = length-set t.root m (Some r) ∙ trees.roots;
       ups = length-set t.up m up ∙ trees.ups;
       seen = λ i less. elim (cases_eq i (length t.order)) [
@@ -192,6 +194,12 @@ hung_trees nodes ss held t m r up trees new lt by_ =
             let old : i < length t.order = omega (arith, less, ne, size) in
             let (q, found) = trees.seen i old in
             (q, ap (root_of u) (before i old) ∙ hung_kept t m (node_at t i) q (Some r) up new found ∙ found)
+      ];
+      placed = λ i less. elim (cases_eq i (length t.order)) [
+        | inl same ↦ ap (λ (j : ℕ). place_of u (node_at u j)) same ∙ ap (place_of u) last ∙ place_m ∙ sym same
+        | inr ne ↦
+            let old : i < length t.order = omega (arith, less, ne, size) in
+            ap (place_of u) (before i old) ∙ get_or-set_other t.place m (node_at t i) (length t.order) 0 (apart i old) ∙ trees.placed i old
       ];
       listed = λ n q found. elim (cases_eq n m) [
         | inl same ↦ (length t.order, omega (arith, size), last ∙ sym same)
@@ -404,12 +412,14 @@ nothing zero n = refl
 nothing (suc m) zero = refl
 nothing (suc m) (suc n) = nothing m n
 
-pub none_found : (nodes : ℕ) (ss : List Stream) (held : List Bool) → AreGrowing nodes ss held 0 (record { order = []; root = replicate nodes none; up = replicate nodes none })
+pub none_found : (nodes : ℕ) (ss : List Stream) (held : List Bool) → AreGrowing nodes ss held 0 (record { order = []; place = replicate nodes 0; root = replicate nodes none; up = replicate nodes none })
 none_found nodes ss held = record {
   trees = record {
+    places = length-replicate nodes 0;
     roots = length-replicate nodes none;
     ups = length-replicate nodes none;
     seen = λ i lt. absurd (omega (arith, lt));
+    placed = λ i lt. absurd (omega (arith, lt));
     listed = λ n r found. cc (sym (nothing nodes n) ∙ found);
     once = λ i k lt less. absurd (omega (arith, less));
     branch = λ i k lt up. absurd (omega (arith, lt));

@@ -6,14 +6,12 @@ use Rattle.pb_graph.specs.ProcessGraph.{ProcessGraph}
 use Rattle.pb_graph.specs.Groups.{entering}
 use Rattle.pb_graph.specs.Balance.{brought_to}
 use Rattle.pb_graph.specs.ProcessGraph.{some_stream}
-use Rattle.pb_graph.specs.Neighbours.{IsNeighbours}
 use Rattle.pb_forest.specs.Forest.{IsForest}
 use Rattle.pb_forest.specs.Flows.{AgreeOffForest}
 use Rattle.pb_forest.specs.Trees.{RootedTrees, AreWhole, node_at, up_of, end_from}
 
--- what a spanning forest is kept with: its graph's incidence lists, and its trees
-pub record IsKept (graph : ProcessGraph) (lists : List (List ℕ)) (held : List Bool) (trees : RootedTrees) : Type 0 where
-  pub near : IsNeighbours graph lists
+-- what a spanning forest is kept with: its trees
+pub record IsKept (graph : ProcessGraph) (held : List Bool) (trees : RootedTrees) : Type 0 where
   pub forest : IsForest graph.streams held
   pub rooted : AreWhole graph.nodes graph.streams held trees
 

@@ -1,18 +1,25 @@
 -- Inside. The trees of a spanning forest, each hung from a root: its node that a search found first.
 use Rattle.std.specs.Prelude.{◌≡◌, ◌≢◌, ℕ, ◌+◌, ◌<◌, ◌≤◌, Bool, true, false, List, [], ◌∷◌, ◌++◌, length, Option, Some, None, slice_get, get_or, set}
 use Rattle.pb_graph.specs.declared.records.Stream.{Stream}
+use Rattle.pb_graph.specs.declared.records.Step.{Step}
 use Rattle.pb_graph.specs.Neighbours.{touches}
+use Rattle.pb_graph.specs.Walk.{ends_of}
+use Rattle.pb_graph.specs.Path.{is_open}
 use Rattle.pb_graph.specs.ProcessGraph.{other_end, some_stream}
 
--- the nodes in the order found; for each node the root of its tree (none while it isn't found), and the held stream to its parent
--- (none at a root)
+-- the nodes in the order found; for each node its place in the order, the root of its tree (none while it isn't found), and the held
+-- stream to its parent (none at a root)
 pub record RootedTrees : Type 0 where
   pub order : List ℕ
+  pub place : List ℕ
   pub root : List (Option ℕ)
   pub up : List (Option ℕ)
 
 abbrev pub node_at : RootedTrees → ℕ → ℕ
 node_at t i = get_or t.order i 0
+
+abbrev pub place_of : RootedTrees → ℕ → ℕ
+place_of t n = get_or t.place n 0
 
 abbrev pub root_of : RootedTrees → ℕ → Option ℕ
 root_of t n = get_or t.root n None
@@ -41,9 +48,11 @@ pub record IsBranch (streams : List Stream) (held : List Bool) (order : List ℕ
 
 -- each node found comes once in the order, and hangs from an earlier one by a held stream, or is the root of its tree
 pub record AreTrees (nodes : ℕ) (streams : List Stream) (held : List Bool) (t : RootedTrees) : Type 0 where
+  pub places : length t.place ≡ nodes
   pub roots : length t.root ≡ nodes
   pub ups : length t.up ≡ nodes
   pub seen : (i : ℕ) → i < length t.order → (r : ℕ) × (root_of t (node_at t i) ≡ Some r)
+  pub placed : (i : ℕ) → i < length t.order → place_of t (node_at t i) ≡ i
   pub listed : (n r : ℕ) → root_of t n ≡ Some r → (i : ℕ) × (i < length t.order) × (node_at t i ≡ n)
   pub once : (i k : ℕ) → i < k → k < length t.order → node_at t i ≢ node_at t k
   pub branch : (i k : ℕ) → i < length t.order → up_of t (node_at t i) ≡ Some k → IsBranch streams held t.order i k
@@ -72,7 +81,7 @@ pub record Extends (t u : RootedTrees) : Type 0 where
 
 -- one node more, in the tree of a root, by a stream to its parent
 abbrev pub hung : RootedTrees → ℕ → Option ℕ → Option ℕ → RootedTrees
-hung t n root up = record { order = t.order ++ n ∷ []; root = set t.root n root; up = set t.up n up }
+hung t n root up = record { order = t.order ++ n ∷ []; place = set t.place n (length t.order); root = set t.root n root; up = set t.up n up }
 
 -- the stream at place k was followed from the node at a place of the order
 pub record AreFollowed (nodes : ℕ) (streams : List Stream) (held : List Bool) (done k : ℕ) (t u : RootedTrees) : Type 0 where
@@ -84,3 +93,10 @@ pub record AreFollowed (nodes : ℕ) (streams : List Stream) (held : List Bool) 
 pub record AreSearched (nodes : ℕ) (streams : List Stream) (held : List Bool) (done : ℕ) (t u : RootedTrees) : Type 0 where
   pub growing : AreGrowing nodes streams held done u
   pub extends : Extends t u
+
+-- a step from a node to its parent, which was found before it in the same tree
+pub record IsRise (nodes : ℕ) (streams : List Stream) (held : List Bool) (t : RootedTrees) (n parent : ℕ) (step : Step) : Type 0 where
+  pub leads : ends_of (is_open held) streams step ≡ Some (n, parent)
+  pub within : parent < nodes
+  pub before : place_of t parent < place_of t n
+  pub level : root_of t parent ≡ root_of t n

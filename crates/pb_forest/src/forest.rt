@@ -8,6 +8,7 @@ ghost use Rattle.pb_graph.specs.WellFormed.{IsFlow};
 ghost use Rattle.pb_forest.specs.Forest.{SpanningForest, IsHeld, IsTied, IsForest, degrees_of_freedom, held_ends};
 ghost use Rattle.pb_forest.specs.Flows.{AgreeOffForest, IsGivenFlow};
 
+use crate::climb::path_in_tree;
 use crate::flows::write_flows;
 use crate::labels::held_streams;
 use crate::rank::measured_held;
@@ -23,7 +24,6 @@ use std::marker::Model;
 #[derive(Debug, Drop)]
 pub struct Forest<'a> {
     graph: &'a Graph,
-    near: Neighbours,
     held: Vec<bool>,
     // The trees of the held streams, each from a root.
     trees: Trees,
@@ -37,7 +37,7 @@ impl<'a> Model for Forest<'a> {
 
     ghost view = { λ a. record { graph = a.graph.now; held = a.held.items } };
 
-    ghost invariant = { λ a. IsKept a.graph.now a.near a.held.items a.trees };
+    ghost invariant = { λ a. IsKept a.graph.now a.held.items a.trees };
 }
 
 impl<'a> Forest<'a> {
@@ -49,12 +49,7 @@ impl<'a> Forest<'a> {
         let held = held_streams(alloc, graph.nodes(), graph.streams())?;
         let near = Neighbours::of(alloc, graph)?;
         let trees = Trees::of(alloc, graph, &near, &held)?;
-        Ok(Forest {
-            graph,
-            near,
-            held,
-            trees,
-        })
+        Ok(Forest { graph, held, trees })
     }
 
     /// Whether the forest holds a stream.
@@ -78,6 +73,8 @@ impl<'a> Forest<'a> {
     }
 
     /// The walk of held streams from one node to another without a node twice, or None where held streams don't join them.
+    ///
+    /// The work is in proportion to the steps of the walk.
     pub fn path(&self, alloc: Global, from: u32, to: u32) -> Result<Option<List<Step>>, AllocError>
         requires from { from < self.now.graph.nodes }
         requires to { to < self.now.graph.nodes }
@@ -88,7 +85,11 @@ impl<'a> Forest<'a> {
             (held_ends self.now) self.now.graph.nodes self.now.graph.streams from steps to)) }
         ensures forest { IsForest self.now.graph.streams self.now.held }
     {
-        pb_graph::path(alloc, self.graph, &self.near, &self.held, from, to)
+        if !self.trees.are_joined(from, to) {
+            return Ok(None);
+        }
+        let steps = path_in_tree(alloc, self.graph, &self.held, &self.trees, from, to)?;
+        Ok(Some(steps))
     }
 
     /// Writes the one balanced flow vector that has given flows off the forest, in grams: `off` and `out` have one item for each

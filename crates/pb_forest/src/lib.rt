@@ -4,6 +4,7 @@
 //! The laws stand on empty functions, whose contracts state them for the crates above.
 #![tactic(auto)]
 
+mod climb;
 mod flows;
 mod forest;
 mod labels;

@@ -1,7 +1,7 @@
 ghost use Rattle.std.specs.Prelude.{◌≡◌, ◌≤◌, IfOk};
 
 use crate::Forest;
-use pb_graph::{Graph, Meas, Step, Stream};
+use pb_graph::{Graph, Meas, Neighbours, Step, Stream};
 use std::alloc::{AllocError, Global};
 use std::process::Abort;
 
@@ -125,4 +125,46 @@ fn several_trees(rt: HostRuntime) -> Result<(), AllocError> {
     forest.flows(&g, &[1, 1, 5, 1, -8], &mut flows);
     assert_eq!(rt; flows, [5, 5, 5, -8, -8]);
     Ok(())
+}
+
+// Between any two nodes the forest has the path that a search of the graph finds over its streams.
+fn assert_as_searched(rt: &impl Abort, alloc: Global, g: &Graph) -> Result<(), AllocError> {
+    let near = Neighbours::of(alloc, g)?;
+    let forest = Forest::of(alloc, g)?;
+    let mut marks = Vec::new(alloc);
+    for j in 0..g.len() {
+        marks.push(forest.holds(j))?;
+    }
+    assert_eq!(rt; marks.len(), g.len() as usize);
+    for from in 0..g.nodes() {
+        for to in 0..g.nodes() {
+            let searched = pb_graph::path(alloc, g, &near, &marks, from, to)?;
+            let path = forest.path(alloc, from, to)?;
+            assert!(rt; path == searched, "from {from} to {to}");
+        }
+    }
+    Ok(())
+}
+
+/// Two trees, of which one has a branch of three streams and one of two from one node, and a unit alone.
+#[test]
+fn paths_as_searched(rt: HostRuntime) -> Result<(), AllocError> {
+    let alloc = rt.alloc();
+    let g = graph_of(
+        &rt,
+        alloc,
+        10,
+        &[
+            stream(0, 1, None),
+            stream(2, 1, None),
+            stream(2, 3, METER),
+            stream(3, 4, None),
+            stream(1, 5, METER),
+            stream(6, 5, None),
+            stream(4, 6, METER),
+            stream(8, 7, None),
+            stream(0, 2, METER),
+        ],
+    )?;
+    assert_as_searched(&rt, alloc, &g)
 }

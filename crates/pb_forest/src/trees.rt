@@ -1,9 +1,9 @@
 // The trees of the held streams.
 
-ghost use Rattle.std.specs.Prelude.{◌≡◌, ℕ, ◌+◌, ◌<◌, true, Some, length, get_or, IfOk, OnOk};
+ghost use Rattle.std.specs.Prelude.{◌≡◌, ℕ, ◌+◌, ◌<◌, ◌↔◌, true, Some, length, get_or, IsTrue, IfOk, OnOk};
 ghost use Rattle.pb_graph.specs.Neighbours.{touches, touching, IsNeighbours};
 ghost use Rattle.pb_graph.specs.ProcessGraph.{some_stream};
-ghost use Rattle.pb_forest.specs.Trees.{RootedTrees, AreWhole, AreGrowing, AreFollowed, AreSearched, hung, node_at, root_of, up_of};
+ghost use Rattle.pb_forest.specs.Trees.{RootedTrees, AreWhole, AreGrowing, AreFollowed, AreSearched, hung, node_at, place_of, root_of, up_of};
 
 use pb_graph::{Graph, Neighbours};
 use std::alloc::{AllocError, Global};
@@ -14,6 +14,8 @@ use std::marker::Model;
 pub struct Trees {
     // The nodes in the order found: a node comes behind its parent.
     order: Vec<u32>,
+    // For each node its place in the order.
+    place: Vec<usize>,
     // For each node the root of its tree; None while it isn't found.
     root: Vec<Option<u32>>,
     // For each node the held stream to its parent; None at a root.
@@ -25,7 +27,12 @@ impl Model for Trees {
 
     ghost Value = { RootedTrees };
 
-    ghost view = { λ a. record { order = a.order.items; root = a.root.items; up = a.up.items } };
+    ghost view = { λ a. record {
+      order = a.order.items;
+      place = a.place.items;
+      root = a.root.items;
+      up = a.up.items;
+    } };
 }
 
 impl Trees {
@@ -52,6 +59,23 @@ impl Trees {
         self.up[node as usize]
     }
 
+    /// The place of a node in the order.
+    pub fn place(&self, node: u32) -> usize
+        requires { node < length self.now.place }
+        ensures { result ≡ place_of self.now node }
+    {
+        self.place[node as usize]
+    }
+
+    /// Whether two nodes are in one tree.
+    pub fn are_joined(&self, node: u32, other: u32) -> bool
+        requires node { node < length self.now.root }
+        requires other { other < length self.now.root }
+        ensures { IsTrue result ↔ (root_of self.now node ≡ root_of self.now other) }
+    {
+        self.root(node) == self.root(other)
+    }
+
     // The root of a node's tree; None while the node isn't found.
     fn root(&self, node: u32) -> Option<u32>
         requires { node < length self.now.root }
@@ -62,11 +86,14 @@ impl Trees {
 
     // Hangs a node into the tree of a root: by a held stream to its parent, or by none where it is the root.
     fn hang(&mut self, node: u32, root: Option<u32>, up: Option<u32>) -> Result<(), AllocError>
+        requires place { node < length self.old.place }
         requires root { node < length self.old.root }
         requires up { node < length self.old.up }
         ensures { OnOk result (self.new ≡ hung self.old node root up) }
     {
+        let place = self.order.len();
         self.order.push(node)?;
+        self.place[node as usize] = place;
         self.root[node as usize] = root;
         self.up[node as usize] = up;
         Ok(())
@@ -180,6 +207,7 @@ impl Trees {
         let nodes = graph.nodes() as usize;
         let mut trees = Trees {
             order: Vec::new(alloc),
+            place: vec![in alloc; 0usize; nodes]?,
             root: vec![in alloc; None; nodes]?,
             up: vec![in alloc; None; nodes]?,
         };
