@@ -22,17 +22,19 @@ use Rattle.pb_readback.specs.declared.draft.Heading.{Heading}
 use Rattle.pb_readback.specs.declared.draft.Shape.{Shape as ShapeKind}
 use Rattle.pb_readback.specs.declared.draft.Shape.TheVariants.{Cut, Cycle}
 use Rattle.pb_readback.specs.declared.draft.Solution.{Solution}
+use Rattle.pb_readback.specs.declared.draft.StreamForm.{StreamForm}
 use Rattle.pb_readback.specs.declared.draft.StreamRow.{StreamRow}
 use Rattle.pb_readback.specs.declared.fault.RowFault.TheVariants.{Fields, Name as NameFault, Number as NumberFault, Unknown, Duplicate, Word, Shape, Count, Env}
 use Rattle.pb_readback.specs.declared.kind.RowKind.{RowKind}
 use Rattle.pb_readback.specs.declared.kind.RowKind.TheVariants.{Report, Node, Stream, Solved, Global, Nodal, Measure, End}
 use Rattle.pb_readback.specs.Columns.{Number, Optional, columns_of, count_column, critical_column, flow_column, gap_column, has_all_fields, is_bad_number, is_half_told, most_round, price_column, round_column, some_bad, sweeps_column, value_column, variance_column, wide_column, wide_or_none_column}
 use Rattle.pb_readback.specs.Fields.{IsBetween}
+use Rattle.pb_readback.specs.Forms.{form_of, in_full}
 use Rattle.pb_readback.specs.Kinds.{field, is_blank, kind_of}
 use Rattle.pb_readback.specs.Lists.{is_among, is_plus, items, member_of, name_in, names_no_stream, side_of, step_of}
 use Rattle.pb_readback.specs.Values.{bounds_of, heading_in, meas_of, measure_in, natural_in, nodal_in, optional_in, solved_by, state_in, stream_in, stream_row_in, value_in}
-use Rattle.pb_readback.specs.Faults.{fault_behind, fault_if, fault_of, first_unknown, has_bad_name, has_bad_number, has_bad_word, has_unknown_part, is_duplicate, is_loop, is_miscounted, is_misshapen, is_other_env, is_unknown, may_stand, opening_fault, opening_if}
-use Rattle.pb_readback.specs.Drafts.{told_if, told_with, with_measure, with_nodal, with_row, with_rows}
+use Rattle.pb_readback.specs.Faults.{fault_behind, fault_if, fault_of, first_unknown, has_bad_name, has_bad_number, has_bad_word, has_other_fields, has_unknown_part, is_duplicate, is_loop, is_miscounted, is_misshapen, is_other_env, is_unknown, may_stand, opening_fault, opening_if}
+use Rattle.pb_readback.specs.Drafts.{told_if, told_with, with_measure, with_nodal, with_row, with_rows, with_stream}
 use Rattle.pb_readback.specs.Reading.{IsHeading, IsUnderWay}
 use Rattle.pb_readback.specs.Next.{AreSound, opened}
 use Rattle.pb_readback.specs.Blocks.{block_of, result_of, witness_by}
@@ -40,7 +42,7 @@ use Rattle.pb_readback.specs.Laws.{FormedLaw}
 use Rattle.pb_readback.specs.WellFormed.{AreNames, IsWellFormedBlock}
 use Rattle.pb_readback.proofs.NameLemmas.{some_found}
 use Rattle.pb_readback.proofs.StreamLemmas.{known_ends, names_more, not_false, place_within, places_apart}
-use Rattle.pb_readback.proofs.ReadingLemmas.{all_nodes, begins_under_way, no_heading, one_more, stands, still_under}
+use Rattle.pb_readback.proofs.ReadingLemmas.{all_nodes, begins_under_way, no_heading, one_more, stands, still_under, stream_under}
 use Rattle.pb_readback.proofs.NextLemmas.{ended_complete}
 
 -- ---- numbers
@@ -112,10 +114,11 @@ first_of false false false false false false false true i is = cc is
 first_of false false false false false false false false true is = cc is
 first_of false false false false false false false false false is = (refl, refl, refl, refl, refl, refl)
 
-pub fine : (kind : RowKind) (draft : Draft) (row : List (List ℕ)) → fault_of kind draft row ≡ None → IsFine kind draft row
+pub fine : (kind : RowKind) (draft : Draft) (row : List (List ℕ)) → fault_of kind draft row ≡ None → IsFine kind draft (in_full kind row)
 fine kind draft row none =
-    let each = first_of (not (has_all_fields kind row)) (has_bad_name kind row) (has_bad_number kind row) (is_unknown kind draft row) (is_duplicate kind draft row)
-    (has_bad_word kind row) (is_misshapen kind draft row) (is_loop kind row) (is_other_env kind draft row) none in
+    let full = in_full kind row in
+    let each = first_of (has_other_fields kind draft row) (has_bad_name kind full) (has_bad_number kind full) (is_unknown kind draft full) (is_duplicate kind draft full)
+    (has_bad_word kind full) (is_misshapen kind draft full) (is_loop kind full) (is_other_env kind draft full) none in
     record { names = each.0; numbers = each.1; known = each.2; new = each.3; apart = each.4; env = each.5 }
 
 -- ---- what a draft keeps
@@ -137,6 +140,7 @@ record IsFormedRow (nodes : ℕ) (row : StreamRow) : Type 0 where
   side : length row.side ≡ nodes
   flow : IsFlow row.flow
   bounds : IfSome row.bounds AreBoundsWithin
+  least : IfSome row.least AreBoundsWithin
 
 record AreFormedStreams (nodes : ℕ) (draft : Draft) : Type 0 where
   names : AreNames draft.streams
@@ -237,25 +241,30 @@ node_formed draft row formed may fine =
 side_long : (nodes names : List (List ℕ)) → length (side_of nodes names) ≡ length nodes
 side_long nodes names = length-map nodes (is_among names)
 
-stream_formed : (draft : Draft) (row : List (List ℕ)) → IsFormed draft → may_stand draft Stream ≡ true → IsFine Stream draft row → IsFormed (told_with Stream draft row)
-stream_formed draft row formed may fine =
+stream_formed : (draft : Draft) (form : Option StreamForm) (row : List (List ℕ)) → IsFormed draft → may_stand draft Stream ≡ true → IsFine Stream draft row
+    → IsFormed (record (with_stream row draft) { form = form })
+stream_formed draft form row formed may fine =
     let names = or_parts (not (is_name (field row 1))) (not (is_name (field row 2)) || (not (is_name (field row 3)) || false)) fine.names in
     let name = not_false (is_name (field row 1)) names.0 in
     let numbers = or_parts (some_bad is_bad_number (columns_of Stream) 1 row) (is_half_told Stream row) fine.numbers in
-    let value = or_parts (is_bad_number value_column (field row 4)) (is_bad_number variance_column (field row 5) || (is_bad_number flow_column (field row 7)
-    || (is_bad_number wide_or_none_column (field row 8) || (is_bad_number wide_or_none_column (field row 9) || false)))) numbers.0 in
-    let variance = or_parts (is_bad_number variance_column (field row 5)) (is_bad_number flow_column (field row 7)
-    || (is_bad_number wide_or_none_column (field row 8) || (is_bad_number wide_or_none_column (field row 9) || false))) value.1 in
-    let flow = or_parts (is_bad_number flow_column (field row 7)) (is_bad_number wide_or_none_column (field row 8) || (is_bad_number wide_or_none_column (field row 9) || false)) variance.1 in
-    let lo = or_parts (is_bad_number wide_or_none_column (field row 8)) (is_bad_number wide_or_none_column (field row 9) || false) flow.1 in
-    let hi = or_parts (is_bad_number wide_or_none_column (field row 9)) false lo.1 in
+    let behind_lo = is_bad_number wide_or_none_column (field row 9) || (is_bad_number wide_or_none_column (field row 10) || (is_bad_number wide_or_none_column (field row 11) || false)) in
+    let behind_flow = is_bad_number wide_or_none_column (field row 8) || behind_lo in
+    let behind_variance = is_bad_number flow_column (field row 7) || behind_flow in
+    let value = or_parts (is_bad_number value_column (field row 4)) (is_bad_number variance_column (field row 5) || behind_variance) numbers.0 in
+    let variance = or_parts (is_bad_number variance_column (field row 5)) behind_variance value.1 in
+    let flow = or_parts (is_bad_number flow_column (field row 7)) behind_flow variance.1 in
+    let lo = or_parts (is_bad_number wide_or_none_column (field row 8)) behind_lo flow.1 in
+    let hi =
+    or_parts (is_bad_number wide_or_none_column (field row 9)) (is_bad_number wide_or_none_column (field row 10) || (is_bad_number wide_or_none_column (field row 11) || false)) lo.1 in
+    let least_lo = or_parts (is_bad_number wide_or_none_column (field row 10)) (is_bad_number wide_or_none_column (field row 11) || false) hi.1 in
+    let least_hi = or_parts (is_bad_number wide_or_none_column (field row 11)) false least_lo.1 in
     let ends = known_ends draft row fine.known in
     let nodes = all_nodes draft formed.way may in
     let from = place_within draft.nodes (field row 2) ends.0 in
     let to = place_within draft.nodes (field row 3) ends.1 in
-    let long = side_long draft.nodes (items (field row 11)) in
+    let long = side_long draft.nodes (items (field row 13)) in
     record {
-      way = still_under draft Stream row formed.way may;
+      way = stream_under draft form row formed.way may;
       heading = formed.heading;
       nodes = formed.nodes;
       streams = record {
@@ -272,6 +281,7 @@ stream_formed draft row formed may fine =
           side = long ∙ nodes;
           flow = flow_in (field row 7) flow.0;
           bounds = bounds_in (optional_in (field row 8)) (optional_in (field row 9)) (wide_if (field row 8) lo.0) (wide_if (field row 9) hi.0);
+          least = bounds_in (optional_in (field row 10)) (optional_in (field row 11)) (wide_if (field row 10) least_lo.0) (wide_if (field row 11) least_hi.0);
         });
       };
       solution = formed.solution;
@@ -385,10 +395,11 @@ measure_formed draft row formed may fine =
     by None h test = tt
     by (Some tests) h test = record { overall = h.overall; nodal = h.nodal; measure = All-push (IsFormedMeasure draft.heading) tests.measure (measure_in draft.streams row) h.measure test }
 
-kind_formed : (draft : Draft) (kind : RowKind) (row : List (List ℕ)) → IsFormed draft → may_stand draft kind ≡ true → IsFine kind draft row → IsFormed (told_with kind draft row)
+kind_formed : (draft : Draft) (kind : RowKind) (row : List (List ℕ)) → IsFormed draft → may_stand draft kind ≡ true → IsFine kind draft (in_full kind row)
+    → IsFormed (told_with kind draft row)
 kind_formed draft Report row formed may fine = let e = no_heading draft in absurd (true≢false (sym may ∙ e))
 kind_formed draft Node row formed may fine = node_formed draft row formed may fine
-kind_formed draft Stream row formed may fine = stream_formed draft row formed may fine
+kind_formed draft Stream row formed may fine = stream_formed draft (Some (form_of row)) (in_full Stream row) formed may fine
 kind_formed draft Solved row formed may fine = solved_formed draft row formed may fine
 kind_formed draft Global row formed may fine = global_formed draft row formed may fine
 kind_formed draft Nodal row formed may fine = nodal_formed draft row formed may fine
@@ -540,7 +551,7 @@ results_within graph streams (row ∷ rows) each formed known =
     let first = All-head (IsFormedRow graph.nodes) row rows formed in
     let parts = All-head (λ r. has_unknown_part streams r ≡ false) row rows known in
     All-cons (IsResultWithin graph) (result_of streams row) (map (result_of streams) rows)
-    (record { witness = witness_within graph streams row row.shape each first.side parts; flow = first.flow; bounds = first.bounds })
+    (record { witness = witness_within graph streams row row.shape each first.side parts; flow = first.flow; bounds = first.bounds; least = first.least })
     (results_within graph streams rows each (All-tail (IsFormedRow graph.nodes) row rows formed) (All-tail (λ r. has_unknown_part streams r ≡ false) row rows known))
 
 nodal_within : (graph : ProcessGraph) (heading : Heading) (test : NodalTest) → graph.nodes ≡ heading.nodes → IsFormedNodal heading test → IsNodalWithin graph test

@@ -1,4 +1,5 @@
 mod FieldLemmas
+mod FormLemmas
 mod ItemLemmas
 mod NameLemmas
 mod StreamLemmas

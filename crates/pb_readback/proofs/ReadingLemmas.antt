@@ -6,6 +6,7 @@ use Rattle.std.proofs.lemmas.Bool.{and_parts, cases_Bool}
 use Rattle.pb_readback.specs.declared.block.Block.{Block}
 use Rattle.pb_readback.specs.declared.draft.Draft.{Draft}
 use Rattle.pb_readback.specs.declared.draft.Heading.{Heading}
+use Rattle.pb_readback.specs.declared.draft.StreamForm.{StreamForm}
 use Rattle.pb_readback.specs.declared.fault.ReadRefused.{ReadRefused}
 use Rattle.pb_readback.specs.declared.fault.ReadRefused.TheVariants.{At, NoMemory}
 use Rattle.pb_readback.specs.declared.fault.RowFault.{RowFault}
@@ -13,8 +14,9 @@ use Rattle.pb_readback.specs.declared.fault.RowFault.TheVariants.{Unknown, Ended
 use Rattle.pb_readback.specs.declared.kind.RowKind.{RowKind}
 use Rattle.pb_readback.specs.declared.kind.RowKind.TheVariants.{Report, Node, Stream, Solved, Global, Nodal, Measure, End}
 use Rattle.pb_readback.specs.Blocks.{block_of}
-use Rattle.pb_readback.specs.Drafts.{draft_of, told_if, told_with, with_row, with_rows}
+use Rattle.pb_readback.specs.Drafts.{draft_of, told_if, told_with, with_row, with_rows, with_stream}
 use Rattle.pb_readback.specs.Faults.{fault_behind, fault_if, first_unknown, may_stand}
+use Rattle.pb_readback.specs.Forms.{form_of, in_full}
 use Rattle.pb_readback.specs.Kinds.{field, is_passed_over, kind_of, may_come_after}
 use Rattle.pb_readback.specs.Next.{ArePassedOver, AreSound, IsFound, Tells, opened}
 use Rattle.pb_readback.specs.Values.{stream_in, stream_row_in}
@@ -94,16 +96,10 @@ no_heading draft =
 pub one_more : {A : Type 0} (xs : List A) (x : A) → length (xs ++ x ∷ []) ≡ length xs + 1
 one_more xs x = length-append xs (x ∷ [])
 
-pub still_under : (draft : Draft) (kind : RowKind) (row : List (List ℕ)) → IsUnderWay draft → may_stand draft kind ≡ true → IsUnderWay (told_with kind draft row)
-still_under draft Node row way may = record {
-  heading = way.heading;
-  graph = way.graph;
-  nodes = let room = node_room draft may in let long = one_more draft.nodes (field row 1) in omega (arith, room, long);
-  streams = way.streams;
-  each_stream = way.each_stream;
-  each_row = way.each_row;
-}
-still_under draft Stream row way may =
+-- one stream more
+pub stream_under : (draft : Draft) (form : Option StreamForm) (row : List (List ℕ)) → IsUnderWay draft → may_stand draft Stream ≡ true
+    → IsUnderWay (record (with_stream row draft) { form = form })
+stream_under draft form row way may =
     let room = stream_room draft may in
     let names = one_more draft.streams (field row 1) in
     let streams = one_more draft.graph.streams (stream_in draft.nodes row) in
@@ -118,6 +114,17 @@ still_under draft Stream row way may =
       each_stream = omega (arith, names, streams, each);
       each_row = omega (arith, names, rows, each_row);
     }
+
+pub still_under : (draft : Draft) (kind : RowKind) (row : List (List ℕ)) → IsUnderWay draft → may_stand draft kind ≡ true → IsUnderWay (told_with kind draft row)
+still_under draft Node row way may = record {
+  heading = way.heading;
+  graph = way.graph;
+  nodes = let room = node_room draft may in let long = one_more draft.nodes (field row 1) in omega (arith, room, long);
+  streams = way.streams;
+  each_stream = way.each_stream;
+  each_row = way.each_row;
+}
+still_under draft Stream row way may = stream_under draft (Some (form_of row)) (in_full Stream row) way may
 still_under draft kind row way may = record {
   heading = way.heading;
   graph = way.graph;

@@ -53,7 +53,7 @@ names_more names name are form new = record {
 -- the ends of a stream are nodes
 pub known_ends : (draft : Draft) (row : List (List ℕ)) → is_unknown Stream draft row ≡ false → (is_among draft.nodes (field row 2) ≡ true) × (is_among draft.nodes (field row 3) ≡ true)
 known_ends draft row known =
-    let parts = or_parts (not (is_among draft.nodes (field row 2)) || not (is_among draft.nodes (field row 3))) (list_any (is_unknown_item draft.nodes) (items (field row 11))) known in
+    let parts = or_parts (not (is_among draft.nodes (field row 2)) || not (is_among draft.nodes (field row 3))) (list_any (is_unknown_item draft.nodes) (items (field row 13))) known in
     let both = or_parts (not (is_among draft.nodes (field row 2))) (not (is_among draft.nodes (field row 3))) parts.0 in
     (not_false (is_among draft.nodes (field row 2)) both.0, not_false (is_among draft.nodes (field row 3)) both.1)
 

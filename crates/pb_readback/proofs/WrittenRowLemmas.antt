@@ -1,16 +1,19 @@
 -- When a row of each kind has no fault, column by column.
 use Rattle.std.specs.Prelude.{◌&&◌, not, ◌==◌, nat_lt, codes, bytes_eq, int_le, int_lt, is_none, ◌^◌}
 use Rattle.std.specs.List.{list_all, list_any}
-use Rattle.std.proofs.Common.{◌≡◌, ℕ, ℤ, pos, List, [], ◌∷◌, length, true, false, None, refl, arith}
+use Rattle.std.proofs.Common.{◌≡◌, ℕ, ℤ, pos, List, [], ◌∷◌, length, Bool, true, false, Option, Some, None, refl, arith}
 use Rattle.std.proofs.lemmas.Int.{ints}
 use Rattle.pb_limits.specs.Limits.{most_nodes, most_streams}
 use Rattle.pb_rows.specs.Name.{is_name, same_name}
 use Rattle.pb_readback.specs.declared.draft.Draft.{Draft}
+use Rattle.pb_readback.specs.declared.draft.StreamForm.{StreamForm}
+use Rattle.pb_readback.specs.declared.draft.StreamForm.TheVariants.{WithLeast, WithoutLeast}
 use Rattle.pb_readback.specs.declared.kind.RowKind.{RowKind}
 use Rattle.pb_readback.specs.declared.kind.RowKind.TheVariants.{Solved, Global, Nodal, Measure, End}
 use Rattle.pb_readback.specs.Kinds.{may_come_after}
 use Rattle.pb_readback.specs.Columns.{Number, class_by, shape_by, state_by, verdict_by, is_bad_number, is_half, price_column, round_column, count_column, gap_column, sweeps_column, value_column, variance_column, flow_column, wide_column, wide_or_none_column, critical_column}
 use Rattle.pb_limits.specs.Limits.{most_freedom}
+use Rattle.pb_readback.specs.Forms.{form_of, form_wanted}
 use Rattle.pb_readback.specs.Faults.{fault_behind, opening_fault}
 use Rattle.pb_readback.specs.Lists.{is_among, is_part, is_side, is_unknown_item, items}
 use Rattle.pb_readback.specs.Values.{natural_in, value_in}
@@ -52,10 +55,22 @@ pub record IsNodeRow (draft : Draft) (name price : List ℕ) : Type 0 where
 pub node_sound : (draft : Draft) (name price : List ℕ) → IsNodeRow draft name price → fault_behind draft (codes "node" ∷ name ∷ price ∷ []) ≡ None
 node_sound draft name price h = rw (h.place, h.form, h.good_price, h.new, h.env) refl
 
+-- rows of streams with least bounds may stand in a block whose first stream has this form, if it has a stream
+abbrev pub takes_least : Option StreamForm → Bool
+takes_least None = true
+takes_least (Some WithLeast) = true
+takes_least (Some WithoutLeast) = false
+
+least_wanted : (form : Option StreamForm) (row : List (List ℕ)) → takes_least form ≡ true → form_of row ≡ WithLeast → form_wanted form row ≡ WithLeast
+least_wanted None row takes own = own
+least_wanted (Some WithLeast) row takes own = refl
+least_wanted (Some WithoutLeast) row takes own = cc takes
+
 -- the row of a stream
-pub record IsStreamRow (draft : Draft) (name from to value variance class flow lo hi shape side parts : List ℕ) : Type 0 where
+pub record IsStreamRow (draft : Draft) (name from to value variance class flow lo hi least_lo least_hi shape side parts : List ℕ) : Type 0 where
   pub nodes : nat_lt (length draft.nodes) draft.heading.nodes ≡ false
   pub place : nat_lt (length draft.streams) draft.heading.streams ≡ true
+  pub with_least : takes_least draft.form ≡ true
   pub form : is_name name ≡ true
   pub form_from : is_name from ≡ true
   pub form_to : is_name to ≡ true
@@ -65,9 +80,12 @@ pub record IsStreamRow (draft : Draft) (name from to value variance class flow l
   pub good_flow : is_bad_number flow_column flow ≡ false
   pub good_lo : is_bad_number wide_or_none_column lo ≡ false
   pub good_hi : is_bad_number wide_or_none_column hi ≡ false
+  pub good_least_lo : is_bad_number wide_or_none_column least_lo ≡ false
+  pub good_least_hi : is_bad_number wide_or_none_column least_hi ≡ false
   pub good_shape : is_none (shape_by shape) ≡ false
   pub whole_meas : is_half value variance ≡ false
   pub whole_bounds : is_half lo hi ≡ false
+  pub whole_least : is_half least_lo least_hi ≡ false
   pub known_from : is_among draft.nodes from ≡ true
   pub known_to : is_among draft.nodes to ≡ true
   pub known_side : list_any (is_unknown_item draft.nodes) (items side) ≡ false
@@ -77,13 +95,16 @@ pub record IsStreamRow (draft : Draft) (name from to value variance class flow l
   pub good_parts : list_all is_part (items parts) ≡ true
   pub apart : same_name from to ≡ false
 
-pub stream_sound : (draft : Draft) (name from to value variance class flow lo hi shape side parts : List ℕ)
-    → IsStreamRow draft name from to value variance class flow lo hi shape side parts
-    → fault_behind draft (codes "stream" ∷ name ∷ from ∷ to ∷ value ∷ variance ∷ class ∷ flow ∷ lo ∷ hi ∷ shape ∷ side ∷ parts ∷ []) ≡ None
-stream_sound draft name from to value variance class flow lo hi shape side parts h =
+pub stream_sound : (draft : Draft) (name from to value variance class flow lo hi least_lo least_hi shape side parts : List ℕ)
+    → IsStreamRow draft name from to value variance class flow lo hi least_lo least_hi shape side parts
+    → fault_behind draft (codes "stream" ∷ name ∷ from ∷ to ∷ value ∷ variance ∷ class ∷ flow ∷ lo ∷ hi ∷ least_lo ∷ least_hi ∷ shape ∷ side ∷ parts ∷ []) ≡ None
+stream_sound draft name from to value variance class flow lo hi least_lo least_hi shape side parts h =
+    let row = codes "stream" ∷ name ∷ from ∷ to ∷ value ∷ variance ∷ class ∷ flow ∷ lo ∷ hi ∷ least_lo ∷ least_hi ∷ shape ∷ side ∷ parts ∷ [] in
+    let wanted : form_wanted draft.form row ≡ WithLeast = least_wanted draft.form row h.with_least refl in
     rw (
       h.nodes,
       h.place,
+      wanted,
       h.form,
       h.form_from,
       h.form_to,
@@ -92,8 +113,11 @@ stream_sound draft name from to value variance class flow lo hi shape side parts
       h.good_flow,
       h.good_lo,
       h.good_hi,
+      h.good_least_lo,
+      h.good_least_hi,
       h.whole_meas,
       h.whole_bounds,
+      h.whole_least,
       h.known_from,
       h.known_to,
       h.known_side,

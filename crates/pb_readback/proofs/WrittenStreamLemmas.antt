@@ -1,7 +1,8 @@
 -- The row of a stream: what it reads as.
 use Rattle.std.specs.Prelude.{◌&&◌, not, ◌-◌, ◌^◌, neg_ℤ, nat_lt, codes, bytes_eq, is_none, IfSome, option_map}
 use Rattle.std.specs.List.{list_all, list_any}
-use Rattle.std.proofs.Common.{◌≡◌, ◌∙◌, ℕ, ℤ, pos, ◌<◌, List, [], ◌∷◌, length, Bool, true, false, Option, None, Some, refl, sym, ap, subst, arith, inl, inr}
+use Rattle.std.specs.Option.{option_and}
+use Rattle.std.proofs.Common.{◌≡◌, ◌∙◌, ℕ, ℤ, pos, ◌<◌, List, [], ◌∷◌, length, Bool, true, false, Option, None, Some, refl, sym, ap, ap₂, subst, arith, inl, inr}
 use Rattle.std.proofs.lemmas.Bool.{and_from, cases_Bool}
 use Rattle.std.specs.Cmp.Lexicographic.{bytes_decides}
 use Rattle.pb_limits.specs.Limits.{most_value, most_variance}
@@ -21,7 +22,7 @@ use Rattle.pb_graph.specs.declared.results.Bounds.{Bounds}
 use Rattle.pb_graph.specs.declared.results.StreamResult.{StreamResult}
 use Rattle.pb_graph.specs.ProcessGraph.{ProcessGraph, IsMeasurement, IsStream, IsWithinLimits}
 use Rattle.pb_graph.specs.WellFormed.{AreBoundsWithin, IsResultWithin, IsWitnessWithin}
-use Rattle.pb_report.specs.Block.{result_row}
+use Rattle.pb_report.specs.Block.{result_row, written_least}
 use Rattle.pb_report.specs.Certificate.{class_word, parts_text, shape_word, side_text}
 use Rattle.pb_report.specs.Names.{name_at}
 use Rattle.pb_report.specs.Row.{values_of}
@@ -34,10 +35,11 @@ use Rattle.pb_readback.specs.Columns.{class_by, is_half, shape_by}
 use Rattle.pb_readback.specs.Faults.{fault_behind, has_unknown_part}
 use Rattle.pb_readback.specs.Lists.{is_among, is_part, is_side, is_unknown_item, items, names_no_stream, place_of, side_of}
 use Rattle.pb_readback.specs.Values.{bounds_of, class_in, meas_of, shape_in, stream_in, stream_row_in}
+use Rattle.pb_readback.specs.Written.{HasBoundsForLeast}
 use Rattle.pb_readback.proofs.WrittenFieldLemmas.{is_empty, AreApart, IsBetween, abs_between, among_at, good_number, good_optional, not_blank, optional_back, optional_text, optional_value, place_at, under_between, value_back}
 use Rattle.pb_readback.proofs.WrittenListLemmas.{AreNamed, in_known, in_named, in_order, named_at, side_back, side_items}
 use Rattle.pb_readback.proofs.WrittenPartLemmas.{AreStreamNames, members_back, steps_back}
-use Rattle.pb_readback.proofs.WrittenRowLemmas.{stream_sound}
+use Rattle.pb_readback.proofs.WrittenRowLemmas.{stream_sound, takes_least}
 
 -- ---- words
 
@@ -112,6 +114,22 @@ hi_range : (bounds : Option Bounds) → IfSome bounds AreBoundsWithin → IfSome
 hi_range None h = h
 hi_range (Some bounds) h = abs_between (2 ^ 126) bounds.hi h.hi
 
+-- the least bounds that are written are within the limits
+least_within : (result : StreamResult) → IfSome result.least AreBoundsWithin → IfSome (written_least result) AreBoundsWithin
+least_within result h = by result.bounds
+  where
+    by : (bounds : Option Bounds) → IfSome (option_and bounds result.least) AreBoundsWithin
+    by None = tt
+    by (Some bounds) = h
+
+-- and they are those of the stream, where it has none without bounds
+least_back : (result : StreamResult) → HasBoundsForLeast result → written_least result ≡ result.least
+least_back result whole = by result.bounds whole
+  where
+    by : (bounds : Option Bounds) → (bounds ≡ None → result.least ≡ None) → option_and bounds result.least ≡ result.least
+    by None h = sym (h refl)
+    by (Some bounds) h = refl
+
 -- ---- the row
 
 -- what is known of the names of a block
@@ -128,6 +146,7 @@ stream_fields names i stream result =
     codes "stream" ∷ name_at names.streams i ∷ name_at names.nodes stream.from ∷ name_at names.nodes stream.to
     ∷ optional_text (value_of stream.meas) ∷ optional_text (variance_of stream.meas) ∷ class_word result.classified.class
     ∷ whole_text result.flow ∷ optional_text (lo_of result.bounds) ∷ optional_text (hi_of result.bounds)
+    ∷ optional_text (lo_of (written_least result)) ∷ optional_text (hi_of (written_least result))
     ∷ shape_word result.classified.witness ∷ side_text names.nodes result.classified.witness
     ∷ parts_text names.streams result.classified.witness ∷ []
 
@@ -138,6 +157,8 @@ fields_are names i stream result =
       optional_value (codes "variance") (variance_of stream.meas),
       optional_value (codes "lo") (lo_of result.bounds),
       optional_value (codes "hi") (hi_of result.bounds),
+      optional_value (codes "least_lo") (lo_of (written_least result)),
+      optional_value (codes "least_hi") (hi_of (written_least result)),
     ) refl
 
 -- what the row tells of a stream
@@ -165,6 +186,7 @@ told_of names result = record {
   class = result.classified.class;
   flow = result.flow;
   bounds = result.bounds;
+  least = written_least result;
   shape = shape_of result.classified.witness;
   side = side_in names.nodes result.classified.witness;
   parts = parts_text names.streams result.classified.witness;
@@ -185,6 +207,9 @@ result_told texts names graph i stream result known within =
       optional_back texts (lo_of result.bounds),
       optional_back texts (hi_of result.bounds),
       bounds_back result.bounds,
+      optional_back texts (lo_of (written_least result)),
+      optional_back texts (hi_of (written_least result)),
+      bounds_back (written_least result),
       shape_back result.classified.witness,
       side_told names graph result.classified.witness known within.witness,
     ) refl
@@ -238,6 +263,7 @@ pub record IsAtStream (draft : Draft) (names : Names) (i : ℕ) : Type 0 where
   pub place : nat_lt (length draft.streams) draft.heading.streams ≡ true
   pub nodes : draft.nodes ≡ names.nodes
   pub new : is_among draft.streams (name_at names.streams i) ≡ false
+  pub with_least : takes_least draft.form ≡ true
 
 pub stream_fine : HaveOneNumberText → (draft : Draft) (names : Names) (graph : ProcessGraph) (i : ℕ) (stream : Stream) (result : StreamResult) → AreKnownNames names graph
     → IsStream graph.nodes stream → IsWithinLimits stream → IsResultWithin graph result → i < length names.streams → IsAtStream draft names i
@@ -245,16 +271,19 @@ pub stream_fine : HaveOneNumberText → (draft : Draft) (names : Names) (graph :
 stream_fine texts draft names graph i stream result known joins limits within lt at =
     let from : stream.from < length names.nodes = omega (arith, joins.from, known.each_node) in
     let to : stream.to < length names.nodes = omega (arith, joins.to, known.each_node) in
+    let least = least_within result within.least in
     let side = good_side names graph result.classified.witness known in
     let parts = good_parts names graph result.classified.witness known within.witness in
     let of_nodes = λ (P : List (List ℕ) → Type 0) (h : P names.nodes). subst P (sym at.nodes) h in
     stream_sound draft (name_at names.streams i) (name_at names.nodes stream.from) (name_at names.nodes stream.to)
     (optional_text (value_of stream.meas)) (optional_text (variance_of stream.meas)) (class_word result.classified.class)
     (whole_text result.flow) (optional_text (lo_of result.bounds)) (optional_text (hi_of result.bounds))
+    (optional_text (lo_of (written_least result))) (optional_text (hi_of (written_least result)))
     (shape_word result.classified.witness) (side_text names.nodes result.classified.witness) (parts_text names.streams result.classified.witness)
     (record {
       nodes = at.all_nodes;
       place = at.place;
+      with_least = at.with_least;
       form = named_at names.streams i known.of_streams.forms lt;
       form_from = named_at names.nodes stream.from known.form_nodes from;
       form_to = named_at names.nodes stream.to known.form_nodes to;
@@ -264,9 +293,12 @@ stream_fine texts draft names graph i stream result known joins limits within lt
       good_flow = good_number texts (neg_ℤ (pos (2 ^ 68 - 1))) (pos (2 ^ 68 - 1)) result.flow (under_between (2 ^ 68) result.flow within.flow);
       good_lo = good_optional texts (neg_ℤ (pos (2 ^ 126))) (pos (2 ^ 126)) (lo_of result.bounds) (lo_range result.bounds within.bounds);
       good_hi = good_optional texts (neg_ℤ (pos (2 ^ 126))) (pos (2 ^ 126)) (hi_of result.bounds) (hi_range result.bounds within.bounds);
+      good_least_lo = good_optional texts (neg_ℤ (pos (2 ^ 126))) (pos (2 ^ 126)) (lo_of (written_least result)) (lo_range (written_least result) least);
+      good_least_hi = good_optional texts (neg_ℤ (pos (2 ^ 126))) (pos (2 ^ 126)) (hi_of (written_least result)) (hi_range (written_least result) least);
       good_shape = good_shape result.classified.witness;
       whole_meas = whole_meas texts stream.meas;
       whole_bounds = whole_bounds texts result.bounds;
+      whole_least = whole_bounds texts (written_least result);
       known_from = of_nodes (λ nodes. is_among nodes (name_at names.nodes stream.from) ≡ true) (among_at names.nodes stream.from from);
       known_to = of_nodes (λ nodes. is_among nodes (name_at names.nodes stream.to) ≡ true) (among_at names.nodes stream.to to);
       known_side = of_nodes (λ nodes. list_any (is_unknown_item nodes) (items (side_text names.nodes result.classified.witness)) ≡ false) side.known;
@@ -284,16 +316,21 @@ parts_known names graph result known within = (good_parts names graph result.cla
 
 -- and what was told of the result is the result
 pub result_back : (names : Names) (graph : ProcessGraph) (result : StreamResult) → AreKnownNames names graph → IsResultWithin graph result
-    → result_of names.streams (told_of names result) ≡ result
-result_back names graph result known within =
-    ap (λ (witness : Witness). record { classified = record { class = result.classified.class; witness = witness }; flow = result.flow; bounds = result.bounds })
-    (by result.classified.witness within.witness)
+    → HasBoundsForLeast result → result_of names.streams (told_of names result) ≡ result
+result_back names graph result known within whole =
+    ap₂ (λ (witness : Witness) (least : Option Bounds). record {
+      classified = record { class = result.classified.class; witness = witness };
+      flow = result.flow;
+      bounds = result.bounds;
+      least = least;
+    }) (by result.classified.witness within.witness) (least_back result whole)
   where
     by : (witness : Witness) → IsWitnessWithin graph witness
         → witness_by (shape_of witness) names.streams (record {
           class = result.classified.class;
           flow = result.flow;
           bounds = result.bounds;
+          least = written_least result;
           shape = shape_of witness;
           side = side_in names.nodes witness;
           parts = parts_text names.streams witness;

@@ -35,7 +35,7 @@ use Rattle.pb_readback.specs.Faults.{first_unknown, has_unknown_part, opening_fa
 use Rattle.pb_readback.specs.Kinds.{may_come_after}
 use Rattle.pb_readback.specs.Next.{AreBlocks, ArePassedOver, IsBlock, IsFound, opened}
 use Rattle.pb_readback.specs.Values.{heading_in}
-use Rattle.pb_readback.specs.Written.{AreBlockNames, AreOptionsWithin, StudyRowsLaw, block_with, blocks_from, records_in}
+use Rattle.pb_readback.specs.Written.{AreBlockNames, AreOptionsWithin, HasBoundsForLeast, StudyRowsLaw, block_with, blocks_from, records_in}
 use Rattle.pb_readback.proofs.WrittenBlockLemmas.{Tells, all_nodes, behind_nodes, last_of, nodes_tell}
 use Rattle.pb_readback.proofs.WrittenFieldLemmas.{IsBetween, abs_between, count_between, good_number, le_count, natural_back, new_from, value_back}
 use Rattle.pb_readback.proofs.WrittenRowLemmas.{heading_opens}
@@ -52,6 +52,7 @@ pub record IsStageToWrite (names : Names) (period : List ℕ) (options : Options
   pub name : is_name period ≡ true
   pub asked : AreOptionsWithin options
   pub greatest_round : round ≤ most_round
+  pub least : All HasBoundsForLeast stage.streams
 
 known_names : (names : Names) (graph : ProcessGraph) → AreBlockNames names → IsNamed names graph → AreKnownNames names graph
 known_names names graph all named = record {
@@ -124,10 +125,11 @@ all_known names graph [] known within = tt
 all_known names graph (result ∷ results) known within = (parts_known names graph result known within.0, all_known names graph results known within.1)
 
 all_back : (names : Names) (graph : ProcessGraph) (results : List StreamResult) → AreKnownNames names graph → AllByRecursion (IsResultWithin graph) results
-    → map (result_of names.streams) (map (told_of names) results) ≡ results
-all_back names graph [] known within = refl
-all_back names graph (result ∷ results) known within =
-    ap₂ (λ (first : StreamResult) (rest : List StreamResult). first ∷ rest) (result_back names graph result known within.0) (all_back names graph results known within.1)
+    → AllByRecursion HasBoundsForLeast results → map (result_of names.streams) (map (told_of names) results) ≡ results
+all_back names graph [] known within least = refl
+all_back names graph (result ∷ results) known within least =
+    ap₂ (λ (first : StreamResult) (rest : List StreamResult). first ∷ rest) (result_back names graph result known within.0 least.0)
+    (all_back names graph results known within.1 least.1)
 
 node_then_solved : {A : Type 0} (kind : RowKind) (xs : List A) → may_come_after kind Solved ≡ true → may_come_after (last_of Node kind xs) Solved ≡ true
 node_then_solved kind [] order = order
@@ -205,6 +207,7 @@ body_tells texts names period options round stage h =
       split = refl;
       room = omega (arith, h.named.streams);
       new = new_from [] names.streams h.all_names.streams_differ;
+      with_least = refl;
     }) in
     let order : may_come_after d2.last Solved ≡ true =
     stream_then_solved (last_of Node Report names.nodes) stage.graph.streams (node_then_solved Report names.nodes refl) in
@@ -221,7 +224,8 @@ whole_back : (names : Names) (period : List ℕ) (options : Options) (round : �
 whole_back names period options round stage h =
     let known = known_names names stage.graph h.all_names h.named in
     let within = recursion_from_All (IsResultWithin stage.graph) stage.streams h.formed.results in
-    ap (λ (results : List StreamResult). block_with names period options round (record stage { streams = results })) (all_back names stage.graph stage.streams known within)
+    let least = recursion_from_All HasBoundsForLeast stage.streams h.least in
+    ap (λ (results : List StreamResult). block_with names period options round (record stage { streams = results })) (all_back names stage.graph stage.streams known within least)
 
 block_back : HaveOneNumberText → (names : Names) (period : List ℕ) (options : Options) (round : ℕ) (stage : Stage) → IsStageToWrite names period options round stage
     → IsBlock (values_of (report_row period round stage.graph options)) (records_in (body_rows names period round stage)) (block_with names period options round stage)
@@ -271,6 +275,7 @@ pub record IsGoodStage (names : Names) (stage : Stage) : Type 0 where
   pub graph : IsProcessGraph stage.graph
   pub formed : IsWellFormed stage
   pub named : IsNamed names stage.graph
+  pub least : All HasBoundsForLeast stage.streams
 
 to_write : (names : Names) (period : List ℕ) (options : Options) (round : ℕ) (stage : Stage) → AreStagesToWrite names period options → IsGoodStage names stage → round ≤ most_round
     → IsStageToWrite names period options round stage
@@ -282,6 +287,7 @@ to_write names period options round stage all good most = record {
   name = all.name;
   asked = all.asked;
   greatest_round = most;
+  least = good.least;
 }
 
 rounds_back : HaveOneNumberText → (names : Names) (period : List ℕ) (options : Options) → AreStagesToWrite names period options → (round : ℕ) (taken : List Taken) (stages : List Stage)
@@ -322,15 +328,17 @@ stages_back texts names period options all taken (stage ∷ stages) rest over lo
     )
 
 good_stages : (names : Names) (graph : ProcessGraph) (stages : List Stage) → IsNamed names graph → AllByRecursion (λ (stage : Stage). IsProcessGraph stage.graph) stages
-    → AllByRecursion IsWellFormed stages → AllByRecursion (HasShapeOf graph) stages → AllByRecursion (IsGoodStage names) stages
-good_stages names graph [] named graphs formed shapes = tt
-good_stages names graph (stage ∷ stages) named graphs formed shapes = (
+    → AllByRecursion IsWellFormed stages → AllByRecursion (HasShapeOf graph) stages → AllByRecursion (λ (stage : Stage). All HasBoundsForLeast stage.streams) stages
+    → AllByRecursion (IsGoodStage names) stages
+good_stages names graph [] named graphs formed shapes least = tt
+good_stages names graph (stage ∷ stages) named graphs formed shapes least = (
   record {
     graph = graphs.0;
     formed = formed.0;
     named = record { nodes = named.nodes ∙ sym shapes.0.nodes; streams = named.streams ∙ sym shapes.0.streams };
+    least = least.0;
   },
-  good_stages names graph stages named graphs.1 formed.1 shapes.1,
+  good_stages names graph stages named graphs.1 formed.1 shapes.1 least.1,
 )
 
 -- the rows of a study read back as its stages
@@ -340,6 +348,7 @@ study_back texts names period options study h =
     let good = good_stages names h.named.graph study.stages h.named.named
     (recursion_from_All (λ (stage : Stage). IsProcessGraph stage.graph) study.stages h.graphs)
     (recursion_from_All IsWellFormed study.stages formed.stages)
-    (recursion_from_All (HasShapeOf h.named.graph) study.stages formed.shapes) in
+    (recursion_from_All (HasShapeOf h.named.graph) study.stages formed.shapes)
+    (recursion_from_All (λ (stage : Stage). All HasBoundsForLeast stage.streams) study.stages h.least) in
     stages_back texts names period options (record { all_names = h.all_names; name = h.name; asked = h.asked }) study.taken study.stages
     (stop_rows period (length study.taken) study.stop) (stops_passed period (length study.taken) study.stop) formed.between h.greatest_round good

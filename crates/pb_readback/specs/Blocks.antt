@@ -22,6 +22,7 @@ result_of streams row = record {
   classified = record { class = row.class; witness = witness_by row.shape streams row };
   flow = row.flow;
   bounds = row.bounds;
+  least = row.least;
 }
 
 -- the stage that the rows of a block give

@@ -107,12 +107,13 @@ wide_or_none_column = Optional (neg_ℤ (pos (2 ^ 126))) (pos (2 ^ 126))
 abbrev pub critical_column : Column
 critical_column = Optional (pos 0) (pos most_critical)
 
--- The columns of a row behind its first field.
+-- The columns of a row behind its first field. A stream's last columns are its two bounds, its two least bounds, which old rows
+-- haven't, and its certificate.
 abbrev pub columns_of : RowKind → List Column
 columns_of Report = Name ∷ round_column ∷ count_column ∷ count_column ∷ gap_column ∷ sweeps_column ∷ []
 columns_of Node = Name ∷ price_column ∷ []
 columns_of Stream =
-    Name ∷ Name ∷ Name ∷ value_column ∷ variance_column ∷ ClassWord ∷ flow_column
+    Name ∷ Name ∷ Name ∷ value_column ∷ variance_column ∷ ClassWord ∷ flow_column ∷ wide_or_none_column ∷ wide_or_none_column
     ∷ wide_or_none_column ∷ wide_or_none_column ∷ ShapeWord ∷ Items ∷ Items ∷ []
 columns_of Solved =
     sweeps_column ∷ StateWord ∷ Number (pos 0) (pos (2 ^ 63)) ∷ Number (pos 0) (pos 32)
@@ -154,7 +155,8 @@ has_all_fields kind row = length row == length (columns_of kind) + 1
 abbrev pub is_half : List ℕ → List ℕ → Bool
 is_half one other = if is_blank one then not (is_blank other) else is_blank other
 
--- a value without a variance or a lower bound without an upper one, or the reverse
+-- a value without a variance, a lower bound without an upper one or a lower least bound without an upper one, or the reverse
 abbrev pub is_half_told : RowKind → List (List ℕ) → Bool
-is_half_told Stream row = is_half (field row 4) (field row 5) || is_half (field row 8) (field row 9)
+is_half_told Stream row =
+    is_half (field row 4) (field row 5) || is_half (field row 8) (field row 9) || is_half (field row 10) (field row 11)
 is_half_told kind row = false

@@ -10,6 +10,7 @@ use Rattle.pb_readback.specs.declared.draft.Heading.{Heading}
 use Rattle.pb_readback.specs.declared.draft.Solution.{Solution}
 use Rattle.pb_readback.specs.declared.kind.RowKind.{RowKind}
 use Rattle.pb_readback.specs.declared.kind.RowKind.TheVariants.{Report, Node, Stream, Solved, Global, Nodal, Measure, End}
+use Rattle.pb_readback.specs.Forms.{form_of, in_full}
 use Rattle.pb_readback.specs.Kinds.{field, kind_of}
 use Rattle.pb_readback.specs.Values.{global_in, measure_in, nodal_in, solution_in, stream_in, stream_row_in, value_in}
 
@@ -24,6 +25,7 @@ draft_of heading = record {
   heading = heading;
   nodes = [];
   prices = [];
+  form = None;
   streams = [];
   graph = record { nodes = heading.nodes; streams = [] };
   rows = [];
@@ -38,6 +40,15 @@ with_nodal test tests = record tests { nodal = tests.nodal ++ test ∷ [] }
 abbrev pub with_measure : MeasureTest → Tests → Tests
 with_measure test tests = record tests { measure = tests.measure ++ test ∷ [] }
 
+-- what is told of one stream more by its row with a field for each column
+abbrev pub with_stream : List (List ℕ) → Draft → Draft
+with_stream row draft = record draft {
+  last = Stream;
+  streams = draft.streams ++ field row 1 ∷ [];
+  graph = record draft.graph { streams = draft.graph.streams ++ stream_in draft.nodes row ∷ [] };
+  rows = draft.rows ++ stream_row_in draft.nodes row ∷ [];
+}
+
 -- what a row of a kind tells behind the rows before it
 abbrev pub told_with : RowKind → Draft → List (List ℕ) → Draft
 told_with Report draft row = record draft { last = Report }
@@ -46,12 +57,7 @@ told_with Node draft row = record draft {
   nodes = draft.nodes ++ field row 1 ∷ [];
   prices = draft.prices ++ value_in (field row 2) ∷ [];
 }
-told_with Stream draft row = record draft {
-  last = Stream;
-  streams = draft.streams ++ field row 1 ∷ [];
-  graph = record draft.graph { streams = draft.graph.streams ++ stream_in draft.nodes row ∷ [] };
-  rows = draft.rows ++ stream_row_in draft.nodes row ∷ [];
-}
+told_with Stream draft row = record (with_stream (in_full Stream row) draft) { form = Some (form_of row) }
 told_with Solved draft row = record draft { last = Solved; solution = solution_in row }
 told_with Global draft row = record draft {
   last = Global;

@@ -12,6 +12,7 @@ use Rattle.pb_readback.specs.declared.kind.RowKind.{RowKind}
 use Rattle.pb_readback.specs.declared.kind.RowKind.TheVariants.{Report, Node, Stream, Nodal, Measure, End}
 use Rattle.pb_readback.specs.Kinds.{field, is_blank, kind_of, may_come_after}
 use Rattle.pb_readback.specs.Columns.{columns_of, has_all_fields, is_bad_name, is_bad_number, is_bad_word, is_half_told, some_bad}
+use Rattle.pb_readback.specs.Forms.{form_wanted, has_form, in_full}
 use Rattle.pb_readback.specs.Lists.{is_among, is_part, is_side, is_unknown_item, items, names_no_stream}
 use Rattle.pb_readback.specs.Values.{natural_in, value_in}
 
@@ -31,6 +32,11 @@ may_stand draft kind =
     else if nat_lt (length draft.streams) draft.heading.streams then is_stream kind
     else may_come_after draft.last kind
 
+-- Fields: not as many fields as the kind has, or for a stream as its form has
+abbrev pub has_other_fields : RowKind → Draft → List (List ℕ) → Bool
+has_other_fields Stream draft row = not (has_form (form_wanted draft.form row) row)
+has_other_fields kind draft row = not (has_all_fields kind row)
+
 -- Name: a field isn't a name
 abbrev pub has_bad_name : RowKind → List (List ℕ) → Bool
 has_bad_name kind row = some_bad is_bad_name (columns_of kind) 1 row
@@ -44,7 +50,7 @@ has_bad_number kind row = some_bad is_bad_number (columns_of kind) 1 row || is_h
 abbrev pub is_unknown : RowKind → Draft → List (List ℕ) → Bool
 is_unknown Stream draft row =
     not (is_among draft.nodes (field row 2)) || not (is_among draft.nodes (field row 3))
-    || list_any (is_unknown_item draft.nodes) (items (field row 11))
+    || list_any (is_unknown_item draft.nodes) (items (field row 13))
 is_unknown Nodal draft row = not (is_among draft.nodes (field row 1))
 is_unknown Measure draft row = not (is_among draft.streams (field row 1))
 is_unknown End draft row =
@@ -64,9 +70,9 @@ has_bad_word kind row = some_bad is_bad_word (columns_of kind) 1 row
 -- Shape: a side that isn't one, a cycle with a side, or parts that aren't signs with names
 abbrev pub is_misshapen : RowKind → Draft → List (List ℕ) → Bool
 is_misshapen Stream draft row =
-    not (is_side draft.nodes (items (field row 11)))
-    || (bytes_eq (field row 10) (codes "cycle") && not (is_blank (field row 11)))
-    || not (list_all is_part (items (field row 12)))
+    not (is_side draft.nodes (items (field row 13)))
+    || (bytes_eq (field row 12) (codes "cycle") && not (is_blank (field row 13)))
+    || not (list_all is_part (items (field row 14)))
 is_misshapen kind draft row = false
 
 -- Count: a stream from a node to itself
@@ -79,11 +85,10 @@ abbrev pub is_other_env : RowKind → Draft → List (List ℕ) → Bool
 is_other_env Node draft row = (length draft.nodes == 0) && not (bytes_eq (field row 1) (codes "env"))
 is_other_env kind draft row = false
 
--- The first fault of a row of a kind that may stand behind the rows before it.
-abbrev pub fault_of : RowKind → Draft → List (List ℕ) → Option RowFault
-fault_of kind draft row =
-    if not (has_all_fields kind row) then Some Fields
-    else if has_bad_name kind row then Some NameFault
+-- the first fault of a row with a field for each column of its kind
+abbrev pub fault_in : RowKind → Draft → List (List ℕ) → Option RowFault
+fault_in kind draft row =
+    if has_bad_name kind row then Some NameFault
     else if has_bad_number kind row then Some NumberFault
     else if is_unknown kind draft row then Some Unknown
     else if is_duplicate kind draft row then Some Duplicate
@@ -92,6 +97,10 @@ fault_of kind draft row =
     else if is_loop kind row then Some Count
     else if is_other_env kind draft row then Some Env
     else None
+
+-- The first fault of a row of a kind that may stand behind the rows before it.
+abbrev pub fault_of : RowKind → Draft → List (List ℕ) → Option RowFault
+fault_of kind draft row = if has_other_fields kind draft row then Some Fields else fault_in kind draft (in_full kind row)
 
 -- the same of a row whose kind is told
 abbrev pub fault_if : Option RowKind → Draft → List (List ℕ) → Option RowFault

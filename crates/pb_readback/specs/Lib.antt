@@ -2,6 +2,7 @@
 pub mod Codes
 pub mod Kinds
 pub mod Columns
+pub mod Forms
 pub mod Lists
 pub mod Values
 pub mod Drafts

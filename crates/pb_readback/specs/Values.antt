@@ -77,15 +77,16 @@ stream_in nodes row = record {
   meas = meas_of (optional_in (field row 4)) (optional_in (field row 5));
 }
 
--- a stream's class, flow and bounds, and its certificate, of which the parts are kept as they are written
+-- a stream's class, flow, bounds and least bounds, and its certificate, of which the parts are kept as they are written
 abbrev pub stream_row_in : List (List ℕ) → List (List ℕ) → StreamRow
 stream_row_in nodes row = record {
   class = class_in (field row 6);
   flow = value_in (field row 7);
   bounds = bounds_of (optional_in (field row 8)) (optional_in (field row 9));
-  shape = shape_in (field row 10);
-  side = side_of nodes (items (field row 11));
-  parts = field row 12;
+  least = bounds_of (optional_in (field row 10)) (optional_in (field row 11));
+  shape = shape_in (field row 12);
+  side = side_of nodes (items (field row 13));
+  parts = field row 14;
 }
 
 -- how the stage was solved: the sweeps done, and whether the gap was met

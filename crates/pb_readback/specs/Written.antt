@@ -1,5 +1,5 @@
 -- Statement. That the rows of a study read back as its stages, and that the other rows of a session are passed over.
-use Rattle.std.specs.Prelude.{◌≡◌, ℕ, ◌+◌, ◌≤◌, List, [], ◌∷◌, map, length, All, AllPairs, slice_index_or, true, false, codes}
+use Rattle.std.specs.Prelude.{◌≡◌, ℕ, ◌+◌, ◌≤◌, List, [], ◌∷◌, map, length, All, AllPairs, None, slice_index_or, true, false, codes}
 use Rattle.std.specs.List.{list_all}
 use Rattle.pb_limits.specs.Limits.{most_gap, most_sweeps}
 use Rattle.pb_rows.specs.declared.name.Names.{Names}
@@ -9,6 +9,7 @@ use Rattle.pb_rows.specs.Written.{begins_with_word}
 use Rattle.pb_graph.specs.declared.records.Classified.{Classified}
 use Rattle.pb_graph.specs.declared.results.Options.{Options}
 use Rattle.pb_graph.specs.declared.results.Stage.{Stage}
+use Rattle.pb_graph.specs.declared.results.StreamResult.{StreamResult}
 use Rattle.pb_graph.specs.declared.results.Study.{Study}
 use Rattle.pb_graph.specs.ProcessGraph.{IsProcessGraph, ProcessGraph}
 use Rattle.pb_report.specs.declared.history.HistoryRow.{HistoryRow}
@@ -48,10 +49,15 @@ pub record AreOptionsWithin (options : Options) : Type 0 where
   pub greatest_gap : options.gap ≤ most_gap
   pub greatest_sweeps : options.sweeps ≤ most_sweeps
 
+-- no stream has least bounds without bounds: its row would leave them out
+abbrev pub HasBoundsForLeast : StreamResult → Type 0
+HasBoundsForLeast result = result.bounds ≡ None → result.least ≡ None
+
 -- a study that can be written as a report of a period with these names, each of whose graphs is within its limits
 pub record IsReportable (names : Names) (period : List ℕ) (options : Options) (study : Study) : Type 0 where
   pub named : IsNamedStudy names study
   pub graphs : All (λ (stage : Stage). IsProcessGraph stage.graph) study.stages
+  pub least : All (λ (stage : Stage). All HasBoundsForLeast stage.streams) study.stages
   pub all_names : AreBlockNames names
   pub name : is_name period ≡ true
   pub asked : AreOptionsWithin options

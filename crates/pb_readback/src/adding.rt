@@ -9,7 +9,8 @@ ghost use Rattle.pb_readback.specs.Reading.{IsHeading, IsUnderWay};
 
 use crate::draft::{Draft, Heading, Solution, StreamRow};
 use crate::fault::RowFault;
-use crate::kind::{RowKind, field, kind_of, may_come_after};
+use crate::forms::{FullRow, form_of, has_form_wanted};
+use crate::kind::{RowKind, kind_of, may_come_after};
 use crate::known::Known;
 use crate::lists::side_of;
 use crate::rows;
@@ -28,6 +29,7 @@ impl Draft {
             heading,
             nodes: Known::new(alloc),
             prices: List::new(alloc),
+            form: None,
             streams: Known::new(alloc),
             graph: Graph::new(alloc, heading.nodes),
             rows: List::new(alloc),
@@ -115,21 +117,27 @@ impl Draft {
         ensures told { IfOk result
             (λ fault. fault ≡ None → self.new ≡ told_with StreamKind self.old row.now) }
     {
-        match rows::stream(self, row) {
+        if !has_form_wanted(self.form, row) {
+            return Ok(Some(RowFault::Fields));
+        }
+        let full = FullRow::of(row);
+        match rows::stream(self, &full) {
             Err(fault) => Ok(Some(fault)),
             Ok(stream) => {
-                let side = side_of(alloc, &self.nodes, field(row, 11))?;
-                let parts = Vec::from_slice(alloc, field(row, 12))?;
+                let side = side_of(alloc, &self.nodes, full.field(13))?;
+                let parts = Vec::from_slice(alloc, full.field(14))?;
                 self.streams.add(stream.name)?;
                 self.graph.push(stream.arc)?;
                 self.rows.push(StreamRow {
                     class: stream.class,
                     flow: stream.flow,
                     bounds: stream.bounds,
+                    least: stream.least,
                     shape: stream.shape,
                     side,
                     parts: List::from_vec(parts),
                 })?;
+                self.form = Some(form_of(row));
                 self.last = RowKind::Stream;
                 Ok(None)
             }

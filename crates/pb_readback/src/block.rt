@@ -68,6 +68,7 @@ impl Draft {
             heading,
             nodes,
             prices,
+            form: _,
             streams,
             graph,
             rows: _,
@@ -167,6 +168,7 @@ fn result_of(alloc: Global, streams: &Known, row: &StreamRow) -> Result<StreamRe
         },
         flow: row.flow,
         bounds: row.bounds,
+        least: row.least,
     })
 }
 

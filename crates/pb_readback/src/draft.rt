@@ -24,6 +24,14 @@ pub enum Shape {
     Cycle,
 }
 
+/// The form of the rows of a block's streams: with the fields of least bounds, or without them, as rows were written before there
+/// were any.
+#[derive(Clone, Copy, PartialEq, Eq, Debug)]
+pub enum StreamForm {
+    WithLeast,
+    WithoutLeast,
+}
+
 /// What the row of a stream tells beside its name and its ends: the parts of the certificate are kept as they are written until
 /// all streams are named.
 #[derive(Drop)]
@@ -31,6 +39,7 @@ pub struct StreamRow {
     pub class: Class,
     pub flow: i128,
     pub bounds: Option<Bounds>,
+    pub least: Option<Bounds>,
     pub shape: Shape,
     pub side: List<bool>,
     pub parts: List<u8>,
@@ -48,14 +57,15 @@ pub struct Solution {
     pub high: Option<i128>,
 }
 
-/// What the rows of a block have told so far, and the kind of the last one. The solution is that of the `solved` row once it has
-/// come.
+/// What the rows of a block have told so far, and the kind of the last one. The form is that of its first stream's row, and the
+/// solution that of the `solved` row, once they have come.
 #[derive(Drop)]
 pub struct Draft {
     pub last: RowKind,
     pub heading: Heading,
     pub nodes: Known,
     pub prices: List<i128>,
+    pub form: Option<StreamForm>,
     pub streams: Known,
     pub graph: Graph,
     pub rows: List<StreamRow>,

@@ -1,7 +1,7 @@
 // One field, read as its column wants it.
 
 ghost use Rattle.std.specs.Prelude.{◌≡◌, pos, neg_ℤ, IfOk, IfSome};
-ghost use Rattle.pb_limits.specs.Limits.{most_value, most_variance};
+ghost use Rattle.pb_limits.specs.Limits.{most_freedom, most_value, most_variance};
 ghost use Rattle.pb_readback.specs.Columns.{Number, Optional, critical_column, flow_column, gap_column, is_half, price_column, round_column, sweeps_column, value_column, variance_column, wide_column, wide_or_none_column};
 ghost use Rattle.pb_readback.specs.Fields.{IsBetween, ReadsName, ReadsNatural, ReadsNumber, ReadsOptional};
 
@@ -64,7 +64,7 @@ pub(crate) fn exponent(text: &[u8]) -> Result<u32, RowFault>
 
 // Degrees of freedom.
 pub(crate) fn freedom(text: &[u8]) -> Result<u32, RowFault>
-    ensures { ReadsNatural (pos 0) (pos 2000) text.now result }
+    ensures { ReadsNatural (pos 0) (pos most_freedom) text.now result }
 {
     natural(text, 0, MOST_FREEDOM)
 }

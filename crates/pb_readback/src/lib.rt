@@ -8,6 +8,7 @@ mod block;
 mod draft;
 mod fault;
 mod fields;
+mod forms;
 mod items;
 mod kind;
 mod known;

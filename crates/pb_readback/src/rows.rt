@@ -7,7 +7,7 @@ ghost use Rattle.pb_rows.specs.Name.{same_name};
 ghost use Rattle.pb_readback.specs.declared.fault.RowFault.TheVariants.{Name as NameFault, Number as NumberFault};
 ghost use Rattle.pb_readback.specs.declared.kind.RowKind.TheVariants.{Report, Node, Stream as StreamKind, Solved as SolvedKind, Global, Nodal, Measure, End};
 ghost use Rattle.pb_readback.specs.Columns.{is_half_told};
-ghost use Rattle.pb_readback.specs.Faults.{are_miscounted, fault_of, has_bad_name, has_bad_number, has_bad_word, is_loop, is_misshapen, is_unknown, opening_fault};
+ghost use Rattle.pb_readback.specs.Faults.{are_miscounted, fault_in, fault_of, has_bad_name, has_bad_number, has_bad_word, is_loop, is_misshapen, is_unknown, opening_fault};
 ghost use Rattle.pb_readback.specs.Fields.{IsBetween, Refuses, told};
 ghost use Rattle.pb_readback.specs.Kinds.{field};
 ghost use Rattle.pb_readback.specs.Lists.{is_among, place_of};
@@ -16,6 +16,7 @@ ghost use Rattle.pb_readback.specs.Values.{bounds_of, class_in, global_in, headi
 
 use crate::draft::{Draft, Heading, Shape, Solution};
 use crate::fault::RowFault;
+use crate::forms::FullRow;
 use crate::kind::{RowKind, field, is_word, kind_of};
 use crate::lists::{are_parts, has_unknown_item, is_side};
 use crate::{fields, words};
@@ -126,36 +127,36 @@ pub(crate) struct StreamFields {
     pub class: Class,
     pub flow: i128,
     pub bounds: Option<Bounds>,
+    pub least: Option<Bounds>,
     pub shape: Shape,
 }
 
-// `stream,NAME,FROM,TO,VALUE,VARIANCE,CLASS,FLOW,LO,HI,SHAPE,SIDE,PARTS`
-pub(crate) fn stream(draft: &Draft, row: &Row) -> Result<StreamFields, RowFault>
+// `stream,NAME,FROM,TO,VALUE,VARIANCE,CLASS,FLOW,LO,HI,LEAST_LO,LEAST_HI,SHAPE,SIDE,PARTS`
+pub(crate) fn stream(draft: &Draft, row: &FullRow) -> Result<StreamFields, RowFault>
     requires way { IsUnderWay draft.now }
-    ensures fault { told result ≡ fault_of StreamKind draft.now row.now }
+    ensures fault { told result ≡ fault_in StreamKind draft.now row.now }
     ensures name { IfOk result (λ stream. stream.name ≡ field row.now 1) }
     ensures arc { IfOk result (λ stream. stream.arc ≡ stream_in draft.now.nodes row.now) }
     ensures class { IfOk result (λ stream. stream.class ≡ class_in (field row.now 6)) }
     ensures flow { IfOk result (λ stream. stream.flow ≡ value_in (field row.now 7)) }
     ensures bounds { IfOk result (λ stream. stream.bounds
         ≡ bounds_of (optional_in (field row.now 8)) (optional_in (field row.now 9))) }
-    ensures shape { IfOk result (λ stream. stream.shape ≡ shape_in (field row.now 10)) }
+    ensures least { IfOk result (λ stream. stream.least
+        ≡ bounds_of (optional_in (field row.now 10)) (optional_in (field row.now 11))) }
+    ensures shape { IfOk result (λ stream. stream.shape ≡ shape_in (field row.now 12)) }
     ensures new { IfOk result (λ stream. is_among draft.now.streams stream.name ≡ false) }
     ensures fits { IfOk result (λ stream. IsStreamOf draft.now stream.arc) }
 {
-    if row.len() != 13 {
-        return Err(RowFault::Fields);
-    }
     let name = stream_names(row)?;
     let numbers = stream_numbers(row)?;
     if has_unknown_node(draft, row) {
         return Err(RowFault::Unknown);
     }
-    if draft.streams.has(field(row, 1)) {
+    if draft.streams.has(row.field(1)) {
         return Err(RowFault::Duplicate);
     }
-    let class = words::class(field(row, 6))?;
-    let shape = words::shape(field(row, 10))?;
+    let class = words::class(row.field(6))?;
+    let shape = words::shape(row.field(12))?;
     if is_misshapen(draft, row) {
         return Err(RowFault::Shape);
     }
@@ -168,19 +169,20 @@ pub(crate) fn stream(draft: &Draft, row: &Row) -> Result<StreamFields, RowFault>
         class,
         flow: numbers.flow,
         bounds: numbers.bounds,
+        least: numbers.least,
         shape,
     })
 }
 
 // Whether a stream leads from a node to itself.
-fn is_loop(row: &Row) -> bool
+fn is_loop(row: &FullRow) -> bool
     ensures { result ≡ is_loop StreamKind row.now }
 {
-    is_word(field(row, 2), field(row, 3))
+    is_word(row.field(2), row.field(3))
 }
 
 // A stream whose ends are two nodes, by their places.
-fn arc_of(draft: &Draft, row: &Row, meas: Option<Meas>) -> Stream
+fn arc_of(draft: &Draft, row: &FullRow, meas: Option<Meas>) -> Stream
     requires way { IsUnderWay draft.now }
     requires known { is_unknown StreamKind draft.now row.now ≡ false }
     requires apart { is_loop StreamKind row.now ≡ false }
@@ -190,19 +192,19 @@ fn arc_of(draft: &Draft, row: &Row, meas: Option<Meas>) -> Stream
     ensures meas { result.meas ≡ meas }
     ensures fits { IsStreamOf draft.now result }
 {
-    let from = draft.nodes.place(field(row, 2));
-    let to = draft.nodes.place(field(row, 3));
+    let from = draft.nodes.place(row.field(2));
+    let to = draft.nodes.place(row.field(3));
     Stream { from, to, meas }
 }
 
 // The name of a stream; those of its ends are names too.
-fn stream_names(row: &Row) -> Result<Name, RowFault>
+fn stream_names(row: &FullRow) -> Result<Name, RowFault>
     ensures fault { Refuses (has_bad_name StreamKind row.now) NameFault result }
     ensures value { IfOk result (λ name. name ≡ field row.now 1) }
 {
-    let name = fields::name(field(row, 1))?;
-    let _from = fields::name(field(row, 2))?;
-    let _to = fields::name(field(row, 3))?;
+    let name = fields::name(row.field(1))?;
+    let _from = fields::name(row.field(2))?;
+    let _to = fields::name(row.field(3))?;
     Ok(name)
 }
 
@@ -212,22 +214,27 @@ struct StreamNumbers {
     meas: Option<Meas>,
     flow: i128,
     bounds: Option<Bounds>,
+    least: Option<Bounds>,
 }
 
-fn stream_numbers(row: &Row) -> Result<StreamNumbers, RowFault>
+fn stream_numbers(row: &FullRow) -> Result<StreamNumbers, RowFault>
     ensures fault { Refuses (has_bad_number StreamKind row.now) NumberFault result }
     ensures meas { IfOk result (λ numbers. numbers.meas
         ≡ meas_of (optional_in (field row.now 4)) (optional_in (field row.now 5))) }
     ensures flow { IfOk result (λ numbers. numbers.flow ≡ value_in (field row.now 7)) }
     ensures bounds { IfOk result (λ numbers. numbers.bounds
         ≡ bounds_of (optional_in (field row.now 8)) (optional_in (field row.now 9))) }
+    ensures least { IfOk result (λ numbers. numbers.least
+        ≡ bounds_of (optional_in (field row.now 10)) (optional_in (field row.now 11))) }
     ensures limits { IfOk result (λ numbers. IfSome numbers.meas IsMeasurement) }
 {
-    let value = fields::value(field(row, 4))?;
-    let variance = fields::variance(field(row, 5))?;
-    let flow = fields::flow(field(row, 7))?;
-    let lo = fields::wide_or_none(field(row, 8))?;
-    let hi = fields::wide_or_none(field(row, 9))?;
+    let value = fields::value(row.field(4))?;
+    let variance = fields::variance(row.field(5))?;
+    let flow = fields::flow(row.field(7))?;
+    let lo = fields::wide_or_none(row.field(8))?;
+    let hi = fields::wide_or_none(row.field(9))?;
+    let least_lo = fields::wide_or_none(row.field(10))?;
+    let least_hi = fields::wide_or_none(row.field(11))?;
     if is_half_told(row) {
         return Err(RowFault::Number);
     }
@@ -235,14 +242,17 @@ fn stream_numbers(row: &Row) -> Result<StreamNumbers, RowFault>
         meas: meas_of(value, variance),
         flow,
         bounds: bounds_of(lo, hi),
+        least: bounds_of(least_lo, least_hi),
     })
 }
 
-// Whether a value stands without a variance, or one bound without the other.
-fn is_half_told(row: &Row) -> bool
+// Whether a value stands without a variance, or one bound or least bound without the other.
+fn is_half_told(row: &FullRow) -> bool
     ensures { result ≡ is_half_told StreamKind row.now }
 {
-    fields::is_half(field(row, 4), field(row, 5)) || fields::is_half(field(row, 8), field(row, 9))
+    fields::is_half(row.field(4), row.field(5))
+        || fields::is_half(row.field(8), row.field(9))
+        || fields::is_half(row.field(10), row.field(11))
 }
 
 #[tactic(auto, using(crate::proofs::FieldLemmas::abs_between))]
@@ -268,21 +278,21 @@ fn bounds_of(lo: Option<i128>, hi: Option<i128>) -> Option<Bounds>
 }
 
 // Whether a stream leads from or to, or has in its side, what is no node of the block.
-fn has_unknown_node(draft: &Draft, row: &Row) -> bool
+fn has_unknown_node(draft: &Draft, row: &FullRow) -> bool
     ensures { result ≡ is_unknown StreamKind draft.now row.now }
 {
-    !draft.nodes.has(field(row, 2))
-        || !draft.nodes.has(field(row, 3))
-        || has_unknown_item(&draft.nodes, field(row, 11))
+    !draft.nodes.has(row.field(2))
+        || !draft.nodes.has(row.field(3))
+        || has_unknown_item(&draft.nodes, row.field(13))
 }
 
 // Whether the side isn't one, a cycle has one, or the parts aren't signs with names.
-fn is_misshapen(draft: &Draft, row: &Row) -> bool
+fn is_misshapen(draft: &Draft, row: &FullRow) -> bool
     ensures { result ≡ is_misshapen StreamKind draft.now row.now }
 {
-    !is_side(&draft.nodes, field(row, 11))
-        || (is_word(field(row, 10), b"cycle") && !field(row, 11).is_empty())
-        || !are_parts(field(row, 12))
+    !is_side(&draft.nodes, row.field(13))
+        || (is_word(row.field(12), b"cycle") && !row.field(13).is_empty())
+        || !are_parts(row.field(14))
 }
 
 // `solved,K,STATE,G,H,DOF,LOW,HIGH`
