@@ -1,5 +1,5 @@
 -- What the pair of a stage says of its gap, its bounds and its measured flows.
-use Rattle.std.proofs.Common.{◌≡◌, ◌∙◌, ◌↔◌, ◌&&◌, Bool, ℕ, zero, suc, ◌<◌, ◌≤◌, ℤ, List, [], ◌∷◌, length, map, Option, Some, is_some, slice_get, get_or, All, refl, sym, ap, ap₂, subst, arith}
+use Rattle.std.proofs.Common.{◌≡◌, ◌∙◌, ◌↔◌, ◌&&◌, Bool, true, false, ℕ, zero, suc, ◌<◌, ◌≤◌, ℤ, List, [], ◌∷◌, length, map, Option, Some, is_some, slice_get, get_or, All, refl, sym, ap, ap₂, subst, arith}
 use Rattle.std.specs.Prelude.{IfSome}
 use Rattle.std.proofs.Math.Bool.{and-true}
 use Rattle.std.proofs.lemmas.List.{length-map}
@@ -22,7 +22,7 @@ use Rattle.pb_gap.specs.Bounds.{AreSigned}
 use Rattle.pb_gap.specs.StreamBounds.{stream_bounds, sum_for}
 use Rattle.pb_gap.specs.LeastBounds.{stream_least_bounds}
 use Rattle.pb_gap.specs.Laws.{StreamSumLaw, SumsTo}
-use Rattle.pb_elim.specs.Printed.{printed_flows, printed_gap, printed_price, HasLeastBounds}
+use Rattle.pb_elim.specs.Printed.{have_least, printed_flows, printed_gap, printed_price, HasLeastBounds}
 use Rattle.pb_elim.specs.Signs.{AreWitnessSigns}
 use Rattle.pb_check.specs.declared.faults.Fault.{Fault}
 use Rattle.pb_check.specs.Asked.{AreShown, HasBoundsAt, HasLeastBoundsAt, HaveBounds, HaveClasses, HaveLeastBounds, IsGapOfFlows, found_gap, is_bounded}
@@ -160,3 +160,10 @@ least_here stage j r found at found_is same q there =
 
 pub all_least : (stage : Stage) (n : ℕ) → length stage.streams ≤ n → ((k : ℕ) → k < n → HasLeastBoundsAt stage k) → HaveLeastBounds stage
 all_least stage n end each have j r at = each j (omega (arith, slice_get_within stage.streams j r at, end)) r at
+
+-- whether the stage has least bounds, by what its results say
+pub have_by : (stage : Stage) (results : List StreamResult) (b : Bool) → results ≡ stage.streams → b ≡ have_least results → b ≡ true → HasLeastBounds stage
+have_by stage results b same is yes_ = sym (is ∙ ap have_least same) ∙ yes_
+
+pub none_by : (stage : Stage) (results : List StreamResult) (b : Bool) → results ≡ stage.streams → b ≡ have_least results → b ≡ false → HaveLeastBounds stage
+none_by stage results b same is no_ have = absurd (let here : b ≡ have_least stage.streams = is ∙ ap have_least same in cc (here, no_, have))

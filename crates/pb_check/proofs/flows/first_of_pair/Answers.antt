@@ -1,5 +1,7 @@
-use Rattle.std.proofs.Common.{Some, None, refl, subst, inl, inr, arith}
+use Rattle.std.proofs.Common.{Option, Some, None, refl, subst, inl, inr, arith}
+use Rattle.std.specs.Prelude.{MatchOption}
 use Rattle.std.proofs.lemmas.Bool.{cases_lt}
+use Rattle.pb_check.specs.declared.faults.Fault.{Fault}
 use Rattle.pb_check.specs.Asked.{HaveLeastBounds}
 use Rattle.pb_check.specs.Faults.{IsLeastFault}
 use Rattle.pb_check.specs.Verdict.{code_of}
@@ -45,3 +47,26 @@ least_fault-requires-clause-classes c = c.requires.earlier Class (omega arith)
 
 pub least_fault-requires-clause-shown : goal.least_fault-requires-clause-shown
 least_fault-requires-clause-shown c = c.requires.earlier Witness (omega arith)
+
+-- test 13 fails
+pub returns-in-Some-3 : goal.returns-in-Some-3
+returns-in-Some-3 c =
+    let stage = c.args.stage.now in
+    let gap = c.args.gap in
+    let sweeps = c.args.sweeps in
+    let four : IsAmong stage gap sweeps 7 10 None = subst (IsAmong stage gap sweeps 7 10) c.in_default.is c.in_ok-first.ensures in
+    let two : IsAmong stage gap sweeps 11 12 None = subst (IsAmong stage gap sweeps 11 12) c.in_default-2.is c.in_ok-first-2.ensures in
+    let six : IsAmong stage gap sweeps 7 12 None = joined stage gap sweeps 7 10 12 None (omega arith) (omega arith) four two in
+    failed stage gap sweeps 7 12 13 Least c.in-Some-3.fault refl (omega arith) (omega arith) six
+    (some_there _ c.in-Some-3.fault (HaveLeastBounds stage) (IsLeastFault stage) c.in-Some-3.is c.in_ok-fault.ensures)
+
+-- no test fails
+pub returns-in-None : goal.returns-in-None
+returns-in-None c =
+    let stage = c.args.stage.now in
+    let gap = c.args.gap in
+    let sweeps = c.args.sweeps in
+    let four : IsAmong stage gap sweeps 7 10 None = subst (IsAmong stage gap sweeps 7 10) c.in_default.is c.in_ok-first.ensures in
+    let two : IsAmong stage gap sweeps 11 12 None = subst (IsAmong stage gap sweeps 11 12) c.in_default-2.is c.in_ok-first-2.ensures in
+    let six : IsAmong stage gap sweeps 7 12 None = joined stage gap sweeps 7 10 12 None (omega arith) (omega arith) four two in
+    passed stage gap sweeps 7 12 Least refl six (subst (λ (o : Option Fault). MatchOption o (HaveLeastBounds stage) (IsLeastFault stage)) c.in-None.is c.in_ok-fault.ensures)
