@@ -97,35 +97,35 @@ fn writes_reports(rt: HostRuntime) -> Result<(), Fail> {
     let table: [(&[u8], &[u8]); 8] = [
         (
             b"unit,U\nstream,A,env,U,metered,1\nstream,B,U,env,metered,1\nperiod,d1,2024-03-01,2024-03-01\ncritical,global,1,3841\nreading,r1,A,2024-03-01,102000000,999999999999\nreading,r2,B,2024-03-01,100000000,999999999999\nreport,d1\n",
-            b"report,d1,0,2,2,10,5000\nnode,env,0\nnode,U,-72057594038\nstream,A,env,U,102000000,1000000000000,redundant,101000000,100999997,101000002,cut,env,-A +B\nstream,B,U,env,100000000,1000000000000,redundant,101000000,100999998,101000003,cut,U,+A -B\nsolved,1,converged,2,0,1,1999,2000\nend,d1,0\n",
+            b"report,d1,0,2,2,10,5000\nnode,env,0\nnode,U,-72057594038\nstream,A,env,U,102000000,1000000000000,redundant,101000000,100999997,101000002,100999998,101000001,cut,env,-A +B\nstream,B,U,env,100000000,1000000000000,redundant,101000000,100999998,101000003,100999999,101000002,cut,U,+A -B\nsolved,1,converged,2,0,1,1999,2000\nend,d1,0\n",
         ),
         (
             b"unit,U\nstream,A,env,U,metered,1\nstream,B,U,env,metered,1\nperiod,d1,2024-03-01,2024-03-01\nreading,r1,A,2024-03-01,1,0\nreading,r2,B,2024-03-01,0,0\nreport,d1\n",
-            b"report,d1,0,2,2,10,5000\nnode,env,0\nnode,U,-36028797018963968\nstream,A,env,U,1,1,redundant,1,-1,2,cut,env,-A +B\nstream,B,U,env,0,1,redundant,1,-1,2,cut,U,+A -B\nsolved,5000,unconverged,741456,0,1,499,1000\nend,d1,0\n",
+            b"report,d1,0,2,2,10,5000\nnode,env,0\nnode,U,-36028797018963968\nstream,A,env,U,1,1,redundant,1,-1,2,-1,2,cut,env,-A +B\nstream,B,U,env,0,1,redundant,1,-1,2,-1,2,cut,U,+A -B\nsolved,5000,unconverged,741456,0,1,499,1000\nend,d1,0\n",
         ),
         (
             b"unit,U\nunit,V\nstream,A,env,U,metered,1\nstream,B,U,V,plain,0\nstream,C,V,env,metered,1\nperiod,d1,2024-03-01,2024-03-01\nreading,r1,A,2024-03-01,102000000,999999999999\nreading,r2,C,2024-03-01,100000000,999999999999\nreport,d1\n",
-            b"report,d1,0,3,3,10,5000\nnode,env,0\nnode,U,-72057594038\nnode,V,-72057594038\nstream,A,env,U,102000000,1000000000000,redundant,101000000,100999997,101000002,cut,env,-A +C\nstream,B,U,V,,,observable,101000000,100999997,101000002,cut,U,+A -B\nstream,C,V,env,100000000,1000000000000,redundant,101000000,100999998,101000003,cut,U V,+A -C\nsolved,1,converged,2,0,1,1999,2000\nend,d1,0\n",
+            b"report,d1,0,3,3,10,5000\nnode,env,0\nnode,U,-72057594038\nnode,V,-72057594038\nstream,A,env,U,102000000,1000000000000,redundant,101000000,100999997,101000002,100999998,101000001,cut,env,-A +C\nstream,B,U,V,,,observable,101000000,100999997,101000002,100999998,101000001,cut,U,+A -B\nstream,C,V,env,100000000,1000000000000,redundant,101000000,100999998,101000003,100999999,101000002,cut,U V,+A -C\nsolved,1,converged,2,0,1,1999,2000\nend,d1,0\n",
         ),
         (
             b"unit,U\nunit,V\nstream,P,U,V,plain,0\nstream,M,U,V,metered,1\nperiod,d1,2024-03-01,2024-03-01\nreading,r1,M,2024-03-01,500,0\nreport,d1\n",
-            b"report,d1,0,3,2,10,5000\nnode,env,0\nnode,U,0\nnode,V,0\nstream,P,U,V,,,observable,-500,-500,-500,cut,U,-P -M\nstream,M,U,V,500,1,nonredundant,500,500,500,cycle,,+M -P\nsolved,0,converged,0,0,0,0,0\nend,d1,0\n",
+            b"report,d1,0,3,2,10,5000\nnode,env,0\nnode,U,0\nnode,V,0\nstream,P,U,V,,,observable,-500,-500,-500,-500,-500,cut,U,-P -M\nstream,M,U,V,500,1,nonredundant,500,500,500,500,500,cycle,,+M -P\nsolved,0,converged,0,0,0,0,0\nend,d1,0\n",
         ),
         (
             b"unit,U\nunit,V\nstream,M1,U,V,metered,1\nstream,M2,V,U,metered,1\nperiod,d1,2024-03-01,2024-03-01\nreading,r1,M1,2024-03-01,10,0\nreading,r2,M2,2024-03-01,14,0\nreport,d1\n",
-            b"report,d1,0,3,2,10,5000\nnode,env,0\nnode,U,-144115188075855872\nnode,V,0\nstream,M1,U,V,10,1,redundant,12,12,12,cut,U,-M1 +M2\nstream,M2,V,U,14,1,redundant,12,12,12,cut,V,+M1 -M2\nsolved,1,converged,0,0,1,7999,8000\nend,d1,0\n",
+            b"report,d1,0,3,2,10,5000\nnode,env,0\nnode,U,-144115188075855872\nnode,V,0\nstream,M1,U,V,10,1,redundant,12,12,12,12,12,cut,U,-M1 +M2\nstream,M2,V,U,14,1,redundant,12,12,12,12,12,cut,V,+M1 -M2\nsolved,1,converged,0,0,1,7999,8000\nend,d1,0\n",
         ),
         (
             b"unit,U\nstream,T,env,U,batch,1\nstream,O,U,env,plain,0\nperiod,d1,2024-01-30,2024-01-30\nperiod,d2,2024-01-31,2024-01-31\nperiod,d3,2024-02-01,2024-02-01\ntransfer,t1,T,2024-01-30,2024-02-01,10,9\nreport,d1\nreport,d2\nreport,d3\n",
-            b"report,d1,0,2,2,10,5000\nnode,env,0\nnode,U,0\nstream,T,env,U,3,4,nonredundant,3,3,3,cycle,,+T +O\nstream,O,U,env,,,observable,3,3,3,cut,U,+T -O\nsolved,0,converged,0,0,0,0,0\nend,d1,0\nreport,d2,0,2,2,10,5000\nnode,env,0\nnode,U,0\nstream,T,env,U,3,4,nonredundant,3,3,3,cycle,,+T +O\nstream,O,U,env,,,observable,3,3,3,cut,U,+T -O\nsolved,0,converged,0,0,0,0,0\nend,d2,0\nreport,d3,0,2,2,10,5000\nnode,env,0\nnode,U,0\nstream,T,env,U,4,4,nonredundant,4,4,4,cycle,,+T +O\nstream,O,U,env,,,observable,4,4,4,cut,U,+T -O\nsolved,0,converged,0,0,0,0,0\nend,d3,0\n",
+            b"report,d1,0,2,2,10,5000\nnode,env,0\nnode,U,0\nstream,T,env,U,3,4,nonredundant,3,3,3,3,3,cycle,,+T +O\nstream,O,U,env,,,observable,3,3,3,3,3,cut,U,+T -O\nsolved,0,converged,0,0,0,0,0\nend,d1,0\nreport,d2,0,2,2,10,5000\nnode,env,0\nnode,U,0\nstream,T,env,U,3,4,nonredundant,3,3,3,3,3,cycle,,+T +O\nstream,O,U,env,,,observable,3,3,3,3,3,cut,U,+T -O\nsolved,0,converged,0,0,0,0,0\nend,d2,0\nreport,d3,0,2,2,10,5000\nnode,env,0\nnode,U,0\nstream,T,env,U,4,4,nonredundant,4,4,4,4,4,cycle,,+T +O\nstream,O,U,env,,,observable,4,4,4,4,4,cut,U,+T -O\nsolved,0,converged,0,0,0,0,0\nend,d3,0\n",
         ),
         (
             b"unit,CDU\ntank,TK1,1000000\nstrap,TK1,0,0\nstrap,TK1,10000,5000000000\nstream,CRUDE,env,CDU,metered,1\nstream,RES,CDU,env,metered,1\nstream,NAPH,CDU,TK1,plain,0\nstream,SHIP,TK1,env,batch,1000000\nperiod,may1,2024-05-01,2024-05-01\nreading,r1,CRUDE,2024-05-01,10000000000,2500000000000000\nreading,r2,RES,2024-05-01,6000000000,900000000000000\ntransfer,t1,SHIP,2024-05-01,2024-05-01,2583475000,100000000000\ndip,p1,TK1,2024-04-30,0,850000,500000000000\ndip,p2,TK1,2024-05-01,3333,850000,500000000000\nreport,may1\n",
-            b"report,may1,0,3,5,10,5000\nnode,env,0\nnode,CDU,0\nnode,TK1,0\nstream,TK1,TK1,env,1416525000,1000001000000,redundant,1416525000,1416525000,1416525000,cut,CDU TK1,-TK1 +CRUDE -RES -SHIP\nstream,CRUDE,env,CDU,10000000000,2500000000000001,redundant,10000000000,10000000000,10000000000,cut,env,+TK1 -CRUDE +RES +SHIP\nstream,RES,CDU,env,6000000000,900000000000001,redundant,6000000000,6000000000,6000000000,cut,CDU TK1,-TK1 +CRUDE -RES -SHIP\nstream,NAPH,CDU,TK1,,,observable,4000000000,4000000000,4000000000,cut,CDU,+CRUDE -RES -NAPH\nstream,SHIP,TK1,env,2583475000,100001000000,redundant,2583475000,2583475000,2583475000,cut,CDU TK1,-TK1 +CRUDE -RES -SHIP\nsolved,0,converged,0,0,1,0,0\nend,may1,0\n",
+            b"report,may1,0,3,5,10,5000\nnode,env,0\nnode,CDU,0\nnode,TK1,0\nstream,TK1,TK1,env,1416525000,1000001000000,redundant,1416525000,1416525000,1416525000,1416525000,1416525000,cut,CDU TK1,-TK1 +CRUDE -RES -SHIP\nstream,CRUDE,env,CDU,10000000000,2500000000000001,redundant,10000000000,10000000000,10000000000,10000000000,10000000000,cut,env,+TK1 -CRUDE +RES +SHIP\nstream,RES,CDU,env,6000000000,900000000000001,redundant,6000000000,6000000000,6000000000,6000000000,6000000000,cut,CDU TK1,-TK1 +CRUDE -RES -SHIP\nstream,NAPH,CDU,TK1,,,observable,4000000000,4000000000,4000000000,4000000000,4000000000,cut,CDU,+CRUDE -RES -NAPH\nstream,SHIP,TK1,env,2583475000,100001000000,redundant,2583475000,2583475000,2583475000,2583475000,2583475000,cut,CDU TK1,-TK1 +CRUDE -RES -SHIP\nsolved,0,converged,0,0,1,0,0\nend,may1,0\n",
         ),
         (
             b"unit,U\nstream,A,env,U,metered,1\nstream,B,U,env,metered,1\nperiod,d1,2024-03-01,2024-03-02\nreading,r1,A,2024-03-01,5,0\nreading,r2,A,2024-03-02,5,0\nreading,r3,B,2024-03-01,4,0\nreport,d1\n",
-            b"report,d1,0,2,2,10,5000\nnode,env,0\nnode,U,0\nstream,A,env,U,10,1,nonredundant,10,10,10,cycle,,+A +B\nstream,B,U,env,,,observable,10,10,10,cut,U,+A -B\nsolved,0,converged,0,0,0,0,0\nend,d1,0\n",
+            b"report,d1,0,2,2,10,5000\nnode,env,0\nnode,U,0\nstream,A,env,U,10,1,nonredundant,10,10,10,10,10,cycle,,+A +B\nstream,B,U,env,,,observable,10,10,10,10,10,cut,U,+A -B\nsolved,0,converged,0,0,0,0,0\nend,d1,0\n",
         ),
     ];
     for (text, want) in table {
@@ -142,9 +142,9 @@ fn asks_what_the_options_say(rt: HostRuntime) -> Result<(), Fail> {
     let text =
         b"unit,U\nstream,A,env,U,metered,1\nstream,B,U,env,metered,1\nperiod,d1,2024-03-01,2024-03-01\nreading,r1,A,2024-03-01,1,0\nreading,r2,B,2024-03-01,0,0\nreport,d1\n";
     let wide: &[u8] =
-        b"report,d1,0,2,2,1000,5000\nnode,env,0\nnode,U,0\nstream,A,env,U,1,1,redundant,0,-1,3,cut,env,-A +B\nstream,B,U,env,0,1,redundant,0,-2,2,cut,U,+A -B\nsolved,0,converged,1048576,0,1,0,1000\nend,d1,0\n";
+        b"report,d1,0,2,2,1000,5000\nnode,env,0\nnode,U,0\nstream,A,env,U,1,1,redundant,0,-1,3,-1,2,cut,env,-A +B\nstream,B,U,env,0,1,redundant,0,-2,2,-1,1,cut,U,+A -B\nsolved,0,converged,1048576,0,1,0,1000\nend,d1,0\n";
     let narrow: &[u8] =
-        b"report,d1,0,2,2,999,5000\nnode,env,0\nnode,U,-36028797018963968\nstream,A,env,U,1,1,redundant,1,-1,2,cut,env,-A +B\nstream,B,U,env,0,1,redundant,1,-1,2,cut,U,+A -B\nsolved,1,converged,741456,0,1,499,1000\nend,d1,0\n";
+        b"report,d1,0,2,2,999,5000\nnode,env,0\nnode,U,-36028797018963968\nstream,A,env,U,1,1,redundant,1,-1,2,-1,2,cut,env,-A +B\nstream,B,U,env,0,1,redundant,1,-1,2,-1,2,cut,U,+A -B\nsolved,1,converged,741456,0,1,499,1000\nend,d1,0\n";
     let (out, _) = output(rt.alloc(), 1_000, text)?;
     assert!(rt; out.as_slice() == wide);
     let (out, _) = output(rt.alloc(), 999, text)?;
@@ -168,7 +168,7 @@ fn tells_a_total_too_great(rt: HostRuntime) -> Result<(), Fail> {
         b"report,d1\ntransfer,u,T,2024-01-30,2024-01-30,10000000000000,0\nreport,d1\n",
     )?;
     let want: &[u8] =
-        b"report,d1,0,2,2,10,5000\nnode,env,0\nnode,U,0\nstream,T,env,U,1000000000000000,1,nonredundant,1000000000000000,1000000000000000,1000000000000000,cycle,,+T +O\nstream,O,U,env,,,observable,1000000000000000,1000000000000000,1000000000000000,cut,U,+T -O\nsolved,0,converged,0,0,0,0,0\nend,d1,0\nover,d1,T\n";
+        b"report,d1,0,2,2,10,5000\nnode,env,0\nnode,U,0\nstream,T,env,U,1000000000000000,1,nonredundant,1000000000000000,1000000000000000,1000000000000000,1000000000000000,1000000000000000,cycle,,+T +O\nstream,O,U,env,,,observable,1000000000000000,1000000000000000,1000000000000000,1000000000000000,1000000000000000,cut,U,+T -O\nsolved,0,converged,0,0,0,0,0\nend,d1,0\nover,d1,T\n";
     let (out, refused) = output(rt.alloc(), 10, text.as_slice())?;
     assert!(rt; out.as_slice() == want);
     assert_eq!(rt; refused, 0);
@@ -289,7 +289,7 @@ fn tests_two_meters(rt: HostRuntime) -> Result<(), Fail> {
     let text =
         b"unit,U\nstream,A,env,U,metered,1\nstream,B,U,env,metered,1\nperiod,d1,2024-03-01,2024-03-01\ncritical,global,1,3841\nreading,r1,A,2024-03-01,102000000,999999999999\nreading,r2,B,2024-03-01,100000000,999999999999\nreport,d1\n";
     let want: &[u8] =
-        b"report,d1,0,2,2,10,5000\nnode,env,0\nnode,U,-72057594038\nstream,A,env,U,102000000,1000000000000,redundant,101000000,100999997,101000002,cut,env,-A +B\nstream,B,U,env,100000000,1000000000000,redundant,101000000,100999998,101000003,cut,U,+A -B\nsolved,1,converged,2,0,1,1999,2000\nglobal,3841,accept\nnodal,U,2000000,2000000000000,,nocritical\nmeasure,A,1999,2000,,nocritical\nmeasure,B,1999,2000,,nocritical\nend,d1,0\n";
+        b"report,d1,0,2,2,10,5000\nnode,env,0\nnode,U,-72057594038\nstream,A,env,U,102000000,1000000000000,redundant,101000000,100999997,101000002,100999998,101000001,cut,env,-A +B\nstream,B,U,env,100000000,1000000000000,redundant,101000000,100999998,101000003,100999999,101000002,cut,U,+A -B\nsolved,1,converged,2,0,1,1999,2000\nglobal,3841,accept\nnodal,U,2000000,2000000000000,,nocritical\nmeasure,A,1999,2000,,nocritical\nmeasure,B,1999,2000,,nocritical\nend,d1,0\n";
     let (out, refused) = output_by(rt.alloc(), tested(0), text)?;
     assert!(rt; out.as_slice() == want);
     assert_eq!(rt; refused, 0);
@@ -375,9 +375,9 @@ fn takes_a_bad_meter(rt: HostRuntime) -> Result<(), Fail> {
     let (out, _) = output_by(rt.alloc(), tested(3), text.as_slice())?;
     let before: [&[u8]; 10] = [
         b"report,d1,0,",
-        b"stream,A,env,U,100000000,10000000000,redundant,101000122,100999388,101000123,",
-        b"stream,B,U,V,100000000,10000000000,redundant,101000122,100999755,101000490,",
-        b"stream,C,V,env,103000000,10000000000,redundant,101000122,100999755,101000490,",
+        b"stream,A,env,U,100000000,10000000000,redundant,101000122,100999388,101000123,100999754,101000123,cut,",
+        b"stream,B,U,V,100000000,10000000000,redundant,101000122,100999755,101000490,100999938,101000307,cut,",
+        b"stream,C,V,env,103000000,10000000000,redundant,101000122,100999755,101000490,100999938,101000307,cut,",
         b"solved,7,converged,3841,0,2,599999,600001\nglobal,5991,reject\n",
         b"nodal,U,0,20000000000,,nocritical\nnodal,V,-3000000,20000000000,,nocritical\n",
         b"measure,A,149999,150002,10828,reject\nmeasure,B,149999,150002,10828,reject\n",
@@ -388,9 +388,9 @@ fn takes_a_bad_meter(rt: HostRuntime) -> Result<(), Fail> {
     assert!(rt; has_lines(out.as_slice(), &before));
     let behind: [&[u8]; 7] = [
         b"report,d1,1,",
-        b"stream,A,env,U,100000000,10000000000,redundant,100000000,",
-        b"stream,B,U,V,100000000,10000000000,redundant,100000000,",
-        b"stream,C,V,env,,,observable,100000000,",
+        b"stream,A,env,U,100000000,10000000000,redundant,100000000,100000000,100000000,100000000,100000000,cut,",
+        b"stream,B,U,V,100000000,10000000000,redundant,100000000,100000000,100000000,100000000,100000000,cut,",
+        b"stream,C,V,env,,,observable,100000000,100000000,100000000,100000000,100000000,cut,",
         b"solved,0,converged,0,0,1,0,0\nglobal,3841,accept\n",
         b"nodal,U,0,20000000000,,nocritical\nmeasure,A,0,0,10828,accept\nmeasure,B,0,0,10828,accept\n",
         b"end,d1,1\nstop,d1,accepted,1\n",
@@ -414,8 +414,8 @@ fn takes_the_first_of_equal_suspects(rt: HostRuntime) -> Result<(), Fail> {
     )?;
     let lines: [&[u8]; 6] = [
         b"report,d1,0,",
-        b"stream,A,env,U,102000000,10000000000,redundant,101000000,100999998,101000001,",
-        b"stream,B,U,env,100000000,10000000000,redundant,101000000,100999999,101000002,",
+        b"stream,A,env,U,102000000,10000000000,redundant,101000000,100999998,101000001,100999998,101000001,cut,",
+        b"stream,B,U,env,100000000,10000000000,redundant,101000000,100999999,101000002,100999999,101000002,cut,",
         b"solved,1,converged,2,0,1,199999,200000\n",
         b"taken,d1,1,A,199999\nreport,d1,1,",
         b"end,d1,1\nstop,d1,notest,1\n",
