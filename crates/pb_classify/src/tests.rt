@@ -1,4 +1,5 @@
 ghost use Rattle.std.specs.Prelude.{◌≡◌, ◌≤◌, IfOk};
+ghost use Rattle.pb_limits.specs.Limits.{most_nodes};
 
 use crate::classify;
 use pb_graph::{Class, Classified, Graph, Meas, Member, Step, Stream, Witness};
@@ -23,7 +24,7 @@ fn graph_of(
     streams: &[Stream],
 ) -> Result<Graph, AllocError>
     requires env { 1 ≤ nodes }
-    requires most { nodes ≤ 1001 }
+    requires most { nodes ≤ most_nodes }
 {
     let mut g = Graph::new(alloc, nodes);
     for s in streams {

@@ -1,4 +1,5 @@
 ghost use Rattle.std.specs.Prelude.{◌<◌, ◌≤◌, length};
+ghost use Rattle.pb_limits.specs.Limits.{most_gap, most_nodes, most_sweeps};
 
 use crate::{study, study_classed};
 use pb_classify::classify;
@@ -35,10 +36,10 @@ fn study_of(
     sweeps: u32,
 ) -> Result<Study, AllocError>
     requires env { 1 ≤ nodes }
-    requires most { nodes ≤ 1001 }
+    requires most { nodes ≤ most_nodes }
     requires some_gap { 1 ≤ gap }
-    requires most_gap { gap ≤ 1000000 }
-    requires most_sweeps { sweeps ≤ 100000 }
+    requires most_gap { gap ≤ most_gap }
+    requires most_sweeps { sweeps ≤ most_sweeps }
 {
     let mut g = Graph::new(alloc, nodes);
     for s in streams {

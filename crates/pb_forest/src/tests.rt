@@ -1,4 +1,5 @@
 ghost use Rattle.std.specs.Prelude.{◌≡◌, ◌≤◌, IfOk};
+ghost use Rattle.pb_limits.specs.Limits.{most_nodes};
 
 use crate::Forest;
 use pb_graph::{Graph, Meas, Neighbours, Step, Stream};
@@ -16,7 +17,7 @@ fn graph_of(
     streams: &[Stream],
 ) -> Result<Graph, AllocError>
     requires env { 1 ≤ nodes }
-    requires most { nodes ≤ 1001 }
+    requires most { nodes ≤ most_nodes }
     ensures { IfOk result (λ g. g.nodes ≡ nodes) }
 {
     let mut g = Graph::new(alloc, nodes);

@@ -1,4 +1,5 @@
 ghost use Rattle.std.specs.Prelude.{◌≡◌, ◌≤◌, length, IfOk};
+ghost use Rattle.pb_limits.specs.Limits.{most_nodes, most_streams};
 
 use crate::Points;
 use pb_forest::Forest;
@@ -22,7 +23,7 @@ fn graph_of(
     streams: &[Stream],
 ) -> Result<Graph, AllocError>
     requires env { 1 ≤ nodes }
-    requires most { nodes ≤ 1001 }
+    requires most { nodes ≤ most_nodes }
 {
     let mut g = Graph::new(alloc, nodes);
     for s in streams {
@@ -34,7 +35,7 @@ fn graph_of(
 
 // Marks the unmeasured streams but the j-th.
 fn others(alloc: Global, streams: &[Stream], j: u32) -> Result<Vec<bool>, AllocError>
-    requires { length streams.now ≤ 2000 }
+    requires { length streams.now ≤ most_streams }
     ensures { IfOk result (λ marks. length marks.items ≡ length streams.now) }
 {
     let mut marks = Vec::new(alloc);

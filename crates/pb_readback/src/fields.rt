@@ -1,7 +1,7 @@
 // One field, read as its column wants it.
 
 ghost use Rattle.std.specs.Prelude.{◌≡◌, pos, neg_ℤ, IfOk, IfSome};
-ghost use Rattle.pb_limits.specs.Limits.{most_freedom, most_value, most_variance};
+ghost use Rattle.pb_limits.specs.Limits.{most_freedom, most_gap, most_sweeps, most_value, most_variance};
 ghost use Rattle.pb_readback.specs.Columns.{Number, Optional, critical_column, flow_column, gap_column, is_half, price_column, round_column, sweeps_column, value_column, variance_column, wide_column, wide_or_none_column};
 ghost use Rattle.pb_readback.specs.Fields.{IsBetween, ReadsName, ReadsNatural, ReadsNumber, ReadsOptional};
 
@@ -43,14 +43,14 @@ pub(crate) fn round(text: &[u8]) -> Result<u32, RowFault>
 
 // A gap, in thousandths of a standard deviation.
 pub(crate) fn gap(text: &[u8]) -> Result<u32, RowFault>
-    ensures { ReadsNatural (pos 1) (pos 1000000) text.now result }
+    ensures { ReadsNatural (pos 1) (pos most_gap) text.now result }
 {
     natural(text, 1, MOST_GAP)
 }
 
 // Sweeps, allowed or done.
 pub(crate) fn sweeps(text: &[u8]) -> Result<u32, RowFault>
-    ensures { ReadsNatural (pos 0) (pos 100000) text.now result }
+    ensures { ReadsNatural (pos 0) (pos most_sweeps) text.now result }
 {
     natural(text, 0, MOST_SWEEPS)
 }

@@ -1,6 +1,7 @@
 //! Tests of small graphs, worked by hand.
 
 ghost use Rattle.std.specs.Prelude.{◌≤◌, IfSome};
+ghost use Rattle.pb_limits.specs.Limits.{most_nodes};
 ghost use Rattle.pb_limits.specs.Ranges.{IsCriticalValue};
 
 use crate::measures::solved_ends;
@@ -33,7 +34,7 @@ fn graph(
     streams: &[Stream],
 ) -> Result<Graph, AllocError>
     requires env { 1 ≤ nodes }
-    requires most { nodes ≤ 1001 }
+    requires most { nodes ≤ most_nodes }
 {
     let mut g = Graph::new(alloc, nodes);
     for s in streams {
