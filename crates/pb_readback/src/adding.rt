@@ -3,8 +3,8 @@
 ghost use Rattle.std.specs.Prelude.{◌≡◌, true, Some, None, IfOk, OnOk};
 ghost use Rattle.std.specs.Option.{option_map};
 ghost use Rattle.pb_readback.specs.declared.kind.RowKind.TheVariants.{Node, Stream as StreamKind, Solved as SolvedKind, Global as GlobalKind, Nodal, Measure, End};
-ghost use Rattle.pb_readback.specs.Drafts.{draft_of, no_solution, told_with, with_measure, with_nodal, with_row};
-ghost use Rattle.pb_readback.specs.Faults.{fault_behind, fault_if, fault_of, may_stand};
+ghost use Rattle.pb_readback.specs.Drafts.{draft_of, no_solution, told_with, with_measure, with_nodal, with_row, with_stream};
+ghost use Rattle.pb_readback.specs.Faults.{fault_behind, fault_if, fault_in, fault_of, may_stand};
 ghost use Rattle.pb_readback.specs.Reading.{IsHeading, IsUnderWay};
 
 use crate::draft::{Draft, Heading, Solution, StreamRow};
@@ -109,7 +109,7 @@ impl Draft {
         }
     }
 
-    // Adds a stream with its ends, and what its row tells beside them.
+    // Adds a stream whose row has the form of the first of its block, or is the first itself.
     fn add_stream(&mut self, alloc: Global, row: &Row) -> Result<Option<RowFault>, AllocError>
         requires way { IsUnderWay self.old }
         requires stands { may_stand self.old StreamKind ≡ true }
@@ -120,12 +120,24 @@ impl Draft {
         if !has_form_wanted(self.form, row) {
             return Ok(Some(RowFault::Fields));
         }
-        let full = FullRow::of(row);
-        match rows::stream(self, &full) {
+        let fault = self.add_full_row(alloc, &FullRow::of(row))?;
+        self.form = Some(form_of(row));
+        Ok(fault)
+    }
+
+    // Adds a stream with its ends, and what its row tells beside them.
+    fn add_full_row(&mut self, alloc: Global, row: &FullRow) -> Result<Option<RowFault>, AllocError>
+        requires way { IsUnderWay self.old }
+        requires stands { may_stand self.old StreamKind ≡ true }
+        ensures fault { IfOk result (λ fault. fault ≡ fault_in StreamKind self.old row.now) }
+        ensures told { IfOk result
+            (λ fault. fault ≡ None → self.new ≡ with_stream row.now self.old) }
+    {
+        match rows::stream(self, row) {
             Err(fault) => Ok(Some(fault)),
             Ok(stream) => {
-                let side = side_of(alloc, &self.nodes, full.field(13))?;
-                let parts = Vec::from_slice(alloc, full.field(14))?;
+                let side = side_of(alloc, &self.nodes, row.field(13))?;
+                let parts = Vec::from_slice(alloc, row.field(14))?;
                 self.streams.add(stream.name)?;
                 self.graph.push(stream.arc)?;
                 self.rows.push(StreamRow {
@@ -137,7 +149,6 @@ impl Draft {
                     side,
                     parts: List::from_vec(parts),
                 })?;
-                self.form = Some(form_of(row));
                 self.last = RowKind::Stream;
                 Ok(None)
             }
