@@ -93,8 +93,11 @@ fn refuses_an_upper_least_bound_alone(rt: HostRuntime) -> Result<(), Fail> {
     Ok(())
 }
 
-// Whether a block is read whose first stream has these least bounds.
+// Whether a block of a short text is read whose first stream has these least bounds.
 fn reads(alloc: Global, text: &[u8], least: Option<Bounds>) -> bool {
+    if 10_000 < text.len() {
+        return false;
+    }
     let mut records = Records::of(alloc, text);
     match read(alloc, &mut records) {
         Ok(Some(block)) => match block.stage.streams.as_slice() {
@@ -105,8 +108,11 @@ fn reads(alloc: Global, text: &[u8], least: Option<Bounds>) -> bool {
     }
 }
 
-// Whether the row of this number is the first that can't be read, for the fault of this code.
+// Whether the row of this number is the first of a short text that can't be read, for the fault of this code.
 fn refuses(alloc: Global, text: &[u8], number: u32, code: u32) -> bool {
+    if 10_000 < text.len() {
+        return false;
+    }
     let mut records = Records::of(alloc, text);
     match read(alloc, &mut records) {
         Err(ReadRefused::At { row, fault }) => row == number && fault.code() == code,
