@@ -152,6 +152,7 @@ report_as state rows other names period graph text same report = record {
   study = report.study;
   is_study = subst (λ (ds : List Declared). IsStudyOf graph state.options (declared_critical ds) report.study) same report.is_study;
   certified = report.certified;
+  least = report.least;
   tested = report.tested;
   rows = report.rows;
 }

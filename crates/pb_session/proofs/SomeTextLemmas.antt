@@ -3,7 +3,7 @@ use Rattle.std.proofs.Common.{◌≡◌, ◌≢◌, ℕ, ◌+◌, ◌<◌, List,
 use Rattle.std.proofs.lemmas.Option.{slice_get-get_or}
 use Rattle.pb_graph.specs.ProcessGraph.{ProcessGraph, IsProcessGraph}
 use Rattle.pb_classify.specs.Laws.{SomeClassificationLaw}
-use Rattle.pb_elim.specs.Laws.{CertifiedLaw, TestedLaw, SomeStudyLaw}
+use Rattle.pb_elim.specs.Laws.{CertifiedLaw, LeastThroughoutLaw, TestedLaw, SomeStudyLaw}
 use Rattle.pb_elim.specs.Options.{AreOptions}
 use Rattle.pb_book.specs.declared.answer.Accepted.{Accepted}
 use Rattle.pb_book.specs.declared.answer.Accepted.TheVariants.{Blank, Stored as StoredAccepted, Design, Report, History}
@@ -29,10 +29,10 @@ never_memory : (graph : ProcessGraph) (found : Option ℕ) → unless_over graph
 never_memory graph (Some stream) = λ is. cc is
 never_memory graph None = λ is. cc is
 
-some_report : SomeStudyLaw → CertifiedLaw → TestedLaw → (state : SessionState) (period : Period) (assembly : Result ProcessGraph Assembly) → AreOptions state.options
+some_report : SomeStudyLaw → CertifiedLaw → LeastThroughoutLaw → TestedLaw → (state : SessionState) (period : Period) (assembly : Result ProcessGraph Assembly) → AreOptions state.options
     → HaveGraphs state.rows → IfOk assembly IsProcessGraph → assembly ≡ assembly_of state.rows (days_of period) → assembly ≢ Err NoMemory
     → (text : List ℕ) × ReportsBy state period assembly text
-some_report studies certified tested state period (Ok graph) asked graphs within is sure =
+some_report studies certified least tested state period (Ok graph) asked graphs within is sure =
     let (study, is_study) = studies graph state.options (critical_of state.rows) within asked in
     let named = period_names_are state.rows (days_of period) graph graphs.names is in (
       _,
@@ -42,20 +42,21 @@ some_report studies certified tested state period (Ok graph) asked graphs within
         study = study;
         is_study = is_study;
         certified = certified graph state.options (critical_of state.rows) study within is_study;
+        least = least graph state.options (critical_of state.rows) study is_study;
         tested = tested graph state.options (critical_of state.rows) study is_study;
         rows = refl;
       },
     )
-some_report studies certified tested state period (Err (Over j)) asked graphs within is sure = (_, refl)
-some_report studies certified tested state period (Err NoMemory) asked graphs within is sure = absurd (sure refl)
+some_report studies certified least tested state period (Err (Over j)) asked graphs within is sure = (_, refl)
+some_report studies certified least tested state period (Err NoMemory) asked graphs within is sure = absurd (sure refl)
 
-some_reports : SomeStudyLaw → CertifiedLaw → TestedLaw → (state : SessionState) (i : ℕ) → AreOptions state.options → HaveGraphs state.rows
+some_reports : SomeStudyLaw → CertifiedLaw → LeastThroughoutLaw → TestedLaw → (state : SessionState) (i : ℕ) → AreOptions state.options → HaveGraphs state.rows
     → i < length (periods_of state.rows) → (text : List ℕ) × Reports state (slice_get (periods_of state.rows) i) text
-some_reports studies certified tested state i asked graphs there =
+some_reports studies certified least tested state i asked graphs there =
     let period = get_or (periods_of state.rows) i some_period in
     let graph = period_graph state.rows (days_of period) in
     let within = graphs.periods i some_period there in
-    let (text, reports) = some_report studies certified tested state period (assembly_of state.rows (days_of period)) asked graphs within refl (never_memory graph _) in
+    let (text, reports) = some_report studies certified least tested state period (assembly_of state.rows (days_of period)) asked graphs within refl (never_memory graph _) in
     (text, subst (λ (found : Option Period). Reports state found text) (sym (slice_get-get_or (periods_of state.rows) i some_period there)) reports)
 
 some_history : (state : SessionState) (i : ℕ) → i < length (periods_of state.rows) → (text : List ℕ) × Tells state (slice_get (periods_of state.rows) i) text
@@ -64,25 +65,25 @@ some_history state i there =
     let text = text_in state.form (told_history state.rows period) in
     (text, subst (λ (found : Option Period). Tells state found text) (sym (slice_get-get_or (periods_of state.rows) i some_period there)) refl)
 
-some_answer : SomeClassificationLaw → SomeStudyLaw → CertifiedLaw → TestedLaw → (state : SessionState) (at : ℕ) (answer : Answer) → AreOptions state.options
+some_answer : SomeClassificationLaw → SomeStudyLaw → CertifiedLaw → LeastThroughoutLaw → TestedLaw → (state : SessionState) (at : ℕ) (answer : Answer) → AreOptions state.options
     → HaveGraphs state.rows → AnswersOf state.rows answer → (text : List ℕ) × AddsBy state at answer text
-some_answer classifications studies certified tested state at (Refused cause) asked graphs of = (_, refl)
-some_answer classifications studies certified tested state at (Stored row) asked graphs of = ([], refl)
-some_answer classifications studies certified tested state at (Says Blank) asked graphs of = ([], refl)
-some_answer classifications studies certified tested state at (Says StoredAccepted) asked graphs of = ([], refl)
-some_answer classifications studies certified tested state at (Says Design) asked graphs of =
+some_answer classifications studies certified least tested state at (Refused cause) asked graphs of = (_, refl)
+some_answer classifications studies certified least tested state at (Stored row) asked graphs of = ([], refl)
+some_answer classifications studies certified least tested state at (Says Blank) asked graphs of = ([], refl)
+some_answer classifications studies certified least tested state at (Says StoredAccepted) asked graphs of = ([], refl)
+some_answer classifications studies certified least tested state at (Says Design) asked graphs of =
     let (classes, are) = classifications (design_graph state.rows) graphs.design in
     (_, record { limits = graphs.design; named = names_are base_of state.rows graphs.names; classes = classes; are = are; rows = refl })
-some_answer classifications studies certified tested state at (Says (Report i)) asked graphs of = some_reports studies certified tested state i asked graphs of
-some_answer classifications studies certified tested state at (Says (History i)) asked graphs of = some_history state i of
+some_answer classifications studies certified least tested state at (Says (Report i)) asked graphs of = some_reports studies certified least tested state i asked graphs of
+some_answer classifications studies certified least tested state at (Says (History i)) asked graphs of = some_history state i of
 
-pub some_text : SomeClassificationLaw → SomeStudyLaw → CertifiedLaw → TestedLaw → GraphsLaw → SomeTextLaw
-some_text classifications studies certified tested graphs state at fields asked accepted =
-    some_answer classifications studies certified tested state at (answer_of state.rows fields) asked (graphs state.rows accepted) (answers state.rows fields)
+pub some_text : SomeClassificationLaw → SomeStudyLaw → CertifiedLaw → LeastThroughoutLaw → TestedLaw → GraphsLaw → SomeTextLaw
+some_text classifications studies certified least tested graphs state at fields asked accepted =
+    some_answer classifications studies certified least tested state at (answer_of state.rows fields) asked (graphs state.rows accepted) (answers state.rows fields)
 
-pub some_session_text : SomeClassificationLaw → SomeStudyLaw → CertifiedLaw → TestedLaw → GraphsLaw → AcceptedLaw → SomeSessionTextLaw
-some_session_text classifications studies certified tested graphs law state at [] asked accepted = ([], refl)
-some_session_text classifications studies certified tested graphs law state at (fields ∷ records) asked accepted =
-    let (first, adds) = some_text classifications studies certified tested graphs state at fields asked accepted in
-    let (rest, texts) = some_session_text classifications studies certified tested graphs law (state_after state at fields) (at + 1) records asked (law.go_on state.rows at fields accepted) in
+pub some_session_text : SomeClassificationLaw → SomeStudyLaw → CertifiedLaw → LeastThroughoutLaw → TestedLaw → GraphsLaw → AcceptedLaw → SomeSessionTextLaw
+some_session_text classifications studies certified least tested graphs law state at [] asked accepted = ([], refl)
+some_session_text classifications studies certified least tested graphs law state at (fields ∷ records) asked accepted =
+    let (first, adds) = some_text classifications studies certified least tested graphs state at fields asked accepted in
+    let (rest, texts) = some_session_text classifications studies certified least tested graphs law (state_after state at fields) (at + 1) records asked (law.go_on state.rows at fields accepted) in
     (first ++ rest, (first, rest, adds, texts, refl))

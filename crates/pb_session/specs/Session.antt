@@ -7,7 +7,7 @@ use Rattle.pb_graph.specs.declared.results.Study.{Study}
 use Rattle.pb_graph.specs.ProcessGraph.{ProcessGraph, IsProcessGraph}
 use Rattle.pb_classify.specs.Classification.{IsClassification}
 use Rattle.pb_elim.specs.Study.{IsStudyOf}
-use Rattle.pb_elim.specs.Certified.{IsCertifiedStage, TestsEachRedundant}
+use Rattle.pb_elim.specs.Certified.{IsCertifiedStage, HasLeastThroughout, TestsEachRedundant}
 use Rattle.pb_site.specs.Site.{AreDistinct, names_of}
 use Rattle.pb_book.specs.declared.answer.Accepted.{Accepted}
 use Rattle.pb_book.specs.declared.answer.Accepted.TheVariants.{Blank, Stored as StoredAccepted, Design, Report, History}
@@ -55,14 +55,15 @@ pub record IsDesign (state : SessionState) (names : Names) (graph : ProcessGraph
   pub rows : IsTextOf state (design_rows names graph classes) text
 
 -- A text is the report of a period of this name, of which this is the graph: the rows of the study of the graph by the critical values
--- of the stored rows, each stage of which is certified and has the tests of its redundant streams where it has tests, by the names of
--- its nodes and streams.
+-- of the stored rows, each stage of which is certified, has least bounds at each stream that has bounds, and has the tests of its
+-- redundant streams where it has tests, by the names of its nodes and streams.
 pub record IsReport (state : SessionState) (names : Names) (period : List ℕ) (graph : ProcessGraph) (text : List ℕ) : Type 0 where
   pub limits : IsProcessGraph graph
   pub named : AreNamesOf names graph
   pub study : Study
   pub is_study : IsStudyOf graph state.options (critical_of state.rows) study
   pub certified : All IsCertifiedStage study.stages
+  pub least : All HasLeastThroughout study.stages
   pub tested : All TestsEachRedundant study.stages
   pub rows : IsTextOf state (study_rows names period state.options study) text
 

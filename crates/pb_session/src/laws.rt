@@ -6,7 +6,7 @@ ghost use Rattle.pb_session.specs.Laws.{CriticalsLaw, OneTextLaw, OneSessionText
 
 use pb_book::{accepted_law, plain_law, ranges_law};
 use pb_classify::{one_classification_law, some_classification_law};
-use pb_elim::{certified_law, one_study_law, some_study_law, tested_law};
+use pb_elim::{certified_law, least_throughout_law, one_study_law, some_study_law, tested_law};
 use pb_period::{graphs_law, plain_graphs_law};
 
 /// The law that what a record adds to the output is one text, and so is the output of a session: the classes of a design and
@@ -28,6 +28,7 @@ pub fn some_text_law()
     some_classification_law();
     some_study_law();
     certified_law();
+    least_throughout_law();
     tested_law();
     graphs_law();
     accepted_law();

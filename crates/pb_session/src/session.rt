@@ -12,7 +12,7 @@ use crate::history::{told_edits, told_period};
 use crate::kept::{KeptStudy, drop_study, drop_touched, ids_law, place_of, settle};
 use pb_book::{Accepted, Book, NotAccepted, Refused};
 use pb_classify::{alike_law, classify};
-use pb_elim::{stage, study_classed, tested_law};
+use pb_elim::{least_throughout_law, stage, study_classed, tested_law};
 use pb_graph::{Classified, Graph, List, Options, Stage, Study};
 use pb_period::{Assembly, assemble, design, period_names, untouched_law};
 use pb_report::{Form, write_design, write_history, write_over, write_refused, write_study};
@@ -328,6 +328,7 @@ impl Session {
             self.form,
             out,
         )?;
+        least_throughout_law();
         tested_law();
         Ok(Some(Reported {
             made: None,

@@ -64,6 +64,7 @@ returns c =
       study = study;
       is_study = has.kept.is_study;
       certified = has.kept.certified;
+      least = c.least_throughout_law.ensures has.graph state.options (critical_of state.rows) study has.kept.is_study;
       tested = c.tested_law.ensures has.graph state.options (critical_of state.rows) study has.kept.is_study;
       rows = text_is;
     } in
