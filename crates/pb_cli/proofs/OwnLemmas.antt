@@ -1,7 +1,7 @@
 -- The reports of a run read back as the stages of their studies, each of which passes.
-use Rattle.std.proofs.Common.{◌≡◌, ◌∙◌, ◌&&◌, ℕ, ◌+◌, ◌≤◌, Bool, true, false, List, [], ◌∷◌, ◌++◌, length, map, All, Option, Some, None, Result, Ok, Err, ap, ap₂, sym, refl, subst, arith, slice_get, codes}
-use Rattle.std.specs.Prelude.{slice_index_or}
-use Rattle.std.proofs.lemmas.Option.{get_or_from_slice_get, slice_get_within}
+use Rattle.std.proofs.Common.{◌≡◌, ◌∙◌, ◌&&◌, ℕ, ◌+◌, ◌≤◌, Bool, true, false, List, [], ◌∷◌, ◌++◌, length, map, All, Option, Some, None, Result, Ok, Err, ap, ap₂, sym, refl, subst, arith, slice_get, get_or, codes}
+use Rattle.std.specs.Prelude.{is_some, slice_index_or}
+use Rattle.std.proofs.lemmas.Option.{get_or_from_slice_get, slice_get-get_or, slice_get_within}
 use Rattle.std.specs.List.{flat_map, list_all, list_any}
 use Rattle.std.proofs.lemmas.List.{map-append}
 use Rattle.std.proofs.lemmas.List.Elements.{All-append, All-cons, All-head, All-nil, All-tail, All-weaker}
@@ -12,10 +12,12 @@ use Rattle.pb_rows.specs.Name.{is_name}
 use Rattle.pb_rows.specs.Records.{records_of}
 use Rattle.pb_rows.specs.Written.{begins_with_word}
 use Rattle.pb_graph.specs.declared.results.Options.{Options}
+use Rattle.pb_graph.specs.declared.results.Bounds.{Bounds}
+use Rattle.pb_graph.specs.declared.results.StreamResult.{StreamResult}
 use Rattle.pb_graph.specs.declared.results.Stage.{Stage}
 use Rattle.pb_graph.specs.declared.results.Study.{Study}
 use Rattle.pb_graph.specs.ProcessGraph.{IsProcessGraph, ProcessGraph}
-use Rattle.pb_elim.specs.Certified.{IsCertifiedStage}
+use Rattle.pb_elim.specs.Certified.{HasLeastThroughout, IsCertifiedStage}
 use Rattle.pb_elim.specs.Criticals.{AreCritical}
 use Rattle.pb_elim.specs.Laws.{FormedLaw}
 use Rattle.pb_elim.specs.Options.{AreOptions}
@@ -43,7 +45,7 @@ use Rattle.pb_report.specs.Study.{study_rows}
 use Rattle.pb_readback.specs.declared.block.Block.{Block}
 use Rattle.pb_readback.specs.Laws.{JoinLaw}
 use Rattle.pb_readback.specs.Next.{AreBlocks}
-use Rattle.pb_readback.specs.Written.{BeginWithWords, IsReportable, PassedRowsLaw, RowTextLaw, RowWordsLaw, StudyRowsLaw, block_with, blocks_from, records_in}
+use Rattle.pb_readback.specs.Written.{BeginWithWords, HasBoundsForLeast, IsReportable, PassedRowsLaw, RowTextLaw, RowWordsLaw, StudyRowsLaw, block_with, blocks_from, records_in}
 use Rattle.pb_session.specs.Criticals.{critical_of}
 use Rattle.pb_report.specs.Design.{design_rows}
 use Rattle.pb_report.specs.Names.{name_at}
@@ -137,6 +139,16 @@ blocks_pass names period options round (stage ∷ stages) all =
     (All-head (λ (stage : Stage). IsPassed stage options.gap options.sweeps) stage stages all)
     (blocks_pass names period options (round + 1) stages (All-tail (λ (stage : Stage). IsPassed stage options.gap options.sweeps) stage stages all))
 
+-- no stream has least bounds without bounds where each has them exactly where it has bounds
+none_there : (least : Option Bounds) → is_some least ≡ false → least ≡ None
+none_there None none = refl
+none_there (Some bounds) none = cc none
+
+bounds_for_least : (stage : Stage) → HasLeastThroughout stage → All HasBoundsForLeast stage.streams
+bounds_for_least stage through = λ k d lt.
+    let result = get_or stage.streams k d in
+    λ none. none_there result.least (through k result (slice_get-get_or stage.streams k d lt) ∙ ap (is_some {_}) none)
+
 -- a report can be read back
 reportable : AreKnown → (state : SessionState) (days : Days) (period : List ℕ) (graph : ProcessGraph) (text : List ℕ) → IsSound state → AreNamed state.rows → is_name period ≡ true
     → (report : IsReport state (period_names state.rows days) period graph text) → IsReportable (period_names state.rows days) period state.options report.study
@@ -149,6 +161,7 @@ reportable known state days period graph text sound named name report = record {
   graphs =
       All-weaker IsCertifiedStage (λ (stage : Stage). IsProcessGraph stage.graph) (λ (stage : Stage) (c : IsCertifiedStage stage). c.shown.limits) report.study.stages
       report.certified;
+  least = All-weaker HasLeastThroughout (λ (stage : Stage). All HasBoundsForLeast stage.streams) bounds_for_least report.study.stages report.least;
   all_names = record {
     node_forms = named.nodes;
     stream_forms = named.streams;
