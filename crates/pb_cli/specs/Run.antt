@@ -29,7 +29,8 @@ abbrev pub new_session : Options → Form → SessionState
 new_session options form = record { options = options; form = form; rows = [] }
 
 -- The text of a run with these options in this form: the texts of the records of the input, in order, from a session that has stored
--- nothing. Each report in it is that of the rows before it, and each of its stages is certified and the solution of its graph.
+-- nothing. Each report in it is that of the rows before it, and each of its stages is certified, has least bounds at each stream that has
+-- bounds, and is the solution of its graph.
 abbrev pub IsTextOfRun : Options → Form → List ℕ → List ℕ → Type 0
 IsTextOfRun options form input text = IsSessionText (new_session options form) 1 (records_of input) text
 
