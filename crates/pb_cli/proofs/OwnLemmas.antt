@@ -147,7 +147,7 @@ none_there (Some bounds) none = cc none
 bounds_for_least : (stage : Stage) → HasLeastThroughout stage → All HasBoundsForLeast stage.streams
 bounds_for_least stage through = λ k d lt.
     let result = get_or stage.streams k d in
-    λ none. none_there result.least (through k result (slice_get-get_or stage.streams k d lt) ∙ ap (is_some {_}) none)
+    λ none. none_there result.least (through k result (slice_get-get_or stage.streams k d lt) ∙ ap is_some none)
 
 -- a report can be read back
 reportable : AreKnown → (state : SessionState) (days : Days) (period : List ℕ) (graph : ProcessGraph) (text : List ℕ) → IsSound state → AreNamed state.rows → is_name period ≡ true
