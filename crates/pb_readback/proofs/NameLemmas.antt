@@ -121,7 +121,7 @@ among_at (name ∷ names) (suc place) text within is =
     ]
 
 -- and where no name comes twice, it is found there
-placed_at : (names : List (List ℕ)) (place : ℕ) (text : List ℕ) → differ names ≡ true → place < length names → get_or names place text ≡ text
+pub placed_at : (names : List (List ℕ)) (place : ℕ) (text : List ℕ) → differ names ≡ true → place < length names → get_or names place text ≡ text
     → position_or_len (same_name text) names ≡ place
 placed_at [] place text all within is = absurd (omega (arith, within))
 placed_at (name ∷ names) zero text all within is = rw ((bytes_decides text name).1 (sym is)) refl
@@ -135,10 +135,6 @@ placed_at (name ∷ names) (suc place) text all within is =
           absurd (true≢false (sym (among_at names place text less is) ∙ ap (is_among names) ((bytes_decides text name).0 same) ∙ other))
       | inr apart ↦ rw apart (omega (arith, rest))
     ]
-
-pub found_at : (names : List (List ℕ)) (place : ℕ) (text : List ℕ) → differ names ≡ true → place < length names → get_or names place text ≡ text
-    → position (same_name text) names ≡ Some place
-found_at names place text all within is = rw (placed_at names place text all within is, lt-ltb place (length names) within) refl
 
 -- ---- sides
 

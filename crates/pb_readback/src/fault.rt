@@ -8,7 +8,7 @@ ghost use Rattle.pb_readback.specs.Codes.{code_of};
 pub enum RowFault {
     /// A row of this kind may not stand here.
     Kind,
-    /// It has more or fewer fields than its kind has.
+    /// It has more or fewer fields than its kind has, or, for a stream, than the first of its block.
     Fields,
     /// A field isn't a name.
     Name,

@@ -1,6 +1,6 @@
 // Names in order, each of which is found without a walk.
 
-ghost use Rattle.std.specs.Prelude.{◌≡◌, ◌<◌, ◌≤◌, ◌∷◌, ◌++◌, [], false, length, position, IfOk, OnErr, OnOk};
+ghost use Rattle.std.specs.Prelude.{◌≡◌, ◌<◌, ◌≤◌, ◌∷◌, ◌++◌, [], false, length, position, IfOk, IfSome, OnErr, OnOk};
 ghost use Rattle.pb_limits.specs.Limits.{most_streams};
 ghost use Rattle.pb_rows.specs.Name.{same_name};
 ghost use Rattle.pb_readback.specs.Held.{AreKnown};
@@ -56,15 +56,15 @@ impl Known {
         Some(place as u32)
     }
 
-    /// The same, asked first at the place where the name is thought to be.
-    pub fn find_near(&self, text: &[u8], near: u32) -> Option<u32>
-        ensures { result ≡ position (same_name text.now) self.now }
+    /// The name at a place, if there is one.
+    pub fn name_at(&self, place: u32) -> Option<&Name>
+        ensures { IfSome result (λ name. place_of self.now name.now ≡ place) }
     {
         let names = self.names.as_slice();
-        if (near as usize) < names.len() && names[near as usize].bytes() == text {
-            return Some(near);
+        if names.len() <= place as usize {
+            return None;
         }
-        self.find(text)
+        Some(&names[place as usize])
     }
 
     /// Whether a text is one of the names.
@@ -82,21 +82,6 @@ impl Known {
         let len = self.len();
         match self.find(text) {
             Some(place) => place,
-            None => len,
-        }
-    }
-
-    /// The same, asked first at the place where the name is thought to be; where it is found, that is then the place behind it.
-    pub fn place_near(&self, text: &[u8], near: &mut u32) -> u32
-        ensures value { result ≡ place_of self.now text.now }
-        ensures within { result ≤ most_streams }
-    {
-        let len = self.len();
-        match self.find_near(text, *near) {
-            Some(place) => {
-                *near = place.wrapping_add(1);
-                place
-            }
             None => len,
         }
     }

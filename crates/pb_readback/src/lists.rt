@@ -1,11 +1,11 @@
 // The lists of a stream's row: the side of a cut, and the parts of a certificate.
 
-ghost use Rattle.std.specs.Prelude.{◌≡◌, map, [], IfOk};
+ghost use Rattle.std.specs.Prelude.{◌≡◌, map, [], IfOk, IfNone, IfSome};
 ghost use Rattle.std.specs.List.{list_all, list_any};
-ghost use Rattle.pb_readback.specs.Held.{AreKnown};
+ghost use Rattle.pb_readback.specs.Held.{AreKnown, IsNextPart};
 ghost use Rattle.pb_readback.specs.Lists.{is_part, is_plus, is_side, is_unknown_item, items, member_of, side_of, step_of};
 
-use crate::items::{Items, is_name, is_part, name_in};
+use crate::items::{Items, is_name, is_plus, name_in};
 use crate::known::Known;
 use pb_graph::{List, Member, Step};
 use std::alloc::{AllocError, Global};
@@ -50,12 +50,8 @@ pub(crate) fn are_parts(text: &[u8]) -> bool
     ensures { result ≡ list_all is_part (items text.now) }
 {
     let mut items = Items::of(text);
-    while let Some(item) = items.next() {
-        if !is_part(item) {
-            return false;
-        }
-    }
-    true
+    while items.next_part().is_some() {}
+    items.next().is_none()
 }
 
 // For each node whether it is among the items.
@@ -93,19 +89,14 @@ pub(crate) fn members_of(
     let mut members = List::new(alloc);
     let mut near = 0;
     let mut items = Items::of(text);
-    while let Some(item) = items.next() {
-        members.push(member_of(streams, item, &mut near))?;
+    while let Some(part) = next_part(streams, &mut items, near) {
+        near = part.stream.wrapping_add(1);
+        members.push(Member {
+            stream: part.stream,
+            sign: if part.is_plus { 1 } else { -1 },
+        })?;
     }
     Ok(members)
-}
-
-fn member_of(streams: &Known, item: &[u8], near: &mut u32) -> Member
-    ensures { result ≡ member_of streams.now item.now }
-{
-    Member {
-        stream: streams.place_near(name_in(item), near),
-        sign: if is_plus(item) { 1 } else { -1 },
-    }
 }
 
 // The parts as the steps of a cycle.
@@ -119,27 +110,40 @@ pub(crate) fn steps_of(
     let mut steps = List::new(alloc);
     let mut near = 0;
     let mut items = Items::of(text);
-    while let Some(item) = items.next() {
-        steps.push(step_of(streams, item, &mut near))?;
+    while let Some(part) = next_part(streams, &mut items, near) {
+        near = part.stream.wrapping_add(1);
+        steps.push(Step {
+            stream: part.stream,
+            forward: part.is_plus,
+        })?;
     }
     Ok(steps)
 }
 
-fn step_of(streams: &Known, item: &[u8], near: &mut u32) -> Step
-    ensures { result ≡ step_of streams.now item.now }
-{
-    Step {
-        stream: streams.place_near(name_in(item), near),
-        forward: is_plus(item),
-    }
+/// A part with its stream looked up: the place of its name, which is the number of streams where it is none of theirs.
+#[derive(Clone, Copy)]
+struct Part {
+    stream: u32,
+    is_plus: bool,
 }
 
-// Whether a part begins with `+`.
-fn is_plus(item: &[u8]) -> bool
-    ensures { result ≡ is_plus item.now }
+// Takes the next item as a part. Its name is asked for first at the place where it is thought to be.
+fn next_part(streams: &Known, items: &mut Items, near: u32) -> Option<Part>
+    ensures none { IfNone result (items.old ≡ []) }
+    ensures some { IfSome result
+        (λ part. IsNextPart streams.now items.old items.new part.stream part.is_plus) }
 {
-    match item {
-        [sign, ..] => *sign == b'+',
-        [] => false,
+    if let Some(name) = streams.name_at(near) {
+        if let Some(is_plus) = items.next_named(name.bytes()) {
+            return Some(Part {
+                stream: near,
+                is_plus,
+            });
+        }
     }
+    let item = items.next()?;
+    Some(Part {
+        stream: streams.place(name_in(item)),
+        is_plus: is_plus(item),
+    })
 }

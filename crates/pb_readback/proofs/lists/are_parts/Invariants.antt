@@ -3,8 +3,8 @@ use Rattle.std.specs.List.{list_all}
 use Rattle.pb_readback.specs.Lists.{is_part, items}
 use Rattle.pb_readback.proofs.lists.are_parts.Given as goal
 
-abbrev pub invariant-loop-item : goal.invariant-loop-item
-invariant-loop-item l = list_all is_part (items l.text) ≡ list_all is_part l.items
+abbrev pub invariant-loop : goal.invariant-loop
+invariant-loop l = list_all is_part (items l.text) ≡ list_all is_part l.items
 
-abbrev pub decreases-loop-item : goal.decreases-loop-item
-decreases-loop-item l = length l.items
+abbrev pub decreases-loop : goal.decreases-loop
+decreases-loop l = length l.items

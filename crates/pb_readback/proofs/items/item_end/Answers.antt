@@ -4,7 +4,7 @@ use Rattle.std.proofs.lemmas.Iterator.{YieldsList-from_slice}
 use Rattle.std.proofs.lemmas.Iterator.Search.{position_from_yields_List}
 use Rattle.pb_readback.specs.Lists.{space}
 use Rattle.pb_readback.proofs.ItemLemmas.{place_found, place_of_none}
-use Rattle.pb_readback.proofs.items.end_of_item.Goals as goal
+use Rattle.pb_readback.proofs.items.item_end.Goals as goal
 
 pub returns-in-Some : goal.returns-in-Some
 returns-in-Some c =
