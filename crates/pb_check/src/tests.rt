@@ -119,14 +119,14 @@ fn changed(mut stream: StreamResult, change: Change) -> StreamResult {
 fn with_change(
     alloc: Global,
     stage: Stage,
-    stream: usize,
+    stream: u32,
     change: Change,
 ) -> Result<Stage, AllocError> {
     let mut streams = Vec::new(alloc);
     let mut change = Some(change);
     for (j, printed) in stage.streams.into_vec().into_iter().enumerate() {
         match change.take() {
-            Some(one) if j == stream => streams.push(changed(printed, one))?,
+            Some(one) if j == stream as usize => streams.push(changed(printed, one))?,
             other => {
                 change = other;
                 streams.push(printed)?;
@@ -139,15 +139,30 @@ fn with_change(
     })
 }
 
-/// The stage with other least bounds of one stream.
-fn with_least(
+/// The stage fails a test at a stream of which one thing is changed, and no numbers are told.
+fn assert_fails_with(
+    rt: &impl Abort,
     alloc: Global,
     stage: Stage,
-    stream: usize,
+    stream: u32,
+    change: Change,
+    test: Test,
+) -> Result<(), AllocError> {
+    let stage = with_change(alloc, stage, stream, change)?;
+    assert_fault(rt, alloc, &stage, test, Place::Stream(stream), 0, 0);
+    Ok(())
+}
+
+/// Two meters, with other least bounds of one of them.
+fn with_least(
+    rt: &impl Abort,
+    alloc: Global,
+    stream: u32,
     lo: i128,
     hi: i128,
 ) -> Result<Stage, AllocError> {
-    with_change(alloc, stage, stream, Change::Least(Some(Bounds { lo, hi })))
+    let least = Change::Least(Some(Bounds { lo, hi }));
+    with_change(alloc, two_meters(rt, alloc)?, stream, least)
 }
 
 #[test]
@@ -231,35 +246,35 @@ fn fails_at_prices(rt: HostRuntime) -> Result<(), AllocError> {
 }
 
 #[test]
-fn fails_at_classes(rt: HostRuntime) -> Result<(), AllocError> {
+fn fails_at_a_class_of_the_other_kind(rt: HostRuntime) -> Result<(), AllocError> {
     let alloc = rt.alloc();
-    // a measured stream with the class of an unmeasured one, and the reverse
-    let stage = two_ways_out(&rt, alloc)?;
-    let stage = with_change(alloc, stage, 0, Change::Class(Class::Observable))?;
-    assert_fault(&rt, alloc, &stage, Test::Class, Place::Stream(0), 0, 0);
-    let stage = two_ways_out(&rt, alloc)?;
-    let stage = with_change(alloc, stage, 2, Change::Class(Class::Redundant))?;
-    assert_fault(&rt, alloc, &stage, Test::Class, Place::Stream(2), 0, 0);
-    // an unobservable stream with bounds, and another without
-    let bounds = Bounds { lo: 0, hi: 0 };
-    let stage = two_ways_out(&rt, alloc)?;
-    let stage = with_change(alloc, stage, 1, Change::Bounds(Some(bounds)))?;
-    assert_fault(&rt, alloc, &stage, Test::Class, Place::Stream(1), 0, 0);
-    let stage = two_ways_out(&rt, alloc)?;
-    let stage = with_change(alloc, stage, 0, Change::Bounds(None))?;
-    assert_fault(&rt, alloc, &stage, Test::Class, Place::Stream(0), 0, 0);
-    // a stream with least bounds and no bounds, and one with bounds alone where another has least bounds
-    let stage = with_least(alloc, two_ways_out(&rt, alloc)?, 1, 0, 0)?;
-    assert_fault(&rt, alloc, &stage, Test::Class, Place::Stream(1), 0, 0);
-    let stage = with_change(alloc, two_meters(&rt, alloc)?, 0, Change::Least(None))?;
-    assert_fault(&rt, alloc, &stage, Test::Class, Place::Stream(0), 0, 0);
-    Ok(())
+    let class = Change::Class(Class::Observable);
+    assert_fails_with(&rt, alloc, two_ways_out(&rt, alloc)?, 0, class, Test::Class)?;
+    let class = Change::Class(Class::Redundant);
+    assert_fails_with(&rt, alloc, two_ways_out(&rt, alloc)?, 2, class, Test::Class)
 }
 
 #[test]
-fn fails_at_witnesses(rt: HostRuntime) -> Result<(), AllocError> {
+fn fails_at_bounds_that_a_class_does_not_have(rt: HostRuntime) -> Result<(), AllocError> {
     let alloc = rt.alloc();
-    // a cut without one of its members
+    let some = Change::Bounds(Some(Bounds { lo: 0, hi: 0 }));
+    assert_fails_with(&rt, alloc, two_ways_out(&rt, alloc)?, 1, some, Test::Class)?;
+    let none = Change::Bounds(None);
+    assert_fails_with(&rt, alloc, two_ways_out(&rt, alloc)?, 0, none, Test::Class)
+}
+
+#[test]
+fn fails_at_least_bounds_without_bounds_and_the_reverse(rt: HostRuntime) -> Result<(), AllocError> {
+    let alloc = rt.alloc();
+    let some = Change::Least(Some(Bounds { lo: 0, hi: 0 }));
+    assert_fails_with(&rt, alloc, two_ways_out(&rt, alloc)?, 1, some, Test::Class)?;
+    let none = Change::Least(None);
+    assert_fails_with(&rt, alloc, two_meters(&rt, alloc)?, 0, none, Test::Class)
+}
+
+#[test]
+fn fails_at_a_cut_without_a_member(rt: HostRuntime) -> Result<(), AllocError> {
+    let alloc = rt.alloc();
     let mut side = List::new(alloc);
     side.push(true)?;
     side.push(false)?;
@@ -269,9 +284,12 @@ fn fails_at_witnesses(rt: HostRuntime) -> Result<(), AllocError> {
         sign: -1,
     })?;
     let cut = Change::Witness(Witness::Cut { side, members });
-    let stage = with_change(alloc, two_meters(&rt, alloc)?, 0, cut)?;
-    assert_fault(&rt, alloc, &stage, Test::Witness, Place::Stream(0), 0, 0);
-    // a cycle with a step turned
+    assert_fails_with(&rt, alloc, two_meters(&rt, alloc)?, 0, cut, Test::Witness)
+}
+
+#[test]
+fn fails_at_a_cycle_with_a_step_turned(rt: HostRuntime) -> Result<(), AllocError> {
+    let alloc = rt.alloc();
     let mut steps = List::new(alloc);
     for stream in 1..3 {
         steps.push(Step {
@@ -280,38 +298,34 @@ fn fails_at_witnesses(rt: HostRuntime) -> Result<(), AllocError> {
         })?;
     }
     let cycle = Change::Witness(Witness::Cycle { steps });
-    let stage = with_change(alloc, two_ways_out(&rt, alloc)?, 1, cycle)?;
-    assert_fault(&rt, alloc, &stage, Test::Witness, Place::Stream(1), 0, 0);
-    Ok(())
+    assert_fails_with(
+        &rt,
+        alloc,
+        two_ways_out(&rt, alloc)?,
+        1,
+        cycle,
+        Test::Witness,
+    )
 }
 
 #[test]
 fn fails_at_least_bounds(rt: HostRuntime) -> Result<(), AllocError> {
     let alloc = rt.alloc();
     // the upper one of B is too low
-    let stage = with_least(alloc, two_meters(&rt, alloc)?, 1, 100_999_999, 101_000_001)?;
-    assert_fault(
-        &rt,
-        alloc,
-        &stage,
-        Test::Least,
-        Place::Stream(1),
-        101_000_001,
-        101_000_002,
-    );
+    let stage = with_least(&rt, alloc, 1, 100_999_999, 101_000_001)?;
+    let (test, place) = (Test::Least, Place::Stream(1));
+    assert_fault(&rt, alloc, &stage, test, place, 101_000_001, 101_000_002);
     // those of A are its bounds: both are wrong, and the lower one is told
-    let stage = with_least(alloc, stage, 0, 100_999_997, 101_000_002)?;
-    assert_fault(
-        &rt,
-        alloc,
-        &stage,
-        Test::Least,
-        Place::Stream(0),
-        100_999_997,
-        100_999_998,
-    );
-    // a verdict that doesn't follow is told before
-    let mut stage = stage;
+    let stage = with_least(&rt, alloc, 0, 100_999_997, 101_000_002)?;
+    let (test, place) = (Test::Least, Place::Stream(0));
+    assert_fault(&rt, alloc, &stage, test, place, 100_999_997, 100_999_998);
+    Ok(())
+}
+
+#[test]
+fn tells_a_verdict_before_least_bounds(rt: HostRuntime) -> Result<(), AllocError> {
+    let alloc = rt.alloc();
+    let mut stage = with_least(&rt, alloc, 1, 0, 0)?;
     let Some(tests) = &mut stage.tests else {
         panic!(rt; "no tests");
     };
