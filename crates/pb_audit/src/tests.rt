@@ -48,32 +48,43 @@ fn tells_the_number_of_a_record(rt: HostRuntime) -> Result<(), AllocError> {
     Ok(())
 }
 
-// Two meters that disagree, in d1 with an upper least bound of B that is too low, and in d2 without least bounds.
-const TWO_METERS: &[u8] = b"report,d1,0,2,2,10,5000
+// Two meters that disagree, with an upper least bound of B that is too low.
+const NARROW: &[u8] = b"report,d1,0,2,2,10,5000
 node,env,0
 node,U,-72057594038
 stream,A,env,U,102000000,1000000000000,redundant,101000000,100999997,101000002,100999998,101000001,cut,env,-A +B
 stream,B,U,env,100000000,1000000000000,redundant,101000000,100999998,101000003,100999999,101000001,cut,U,+A -B
 solved,1,converged,2,0,1,1999,2000
 end,d1,0
-report,d2,7,2,2,10,5000
+";
+
+// The same meters without least bounds.
+const WITHOUT_LEAST: &[u8] = b"report,d1,7,2,2,10,5000
 node,env,0
 node,U,-72057594038
 stream,A,env,U,102000000,1000000000000,redundant,101000000,100999997,101000002,cut,env,-A +B
 stream,B,U,env,100000000,1000000000000,redundant,101000000,100999998,101000003,cut,U,+A -B
 solved,1,converged,2,0,1,1999,2000
-end,d2,7
+end,d1,7
 ";
 
 #[test]
-fn judges_least_bounds_where_there_are_some(rt: HostRuntime) -> Result<(), AllocError> {
-    let mut records = Records::of(rt.alloc(), TWO_METERS);
-    let mut rows = Vec::new(rt.alloc());
-    let first = judge_next(rt.alloc(), &mut records, &mut rows)?;
-    assert_eq!(rt; first, Some(Judged::Failed));
-    let second = judge_next(rt.alloc(), &mut records, &mut rows)?;
-    assert_eq!(rt; second, Some(Judged::Passed));
-    let text = b"no,d1,0,13,least,B,101000001,101000002\nyes,d2,7\n";
-    assert_eq!(rt; rows.as_slice(), text.as_slice());
+fn says_no_to_a_narrow_least_bound(rt: HostRuntime) -> Result<(), AllocError> {
+    let mut records = Records::of(rt.alloc(), NARROW);
+    let mut row = Vec::new(rt.alloc());
+    let judged = judge_next(rt.alloc(), &mut records, &mut row)?;
+    assert_eq!(rt; judged, Some(Judged::Failed));
+    let text = b"no,d1,0,13,least,B,101000001,101000002\n";
+    assert_eq!(rt; row.as_slice(), text.as_slice());
+    Ok(())
+}
+
+#[test]
+fn says_yes_to_a_report_without_least_bounds(rt: HostRuntime) -> Result<(), AllocError> {
+    let mut records = Records::of(rt.alloc(), WITHOUT_LEAST);
+    let mut row = Vec::new(rt.alloc());
+    let judged = judge_next(rt.alloc(), &mut records, &mut row)?;
+    assert_eq!(rt; judged, Some(Judged::Passed));
+    assert_eq!(rt; row.as_slice(), b"yes,d1,7\n".as_slice());
     Ok(())
 }
