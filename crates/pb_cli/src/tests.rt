@@ -420,17 +420,22 @@ fn reports_a_contradiction(rt: HostRuntime) -> Result<(), AllocError> {
     Ok(())
 }
 
-/// One byte more than the limit is too large.
+/// As many line feeds as the limit give nothing; one byte more is too large.
 #[test]
 fn refuses_one_byte_too_many(rt: HostRuntime) -> Result<(), AllocError> {
     let ends = Ends {
         take: 1 << 20,
         ..PLAIN
     };
-    let input = vec![in rt.alloc(); b'\n'; MOST_BYTES + 1]?;
-    let (ended, written) = outcome(rt.alloc(), ends, input)?;
-    assert_eq!(rt; ended, Status::TooLarge);
-    assert!(rt; written.is_empty());
+    for (count, status) in [
+        (MOST_BYTES, Status::Done),
+        (MOST_BYTES + 1, Status::TooLarge),
+    ] {
+        let input = vec![in rt.alloc(); b'\n'; count]?;
+        let (ended, written) = outcome(rt.alloc(), ends, input)?;
+        assert_eq!(rt; ended, status, "at {count}");
+        assert!(rt; written.is_empty(), "at {count}");
+    }
     Ok(())
 }
 
