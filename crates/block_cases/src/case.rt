@@ -1,0 +1,201 @@
+// A case: a report, and the lines that ask for its faults.
+
+use crate::checked::append_checked;
+use pb_rows::{Row, Rows, read_whole};
+use std::alloc::{AllocError, Global};
+
+/// A report, as the records of the lines so far.
+#[derive(Drop)]
+pub struct Case {
+    alloc: Global,
+    records: Rows,
+}
+
+/// The first word of a line: one that begins a case, one that asks for a fault, or that of a record.
+#[derive(Clone, Copy)]
+enum Word {
+    Case,
+    Whole,
+    Field,
+    Put,
+    Add,
+    Drop,
+    Swap,
+    Cut,
+    Record,
+}
+
+impl Case {
+    /// A report without records.
+    pub fn new(alloc: Global) -> Case {
+        Case {
+            alloc,
+            records: Rows::new(alloc),
+        }
+    }
+
+    /// Appends what is told of a line, and the line. `case,..` begins a case. These lines tell what a check says of a report:
+    /// `whole` of the report so far; `field,N,K,TEXT` of that with TEXT in place of field K of record N, both counted from 1;
+    /// `put,N,RECORD` with another record in place of record N; `add,N,RECORD` with one before record N; `drop,N` without record N;
+    /// `swap,N` with record N behind the one after it; `cut,N` of its first N records. Any other line is a record of the report.
+    pub fn line(&mut self, line: &[u8], text: &mut Vec<u8>) -> Result<(), AllocError> {
+        let row = fields_of(self.alloc, line)?;
+        self.row(row, text)?;
+        text.extend_from_slice(line)?;
+        text.push(b'\n')?;
+        Ok(())
+    }
+
+    // Begins a case, appends what is told of a report with a fault, or takes a record.
+    fn row(&mut self, row: Row, text: &mut Vec<u8>) -> Result<(), AllocError> {
+        match word_of(field(&row, 0)) {
+            Word::Case => self.begin(),
+            Word::Record => self.records.push(row),
+            word => {
+                append_checked(self.alloc, self.with_fault(word, &row)?, text)?;
+                text.extend_from_slice(b": ")
+            }
+        }
+    }
+
+    fn begin(&mut self) -> Result<(), AllocError> {
+        self.records = Rows::new(self.alloc);
+        Ok(())
+    }
+
+    // The bytes of the report with the fault that a row asks for.
+    fn with_fault(&self, word: Word, row: &Row) -> Result<Vec<u8>, AllocError> {
+        let record = number(field(row, 1));
+        let mut between = Vec::new(self.alloc);
+        match word {
+            Word::Field => self.append_changed(before(record), row, &mut between)?,
+            Word::Put | Word::Add => append_fields(row, 2, &mut between)?,
+            Word::Swap => {
+                self.append_record(record, &mut between)?;
+                self.append_record(before(record), &mut between)?;
+            }
+            _ => {}
+        }
+        match word {
+            Word::Whole => self.around(self.records.len(), 0, &between),
+            Word::Add => self.around(before(record), 0, &between),
+            Word::Swap => self.around(before(record), 2, &between),
+            Word::Cut => self.around(record, self.records.len(), &between),
+            _ => self.around(before(record), 1, &between),
+        }
+    }
+
+    // The report without the records from a place on, as many as are left out, and with other bytes there.
+    fn around(&self, place: usize, left_out: usize, between: &[u8]) -> Result<Vec<u8>, AllocError> {
+        let mut report = Vec::new(self.alloc);
+        for i in 0..self.records.len() {
+            if i == place {
+                report.extend_from_slice(between)?;
+            }
+            if i < place || i - place >= left_out {
+                append_fields(self.records.at(i), 0, &mut report)?;
+            }
+        }
+        if place >= self.records.len() {
+            report.extend_from_slice(between)?;
+        }
+        Ok(report)
+    }
+
+    // Appends the record at a place, and nothing where there is none.
+    fn append_record(&self, place: usize, bytes: &mut Vec<u8>) -> Result<(), AllocError> {
+        if place < self.records.len() {
+            append_fields(self.records.at(place), 0, bytes)?;
+        }
+        Ok(())
+    }
+
+    // Appends the record at a place, with the field that a row names changed as it says.
+    fn append_changed(
+        &self,
+        place: usize,
+        row: &Row,
+        bytes: &mut Vec<u8>,
+    ) -> Result<(), AllocError> {
+        if place < self.records.len() {
+            let mut changed = Row::new(self.alloc);
+            let whole = self.records.at(place);
+            for i in 0..whole.len() {
+                if i + 1 == number(field(row, 2)) {
+                    for k in 3..row.len() {
+                        changed.push(row.field(k))?;
+                    }
+                } else {
+                    changed.push(whole.field(i))?;
+                }
+            }
+            append_fields(&changed, 0, bytes)?;
+        }
+        Ok(())
+    }
+}
+
+// The place of a record by its number.
+fn before(record: usize) -> usize {
+    if record > 0 { record - 1 } else { 0 }
+}
+
+// The number that a field writes, and 0 where it writes none of a record or a field.
+fn number(field: &[u8]) -> usize {
+    match read_whole(field, 0, 99_999) {
+        Some(number) => usize::try_from(number).unwrap_or(0),
+        None => 0,
+    }
+}
+
+// Appends the fields of a row from a place on as a record.
+fn append_fields(row: &Row, from: usize, bytes: &mut Vec<u8>) -> Result<(), AllocError> {
+    for i in from..row.len() {
+        if i > from {
+            bytes.push(b',')?;
+        }
+        bytes.extend_from_slice(row.field(i))?;
+    }
+    bytes.push(b'\n')?;
+    Ok(())
+}
+
+// The fields of a line, between commas.
+fn fields_of(alloc: Global, line: &[u8]) -> Result<Row, AllocError> {
+    let mut row = Row::new(alloc);
+    for field in line.split(|byte| *byte == b',') {
+        row.push(field)?;
+    }
+    Ok(row)
+}
+
+// The field at a place, or an empty one.
+fn field(row: &Row, i: usize) -> &[u8] {
+    if i < row.len() { row.field(i) } else { b"" }
+}
+
+fn word_of(field: &[u8]) -> Word {
+    if is(field, b"case") {
+        Word::Case
+    } else if is(field, b"whole") {
+        Word::Whole
+    } else if is(field, b"field") {
+        Word::Field
+    } else if is(field, b"put") {
+        Word::Put
+    } else if is(field, b"add") {
+        Word::Add
+    } else if is(field, b"drop") {
+        Word::Drop
+    } else if is(field, b"swap") {
+        Word::Swap
+    } else if is(field, b"cut") {
+        Word::Cut
+    } else {
+        Word::Record
+    }
+}
+
+fn is(field: &[u8], word: &[u8]) -> bool {
+    field == word
+}

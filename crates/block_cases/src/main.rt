@@ -1,0 +1,23 @@
+//! What a check says of reports with a fault: each line again, with the name of the run's status and the rows that it wrote in front.
+//!
+//! The reports and their faults stand in `stdin`, and what is to be said of each, worked by another program, in `stdout`.
+#![tactic(auto)]
+
+mod case;
+mod checked;
+
+use case::Case;
+use pb_io::{StdSink, write_all};
+use std::io;
+
+fn main(rt: HostRuntime) -> io::Result<()> {
+    let mut case = Case::new(rt.alloc());
+    let mut text = Vec::new(rt.alloc());
+    for line in rt.lines(rt.alloc()) {
+        case.line(line?.as_str().as_bytes(), &mut text)?;
+    }
+    match write_all(&mut StdSink::new(rt.stdout()), &text) {
+        Ok(()) => Ok(()),
+        Err(_) => Err(io::Error::from(io::ErrorKind::Other)),
+    }
+}
