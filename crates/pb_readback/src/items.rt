@@ -208,7 +208,10 @@ fn is_sign(byte: u8) -> bool
 fn is_name_byte(byte: u8) -> bool
     ensures { result ≡ is_name_byte byte }
 {
-    byte.is_ascii_alphanumeric() || byte == b'_' || byte == b'-' || byte == b'.'
+    match byte {
+        b'0'..=b'9' | b'a'..=b'z' | b'A'..=b'Z' => true,
+        _ => byte == b'_' || byte == b'-' || byte == b'.',
+    }
 }
 
 // Whether an item begins with `+`.
