@@ -33,7 +33,7 @@ repeats id a b first second =
     rw same refl
 
 -- at most one live fact has an id
-only_live : (id : List ℕ) (kept : List KeptFact) (i k : ℕ) (d : KeptFact) → NoRepeats kept → i < length kept → is_live_with id (get_or kept i d) ≡ true → k < length kept
+pub only_live : (id : List ℕ) (kept : List KeptFact) (i k : ℕ) (d : KeptFact) → NoRepeats kept → i < length kept → is_live_with id (get_or kept i d) ≡ true → k < length kept
     → is_live_with id (get_or kept k d) ≡ true → k ≡ i
 only_live id kept i k d apart within is lt also = elim (cases_lt i k) [
   | inl before ↦ cc (sym (apart i k d before lt) ∙ repeats id (get_or kept i d) (get_or kept k d) is also)

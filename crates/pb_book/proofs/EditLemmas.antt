@@ -64,7 +64,7 @@ abbrev stored_at : ℕ → Option BookRow → Option StoredRow
 stored_at at o = option_map (λ (row : BookRow). let s : StoredRow = record { at = at; row = row } in s) o
 
 -- an edit stands on the shelves of the edits
-edit_shelved : (declared : List Declared) (told : List Fact) (spans : List Period) (edited : List Edited) (place : Place) (stored : StoredRow)
+edit_shelved : (declared : List Declared) (told : ℕ → Option Fact) (spans : List Period) (edited : List Edited) (place : Place) (stored : StoredRow)
     → row_at (shelves_of declared told spans edited) place ≡ Some stored → is_edit stored.row ≡ true
     → row_at (edits_shelved told edited) place ≡ Some stored
 edit_shelved declared told spans edited place stored is edit = by place.part is
@@ -83,7 +83,7 @@ edit_shelved declared told spans edited place stored is edit = by place.part is
     by (InEdits i) at = at
 
 -- the edit at a place of a book
-pub edit_row : (declared : List Declared) (told : List Fact) (spans : List Period) (edited : List Edited) (kept : List KeptFact) (places edits : List Place) (i : ℕ) (place : Place)
+pub edit_row : (declared : List Declared) (told : ℕ → Option Fact) (spans : List Period) (edited : List Edited) (kept : List KeptFact) (places edits : List Place) (i : ℕ) (place : Place)
     → IsKept (shelves_of declared told spans edited) kept places edits → slice_get edits i ≡ Some place
     → slice_get (edits_of (rows_at (shelves_of declared told spans edited) places)) i ≡ row_at (edits_shelved told edited) place
 edit_row declared told spans edited kept places edits i place right is = by (row_at shelves place) refl

@@ -2,7 +2,7 @@
 use Rattle.std.specs.Prelude.{if◌then◌else◌, IsSome, map}
 use Rattle.std.specs.List.{cons_option}
 use Rattle.std.specs.Option.{option_map}
-use Rattle.std.proofs.Common.{◌≡◌, ◌∙◌, ℕ, suc, ℤ, ◌<◌, refl, true, List, [], ◌∷◌, ◌++◌, length, slice_get, Option, Some, None, sym, ap, ap₂, subst, arith, inl, inr, length-append}
+use Rattle.std.proofs.Common.{◌≡◌, ◌∙◌, ℕ, suc, ℤ, ◌<◌, ◌≤◌, refl, true, List, [], ◌∷◌, ◌++◌, length, slice_get, Option, Some, None, sym, ap, ap₂, subst, arith, inl, inr, length-append}
 use Rattle.std.proofs.lemmas.Bool.{cases_Bool}
 use Rattle.std.proofs.lemmas.List.{append-nil}
 use Rattle.std.proofs.lemmas.List.Elements.{All-push, filter-append, filter_map-append}
@@ -27,6 +27,7 @@ use Rattle.pb_book.specs.Edits.{edits_of, is_edit}
 use Rattle.pb_book.specs.Kept.{AreOf, ArePlaced, IsKept, Shelves, edited_row, row_at, row_in, rows_at, shelves_of}
 use Rattle.pb_book.specs.Rows.{StoredRow, closed_if_named, declaration_in, declared_of, facts_after, facts_of, live, open_period, periods_after, periods_of}
 use Rattle.pb_book.proofs.AcceptedLemmas.{accepted_more}
+use Rattle.pb_book.proofs.OriginalLemmas.{Joins, TellsAll, tells_as, tells_itself, tells_same}
 
 -- ---- the parts of the rows, with one row more
 
@@ -111,15 +112,15 @@ closed_spans name periods = record {
 pub record Grows (shelves more : Shelves) : Type 0 where
   pub grown : (part : Part) (row : BookRow) → row_in shelves part ≡ Some row → row_in more part ≡ Some row
 
-grows_by : (d ds : List Declared) (t ts : List Fact) (p ps : List Period) (e es : List Edited) → Extends d ds → Extends t ts → StayAs span_row p ps → Extends e es
+grows_by : (d ds : List Declared) (t ts : ℕ → Option Fact) (p ps : List Period) (e es : List Edited) → Extends d ds → TellsAll t ts → StayAs span_row p ps → Extends e es
     → Grows (shelves_of d t p e) (shelves_of ds ts ps es)
 grows_by d ds t ts p ps e es declared told spans edited = record { grown = by }
   where
     by : (part : Part) (row : BookRow) → row_in (shelves_of d t p e) part ≡ Some row → row_in (shelves_of ds ts ps es) part ≡ Some row
     by (InDeclarations i) row is = (stay_as (λ (x : Declared). Declaration x) d ds declared).kept i row is
     by (InPeriods i) row is = spans.kept i row is
-    by (InFacts i) row is = (stay_as (λ (x : Fact). FactRow x) t ts told).kept i row is
-    by (InLate i) row is = (stay_as (λ (x : Fact). LateRow x) t ts told).kept i row is
+    by (InFacts i) row is = tells_as (λ (x : Fact). FactRow x) t ts told i row is
+    by (InLate i) row is = tells_as (λ (x : Fact). LateRow x) t ts told i row is
     by (InEdits i) row is = (stay_as edited_row e es edited).kept i row is
 
 -- a row with the number of its record
@@ -195,7 +196,7 @@ edits_more shelves more edits place stored rows grows placed are is = elim (case
 
 kept_more : (shelves more : Shelves) (kept ks : List KeptFact) (places edits : List Place) (place : Place) (stored : StoredRow) → IsKept shelves kept places edits
     → Grows shelves more → row_at more place ≡ Some stored → IsAcceptable (rows_at shelves places) stored.row
-    → AreOf (rows_at shelves places ++ stored ∷ []) more.declared ks more.spans → length more.told ≡ length ks
+    → AreOf (rows_at shelves places ++ stored ∷ []) more.declared ks more.spans → ((i : ℕ) → length ks ≤ i → more.told i ≡ None)
     → IsKeptAfter shelves more ks places (edits_after stored.row edits place) place stored
 kept_more shelves more kept ks places edits place stored right grows is fine parts told =
     let rows = rows_more shelves more places place stored grows right.placed is in
@@ -215,7 +216,7 @@ last_item : {X : Type 0} (xs : List X) (x : X) → slice_get (xs ++ x ∷ []) (l
 last_item xs x = slice_get-get_or (xs ++ x ∷ []) (length xs) x (omega (arith, length-append xs (x ∷ []))) ∙ ap Some (get_or-append_seam xs x [] x)
 
 -- one more declaration
-pub kept_declaration : (declared : List Declared) (told : List Fact) (spans : List Period) (edited : List Edited) (kept : List KeptFact) (places edits : List Place) (at i : ℕ) (row : Declared)
+pub kept_declaration : (declared : List Declared) (told : ℕ → Option Fact) (spans : List Period) (edited : List Edited) (kept : List KeptFact) (places edits : List Place) (at i : ℕ) (row : Declared)
     → IsKept (shelves_of declared told spans edited) kept places edits → IsAcceptable (rows_at (shelves_of declared told spans edited) places) (Declaration row) → i ≡ length declared
     → IsKeptAfter (shelves_of declared told spans edited) (shelves_of (declared ++ row ∷ []) told spans edited) kept places edits
     (record { at = at; part = InDeclarations i }) (record { at = at; row = Declaration row })
@@ -223,14 +224,14 @@ kept_declaration declared told spans edited kept places edits at i row right fin
     let before = shelves_of declared told spans edited in
     kept_more before (shelves_of (declared ++ row ∷ []) told spans edited) kept kept places edits (record { at = at; part = InDeclarations i })
     (record { at = at; row = Declaration row }) right
-    (grows_by declared (declared ++ row ∷ []) told told spans spans edited edited (longer declared (row ∷ [])) (itself told) (stay_as span_row spans spans (itself spans)) (itself edited))
+    (grows_by declared (declared ++ row ∷ []) told told spans spans edited edited (longer declared (row ∷ [])) (tells_itself told) (stay_as span_row spans spans (itself spans)) (itself edited))
     (rw (last, last_item declared row) refl)
     fine
     (of_declaration (rows_at before places) declared kept spans at row right.parts)
     right.told
 
 -- one more period
-pub kept_period : (declared : List Declared) (told : List Fact) (spans : List Period) (edited : List Edited) (kept : List KeptFact) (places edits : List Place) (at i : ℕ) (name : List ℕ) (first last : ℤ)
+pub kept_period : (declared : List Declared) (told : ℕ → Option Fact) (spans : List Period) (edited : List Edited) (kept : List KeptFact) (places edits : List Place) (at i : ℕ) (name : List ℕ) (first last : ℤ)
     → IsKept (shelves_of declared told spans edited) kept places edits → IsAcceptable (rows_at (shelves_of declared told spans edited) places) (PeriodRow name first last) → i ≡ length spans
     → IsKeptAfter (shelves_of declared told spans edited) (shelves_of declared told (spans ++ open_period name first last ∷ []) edited) kept places edits
     (record { at = at; part = InPeriods i }) (record { at = at; row = PeriodRow name first last })
@@ -239,46 +240,41 @@ kept_period declared told spans edited kept places edits at i name first last ri
     let period = open_period name first last in
     kept_more before (shelves_of declared told (spans ++ period ∷ []) edited) kept kept places edits (record { at = at; part = InPeriods i })
     (record { at = at; row = PeriodRow name first last }) right
-    (grows_by declared declared told told spans (spans ++ period ∷ []) edited edited (itself declared) (itself told) (stay_as span_row spans (spans ++ period ∷ []) (longer spans (period ∷ []))) (itself edited))
+    (grows_by declared declared told told spans (spans ++ period ∷ []) edited edited (itself declared) (tells_itself told) (stay_as span_row spans (spans ++ period ∷ []) (longer spans (period ∷ []))) (itself edited))
     (rw (behind, last_item spans period) refl)
     fine
     (of_row (rows_at before places) declared kept spans at (PeriodRow name first last) refl right.parts)
     right.told
 
-more_told : (told : List Fact) (fact : Fact) (kept : List KeptFact) → length told ≡ length kept → length (told ++ fact ∷ []) ≡ length (kept ++ live fact ∷ [])
-more_told told fact kept same = omega (arith, same, length-append told (fact ∷ []), length-append kept (live fact ∷ []))
-
 -- one more fact
-pub kept_fact : (declared : List Declared) (told : List Fact) (spans : List Period) (edited : List Edited) (kept : List KeptFact) (places edits : List Place) (at i : ℕ) (fact : Fact)
-    → IsKept (shelves_of declared told spans edited) kept places edits → IsAcceptable (rows_at (shelves_of declared told spans edited) places) (FactRow fact) → i ≡ length kept
-    → IsKeptAfter (shelves_of declared told spans edited) (shelves_of declared (told ++ fact ∷ []) spans edited) (kept ++ live fact ∷ []) places edits
+pub kept_fact : (declared : List Declared) (told more : ℕ → Option Fact) (spans : List Period) (edited : List Edited) (kept : List KeptFact) (places edits : List Place) (at i : ℕ) (fact : Fact)
+    → IsKept (shelves_of declared told spans edited) kept places edits → IsAcceptable (rows_at (shelves_of declared told spans edited) places) (FactRow fact) → i ≡ length kept → Joins told more kept fact
+    → IsKeptAfter (shelves_of declared told spans edited) (shelves_of declared more spans edited) (kept ++ live fact ∷ []) places edits
     (record { at = at; part = InFacts i }) (record { at = at; row = FactRow fact })
-kept_fact declared told spans edited kept places edits at i fact right fine last =
+kept_fact declared told more spans edited kept places edits at i fact right fine last joins =
     let before = shelves_of declared told spans edited in
-    let place : i ≡ length told = last ∙ sym right.told in
-    kept_more before (shelves_of declared (told ++ fact ∷ []) spans edited) kept (kept ++ live fact ∷ []) places edits (record { at = at; part = InFacts i })
+    kept_more before (shelves_of declared more spans edited) kept (kept ++ live fact ∷ []) places edits (record { at = at; part = InFacts i })
     (record { at = at; row = FactRow fact }) right
-    (grows_by declared declared told (told ++ fact ∷ []) spans spans edited edited (itself declared) (longer told (fact ∷ [])) (stay_as span_row spans spans (itself spans)) (itself edited))
-    (rw (place, last_item told fact) refl)
+    (grows_by declared declared told more spans spans edited edited (itself declared) joins.all (stay_as span_row spans spans (itself spans)) (itself edited))
+    (rw (last, joins.last) refl)
     fine
     (of_row (rows_at before places) declared kept spans at (FactRow fact) refl right.parts)
-    (more_told told fact kept right.told)
+    joins.none
 
 -- one more late fact
-pub kept_late : (declared : List Declared) (told : List Fact) (spans : List Period) (edited : List Edited) (kept : List KeptFact) (places edits : List Place) (at i : ℕ) (fact : Fact)
-    → IsKept (shelves_of declared told spans edited) kept places edits → IsAcceptable (rows_at (shelves_of declared told spans edited) places) (LateRow fact) → i ≡ length kept
-    → IsKeptAfter (shelves_of declared told spans edited) (shelves_of declared (told ++ fact ∷ []) spans edited) (kept ++ live fact ∷ []) places
+pub kept_late : (declared : List Declared) (told more : ℕ → Option Fact) (spans : List Period) (edited : List Edited) (kept : List KeptFact) (places edits : List Place) (at i : ℕ) (fact : Fact)
+    → IsKept (shelves_of declared told spans edited) kept places edits → IsAcceptable (rows_at (shelves_of declared told spans edited) places) (LateRow fact) → i ≡ length kept → Joins told more kept fact
+    → IsKeptAfter (shelves_of declared told spans edited) (shelves_of declared more spans edited) (kept ++ live fact ∷ []) places
     (edits ++ record { at = at; part = InLate i } ∷ []) (record { at = at; part = InLate i }) (record { at = at; row = LateRow fact })
-kept_late declared told spans edited kept places edits at i fact right fine last =
+kept_late declared told more spans edited kept places edits at i fact right fine last joins =
     let before = shelves_of declared told spans edited in
-    let place : i ≡ length told = last ∙ sym right.told in
-    kept_more before (shelves_of declared (told ++ fact ∷ []) spans edited) kept (kept ++ live fact ∷ []) places edits (record { at = at; part = InLate i })
+    kept_more before (shelves_of declared more spans edited) kept (kept ++ live fact ∷ []) places edits (record { at = at; part = InLate i })
     (record { at = at; row = LateRow fact }) right
-    (grows_by declared declared told (told ++ fact ∷ []) spans spans edited edited (itself declared) (longer told (fact ∷ [])) (stay_as span_row spans spans (itself spans)) (itself edited))
-    (rw (place, last_item told fact) refl)
+    (grows_by declared declared told more spans spans edited edited (itself declared) joins.all (stay_as span_row spans spans (itself spans)) (itself edited))
+    (rw (last, joins.last) refl)
     fine
     (of_row (rows_at before places) declared kept spans at (LateRow fact) refl right.parts)
-    (more_told told fact kept right.told)
+    joins.none
 
 edits_are : (edited : Edited) → is_edit (edited_row edited) ≡ true
 edits_are (Amend id change reason) = refl
@@ -291,26 +287,51 @@ none_declared at (Strike id reason) = refl
 none_declared at (CloseEdit name) = refl
 
 -- one more edit of another kind: it changes the facts, or a period
-pub kept_edit : (declared : List Declared) (told : List Fact) (spans ps : List Period) (edited : List Edited) (kept : List KeptFact) (places edits : List Place) (at i : ℕ) (one : Edited)
+pub kept_edit : (declared : List Declared) (told tells : ℕ → Option Fact) (spans ps : List Period) (edited : List Edited) (kept : List KeptFact) (places edits : List Place) (at i : ℕ) (one : Edited)
     → IsKept (shelves_of declared told spans edited) kept places edits → IsAcceptable (rows_at (shelves_of declared told spans edited) places) (edited_row one) → i ≡ length edited
-    → ps ≡ periods_after spans (edited_row one) → StayAs span_row spans ps → length kept ≡ length (facts_after kept (edited_row one))
-    → IsKeptAfter (shelves_of declared told spans edited) (shelves_of declared told ps (edited ++ one ∷ [])) (facts_after kept (edited_row one)) places
+    → ps ≡ periods_after spans (edited_row one) → StayAs span_row spans ps → length kept ≡ length (facts_after kept (edited_row one)) → ((i : ℕ) → tells i ≡ told i)
+    → IsKeptAfter (shelves_of declared told spans edited) (shelves_of declared tells ps (edited ++ one ∷ [])) (facts_after kept (edited_row one)) places
     (edits ++ record { at = at; part = InEdits i } ∷ []) (record { at = at; part = InEdits i }) (record { at = at; row = edited_row one })
-kept_edit declared told spans ps edited kept places edits at i one right fine last is stay long =
+kept_edit declared told tells spans ps edited kept places edits at i one right fine last is stay long same =
     let before = shelves_of declared told spans edited in
     let place : Place = record { at = at; part = InEdits i } in
     let row = edited_row one in
     let stored : StoredRow = record { at = at; row = row } in
-    let more = shelves_of declared told ps (edited ++ one ∷ []) in
+    let more = shelves_of declared tells ps (edited ++ one ∷ []) in
     let there : row_at more place ≡ Some stored = rw (last, last_item edited one) refl in
     subst (λ (es : List Place). IsKeptAfter before more (facts_after kept row) places es place stored) (rw (edits_are one) refl)
     (kept_more before more kept (facts_after kept row) places edits place stored right
-    (grows_by declared declared told told spans ps edited (edited ++ one ∷ []) (itself declared) (itself told) stay (longer edited (one ∷ [])))
+    (grows_by declared declared told tells spans ps edited (edited ++ one ∷ []) (itself declared) (tells_same told tells same) stay (longer edited (one ∷ [])))
     there
     fine
     (subst (λ (spans_now : List Period). AreOf (rows_at before places ++ stored ∷ []) declared (facts_after kept row) spans_now) (sym is)
     (of_row (rows_at before places) declared kept spans at row (none_declared at one) right.parts))
-    (right.told ∙ long))
+    (λ i behind. same i ∙ right.told i (omega (arith, behind, long))))
+
+-- what is kept, where each fact is told as before
+pub record IsKeptSame (shelves more : Shelves) (kept : List KeptFact) (places edits : List Place) : Type 0 where
+  pub rows : rows_at more places ≡ rows_at shelves places
+  pub right : IsKept more kept places edits
+
+pub kept_same : (declared : List Declared) (told tells : ℕ → Option Fact) (spans : List Period) (edited : List Edited) (kept : List KeptFact) (places edits : List Place)
+    → IsKept (shelves_of declared told spans edited) kept places edits → ((i : ℕ) → tells i ≡ told i)
+    → IsKeptSame (shelves_of declared told spans edited) (shelves_of declared tells spans edited) kept places edits
+kept_same declared told tells spans edited kept places edits right same =
+    let before = shelves_of declared told spans edited in
+    let more = shelves_of declared tells spans edited in
+    let grows =
+    grows_by declared declared told tells spans spans edited edited (itself declared) (tells_same told tells same) (stay_as span_row spans spans (itself spans)) (itself edited) in
+    let rows = rows_stay before more places grows right.placed in record {
+      rows = rows;
+      right = record {
+        placed = placed_stay before more places grows right.placed;
+        parts = subst (λ (r : List StoredRow). AreOf r declared kept spans) (sym rows) right.parts;
+        accepted = subst AreAccepted (sym rows) right.accepted;
+        told = λ i behind. same i ∙ right.told i behind;
+        edited = placed_stay before more edits grows right.edited;
+        edit_rows = rows_stay before more edits grows right.edited ∙ right.edit_rows ∙ ap edits_of (sym rows);
+      };
+    }
 
 -- the periods stay, where nothing is closed
 pub same_spans : (spans : List Period) → StayAs span_row spans spans

@@ -8,6 +8,7 @@ mod KeptLemmas
 mod LiveLemmas
 mod NameLemmas
 mod NamedLemmas
+mod OriginalLemmas
 mod PeriodLemmas
 mod PlainLemmas
 mod RequestLemmas

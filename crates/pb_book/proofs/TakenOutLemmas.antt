@@ -65,7 +65,7 @@ part_row f all kept period at (Some x) stored same is =
     let row : f x ≡ stored.row = ap (λ (o : Option StoredRow). (unwrap_or o stored).row) is in
     same x ∙ ap (λ (r : BookRow). takes_out kept r period) row
 
-place_row : (declared : List Declared) (told : List Fact) (spans : List Period) (edited : List Edited) (kept : List KeptFact) (period : Period) (at : ℕ) (part : Part) (stored : StoredRow)
+place_row : (declared : List Declared) (told : ℕ → Option Fact) (spans : List Period) (edited : List Edited) (kept : List KeptFact) (period : Period) (at : ℕ) (part : Part) (stored : StoredRow)
     → stored_at at (row_in (shelves_of declared told spans edited) part) ≡ Some stored
     → part_takes_out kept told edited period part ≡ takes_out kept stored.row period
 place_row declared told spans edited kept period at (InDeclarations i) stored is =
@@ -73,15 +73,15 @@ place_row declared told spans edited kept period at (InDeclarations i) stored is
 place_row declared told spans edited kept period at (InPeriods i) stored is =
     part_row (λ (p : Period). PeriodRow p.name p.first p.last) _ kept period at (slice_get spans i) stored (λ p. refl) is
 place_row declared told spans edited kept period at (InFacts i) stored is =
-    item_row (λ fact. FactRow fact) _ kept period at (slice_get told i) stored (λ fact. refl) is
+    item_row (λ fact. FactRow fact) _ kept period at (told i) stored (λ fact. refl) is
 place_row declared told spans edited kept period at (InLate i) stored is =
-    item_row (λ fact. Late fact) _ kept period at (slice_get told i) stored (λ fact. refl) is
+    item_row (λ fact. Late fact) _ kept period at (told i) stored (λ fact. refl) is
 place_row declared told spans edited kept period at (InEdits i) stored is =
     item_row edited_row _ kept period at (slice_get edited i) stored (λ edit. refl) is
 
 -- ---- the row of a book that was stored last
 
-pub touched_last : (declared : List Declared) (told : List Fact) (spans : List Period) (edited : List Edited) (kept : List KeptFact) (places edits : List Place)
+pub touched_last : (declared : List Declared) (told : ℕ → Option Fact) (spans : List Period) (edited : List Edited) (kept : List KeptFact) (places edits : List Place)
     (i : ℕ) (place : Place) (period : Period) (result : Bool)
     → IsKept (shelves_of declared told spans edited) kept places edits → slice_get places (length places - 1) ≡ Some place → slice_get spans i ≡ Some period
     → result ≡ part_takes_out kept told edited period place.part
@@ -103,6 +103,6 @@ touched_last declared told spans edited kept places edits i place period result 
         let out = place_row declared told spans edited kept period place.at place.part stored at in
         rw (← right.parts.spans, there, here ∙ at, ← right.parts.facts) (is ∙ out)
 
-pub touched_by_none : (declared : List Declared) (told : List Fact) (spans : List Period) (edited : List Edited) (places : List Place) (i : ℕ)
+pub touched_by_none : (declared : List Declared) (told : ℕ → Option Fact) (spans : List Period) (edited : List Edited) (places : List Place) (i : ℕ)
     → None ≡ slice_get places (length places - 1) → false ≡ touched_at (rows_at (shelves_of declared told spans edited) places) i
 touched_by_none declared told spans edited places i none = rw (none_last places none) refl

@@ -210,7 +210,7 @@ unsettled (Amend id change reason) = refl
 unsettled (Strike id reason) = refl
 unsettled (Close name) = refl
 
-settled_place : (declared : List Declared) (told : List Fact) (spans : List Period) (edited : List Edited) (at : ℕ) (part : Part)
+settled_place : (declared : List Declared) (told : ℕ → Option Fact) (spans : List Period) (edited : List Edited) (at : ℕ) (part : Part)
     → option_and_then (λ (s : StoredRow). settled s.row) (option_map (λ (row : BookRow). let s : StoredRow = record { at = at; row = row } in s) (row_in (shelves_of declared told spans edited) part)) ≡ settled_by declared spans part
 settled_place declared told spans edited at (InDeclarations i) = by (slice_get declared i)
   where
@@ -222,12 +222,12 @@ settled_place declared told spans edited at (InPeriods i) = by (slice_get spans 
     by : (o : Option Period) → option_and_then (λ (s : StoredRow). settled s.row) (option_map (λ (row : BookRow). let s : StoredRow = record { at = at; row = row } in s) (option_map (λ (p : Period). PeriodRow p.name p.first p.last) o)) ≡ option_map (λ (p : Period). PeriodRow p.name p.first p.last) o
     by None = refl
     by (Some p) = refl
-settled_place declared told spans edited at (InFacts i) = by (slice_get told i)
+settled_place declared told spans edited at (InFacts i) = by (told i)
   where
     by : (o : Option Fact) → option_and_then (λ (s : StoredRow). settled s.row) (option_map (λ (row : BookRow). let s : StoredRow = record { at = at; row = row } in s) (option_map (λ (f : Fact). FactRow f) o)) ≡ None
     by None = refl
     by (Some f) = refl
-settled_place declared told spans edited at (InLate i) = by (slice_get told i)
+settled_place declared told spans edited at (InLate i) = by (told i)
   where
     by : (o : Option Fact) → option_and_then (λ (s : StoredRow). settled s.row) (option_map (λ (row : BookRow). let s : StoredRow = record { at = at; row = row } in s) (option_map (λ (f : Fact). LateRow f) o)) ≡ None
     by None = refl
@@ -238,7 +238,7 @@ settled_place declared told spans edited at (InEdits i) = by (slice_get edited i
     by None = refl
     by (Some e) = unsettled e
 
-pub settled_places : (declared : List Declared) (told : List Fact) (spans : List Period) (edited : List Edited) (places : List Place)
+pub settled_places : (declared : List Declared) (told : ℕ → Option Fact) (spans : List Period) (edited : List Edited) (places : List Place)
     → settled_rows (rows_at (shelves_of declared told spans edited) places) ≡ settled_at declared spans places
 settled_places declared told spans edited [] = refl
 settled_places declared told spans edited (place ∷ places) =

@@ -1,12 +1,14 @@
 -- Inside. What a book keeps beside its rows, so that no look-up walks them.
-use Rattle.std.specs.Prelude.{◌≡◌, ℕ, ◌<◌, ◌≤◌, ℤ, ◌≤ℤ◌, Bool, true, false, List, [], length, map, filter_map, slice_get, slice_index_or, All, Option, Some, None, if◌then◌else◌, IsSome}
+use Rattle.std.specs.Prelude.{◌≡◌, ℕ, ◌<◌, ◌≤◌, nat_eq, ℤ, ◌≤ℤ◌, Bool, true, false, List, [], length, map, filter_map, slice_get, slice_index_or, All, Option, Some, None, if◌then◌else◌, IsSome}
 use Rattle.std.specs.Ordering.{int_cmp, int_eq}
 use Rattle.std.specs.BTreeMap.{BTreeMap, get}
-use Rattle.std.specs.Option.{option_map, option_map_or}
+use Rattle.std.specs.HashMap.{HashMap, get as get_hashed}
+use Rattle.std.specs.Option.{option_map, option_map_or, option_or}
 use Rattle.pb_limits.specs.Limits.{most_periods}
 use Rattle.pb_site.specs.declared.declared.Declared.{Declared}
 use Rattle.pb_facts.specs.declared.fact.Fact.{Fact}
 use Rattle.pb_facts.specs.declared.facts.KeptFact.{KeptFact}
+use Rattle.pb_facts.specs.Facts.{is_live_with}
 use Rattle.pb_book.specs.declared.rows.BookRow.{BookRow}
 use Rattle.pb_book.specs.declared.rows.BookRow.TheVariants.{Declaration, Period as PeriodRow, Fact as FactRow, Late as LateRow, Amend as AmendRow, Strike as StrikeRow, Close as CloseRow}
 use Rattle.pb_book.specs.declared.rows.Edited.{Edited}
@@ -68,20 +70,31 @@ edited_row (Amend id change reason) = AmendRow id change reason
 edited_row (Strike id reason) = StrikeRow id reason
 edited_row (Close name) = CloseRow name
 
--- What the stored rows are kept as: the declarations, the facts as they came, the periods, and the rows that close a
--- period, amend a fact or strike it.
+-- the fact at a place as it came: what was kept of it before its values changed first, or else what is kept of it now
+abbrev pub told_at : {S : Type 0} → List KeptFact → HashMap ℕ Fact S → ℕ → Option Fact
+told_at kept originals place =
+    option_or (get_hashed nat_eq originals place) (option_map (λ (k : KeptFact). k.fact) (slice_get kept place))
+
+-- the live fact of this id, if there is one, is kept as it came
+abbrev pub HasOriginal : {S : Type 0} → List KeptFact → HashMap ℕ Fact S → List ℕ → Type 0
+HasOriginal kept originals id =
+    (place : ℕ) (k : KeptFact) → slice_get kept place ≡ Some k → is_live_with id k ≡ true
+    → IsSome (get_hashed nat_eq originals place)
+
+-- What the stored rows are kept as: the declarations, the facts at their places as they came, the periods, and the rows
+-- that close a period, amend a fact or strike it.
 pub record Shelves : Type 0 where
   pub declared : List Declared
-  pub told : List Fact
+  pub told : ℕ → Option Fact
   pub spans : List Period
   pub edited : List Edited
 
-abbrev pub shelves_of : List Declared → List Fact → List Period → List Edited → Shelves
+abbrev pub shelves_of : List Declared → (ℕ → Option Fact) → List Period → List Edited → Shelves
 shelves_of declared told spans edited =
     record { declared = declared; told = told; spans = spans; edited = edited }
 
 -- those that an edit may stand on
-abbrev pub edits_shelved : List Fact → List Edited → Shelves
+abbrev pub edits_shelved : (ℕ → Option Fact) → List Edited → Shelves
 edits_shelved told edited = shelves_of [] told [] edited
 
 -- the row that is kept at a place of a part
@@ -89,8 +102,8 @@ abbrev pub row_in : Shelves → Part → Option BookRow
 row_in shelves (InDeclarations i) = option_map (λ d. Declaration d) (slice_get shelves.declared i)
 row_in shelves (InPeriods i) =
     option_map (λ (period : Period). PeriodRow period.name period.first period.last) (slice_get shelves.spans i)
-row_in shelves (InFacts i) = option_map (λ fact. FactRow fact) (slice_get shelves.told i)
-row_in shelves (InLate i) = option_map (λ fact. LateRow fact) (slice_get shelves.told i)
+row_in shelves (InFacts i) = option_map (λ fact. FactRow fact) (shelves.told i)
+row_in shelves (InLate i) = option_map (λ fact. LateRow fact) (shelves.told i)
 row_in shelves (InEdits i) = option_map edited_row (slice_get shelves.edited i)
 
 -- the stored row at a place
@@ -111,12 +124,13 @@ pub record AreOf (rows : List StoredRow) (declared : List Declared) (kept : List
   pub facts : kept ≡ facts_of rows
   pub spans : periods ≡ periods_of rows
 
--- each place has a row, the rows were accepted, and the declarations, facts, periods and edits are theirs
+-- each place has a row, the rows were accepted, the declarations, facts, periods and edits are theirs, and there is no
+-- fact at a place behind those of the kept ones
 pub record IsKept (shelves : Shelves) (kept : List KeptFact) (places edits : List Place) : Type 0 where
   pub placed : ArePlaced shelves places
   pub parts : AreOf (rows_at shelves places) shelves.declared kept shelves.spans
   pub accepted : AreAccepted (rows_at shelves places)
-  pub told : length shelves.told ≡ length kept
+  pub told : (place : ℕ) → length kept ≤ place → shelves.told place ≡ None
   pub edited : ArePlaced shelves edits
   pub edit_rows : rows_at shelves edits ≡ edits_of (rows_at shelves places)
 
@@ -135,12 +149,12 @@ abbrev pub settled_at : List Declared → List Period → List Place → List Bo
 settled_at declared periods places = filter_map (settled_in declared periods) places
 
 -- the row at a place of a part takes out a period; a declaration does wherever it lies
-abbrev pub part_takes_out : List KeptFact → List Fact → List Edited → Period → Part → Bool
+abbrev pub part_takes_out : List KeptFact → (ℕ → Option Fact) → List Edited → Period → Part → Bool
 part_takes_out kept told edited period (InDeclarations i) = true
 part_takes_out kept told edited period (InPeriods i) = false
 part_takes_out kept told edited period (InFacts i) =
-    option_map_or (λ fact. touches fact period) (slice_get told i) false
+    option_map_or (λ fact. touches fact period) (told i) false
 part_takes_out kept told edited period (InLate i) =
-    option_map_or (λ fact. touches fact period) (slice_get told i) false
+    option_map_or (λ fact. touches fact period) (told i) false
 part_takes_out kept told edited period (InEdits i) =
     option_map_or (λ (edit : Edited). takes_out kept (edited_row edit) period) (slice_get edited i) false

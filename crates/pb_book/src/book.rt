@@ -8,7 +8,7 @@ ghost use Rattle.pb_book.specs.Accepted.{AreAccepted, AreInTables, IsAcceptable}
 ghost use Rattle.pb_book.specs.Answer.{after, after_answer, answer_of, answer_to, said_of, stored_or_refused};
 ghost use Rattle.pb_book.specs.Apart.{AreApart, is_named};
 ghost use Rattle.pb_book.specs.Edits.{edit_at, edit_by, edit_in, edit_touches, edits_of, row_touches, touches_at, touches_by_id};
-ghost use Rattle.pb_book.specs.Kept.{edited_row, edits_shelved, part_takes_out, row_at};
+ghost use Rattle.pb_book.specs.Kept.{edited_row, edits_shelved, part_takes_out, row_at, told_at};
 ghost use Rattle.pb_book.specs.Plain.{plain_rows};
 ghost use Rattle.pb_book.specs.Ranges.{IsPeriod, IsRequestInRange, IsRowInRange};
 ghost use Rattle.pb_book.specs.Refusals.{refusal_of};
@@ -19,6 +19,7 @@ ghost use Rattle.pb_book.specs.Written.{WriteRows};
 use crate::answer::{Accepted, NotAccepted, Refused};
 use crate::judge::judge;
 use crate::laws::requests_law;
+use crate::originals::{keep_original, told_at};
 use crate::periods::Periods;
 use crate::plain::plain_records;
 use crate::requests::{Request, Version, read_request};
@@ -28,36 +29,38 @@ use pb_facts::{Fact, Facts};
 use pb_rows::{Name, Row, Rows};
 use pb_site::{Declared, Site};
 use std::alloc::{AllocError, Global};
+use std::collections::HashMap;
 use std::marker::Model;
 
 #[cfg(test)]
 mod tests;
 
 /// The accepted rows of a session, in order: the places of all and those of the edits, and what they hold by its parts.
-/// The facts are kept as they came and with their last values.
+/// The facts are kept with their last values, and those that an amendment changed also as they came, by their places.
 #[derive(Drop)]
 pub struct Book {
     places: Vec<Place>,
     edits: Vec<Place>,
-    told: Vec<Fact>,
     edited: Vec<Edited>,
     site: Site,
     facts: Facts,
+    originals: HashMap<u32, Fact>,
     periods: Periods,
 }
 
 impl Model for Book {
     ghost use Rattle.std.specs.Prelude.{List};
     ghost use Rattle.pb_book.specs.Rows.{StoredRow};
-    ghost use Rattle.pb_book.specs.Kept.{IsKept, rows_at, shelves_of};
+    ghost use Rattle.pb_book.specs.Kept.{IsKept, rows_at, shelves_of, told_at};
 
     ghost Value = { List StoredRow };
 
     ghost view = { λ a.
-        rows_at (shelves_of a.site a.told.items a.periods a.edited.items) a.places.items };
+        rows_at (shelves_of a.site (told_at a.facts a.originals) a.periods a.edited.items)
+        a.places.items };
 
     ghost invariant = { λ a. IsKept
-        (shelves_of a.site a.told.items a.periods a.edited.items)
+        (shelves_of a.site (told_at a.facts a.originals) a.periods a.edited.items)
         a.facts a.places.items a.edits.items };
 }
 
@@ -69,10 +72,10 @@ impl Book {
         Book {
             places: Vec::new(alloc),
             edits: Vec::new(alloc),
-            told: Vec::new(alloc),
             edited: Vec::new(alloc),
             site: Site::new(alloc),
             facts: Facts::new(alloc),
+            originals: HashMap::new(alloc),
             periods: Periods::new(alloc),
         }
     }
@@ -86,7 +89,7 @@ impl Book {
     {
         requests_law();
         match read_request(self.version(), row) {
-            Ok(request) => self.answer(at, request),
+            Ok(request) => self.answer(at, &request),
             Err(cause) => Err(NotAccepted::Refused(cause)),
         }
     }
@@ -143,7 +146,7 @@ impl Book {
         requires { i < length (edits_of self.now) }
         ensures { edit_at self.now i ≡ Some result }
     {
-        match edit_kept(&self.told, &self.edited, self.edits[i]) {
+        match edit_kept(&self.facts, &self.originals, &self.edited, self.edits[i]) {
             Some(edit) => edit,
             None => unreachable!(),
         }
@@ -159,7 +162,7 @@ impl Book {
         let period = self.periods.at(i);
         kept_touches(
             &self.facts,
-            &self.told,
+            &self.originals,
             &self.edited,
             self.edits[e],
             &period,
@@ -176,7 +179,7 @@ impl Book {
         match self.places.last() {
             Some(place) => takes_out(
                 &self.facts,
-                &self.told,
+                &self.originals,
                 &self.edited,
                 place.part,
                 &self.periods.at(i),
@@ -215,22 +218,22 @@ impl Book {
     }
 
     // Answers what a record asks.
-    fn answer(&mut self, at: u32, request: Request) -> Result<Accepted, NotAccepted>
-        requires { IsRequestInRange request }
-        ensures answer { result ≢ Err NoMemory → result ≡ said_of (answer_to self.old request) }
+    fn answer(&mut self, at: u32, request: &Request) -> Result<Accepted, NotAccepted>
+        requires { IsRequestInRange request.now }
+        ensures answer { result ≢ Err NoMemory → result ≡ said_of (answer_to self.old request.now) }
         ensures stored { result ≢ Err NoMemory
-            → self.new ≡ after_answer self.old at (answer_to self.old request) }
+            → self.new ≡ after_answer self.old at (answer_to self.old request.now) }
         ensures unchanged { result ≡ Err NoMemory → self.new ≡ self.old }
     {
         match request {
             Request::Blank => Ok(Accepted::Blank),
             Request::Store(row) => self.store(at, row),
             Request::Design => Ok(Accepted::Design),
-            Request::Report(name) => match self.period_of(&name) {
+            Request::Report(name) => match self.period_of(name) {
                 Some(period) => Ok(Accepted::Report(period)),
                 None => Err(NotAccepted::Refused(Refused::Unknown)),
             },
-            Request::History(name) => match self.period_of(&name) {
+            Request::History(name) => match self.period_of(name) {
                 Some(period) => Ok(Accepted::History(period)),
                 None => Err(NotAccepted::Refused(Refused::Unknown)),
             },
@@ -238,19 +241,19 @@ impl Book {
     }
 
     // Stores a row, or says why it is refused.
-    fn store(&mut self, at: u32, row: BookRow) -> Result<Accepted, NotAccepted>
-        requires { IsRowInRange row }
+    fn store(&mut self, at: u32, row: &BookRow) -> Result<Accepted, NotAccepted>
+        requires { IsRowInRange row.now }
         ensures answer { result ≢ Err NoMemory
-            → result ≡ said_of (stored_or_refused row (refusal_of self.old row)) }
+            → result ≡ said_of (stored_or_refused row.now (refusal_of self.old row.now)) }
         ensures stored { result ≢ Err NoMemory
             → self.new
-            ≡ after_answer self.old at (stored_or_refused row (refusal_of self.old row)) }
+            ≡ after_answer self.old at (stored_or_refused row.now (refusal_of self.old row.now)) }
         ensures unchanged { result ≡ Err NoMemory → self.new ≡ self.old }
     {
-        if let Some(cause) = judge(&self.site, &self.facts, &self.periods, &row) {
+        if let Some(cause) = judge(&self.site, &self.facts, &self.periods, row) {
             return Err(NotAccepted::Refused(cause));
         }
-        self.add(at, &row)?;
+        self.add(at, row)?;
         Ok(Accepted::Stored)
     }
 
@@ -319,10 +322,8 @@ impl Book {
         ensures err { OnErr result (self.new ≡ self.old) }
     {
         self.places.reserve(1)?;
-        self.told.reserve(1)?;
         let part = Part::Fact(self.facts.len());
         self.facts.add(*fact)?;
-        self.told.push_reserved(*fact);
         self.places.push_reserved(Place { at, part });
         Ok(())
     }
@@ -334,10 +335,8 @@ impl Book {
     {
         self.places.reserve(1)?;
         self.edits.reserve(1)?;
-        self.told.reserve(1)?;
         let part = Part::Late(self.facts.len());
         self.facts.add(*fact)?;
-        self.told.push_reserved(*fact);
         self.edits.push_reserved(Place { at, part });
         self.places.push_reserved(Place { at, part });
         Ok(())
@@ -357,7 +356,10 @@ impl Book {
                 id,
                 change,
                 reason: _reason,
-            } => self.facts.amend(id, *change),
+            } => {
+                keep_original(&self.facts, &mut self.originals, id)?;
+                self.facts.amend(id, *change)
+            }
             Edited::Strike {
                 id,
                 reason: _reason,
@@ -372,12 +374,18 @@ impl Book {
 }
 
 // What is told of the edit at a place; `None` where that has another row.
-fn edit_kept(told: &[Fact], edited: &[Edited], place: Place) -> Option<Edit>
-    ensures { result ≡ option_and_then edit_in (row_at (edits_shelved told.now edited.now) place) }
+fn edit_kept(
+    facts: &Facts,
+    originals: &HashMap<u32, Fact>,
+    edited: &[Edited],
+    place: Place,
+) -> Option<Edit>
+    ensures { result ≡ option_and_then edit_in
+        (row_at (edits_shelved (told_at facts.now originals.now) edited.now) place) }
 {
     match place.part {
-        Part::Late(i) => match told.get(i as usize) {
-            Some(fact) => late_edit(place.at, fact),
+        Part::Late(i) => match told_at(facts, originals, i) {
+            Some(fact) => late_edit(place.at, &fact),
             None => None,
         },
         Part::Edit(i) => match edited.get(i) {
@@ -429,17 +437,17 @@ fn edit_by(at: u32, edited: &Edited) -> Option<Edit>
 // Whether the edit at a place touches a period; none does where that has another row.
 fn kept_touches(
     facts: &Facts,
-    told: &[Fact],
+    originals: &HashMap<u32, Fact>,
     edited: &[Edited],
     place: Place,
     period: &Period,
 ) -> bool
-    ensures { result
-        ≡ row_touches facts.now period.now (row_at (edits_shelved told.now edited.now) place) }
+    ensures { result ≡ row_touches facts.now period.now
+        (row_at (edits_shelved (told_at facts.now originals.now) edited.now) place) }
 {
     match place.part {
-        Part::Late(i) => match told.get(i as usize) {
-            Some(fact) => touches(fact, period),
+        Part::Late(i) => match told_at(facts, originals, i) {
+            Some(fact) => touches(&fact, period),
             None => false,
         },
         Part::Edit(i) => match edited.get(i) {
@@ -451,14 +459,21 @@ fn kept_touches(
 }
 
 // Whether the row at a place of a part takes out a period.
-fn takes_out(facts: &Facts, told: &[Fact], edited: &[Edited], part: Part, period: &Period) -> bool
-    ensures { result ≡ part_takes_out facts.now told.now edited.now period.now part }
+fn takes_out(
+    facts: &Facts,
+    originals: &HashMap<u32, Fact>,
+    edited: &[Edited],
+    part: Part,
+    period: &Period,
+) -> bool
+    ensures { result ≡ part_takes_out facts.now (told_at facts.now originals.now) edited.now
+        period.now part }
 {
     match part {
         Part::Declaration(_) => true,
         Part::Period(_) => false,
-        Part::Fact(i) | Part::Late(i) => match told.get(i as usize) {
-            Some(fact) => touches(fact, period),
+        Part::Fact(i) | Part::Late(i) => match told_at(facts, originals, i) {
+            Some(fact) => touches(&fact, period),
             None => false,
         },
         Part::Edit(i) => match edited.get(i) {

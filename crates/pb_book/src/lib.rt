@@ -8,6 +8,7 @@ mod book;
 mod fields;
 mod judge;
 mod laws;
+mod originals;
 mod periods;
 mod plain;
 mod requests;

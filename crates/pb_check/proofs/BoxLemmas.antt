@@ -17,8 +17,7 @@ use Rattle.pb_elim.specs.Printed.{printed_price}
 use Rattle.pb_check.specs.declared.faults.Fault.{Fault}
 use Rattle.pb_check.specs.declared.faults.Place.TheVariants.{Stream as StreamAt}
 use Rattle.pb_check.specs.Asked.{IsInBoxAt, AreInBox}
-use Rattle.pb_check.specs.Faults.{IsBoxFault}
-use Rattle.pb_check.specs.Others.{IsOutOfBox}
+use Rattle.pb_check.specs.Faults.{IsBoxFault, IsOutOfBox}
 
 -- the size of a product
 size_times : (v d : ℤ) → pos 1 ≤ℤ v → pos (unsigned_abs d) *ℤ v ≡ pos (unsigned_abs (v *ℤ d))
@@ -98,15 +97,7 @@ pub all_inside : (stage : Stage) → ((k : ℕ) → k < length stage.graph.strea
 all_inside stage each = λ k d lt. each k lt (get_or stage.graph.streams k d) (slice_get-get_or stage.graph.streams k d lt)
 
 pub box_fault_is : (stage : Stage) (j : ℕ) (fault : Fault) → j < length stage.graph.streams → ((k : ℕ) → k < j → IsInBoxAt stage k) → IsOutOfBox stage j fault → IsBoxFault stage fault
-box_fault_is stage j fault lt before out = record {
-  place = j;
-  stream = out.stream;
-  meas = out.meas;
-  first = record { within = lt; before = before; without = out.fails };
-  stream_is = out.stream_is;
-  meas_is = out.meas_is;
-  is = out.is;
-}
+box_fault_is stage j fault lt before out = record { place = j; first = record { within = lt; before = before; without = out.fails }; out = out }
 
 -- what is measured of a stream is within its limits
 pub measured_of : (graph : ProcessGraph) (j : ℕ) (s : Stream) (m : Meas) → IsProcessGraph graph → slice_get graph.streams j ≡ Some s → s.meas ≡ Some m → IsMeasurement m

@@ -17,7 +17,7 @@ use Rattle.pb_merge.specs.Grouping.{Grouping, AreGroupsOf, IsLeastNode, least_at
 use Rattle.pb_merge.proofs.GroupLaws.{number_below}
 use Rattle.pb_elim.specs.Printed.{printed_price}
 use Rattle.pb_check.specs.Asked.{IsLeastOfGroup, HasGroupPriceAt, AreGroupPrices}
-use Rattle.pb_check.specs.Others.{IsOtherPrice}
+use Rattle.pb_check.specs.Faults.{IsOtherPrice}
 use Rattle.pb_check.proofs.DecideLemmas.{least_with}
 
 -- the least node of a node's group, as the groups have it

@@ -1,5 +1,5 @@
 -- No stage passes a test and fails it, and no test fails in two ways.
-use Rattle.std.proofs.Common.{◌≡◌, ◌∙◌, ◌⊎◌, ℕ, ◌<◌, pos, List, length, map, All, Option, Some, None, slice_get, sym, ap, ap₂, subst, inl, inr, arith}
+use Rattle.std.proofs.Common.{◌≡◌, ◌∙◌, ℕ, ◌<◌, ℤ, pos, List, length, map, All, Option, Some, None, slice_get, sym, ap, ap₂, subst, inl, inr, arith}
 use Rattle.std.specs.Prelude.{IfSome, IsSomeAnd, option_map, unsigned_abs, if◌then◌else◌}
 use Rattle.std.specs.Ordering.{int_eq}
 use Rattle.std.proofs.lemmas.List.{length-map}
@@ -21,18 +21,16 @@ use Rattle.pb_tests.specs.Laws.{OneNodalTestsLaw}
 use Rattle.pb_graph.specs.Balance.{net_of}
 use Rattle.pb_graph.specs.Prices.{IsInBox, rise_of}
 use Rattle.pb_dual.specs.Candidates.{room_of}
-use Rattle.pb_gap.specs.StreamBounds.{stream_bounds}
-use Rattle.pb_gap.specs.LeastBounds.{stream_least_bounds}
-use Rattle.pb_elim.specs.Printed.{printed_price, printed_flows, printed_gap}
+use Rattle.pb_elim.specs.Printed.{printed_price, printed_flows}
 use Rattle.pb_elim.specs.Stage.{HasFreedom}
-use Rattle.pb_elim.specs.Certified.{IsMeasureVerdict, IsNodalVerdict, unjudged}
+use Rattle.pb_elim.specs.Certified.{IsMeasureVerdict, IsNodalVerdict, found_bounds, found_least, unjudged}
 use Rattle.pb_check.specs.declared.faults.Test.{Test}
 use Rattle.pb_check.specs.declared.faults.Test.TheVariants.{Class, Witness, Balance, Price, Box, Freedom, Gap, State, Bounds, Statistic, Nodal, Verdict, Least}
-use Rattle.pb_check.specs.declared.faults.Place.{Place}
 use Rattle.pb_check.specs.declared.faults.Place.TheVariants.{Node, Stream as StreamAt, Whole}
 use Rattle.pb_check.specs.declared.faults.Fault.{Fault}
 use Rattle.pb_check.specs.Asked.{HasClassAt, IsShownAt, IsEvenAt, HasGroupPriceAt, IsInBoxAt, HasBoundsAt, HasLeastBoundsAt, IsLeastOfGroup, AreVerdicts, AreNodalRows}
-use Rattle.pb_check.specs.Faults.{bounds_numbers, row_numbers, IsStreamFault, IsBalanceFault, IsPriceFault, IsBoxFault, IsFreedomFault, IsBoundsFault, IsRowAt, IsCountFault, IsRowFault, IsNodalRowsFault, IsNodalVerdictAt, IsMeasureVerdictAt, IsGlobalFault, IsNodalVerdictFault, IsMeasureVerdictFault, IsLeastFault}
+use Rattle.pb_check.specs.First.{IsFirstOf}
+use Rattle.pb_check.specs.Faults.{bare_fault_at, bounds_numbers, fault_at, row_numbers, AreVerdictsFault, DifferAt, IsStreamFault, IsBalanceFault, IsPriceFault, IsBoxFault, IsFreedomFault, IsBoundsFault, IsRowAt, IsRowsFault, IsNodalRowsFault, IsLeastFault}
 use Rattle.pb_check.specs.Verdict.{code_of, Passes, Fails}
 use Rattle.pb_check.specs.VerdictLaws.{HasFault, NotBothLaw, OneFaultLaw}
 use Rattle.pb_check.proofs.DecideLemmas.{one_first}
@@ -41,38 +39,22 @@ use Rattle.pb_check.proofs.AmongLemmas.{same_code}
 
 -- ---- what each test answers, by what it fails at
 abbrev balance_at : Stage → ℕ → Fault
-balance_at stage n = record { place = Node n; stated = pos 0; found = net_of n stage.graph.streams (printed_flows stage) }
+balance_at stage n = fault_at (Node n) (pos 0, net_of n stage.graph.streams (printed_flows stage))
 
 abbrev price_at : Stage → ℕ → ℕ → Fault
-price_at stage n m = record {
-  place = Node n;
-  stated = printed_price stage n;
-  found = if int_eq (printed_price stage n) (printed_price stage m) then pos 0 else printed_price stage m;
-}
+price_at stage n m = fault_at (Node n) (printed_price stage n, if int_eq (printed_price stage n) (printed_price stage m) then pos 0 else printed_price stage m)
 
 abbrev box_at : Stage → ℕ → Stream → Meas → Fault
-box_at stage j s m = record { place = StreamAt j; stated = pos (unsigned_abs (rise_of (printed_price stage) s)); found = room_of m.variance }
+box_at stage j s m = fault_at (StreamAt j) (pos (unsigned_abs (rise_of (printed_price stage) s)), room_of m.variance)
 
 abbrev freedom_at : Stage → ℕ → Fault
-freedom_at stage dof = record { place = Whole; stated = pos stage.dof; found = pos dof }
-
-abbrev rule_at : Stage → ℕ → StreamResult → Option BoundsOf
-rule_at stage j r = stream_bounds (printed_price stage) stage.graph.streams (printed_gap stage) j r.classified
-
-abbrev least_rule_at : Stage → ℕ → StreamResult → Option BoundsOf
-least_rule_at stage j r = stream_least_bounds (printed_price stage) stage.graph.streams (printed_flows stage) (printed_gap stage) j r.classified
+freedom_at stage dof = fault_at Whole (pos stage.dof, pos dof)
 
 abbrev bounds_at : ℕ → BoundsOf → BoundsOf → Fault
-bounds_at j stated found = record { place = StreamAt j; stated = (bounds_numbers stated found).0; found = (bounds_numbers stated found).1 }
+bounds_at j stated found = fault_at (StreamAt j) (bounds_numbers stated found)
 
 abbrev row_at : NodalTest → NodalTest → Fault
-row_at row test = record { place = Node row.node; stated = (row_numbers row test).0; found = (row_numbers row test).1 }
-
-abbrev verdict_at : Place → Fault
-verdict_at place = record { place = place; stated = pos 0; found = pos 0 }
-
-abbrev class_at : ℕ → Fault
-class_at j = record { place = StreamAt j; stated = pos 0; found = pos 0 }
+row_at row test = fault_at (Node row.node) (row_numbers row test)
 
 -- ---- not both, test by test
 -- the degrees of freedom of a graph are one number
@@ -85,7 +67,7 @@ row_is : (rows rule : List NodalTest) (i : ℕ) → map unjudged rows ≡ rule �
 row_is rows rule i same row test here there =
     some_same (sym (slice_get-map unjudged rows i ∙ ap (option_map unjudged) here) ∙ ap (λ (xs : List NodalTest). slice_get xs i) same ∙ there)
 
-no_row_fault : (rows rule : List NodalTest) (fault : Fault) → map unjudged rows ≡ rule → IsCountFault rows rule fault ⊎ IsRowFault rows rule fault → ⊥
+no_row_fault : (rows rule : List NodalTest) (fault : Fault) → map unjudged rows ≡ rule → IsRowsFault rows rule fault → ⊥
 no_row_fault rows rule fault same (inl count) = count.differs (sym (length-map rows unjudged) ∙ ap length same)
 no_row_fault rows rule fault same (inr row) = row.first.without (row_is rows rule row.place same)
 
@@ -95,18 +77,16 @@ no_nodal_fault law stage None fault passes fails = fails
 no_nodal_fault law stage (Some tests) fault passes fails =
     no_row_fault tests.nodal fails.rule fault (law stage.graph None (map unjudged tests.nodal) fails.rule passes fails.are) fails.says
 
-nodal_each : (tests : Tests) (i : ℕ) → All IsNodalVerdict tests.nodal → IsNodalVerdictAt tests i
-nodal_each tests i each row here = all_each IsNodalVerdict tests.nodal each i row here
-
-measure_each : (tests : Tests) (i : ℕ) → All IsMeasureVerdict tests.measure → IsMeasureVerdictAt tests i
-measure_each tests i each row here = all_each IsMeasureVerdict tests.measure each i row here
+-- where a fact holds of each row, there is no first row of which it doesn't
+no_first : {A : Type 0} (P : A → Type 0) (rows : List A) (row : A) → All P rows → IsFirstOf P rows row → ⊥
+no_first P rows row each fails = fails.first.without (λ other here. all_each P rows each fails.place other here)
 
 no_verdict_fault : (stage : Stage) (o : Option Tests) (fault : Fault) → IfSome o (AreVerdicts stage)
-    → IsSomeAnd o (λ tests. IsGlobalFault stage tests fault ⊎ (IsNodalVerdictFault stage tests fault ⊎ IsMeasureVerdictFault stage tests fault)) → ⊥
+    → IsSomeAnd o (λ tests. AreVerdictsFault stage tests fault) → ⊥
 no_verdict_fault stage None fault passes fails = fails
 no_verdict_fault stage (Some tests) fault passes (inl whole) = whole.differs passes.overall
-no_verdict_fault stage (Some tests) fault passes (inr (inl nodal)) = nodal.first.without (nodal_each tests nodal.place passes.nodal)
-no_verdict_fault stage (Some tests) fault passes (inr (inr measure)) = measure.first.without (measure_each tests measure.place passes.measure)
+no_verdict_fault stage (Some tests) fault passes (inr (inl (overall, nodal))) = no_first IsNodalVerdict tests.nodal nodal.row passes.nodal nodal.first
+no_verdict_fault stage (Some tests) fault passes (inr (inr (overall, each, measure))) = no_first IsMeasureVerdict tests.measure measure.row passes.measure measure.first
 
 pub not_both_of : OneNodalTestsLaw → (stage : Stage) (gap sweeps : ℕ) (test : Test) (fault : Fault) → Passes stage gap sweeps test
     → Fails stage gap sweeps test fault → ⊥
@@ -116,10 +96,10 @@ not_both_of law stage gap sweeps Balance fault passes fails = fails.first.withou
 not_both_of law stage gap sweeps Price fault passes fails = fails.first.without (nodes_by_prices stage passes fails.node fails.first.within)
 not_both_of law stage gap sweeps Box fault passes fails = fails.first.without (λ stream here. all_each (IsInBox (printed_price stage)) stage.graph.streams passes fails.place stream here)
 not_both_of law stage gap sweeps Freedom fault passes fails = fails.differs (one_freedom stage.graph stage.dof fails.dof passes fails.has)
-not_both_of law stage gap sweeps Gap fault passes fails = fails.differs passes
+not_both_of law stage gap sweeps Gap fault passes fails = fails.differ passes
 not_both_of law stage gap sweeps State fault passes fails = fails.differs passes
 not_both_of law stage gap sweeps Bounds fault passes fails = fails.first.without (λ result here. passes fails.stream result here)
-not_both_of law stage gap sweeps Statistic fault passes fails = fails.differs passes
+not_both_of law stage gap sweeps Statistic fault passes fails = fails.differ (passes.low, passes.high)
 not_both_of law stage gap sweeps Nodal fault passes fails = no_nodal_fault law stage stage.tests fault passes fails
 not_both_of law stage gap sweeps Verdict fault passes fails = no_verdict_fault stage stage.tests fault passes fails
 not_both_of law stage gap sweeps Least fault passes fails = fails.first.without (λ result here. passes fails.have fails.stream result here)
@@ -132,47 +112,55 @@ not_both_by law stage gap sweeps limits formed passed fault =
 stream_one : (stage : Stage) (P : ℕ → Type 0) (a b : Fault) → IsStreamFault stage P a → IsStreamFault stage P b → a ≡ b
 stream_one stage P a b one other =
     let same = one_first P (length stage.graph.streams) one.stream other.stream one.first other.first in
-    one.is ∙ ap class_at same ∙ sym other.is
+    one.is ∙ ap (λ (j : ℕ). bare_fault_at (StreamAt j)) same ∙ sym other.is
 
 balance_one : (stage : Stage) (a b : Fault) → IsBalanceFault stage a → IsBalanceFault stage b → a ≡ b
 balance_one stage a b one other =
     let same = one_first (IsEvenAt stage) stage.graph.nodes one.node other.node one.first other.first in
     one.is ∙ ap (balance_at stage) same ∙ sym other.is
 
+price_is : (stage : Stage) (fault : Fault) (fails : IsPriceFault stage fault) → fault ≡ price_at stage fails.node fails.other.least
+price_is stage fault fails = fails.is ∙ ap (λ (found : ℤ). fault_at (Node fails.node) (printed_price stage fails.node, found)) fails.other.is
+
 price_one : (stage : Stage) (a b : Fault) → IsPriceFault stage a → IsPriceFault stage b → a ≡ b
 price_one stage a b one other =
     let same = one_first (HasGroupPriceAt stage) stage.graph.nodes one.node other.node one.first other.first in
-    let least = one_least stage.graph other.node one.least other.least (subst (λ (n : ℕ). IsLeastOfGroup stage.graph n one.least) same one.is_least) other.is_least in
-    one.is ∙ ap₂ (price_at stage) same least ∙ sym other.is
+    let least = one_least stage.graph other.node one.other.least other.other.least
+    (subst (λ (n : ℕ). IsLeastOfGroup stage.graph n one.other.least) same one.other.is_least) other.other.is_least in
+    price_is stage a one ∙ ap₂ (price_at stage) same least ∙ sym (price_is stage b other)
 
 box_one : (stage : Stage) (a b : Fault) → IsBoxFault stage a → IsBoxFault stage b → a ≡ b
 box_one stage a b one other =
     let same = one_first (IsInBoxAt stage) (length stage.graph.streams) one.place other.place one.first other.first in
-    let stream : one.stream ≡ other.stream = some_same (sym one.stream_is ∙ ap (slice_get stage.graph.streams) same ∙ other.stream_is) in
-    let meas : one.meas ≡ other.meas = some_same (sym one.meas_is ∙ ap (λ (s : Stream). s.meas) stream ∙ other.meas_is) in
-    one.is ∙ ap (λ (j : ℕ). box_at stage j one.stream one.meas) same ∙ ap₂ (box_at stage other.place) stream meas ∙ sym other.is
+    let stream : one.out.stream ≡ other.out.stream = some_same (sym one.out.stream_is ∙ ap (slice_get stage.graph.streams) same ∙ other.out.stream_is) in
+    let meas : one.out.meas ≡ other.out.meas = some_same (sym one.out.meas_is ∙ ap (λ (s : Stream). s.meas) stream ∙ other.out.meas_is) in
+    one.out.is ∙ ap (λ (j : ℕ). box_at stage j one.out.stream one.out.meas) same ∙ ap₂ (box_at stage other.place) stream meas ∙ sym other.out.is
 
 freedom_one : (stage : Stage) (a b : Fault) → IsFreedomFault stage a → IsFreedomFault stage b → a ≡ b
 freedom_one stage a b one other = one.is ∙ ap (freedom_at stage) (one_freedom stage.graph one.dof other.dof one.has other.has) ∙ sym other.is
+
+-- two bounds of one stream differ in one way
+differ_one : (j k : ℕ) (stated other : Option BoundsOf) (found also : Option BoundsOf) (a b : Fault) → j ≡ k → stated ≡ other → found ≡ also
+    → DifferAt j stated found a → DifferAt k other also b → a ≡ b
+differ_one j k stated other found also a b place same_stated same_found x y =
+    let here : x.here ≡ y.here = some_same (sym x.stated_is ∙ same_stated ∙ y.stated_is) in
+    let there : x.there ≡ y.there = some_same (sym x.found_is ∙ same_found ∙ y.found_is) in
+    x.is ∙ ap (λ (i : ℕ). bounds_at i x.here x.there) place ∙ ap₂ (bounds_at k) here there ∙ sym y.is
 
 bounds_one : (stage : Stage) (a b : Fault) → IsBoundsFault stage a → IsBoundsFault stage b → a ≡ b
 bounds_one stage a b one other =
     let same = one_first (HasBoundsAt stage) (length stage.graph.streams) one.stream other.stream one.first other.first in
     let result : one.result ≡ other.result = some_same (sym one.result_is ∙ ap (slice_get stage.streams) same ∙ other.result_is) in
-    let stated : one.stated ≡ other.stated = some_same (sym one.stated_is ∙ ap (λ (r : StreamResult). r.bounds) result ∙ other.stated_is) in
-    let found : one.found ≡ other.found = some_same (sym one.found_is ∙ ap₂ (rule_at stage) same result ∙ other.found_is) in
-    one.is ∙ ap (λ (j : ℕ). bounds_at j one.stated one.found) same ∙ ap₂ (bounds_at other.stream) stated found ∙ sym other.is
+    differ_one one.stream other.stream _ _ _ _ a b same (ap (λ (r : StreamResult). r.bounds) result) (ap₂ (found_bounds stage) same result) one.differs other.differs
 
 least_one : (stage : Stage) (a b : Fault) → IsLeastFault stage a → IsLeastFault stage b → a ≡ b
 least_one stage a b one other =
     let same = one_first (HasLeastBoundsAt stage) (length stage.graph.streams) one.stream other.stream one.first other.first in
     let result : one.result ≡ other.result = some_same (sym one.result_is ∙ ap (slice_get stage.streams) same ∙ other.result_is) in
-    let stated : one.stated ≡ other.stated = some_same (sym one.stated_is ∙ ap (λ (r : StreamResult). r.least) result ∙ other.stated_is) in
-    let found : one.found ≡ other.found = some_same (sym one.found_is ∙ ap₂ (least_rule_at stage) same result ∙ other.found_is) in
-    one.is ∙ ap (λ (j : ℕ). bounds_at j one.stated one.found) same ∙ ap₂ (bounds_at other.stream) stated found ∙ sym other.is
+    differ_one one.stream other.stream _ _ _ _ a b same (ap (λ (r : StreamResult). r.least) result) (ap₂ (found_least stage) same result) one.differs other.differs
 
 -- rows
-rows_one : (rows rule : List NodalTest) (a b : Fault) → IsCountFault rows rule a ⊎ IsRowFault rows rule a → IsCountFault rows rule b ⊎ IsRowFault rows rule b → a ≡ b
+rows_one : (rows rule : List NodalTest) (a b : Fault) → IsRowsFault rows rule a → IsRowsFault rows rule b → a ≡ b
 rows_one rows rule a b (inl one) (inl other) = one.is ∙ sym other.is
 rows_one rows rule a b (inl one) (inr other) = absurd (one.differs other.count)
 rows_one rows rule a b (inr one) (inl other) = absurd (other.differs one.count)
@@ -180,36 +168,35 @@ rows_one rows rule a b (inr one) (inr other) =
     let same = one_first (IsRowAt rows rule) (length rows) one.place other.place one.first other.first in
     let row : one.row ≡ other.row = some_same (sym one.row_is ∙ ap (slice_get rows) same ∙ other.row_is) in
     let test : one.test ≡ other.test = some_same (sym one.test_is ∙ ap (slice_get rule) same ∙ other.test_is) in
-    one.is ∙ ap₂ row_at row test ∙ sym other.is
+    one.differs.is ∙ ap₂ row_at row test ∙ sym other.differs.is
 
 nodal_one : OneNodalTestsLaw → (stage : Stage) (o : Option Tests) (a b : Fault) → IsSomeAnd o (λ tests. IsNodalRowsFault stage tests a)
     → IsSomeAnd o (λ tests. IsNodalRowsFault stage tests b) → a ≡ b
 nodal_one law stage None a b one other = absurd one
 nodal_one law stage (Some tests) a b one other =
     let same : one.rule ≡ other.rule = law stage.graph None one.rule other.rule one.are other.are in
-    rows_one tests.nodal other.rule a b (subst (λ (rule : List NodalTest). IsCountFault tests.nodal rule a ⊎ IsRowFault tests.nodal rule a) same one.says) other.says
+    rows_one tests.nodal other.rule a b (subst (λ (rule : List NodalTest). IsRowsFault tests.nodal rule a) same one.says) other.says
 
-abbrev Judged : Stage → Tests → Fault → Type 0
-Judged stage tests fault = IsGlobalFault stage tests fault ⊎ (IsNodalVerdictFault stage tests fault ⊎ IsMeasureVerdictFault stage tests fault)
+-- verdicts
+first_one : {A : Type 0} (P : A → Type 0) (rows : List A) (row other : A) → IsFirstOf P rows row → IsFirstOf P rows other → row ≡ other
+first_one P rows row other x y =
+    let same = one_first _ (length rows) x.place y.place x.first y.first in
+    some_same (sym x.row_is ∙ ap (slice_get rows) same ∙ y.row_is)
 
-judged_one : (stage : Stage) (tests : Tests) (a b : Fault) → Judged stage tests a → Judged stage tests b → a ≡ b
+judged_one : (stage : Stage) (tests : Tests) (a b : Fault) → AreVerdictsFault stage tests a → AreVerdictsFault stage tests b → a ≡ b
 judged_one stage tests a b (inl one) (inl other) = one.is ∙ sym other.is
-judged_one stage tests a b (inl one) (inr (inl other)) = absurd (one.differs other.overall)
-judged_one stage tests a b (inl one) (inr (inr other)) = absurd (one.differs other.overall)
-judged_one stage tests a b (inr (inl one)) (inl other) = absurd (other.differs one.overall)
-judged_one stage tests a b (inr (inr one)) (inl other) = absurd (other.differs one.overall)
-judged_one stage tests a b (inr (inl one)) (inr (inr other)) = absurd (one.first.without (nodal_each tests one.place other.nodal))
-judged_one stage tests a b (inr (inr one)) (inr (inl other)) = absurd (other.first.without (nodal_each tests other.place one.nodal))
-judged_one stage tests a b (inr (inl one)) (inr (inl other)) =
-    let same = one_first (IsNodalVerdictAt tests) (length tests.nodal) one.place other.place one.first other.first in
-    let row : one.row ≡ other.row = some_same (sym one.row_is ∙ ap (slice_get tests.nodal) same ∙ other.row_is) in
-    one.is ∙ ap (λ (r : NodalTest). verdict_at (Node r.node)) row ∙ sym other.is
-judged_one stage tests a b (inr (inr one)) (inr (inr other)) =
-    let same = one_first (IsMeasureVerdictAt tests) (length tests.measure) one.place other.place one.first other.first in
-    let row : one.row ≡ other.row = some_same (sym one.row_is ∙ ap (slice_get tests.measure) same ∙ other.row_is) in
-    one.is ∙ ap (λ (r : MeasureTest). verdict_at (StreamAt r.stream)) row ∙ sym other.is
+judged_one stage tests a b (inl one) (inr (inl other)) = absurd (one.differs other.0)
+judged_one stage tests a b (inl one) (inr (inr other)) = absurd (one.differs other.0)
+judged_one stage tests a b (inr (inl one)) (inl other) = absurd (other.differs one.0)
+judged_one stage tests a b (inr (inr one)) (inl other) = absurd (other.differs one.0)
+judged_one stage tests a b (inr (inl (overall, one))) (inr (inr (also, each, other))) = absurd (no_first IsNodalVerdict tests.nodal one.row each one.first)
+judged_one stage tests a b (inr (inr (overall, each, one))) (inr (inl (also, other))) = absurd (no_first IsNodalVerdict tests.nodal other.row each other.first)
+judged_one stage tests a b (inr (inl (overall, one))) (inr (inl (also, other))) =
+    one.is ∙ ap (λ (r : NodalTest). bare_fault_at (Node r.node)) (first_one IsNodalVerdict tests.nodal one.row other.row one.first other.first) ∙ sym other.is
+judged_one stage tests a b (inr (inr (overall, each, one))) (inr (inr (also, all, other))) =
+    one.is ∙ ap (λ (r : MeasureTest). bare_fault_at (StreamAt r.stream)) (first_one IsMeasureVerdict tests.measure one.row other.row one.first other.first) ∙ sym other.is
 
-verdict_one : (stage : Stage) (o : Option Tests) (a b : Fault) → IsSomeAnd o (λ tests. Judged stage tests a) → IsSomeAnd o (λ tests. Judged stage tests b) → a ≡ b
+verdict_one : (stage : Stage) (o : Option Tests) (a b : Fault) → IsSomeAnd o (λ tests. AreVerdictsFault stage tests a) → IsSomeAnd o (λ tests. AreVerdictsFault stage tests b) → a ≡ b
 verdict_one stage None a b one other = absurd one
 verdict_one stage (Some tests) a b one other = judged_one stage tests a b one other
 

@@ -1,5 +1,5 @@
 -- Each stage of a study passes.
-use Rattle.std.proofs.Common.{◌≡◌, ◌∙◌, ◌&&◌, ℕ, ℤ, Bool, List, Option, Some, None, is_some, slice_get, get_or, refl, sym, ap, ap₂, subst, inl, inr, arith}
+use Rattle.std.proofs.Common.{◌≡◌, ◌∙◌, ◌&&◌, ℕ, ℤ, Bool, List, Option, Some, None, is_some, slice_get, get_or, refl, sym, ap, subst, inl, inr, arith}
 use Rattle.std.specs.Prelude.{IfSome}
 use Rattle.std.proofs.lemmas.Bool.{cases_Bool}
 use Rattle.std.proofs.Math.Bool.{and-false, and-true}
@@ -22,11 +22,11 @@ use Rattle.pb_gap.specs.StreamBounds.{stream_bounds}
 use Rattle.pb_gap.specs.LeastBounds.{stream_least_bounds}
 use Rattle.pb_gap.specs.Solution.{IsSolution, OneStateLaw}
 use Rattle.pb_gap.specs.Laws.{AreGaps}
-use Rattle.pb_elim.specs.Printed.{have_least, printed_flows, printed_gap, printed_price, HasLeastBounds}
-use Rattle.pb_elim.specs.Certified.{AreLeastBounds, AreShownTests, IsShownStage}
+use Rattle.pb_elim.specs.Printed.{have_least, printed_flows, printed_gap, printed_price}
+use Rattle.pb_elim.specs.Certified.{AreShownTests, IsShownStage}
 use Rattle.pb_elim.specs.Laws.{CertifiedLaw, SolutionLaw}
 use Rattle.pb_check.specs.declared.faults.Test.TheVariants.{Class as ClassTest, Witness as WitnessTest, Balance, Price, Box, Freedom, Gap as GapTest, State, Bounds as BoundsTest, Statistic, Nodal, Verdict as VerdictTest, Least}
-use Rattle.pb_check.specs.Asked.{AreNodalRows, AreVerdicts, HasClass, IsStateAt, found_gap, is_bounded, is_of_measured}
+use Rattle.pb_check.specs.Asked.{AreNodalRows, AreVerdicts, HasClass, HaveLeastBounds, IsStateAt, found_gap, is_bounded, is_of_measured}
 use Rattle.pb_check.specs.Verdict.{IsPassed}
 use Rattle.pb_check.specs.Laws.{OwnLaw}
 use Rattle.pb_check.proofs.FirstLemmas.{each_fails}
@@ -62,7 +62,7 @@ class_least_bounded g j s Nonredundant w price ss flows gap shows = refl
 class_least_bounded g j s Observable (Cycle steps) price ss flows gap shows = absurd shows
 
 -- a stream that has bounds has least bounds, where some stream has; none has, where none has
-least_beside : (stage : Stage) (j : ℕ) (s : Stream) (r : StreamResult) → (HasLeastBounds stage → AreLeastBounds stage) → slice_get stage.streams j ≡ Some r
+least_beside : (stage : Stage) (j : ℕ) (s : Stream) (r : StreamResult) → HaveLeastBounds stage → slice_get stage.streams j ≡ Some r
     → Shows stage.graph j s r.classified.class r.classified.witness → is_some r.bounds ≡ is_bounded r.classified.class
     → is_some r.least ≡ (is_some r.bounds && have_least stage.streams)
 least_beside stage j s r numbers there shows bounded = elim (cases_Bool (have_least stage.streams)) [

@@ -16,8 +16,8 @@ use Rattle.pb_tests.specs.Laws.{IsNodalNumber, NodalRangeLaw}
 use Rattle.pb_elim.specs.Certified.{IsMeasureVerdict, IsNodalVerdict, unjudged}
 use Rattle.pb_check.specs.declared.faults.Fault.{Fault}
 use Rattle.pb_check.specs.Asked.{AreNodalRows, AreVerdicts, IsGlobalVerdict}
-use Rattle.pb_check.specs.Faults.{IsRowAt}
-use Rattle.pb_check.specs.Rows.{AreVerdictsFault, IsFirstMeasure, IsFirstNodal, IsFirstOf}
+use Rattle.pb_check.specs.First.{IsFirstOf}
+use Rattle.pb_check.specs.Faults.{AreVerdictsFault, IsFirstMeasure, IsFirstNodal, IsRowAt}
 
 -- ---- rows
 pub rows_same : (rows rule : List NodalTest) → length rows ≡ length rule → ((k : ℕ) → k < length rows → IsRowAt rows rule k) → map unjudged rows ≡ rule
@@ -57,13 +57,13 @@ row_numbers law stage tests limits rows = λ k d lt.
 -- ---- verdicts
 pub nodal_fails : (stage : Stage) (tests : Tests) (fault : Fault) → IsGlobalVerdict stage tests → IsFirstNodal tests.nodal fault → AreVerdictsFault stage tests fault
 nodal_fails stage tests fault overall first =
-    inr (inl (record { overall = overall; place = first.first.place; row = first.row; first = first.first.first; row_is = first.first.row_is; is = first.is }))
+    inr (inl (overall, first))
 
 pub measures_decide : (stage : Stage) (tests : Tests) (o : Option Fault) → IsGlobalVerdict stage tests → All IsNodalVerdict tests.nodal
     → MatchOption o (All IsMeasureVerdict tests.measure) (IsFirstMeasure tests.measure) → MatchOption o (AreVerdicts stage tests) (AreVerdictsFault stage tests)
 measures_decide stage tests None overall nodal measure = record { overall = overall; nodal = nodal; measure = measure }
 measures_decide stage tests (Some fault) overall nodal first =
-    inr (inr (record { overall = overall; nodal = nodal; place = first.first.place; row = first.row; first = first.first.first; row_is = first.first.row_is; is = first.is }))
+    inr (inr (overall, nodal, first))
 
 -- what is there, and what isn't
 pub some_there : {A : Type 0} (o : Option A) (x : A) (P : Type 0) (Q : A → Type 0) → o ≡ Some x → MatchOption o P Q → Q x

@@ -1,6 +1,6 @@
 -- Each stage passes a test or fails it.
 use Rattle.std.proofs.Common.{◌≡◌, ◌∙◌, ◌⊎◌, ℕ, zero, suc, ◌<◌, ◌≤◌, ℤ, pos, ◌*ℤ◌, ◌==◌, Bool, List, [], ◌∷◌, length, map, All, Option, Some, None, slice_get, get_or, refl, sym, ap, ap₂, subst, inl, inr, arith}
-use Rattle.std.specs.Prelude.{IfSome, IsSomeAnd, is_some, unsigned_abs, if◌then◌else◌}
+use Rattle.std.specs.Prelude.{◌≢◌, IfSome, IsSomeAnd, is_some, unsigned_abs, if◌then◌else◌}
 use Rattle.std.proofs.lemmas.List.{length-map}
 use Rattle.std.proofs.lemmas.Bool.{cases_Bool, cases_eq, cases_lt}
 use Rattle.std.proofs.lemmas.Option.{slice_get_within, slice_get-get_or}
@@ -16,7 +16,7 @@ use Rattle.pb_graph.specs.declared.results.NodalTest.{NodalTest}
 use Rattle.pb_graph.specs.declared.results.StreamResult.{StreamResult}
 use Rattle.pb_graph.specs.declared.results.Tests.{Tests}
 use Rattle.pb_graph.specs.declared.results.Stage.{Stage}
-use Rattle.pb_graph.specs.ProcessGraph.{ProcessGraph, IsProcessGraph}
+use Rattle.pb_graph.specs.ProcessGraph.{IsProcessGraph}
 use Rattle.pb_graph.specs.WellFormed.{IsWellFormed}
 use Rattle.pb_graph.specs.Balance.{net_of}
 use Rattle.pb_graph.specs.Certificates.{Shows, IsCertified}
@@ -35,10 +35,11 @@ use Rattle.pb_tests.specs.Nodal.{AreNodalTests}
 use Rattle.pb_tests.specs.Verdicts.{global_verdict}
 use Rattle.pb_elim.specs.Printed.{printed_price, printed_flows, printed_gap, have_least}
 use Rattle.pb_elim.specs.Certified.{IsMeasureVerdict, IsNodalVerdict, unjudged}
-use Rattle.pb_check.specs.declared.faults.Place.TheVariants.{Node, Stream as StreamAt}
+use Rattle.pb_check.specs.declared.faults.Place.TheVariants.{Node, Stream as StreamAt, Whole}
 use Rattle.pb_check.specs.declared.faults.Fault.{Fault}
 use Rattle.pb_check.specs.Asked.{is_bounded, HasClass, HasClassAt, HaveClasses, IsShownAt, AreShown, IsEvenAt, AreEven, HasGroupPriceAt, AreGroupPrices, IsInBoxAt, AreInBox, IsFreedom, found_gap, IsGapOfFlows, IsStateAt, IsStateOfGap, HasBoundsAt, HaveBounds, found_low, IsStatistic, AreNodalRows, IsNodal, IsGlobalVerdict, AreVerdicts, IsJudged, HasLeastBoundsAt, HaveLeastBounds}
-use Rattle.pb_check.specs.Faults.{bounds_numbers, IsStreamFault, IsClassFault, IsWitnessFault, IsBalanceFault, IsPriceFault, IsBoxFault, IsFreedomFault, IsGapFault, IsStateFault, IsBoundsFault, IsStatisticFault, IsRowAt, IsCountFault, IsRowFault, IsNodalRowsFault, IsNodalFault, IsNodalVerdictAt, IsMeasureVerdictAt, IsGlobalFault, IsNodalVerdictFault, IsMeasureVerdictFault, IsVerdictFault, IsLeastFault}
+use Rattle.pb_check.specs.First.{IsFirstOf}
+use Rattle.pb_check.specs.Faults.{bare_fault_at, bounds_numbers, fault_at, AreVerdictsFault, DifferAt, IsStreamFault, IsClassFault, IsWitnessFault, IsBalanceFault, IsPriceFault, IsBoxFault, IsFreedomFault, IsGapFault, IsStateFault, IsBoundsFault, IsStatisticFault, IsRowAt, IsRowsFault, IsNodalRowsFault, IsNodalFault, IsVerdictFault, IsLeastFault}
 use Rattle.pb_check.proofs.DecideLemmas.{decided_both, decided_as, decided_not, decided_if, each_or_first}
 use Rattle.pb_check.proofs.GroupLemmas.{prices_by_nodes, some_least, has_price}
 use Rattle.pb_check.proofs.OwnLemmas.{class_bounded}
@@ -60,7 +61,7 @@ stream_either : (stage : Stage) (P : ℕ → Type 0) → ((j : ℕ) → j < leng
     → Either ((j : ℕ) → j < length stage.graph.streams → P j) (IsStreamFault stage P)
 stream_either stage P decided = elim (each_or_first P (length stage.graph.streams) decided) [
   | inl each ↦ inl each
-  | inr (j, first) ↦ inr (record { place = StreamAt j; stated = pos 0; found = pos 0 }, record { stream = j; first = first; is = refl })
+  | inr (j, first) ↦ inr (bare_fault_at (StreamAt j), record { stream = j; first = first; is = refl })
 ]
 
 class_at_decided : (stage : Stage) (j : ℕ) → IsDecidable (HasClassAt stage j)
@@ -94,7 +95,7 @@ witness_either stage formed = elim (stream_either stage (IsShownAt stage) (shown
 pub balance_either : (stage : Stage) → IsWellFormed stage → Either (AreEven stage) (IsBalanceFault stage)
 balance_either stage formed = elim (each_or_first (IsEvenAt stage) stage.graph.nodes (λ n lt. int_decided (net_of n stage.graph.streams (printed_flows stage)) (pos 0))) [
   | inl each ↦ inl (record { each = length-map stage.streams (λ (r : StreamResult). r.flow) ∙ formed.each_stream; even = each })
-  | inr (n, first) ↦ inr (record { place = Node n; stated = pos 0; found = net_of n stage.graph.streams (printed_flows stage) }, record { node = n; first = first; is = refl })
+  | inr (n, first) ↦ inr (fault_at (Node n) (pos 0, net_of n stage.graph.streams (printed_flows stage)), record { node = n; first = first; is = refl })
 ]
 
 -- ---- 4
@@ -114,7 +115,7 @@ price_either stage limits =
       | inl each ↦ inl (prices_by_nodes stage each)
       | inr (n, first) ↦
           let (m, least) = some_least stage.graph n in
-          inr (_, record { node = n; least = m; first = first; is_least = least; is = refl })
+          inr (_, record { node = n; found = _; first = first; other = record { least = m; is_least = least; fails = first.without; is = refl }; is = refl })
     ]
 
 -- ---- 5
@@ -144,7 +145,7 @@ box_either stage =
       | inr (j, first) ↦
           let (s, here) = some_at ss j first.within in
           let (m, is) = box_meas price s s.meas refl (λ inside. first.without (λ t there. subst (IsInBox price) (some_same (sym here ∙ there)) inside)) in
-          inr (_, record { place = j; stream = s; meas = m; first = first; stream_is = here; meas_is = is; is = refl })
+          inr (_, record { place = j; first = first; out = record { stream = s; meas = m; stream_is = here; meas_is = is; fails = first.without; is = refl } })
     ]
 
 -- ---- 6
@@ -165,9 +166,9 @@ pub gap_either : (stage : Stage) → Either (IsGapOfFlows stage) (IsGapFault sta
 gap_either stage = elim (cases_eq stage.h (found_gap stage).h) [
   | inl same_h ↦ elim (cases_eq stage.g (found_gap stage).g) [
     | inl same_g ↦ inl (ap₂ gap_of_numbers same_g same_h)
-    | inr ne ↦ inr (_, record { differs = λ e. ne (ap (λ (gap : GapOf). gap.g) e); is = refl })
+    | inr ne ↦ inr (_, record { differ = λ e. ne (ap (λ (gap : GapOf). gap.g) e); is = refl })
   ]
-  | inr ne ↦ inr (_, record { differs = λ e. ne (ap (λ (gap : GapOf). gap.h) e); is = refl })
+  | inr ne ↦ inr (_, record { differ = λ e. ne (ap (λ (gap : GapOf). gap.h) e); is = refl })
 ]
 
 -- ---- 8
@@ -203,6 +204,19 @@ other_of None (Some y) b here there ne = cc (here, there)
 other_of (Some x) None b here there ne = cc (here, there)
 other_of (Some x) (Some y) b here there ne = record { stated = x; found = y; stated_is = refl; found_is = refl }
 
+differ_of : (j : ℕ) (printed rule : Option BoundsOf) → AreOther printed rule → printed ≢ rule → (fault : Fault) × DifferAt j printed rule fault
+differ_of j printed rule other ne = (
+  fault_at (StreamAt j) (bounds_numbers other.stated other.found),
+  record {
+    here = other.stated;
+    there = other.found;
+    stated_is = other.stated_is;
+    found_is = other.found_is;
+    differ = λ e. ne (other.stated_is ∙ ap Some e ∙ sym other.found_is);
+    is = refl;
+  },
+)
+
 pub bounds_either : (stage : Stage) → IsWellFormed stage → HaveClasses stage → AreShown stage → Either (HaveBounds stage) (IsBoundsFault stage)
 bounds_either stage formed classes shown =
     let price = printed_price stage in
@@ -215,17 +229,18 @@ bounds_either stage formed classes shown =
           let (r, there) = some_at stage.streams j (omega (arith, first.within, formed.each_stream)) in
           let (s, here, shows) = shown j r there in
           let rule = class_bounded stage.graph j s r.classified.class r.classified.witness price ss gap shows in
-          let other = other_of r.bounds (stream_bounds price ss gap j r.classified) (is_bounded r.classified.class) (classes j s r here there).bounded rule
-          (λ e. first.without (λ t at. subst (λ (u : StreamResult). u.bounds ≡ stream_bounds price ss gap j u.classified) (some_same (sym there ∙ at)) e)) in
-          let fault : Fault = record { place = StreamAt j; stated = (bounds_numbers other.stated other.found).0; found = (bounds_numbers other.stated other.found).1 } in
-          inr (fault, record { stream = j; result = r; stated = other.stated; found = other.found; first = first; result_is = there; stated_is = other.stated_is; found_is = other.found_is; is = refl {a = fault} })
+          let ne : r.bounds ≢ stream_bounds price ss gap j r.classified =
+          λ e. first.without (λ t at. subst (λ (u : StreamResult). u.bounds ≡ stream_bounds price ss gap j u.classified) (some_same (sym there ∙ at)) e) in
+          let other = other_of r.bounds (stream_bounds price ss gap j r.classified) (is_bounded r.classified.class) (classes j s r here there).bounded rule ne in
+          let (fault, differs) = differ_of j r.bounds (stream_bounds price ss gap j r.classified) other ne in
+          inr (fault, record { stream = j; result = r; first = first; result_is = there; differs = differs })
     ]
 
 -- ---- 10
 pub statistic_either : (stage : Stage) → Either (IsStatistic stage) (IsStatisticFault stage)
 statistic_either stage = elim (decided_both (int_decided stage.low (found_low stage)) (option_decided int_decided stage.high (high_of stage.graph.streams (printed_flows stage)))) [
   | inl p ↦ inl (record { low = p.0; high = p.1 })
-  | inr out ↦ inr (_, record { differs = λ s. out (s.low, s.high); is = refl })
+  | inr out ↦ inr (_, record { differ = out; is = refl })
 ]
 
 -- ---- verdicts are five
@@ -273,7 +288,7 @@ rows_same [] (t ∷ rule) count each = absurd (omega (arith, count))
 rows_same (r ∷ rows) [] count each = absurd (omega (arith, count))
 rows_same (r ∷ rows) (t ∷ rule) count each = ap₂ (λ x xs. x ∷ xs) (each 0 r t refl refl) (rows_same rows rule (omega (arith, count)) (λ i. each (suc i)))
 
-rows_either : (rows rule : List NodalTest) → Either (map unjudged rows ≡ rule) (λ fault. IsCountFault rows rule fault ⊎ IsRowFault rows rule fault)
+rows_either : (rows rule : List NodalTest) → Either (map unjudged rows ≡ rule) (IsRowsFault rows rule)
 rows_either rows rule = elim (cases_eq (length rows) (length rule)) [
   | inl count ↦
       elim (each_or_first (IsRowAt rows rule) (length rows) (λ i lt. decided_as (λ each row test here there. each row here test there) (λ each row here test there. each row test here there)
@@ -283,7 +298,7 @@ rows_either rows rule = elim (cases_eq (length rows) (length rule)) [
         | inr (i, first) ↦
             let (row, here) = some_at rows i first.within in
             let (test, there) = some_at rule i (omega (arith, first.within, count)) in
-            inr (_, inr (record { count = count; place = i; row = row; test = test; first = first; row_is = here; test_is = there; is = refl }))
+            inr (_, inr (record { count = count; place = i; row = row; test = test; first = first; row_is = here; test_is = there; differs = record { differ = λ same. first.without (λ r t at also. ap unjudged (some_same (sym at ∙ here)) ∙ same ∙ some_same (sym there ∙ also)); is = refl } }))
       ]
   | inr ne ↦ inr (_, inl (record { differs = ne; is = refl }))
 ]
@@ -300,29 +315,28 @@ pub nodal_either : SomeNodalTestsLaw → (stage : Stage) → IsProcessGraph stag
 nodal_either law stage limits = let (rule, are) = law stage.graph None limits in nodal_by stage rule are stage.tests
 
 -- ---- 12
-measures_by : (stage : Stage) (tests : Tests) → IsGlobalVerdict stage tests → All IsNodalVerdict tests.nodal
-    → Either (AreVerdicts stage tests) (λ fault. IsGlobalFault stage tests fault ⊎ (IsNodalVerdictFault stage tests fault ⊎ IsMeasureVerdictFault stage tests fault))
-measures_by stage tests overall nodal = elim (each_or_first (IsMeasureVerdictAt tests) (length tests.measure) (λ i lt. at_decided IsMeasureVerdict (λ row. verdict_decided _ _) (slice_get tests.measure i))) [
-  | inl each ↦ inl (record { overall = overall; nodal = nodal; measure = all_from IsMeasureVerdict tests.measure each })
-  | inr (i, first) ↦
-      let (row, here) = some_at tests.measure i first.within in
-      inr (_, inr (inr (record { overall = overall; nodal = nodal; place = i; row = row; first = first; row_is = here; is = refl })))
+first_either : {A : Type 0} (P : A → Type 0) → ((x : A) → IsDecidable (P x)) → (rows : List A) → All P rows ⊎ ((row : A) × IsFirstOf P rows row)
+first_either P decided rows = elim (each_or_first (λ i. (other : _) → slice_get rows i ≡ Some other → P other) (length rows) (λ i lt. at_decided P decided (slice_get rows i))) [
+  | inl each ↦ inl (all_from P rows each)
+  | inr (i, first) ↦ let (row, here) = some_at rows i first.within in inr (row, record { place = i; first = first; row_is = here })
 ]
 
-verdicts_by : (stage : Stage) (tests : Tests)
-    → Either (AreVerdicts stage tests) (λ fault. IsGlobalFault stage tests fault ⊎ (IsNodalVerdictFault stage tests fault ⊎ IsMeasureVerdictFault stage tests fault))
+measures_by : (stage : Stage) (tests : Tests) → IsGlobalVerdict stage tests → All IsNodalVerdict tests.nodal → Either (AreVerdicts stage tests) (AreVerdictsFault stage tests)
+measures_by stage tests overall nodal = elim (first_either IsMeasureVerdict (λ row. verdict_decided _ _) tests.measure) [
+  | inl each ↦ inl (record { overall = overall; nodal = nodal; measure = each })
+  | inr (row, first) ↦ inr (bare_fault_at (StreamAt row.stream), inr (inr (overall, nodal, record { row = row; first = first; is = refl })))
+]
+
+verdicts_by : (stage : Stage) (tests : Tests) → Either (AreVerdicts stage tests) (AreVerdictsFault stage tests)
 verdicts_by stage tests = elim (verdict_decided tests.global.verdict (global_verdict stage.low stage.high stage.dof tests.global.critical)) [
-  | inl overall ↦ elim (each_or_first (IsNodalVerdictAt tests) (length tests.nodal) (λ i lt. at_decided IsNodalVerdict (λ row. verdict_decided _ _) (slice_get tests.nodal i))) [
-    | inl each ↦ measures_by stage tests overall (all_from IsNodalVerdict tests.nodal each)
-    | inr (i, first) ↦
-        let (row, here) = some_at tests.nodal i first.within in
-        inr (_, inr (inl (record { overall = overall; place = i; row = row; first = first; row_is = here; is = refl })))
+  | inl overall ↦ elim (first_either IsNodalVerdict (λ row. verdict_decided _ _) tests.nodal) [
+    | inl each ↦ measures_by stage tests overall each
+    | inr (row, first) ↦ inr (bare_fault_at (Node row.node), inr (inl (overall, record { row = row; first = first; is = refl })))
   ]
-  | inr out ↦ inr (_, inl (record { differs = out; is = refl }))
+  | inr out ↦ inr (bare_fault_at Whole, inl (record { differs = out; is = refl }))
 ]
 
-judged_by : (stage : Stage) (o : Option Tests) → Either (IfSome o (AreVerdicts stage))
-    (λ fault. IsSomeAnd o (λ tests. IsGlobalFault stage tests fault ⊎ (IsNodalVerdictFault stage tests fault ⊎ IsMeasureVerdictFault stage tests fault)))
+judged_by : (stage : Stage) (o : Option Tests) → Either (IfSome o (AreVerdicts stage)) (λ fault. IsSomeAnd o (λ tests. AreVerdictsFault stage tests fault))
 judged_by stage None = inl tt
 judged_by stage (Some tests) = verdicts_by stage tests
 
@@ -343,9 +357,10 @@ least_either stage formed classes shown =
             | inl each ↦ inl (λ have j r there. each j (omega (arith, slice_get_within stage.streams j r there, formed.each_stream)) r there)
             | inr (j, first) ↦
                 let (r, there) = some_at stage.streams j (omega (arith, first.within, formed.each_stream)) in
-                let other = other_of r.least (stream_least_bounds price ss flows gap j r.classified) _ (result_least_bounded stage j r have classes shown there) refl
-                (λ e. first.without (λ t at. subst (λ (u : StreamResult). u.least ≡ stream_least_bounds price ss flows gap j u.classified) (some_same (sym there ∙ at)) e)) in
-                let fault : Fault = record { place = StreamAt j; stated = (bounds_numbers other.stated other.found).0; found = (bounds_numbers other.stated other.found).1 } in
-                inr (fault, record { have = have; stream = j; result = r; stated = other.stated; found = other.found; first = first; result_is = there; stated_is = other.stated_is; found_is = other.found_is; is = refl {a = fault} })
+                let ne : r.least ≢ stream_least_bounds price ss flows gap j r.classified =
+                λ e. first.without (λ t at. subst (λ (u : StreamResult). u.least ≡ stream_least_bounds price ss flows gap j u.classified) (some_same (sym there ∙ at)) e) in
+                let other = other_of r.least (stream_least_bounds price ss flows gap j r.classified) _ (result_least_bounded stage j r have classes shown there) refl ne in
+                let (fault, differs) = differ_of j r.least (stream_least_bounds price ss flows gap j r.classified) other ne in
+                inr (fault, record { have = have; stream = j; result = r; first = first; result_is = there; differs = differs })
           ]
     ]

@@ -26,8 +26,8 @@ use Rattle.pb_elim.specs.Printed.{have_least, printed_flows, printed_gap, printe
 use Rattle.pb_elim.specs.Signs.{AreWitnessSigns}
 use Rattle.pb_check.specs.declared.faults.Fault.{Fault}
 use Rattle.pb_check.specs.Asked.{AreShown, HasBoundsAt, HasLeastBoundsAt, HaveBounds, HaveClasses, HaveLeastBounds, IsGapOfFlows, found_gap, is_bounded}
-use Rattle.pb_check.specs.Faults.{IsBoundsFault, IsLeastFault}
-use Rattle.pb_check.specs.Pairs.{DifferAt, IsPairOf}
+use Rattle.pb_check.specs.Faults.{DifferAt, IsBoundsFault, IsLeastFault}
+use Rattle.pb_check.specs.Pairs.{IsPairOf}
 use Rattle.pb_check.proofs.OwnLemmas.{class_bounded, class_least_bounded}
 
 -- ---- the gap
@@ -107,17 +107,13 @@ pub bounds_fail : (stage : Stage) (j : ℕ) (r : StreamResult) (found : Option B
 bounds_fail stage j r found fault formed at found_is before differ = record {
   stream = j;
   result = r;
-  stated = differ.here;
-  found = differ.there;
   first = record {
     within = omega (arith, slice_get_within stage.streams j r at, formed.each_stream);
     before = before;
     without = λ all. differ.differ (some_same (sym differ.stated_is ∙ all r at ∙ sym found_is ∙ differ.found_is));
   };
   result_is = at;
-  stated_is = differ.stated_is;
-  found_is = sym found_is ∙ differ.found_is;
-  is = differ.is;
+  differs = subst (λ (o : Option Bounds). DifferAt j r.bounds o fault) found_is differ;
 }
 
 -- the stream at a place has the bounds that the rule gives
@@ -138,17 +134,13 @@ least_fail stage j r found fault have formed at found_is before differ = record 
   have = have;
   stream = j;
   result = r;
-  stated = differ.here;
-  found = differ.there;
   first = record {
     within = omega (arith, slice_get_within stage.streams j r at, formed.each_stream);
     before = before;
     without = λ all. differ.differ (some_same (sym differ.stated_is ∙ all r at ∙ sym found_is ∙ differ.found_is));
   };
   result_is = at;
-  stated_is = differ.stated_is;
-  found_is = sym found_is ∙ differ.found_is;
-  is = differ.is;
+  differs = subst (λ (o : Option Bounds). DifferAt j r.least o fault) found_is differ;
 }
 
 -- the stream at a place has the least bounds that the rule gives

@@ -9,7 +9,7 @@ use Rattle.pb_tests.specs.Laws.{SomeNodalTestsLaw}
 use Rattle.pb_check.specs.declared.faults.Test.{Test}
 use Rattle.pb_check.specs.declared.faults.Test.TheVariants.{Class, Witness, Balance, Price, Box, Freedom, Gap, State, Bounds, Statistic, Nodal, Verdict, Least}
 use Rattle.pb_check.specs.declared.faults.Fault.{Fault}
-use Rattle.pb_check.specs.Faults.{IsNodalRowsFault, IsGlobalFault, IsNodalVerdictFault, IsMeasureVerdictFault}
+use Rattle.pb_check.specs.Faults.{AreVerdictsFault, IsNodalRowsFault}
 use Rattle.pb_check.specs.Verdict.{code_of, Passes, Fails, IsPlaceWithin}
 use Rattle.pb_check.specs.VerdictLaws.{HasFault, SomeVerdictLaw, PlaceLaw}
 use Rattle.pb_check.specs.Among.{IsAmong}
@@ -63,33 +63,33 @@ rows_within : (stage : Stage) (o : Option Tests) (fault : Fault) → IfSome o (A
 rows_within stage None fault formed fails = absurd fails
 rows_within stage (Some tests) fault formed fails = elim fails.says [
   | inl count ↦ within_by stage fault _ count.is tt
-  | inr row ↦ within_by stage fault _ row.is (all_each (IsNodalWithin stage.graph) tests.nodal formed.nodal row.place row.row row.row_is).node
+  | inr row ↦ within_by stage fault _ row.differs.is (all_each (IsNodalWithin stage.graph) tests.nodal formed.nodal row.place row.row row.row_is).node
 ]
 
 verdicts_within : (stage : Stage) (o : Option Tests) (fault : Fault) → length stage.streams ≡ length stage.graph.streams → IfSome o (AreTestsWithin stage.graph)
-    → IsSomeAnd o (λ tests. IsGlobalFault stage tests fault ⊎ (IsNodalVerdictFault stage tests fault ⊎ IsMeasureVerdictFault stage tests fault))
+    → IsSomeAnd o (λ tests. AreVerdictsFault stage tests fault)
     → IsPlaceWithin stage fault.place
 verdicts_within stage None fault each formed fails = absurd fails
 verdicts_within stage (Some tests) fault each formed (inl whole) = within_by stage fault _ whole.is tt
-verdicts_within stage (Some tests) fault each formed (inr (inl nodal)) =
-    within_by stage fault _ nodal.is (all_each (IsNodalWithin stage.graph) tests.nodal formed.nodal nodal.place nodal.row nodal.row_is).node
-verdicts_within stage (Some tests) fault each formed (inr (inr measure)) =
-    within_by stage fault _ measure.is (omega (arith, each, (all_each (IsMeasureWithin stage.graph) tests.measure formed.measure measure.place measure.row measure.row_is).stream))
+verdicts_within stage (Some tests) fault each formed (inr (inl (overall, nodal))) =
+    within_by stage fault _ nodal.is (all_each (IsNodalWithin stage.graph) tests.nodal formed.nodal nodal.first.place nodal.row nodal.first.row_is).node
+verdicts_within stage (Some tests) fault each formed (inr (inr (overall, all, measure))) =
+    within_by stage fault _ measure.is (omega (arith, each, (all_each (IsMeasureWithin stage.graph) tests.measure formed.measure measure.first.place measure.row measure.first.row_is).stream))
 
 pub place_of : (stage : Stage) (gap sweeps : ℕ) (test : Test) (fault : Fault) → IsWellFormed stage → Fails stage gap sweeps test fault → IsPlaceWithin stage fault.place
 place_of stage gap sweeps Class fault formed fails = within_by stage fault _ fails.is (omega (arith, fails.first.within, formed.each_stream))
 place_of stage gap sweeps Witness fault formed fails = within_by stage fault _ fails.is (omega (arith, fails.first.within, formed.each_stream))
 place_of stage gap sweeps Balance fault formed fails = within_by stage fault _ fails.is fails.first.within
 place_of stage gap sweeps Price fault formed fails = within_by stage fault _ fails.is fails.first.within
-place_of stage gap sweeps Box fault formed fails = within_by stage fault _ fails.is (omega (arith, fails.first.within, formed.each_stream))
+place_of stage gap sweeps Box fault formed fails = within_by stage fault _ fails.out.is (omega (arith, fails.first.within, formed.each_stream))
 place_of stage gap sweeps Freedom fault formed fails = within_by stage fault _ fails.is tt
 place_of stage gap sweeps Gap fault formed fails = within_by stage fault _ fails.is tt
 place_of stage gap sweeps State fault formed fails = within_by stage fault _ fails.is tt
-place_of stage gap sweeps Bounds fault formed fails = within_by stage fault _ fails.is (omega (arith, fails.first.within, formed.each_stream))
+place_of stage gap sweeps Bounds fault formed fails = within_by stage fault _ fails.differs.is (omega (arith, fails.first.within, formed.each_stream))
 place_of stage gap sweeps Statistic fault formed fails = within_by stage fault _ fails.is tt
 place_of stage gap sweeps Nodal fault formed fails = rows_within stage stage.tests fault formed.tests fails
 place_of stage gap sweeps Verdict fault formed fails = verdicts_within stage stage.tests fault formed.each_stream formed.tests fails
-place_of stage gap sweeps Least fault formed fails = within_by stage fault _ fails.is (omega (arith, fails.first.within, formed.each_stream))
+place_of stage gap sweeps Least fault formed fails = within_by stage fault _ fails.differs.is (omega (arith, fails.first.within, formed.each_stream))
 
 pub place_law : PlaceLaw
 place_law stage gap sweeps formed fault =

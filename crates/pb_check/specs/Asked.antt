@@ -15,14 +15,12 @@ use Rattle.pb_graph.specs.Groups.{SameGroup, IsFreeGroup}
 use Rattle.pb_graph.specs.Prices.{IsInBox}
 use Rattle.pb_gap.specs.declared.gap.Gap.{Gap}
 use Rattle.pb_gap.specs.Gap.{MeetsGap, gap_of}
-use Rattle.pb_gap.specs.StreamBounds.{stream_bounds}
-use Rattle.pb_gap.specs.LeastBounds.{stream_least_bounds}
 use Rattle.pb_gap.specs.Statistic.{low_of, high_of}
 use Rattle.pb_tests.specs.Nodal.{AreNodalTests}
 use Rattle.pb_tests.specs.Verdicts.{global_verdict}
-use Rattle.pb_elim.specs.Printed.{printed_price, printed_flows, printed_gap, have_least, EachStream, HasLeastBounds}
+use Rattle.pb_elim.specs.Printed.{printed_price, printed_flows, printed_gap, have_least, HasLeastBounds}
 use Rattle.pb_elim.specs.Stage.{HasFreedom}
-use Rattle.pb_elim.specs.Certified.{AreLeastBounds, IsMeasureVerdict, IsNodalVerdict, unjudged}
+use Rattle.pb_elim.specs.Certified.{IsMeasureVerdict, IsNodalVerdict, found_bounds, found_least, unjudged}
 
 -- ---- 1. class
 -- whether a class is that of a measured stream
@@ -62,7 +60,7 @@ IsShownAt stage j =
 
 -- and that of each stream
 abbrev pub AreShown : Stage → Type 0
-AreShown stage = EachStream stage (λ j result. IsCertified stage.graph j result.classified)
+AreShown stage = (j : ℕ) → IsShownAt stage j
 
 -- ---- 3. balance
 -- the flows balance at a node
@@ -133,15 +131,11 @@ IsStateOfGap stage gap sweeps = IsStateAt gap sweeps (printed_gap stage) stage.s
 -- the bounds of the stream at a place are those of the printed prices, gap and certificate
 abbrev pub HasBoundsAt : Stage → ℕ → Type 0
 HasBoundsAt stage j =
-    (result : StreamResult) → slice_get stage.streams j ≡ Some result
-    → result.bounds
-    ≡ stream_bounds (printed_price stage) stage.graph.streams (printed_gap stage) j result.classified
+    (result : StreamResult) → slice_get stage.streams j ≡ Some result → result.bounds ≡ found_bounds stage j result
 
 -- those of each stream are
 abbrev pub HaveBounds : Stage → Type 0
-HaveBounds stage =
-    EachStream stage (λ j result. result.bounds
-    ≡ stream_bounds (printed_price stage) stage.graph.streams (printed_gap stage) j result.classified)
+HaveBounds stage = (j : ℕ) → HasBoundsAt stage j
 
 -- ---- 10. statistic
 -- its ends by the printed flows and gap
@@ -182,11 +176,8 @@ IsJudged stage = IfSome stage.tests (AreVerdicts stage)
 -- the least bounds of the stream at a place are those of the printed flows, prices, gap and certificate
 abbrev pub HasLeastBoundsAt : Stage → ℕ → Type 0
 HasLeastBoundsAt stage j =
-    (result : StreamResult) → slice_get stage.streams j ≡ Some result
-    → result.least
-    ≡ stream_least_bounds (printed_price stage) stage.graph.streams (printed_flows stage)
-    (printed_gap stage) j result.classified
+    (result : StreamResult) → slice_get stage.streams j ≡ Some result → result.least ≡ found_least stage j result
 
 -- those of each stream are, where the stage has least bounds
 abbrev pub HaveLeastBounds : Stage → Type 0
-HaveLeastBounds stage = HasLeastBounds stage → AreLeastBounds stage
+HaveLeastBounds stage = HasLeastBounds stage → (j : ℕ) → HasLeastBoundsAt stage j

@@ -15,29 +15,36 @@ use Rattle.pb_graph.specs.Prices.{rise_of}
 use Rattle.pb_graph.specs.WellFormed.{sweeps_of}
 use Rattle.pb_dual.specs.Candidates.{room_of}
 use Rattle.pb_gap.specs.declared.gap.Gap.{Gap}
-use Rattle.pb_gap.specs.StreamBounds.{stream_bounds}
-use Rattle.pb_gap.specs.LeastBounds.{stream_least_bounds}
 use Rattle.pb_gap.specs.Statistic.{high_of}
 use Rattle.pb_tests.specs.Nodal.{AreNodalTests}
 use Rattle.pb_elim.specs.Printed.{printed_price, printed_flows, printed_gap, HasLeastBounds}
 use Rattle.pb_elim.specs.Stage.{HasFreedom}
-use Rattle.pb_elim.specs.Certified.{IsMeasureVerdict, IsNodalVerdict, unjudged}
+use Rattle.pb_elim.specs.Certified.{IsMeasureVerdict, IsNodalVerdict, found_bounds, found_least, unjudged}
 use Rattle.pb_check.specs.declared.faults.Fault.{Fault}
+use Rattle.pb_check.specs.declared.faults.Place.{Place}
 use Rattle.pb_check.specs.declared.faults.Place.TheVariants.{Node, Stream as StreamAt, Whole}
-use Rattle.pb_check.specs.First.{IsFirstWithout}
-use Rattle.pb_check.specs.Asked.{HasClassAt, IsShownAt, IsEvenAt, IsLeastOfGroup, HasGroupPriceAt, IsInBoxAt, found_gap, IsGapOfFlows, IsStateOfGap, HasBoundsAt, HasLeastBoundsAt, found_low, IsStatistic, IsGlobalVerdict}
+use Rattle.pb_check.specs.First.{IsFirstOf, IsFirstWithout}
+use Rattle.pb_check.specs.Asked.{HasClassAt, IsShownAt, IsEvenAt, IsLeastOfGroup, HasGroupPriceAt, IsInBoxAt, found_gap, IsStateOfGap, HasBoundsAt, HasLeastBoundsAt, found_low, IsGlobalVerdict}
 
 -- of two pairs of numbers, each stated and found, the first that differ; the second where the first agree
 abbrev pub first_differing : ℤ → ℤ → ℤ → ℤ → ℤ × ℤ
 first_differing stated found next_stated next_found =
     if int_eq stated found then (next_stated, next_found) else (stated, found)
 
+-- a fault at a place, with what is stated there and what the rule gives
+abbrev pub fault_at : Place → ℤ × ℤ → Fault
+fault_at place numbers = record { place = place; stated = numbers.0; found = numbers.1 }
+
+-- one without two numbers
+abbrev pub bare_fault_at : Place → Fault
+bare_fault_at place = fault_at place (pos 0, pos 0)
+
 -- ---- 1 and 2: there are no two numbers
 -- the first stream at which something fails
 pub record IsStreamFault (stage : Stage) (P : ℕ → Type 0) (fault : Fault) : Type 0 where
   pub stream : ℕ
   pub first : IsFirstWithout P (length stage.graph.streams) stream
-  pub is : fault ≡ record { place = StreamAt stream; stated = pos 0; found = pos 0 }
+  pub is : fault ≡ bare_fault_at (StreamAt stream)
 
 abbrev pub IsClassFault : Stage → Fault → Type 0
 IsClassFault stage = IsStreamFault stage (HasClassAt stage)
@@ -49,109 +56,101 @@ IsWitnessFault stage = IsStreamFault stage (IsShownAt stage)
 pub record IsBalanceFault (stage : Stage) (fault : Fault) : Type 0 where
   pub node : ℕ
   pub first : IsFirstWithout (IsEvenAt stage) stage.graph.nodes node
-  pub is :
-      fault ≡ record {
-        place = Node node;
-        stated = pos 0;
-        found = net_of node stage.graph.streams (printed_flows stage);
-      }
+  pub is : fault ≡ fault_at (Node node) (pos 0, net_of node stage.graph.streams (printed_flows stage))
 
 -- ---- 4: the price of the first node that hasn't that of its group, beside the price of the least node of the group; beside 0, where
 -- these two agree
+-- a node hasn't the price of its group: what is found beside its price
+pub record IsOtherPrice (stage : Stage) (node : ℕ) (found : ℤ) : Type 0 where
+  pub least : ℕ
+  pub is_least : IsLeastOfGroup stage.graph node least
+  pub fails : HasGroupPriceAt stage node → ⊥
+  pub is :
+      found
+      ≡ (if int_eq (printed_price stage node) (printed_price stage least) then pos 0
+      else printed_price stage least)
+
 pub record IsPriceFault (stage : Stage) (fault : Fault) : Type 0 where
   pub node : ℕ
-  pub least : ℕ
+  pub found : ℤ
   pub first : IsFirstWithout (HasGroupPriceAt stage) stage.graph.nodes node
-  pub is_least : IsLeastOfGroup stage.graph node least
-  pub is :
-      fault ≡ record {
-        place = Node node;
-        stated = printed_price stage node;
-        found =
-            if int_eq (printed_price stage node) (printed_price stage least) then pos 0
-            else printed_price stage least;
-      }
+  pub other : IsOtherPrice stage node found
+  pub is : fault ≡ fault_at (Node node) (printed_price stage node, found)
 
 -- ---- 5: the difference of the prices at the ends of the first measured stream out of the box, beside the greatest that is in it
-pub record IsBoxFault (stage : Stage) (fault : Fault) : Type 0 where
-  pub place : ℕ
+-- a measured flow isn't in the box
+pub record IsOutOfBox (stage : Stage) (place : ℕ) (fault : Fault) : Type 0 where
   pub stream : Stream
   pub meas : Meas
-  pub first : IsFirstWithout (IsInBoxAt stage) (length stage.graph.streams) place
   pub stream_is : slice_get stage.graph.streams place ≡ Some stream
   pub meas_is : stream.meas ≡ Some meas
+  pub fails : IsInBoxAt stage place → ⊥
   pub is :
-      fault ≡ record {
-        place = StreamAt place;
-        stated = pos (unsigned_abs (rise_of (printed_price stage) stream));
-        found = room_of meas.variance;
-      }
+      fault
+      ≡ fault_at (StreamAt place)
+      (pos (unsigned_abs (rise_of (printed_price stage) stream)), room_of meas.variance)
+
+pub record IsBoxFault (stage : Stage) (fault : Fault) : Type 0 where
+  pub place : ℕ
+  pub first : IsFirstWithout (IsInBoxAt stage) (length stage.graph.streams) place
+  pub out : IsOutOfBox stage place fault
 
 -- ---- 6: the degrees of freedom, beside those of the graph
 pub record IsFreedomFault (stage : Stage) (fault : Fault) : Type 0 where
   pub dof : ℕ
   pub has : HasFreedom stage.graph.streams dof
   pub differs : stage.dof ≢ dof
-  pub is : fault ≡ record { place = Whole; stated = pos stage.dof; found = pos dof }
+  pub is : fault ≡ fault_at Whole (pos stage.dof, pos dof)
 
 -- ---- 7: h, beside that of the flows and prices; where it is that, g
 abbrev pub gap_numbers : Gap → Gap → ℤ × ℤ
 gap_numbers stated found = first_differing (pos stated.h) (pos found.h) (pos stated.g) (pos found.g)
 
-pub record IsGapFault (stage : Stage) (fault : Fault) : Type 0 where
-  pub differs : IsGapOfFlows stage → ⊥
-  pub is :
-      fault ≡ record {
-        place = Whole;
-        stated = (gap_numbers (printed_gap stage) (found_gap stage)).0;
-        found = (gap_numbers (printed_gap stage) (found_gap stage)).1;
-      }
+-- two gaps differ
+pub record GapsDiffer (stated found : Gap) (fault : Fault) : Type 0 where
+  pub differ : stated ≢ found
+  pub is : fault ≡ fault_at Whole (gap_numbers stated found)
+
+abbrev pub IsGapFault : Stage → Fault → Type 0
+IsGapFault stage = GapsDiffer (printed_gap stage) (found_gap stage)
 
 -- ---- 8: the sweeps done, beside those that were allowed
 pub record IsStateFault (stage : Stage) (gap sweeps : ℕ) (fault : Fault) : Type 0 where
   pub differs : IsStateOfGap stage gap sweeps → ⊥
-  pub is : fault ≡ record { place = Whole; stated = pos (sweeps_of stage.solved); found = pos sweeps }
+  pub is : fault ≡ fault_at Whole (pos (sweeps_of stage.solved), pos sweeps)
 
 -- ---- 9: lo of the first stream with other bounds, beside that of the rule; where it is that, hi
 abbrev pub bounds_numbers : Bounds → Bounds → ℤ × ℤ
 bounds_numbers stated found = first_differing stated.lo found.lo stated.hi found.hi
 
+-- two bounds of the stream at a place differ
+pub record DifferAt (stream : ℕ) (stated found : Option Bounds) (fault : Fault) : Type 0 where
+  pub here : Bounds
+  pub there : Bounds
+  pub stated_is : stated ≡ Some here
+  pub found_is : found ≡ Some there
+  pub differ : here ≢ there
+  pub is : fault ≡ fault_at (StreamAt stream) (bounds_numbers here there)
+
 pub record IsBoundsFault (stage : Stage) (fault : Fault) : Type 0 where
   pub stream : ℕ
   pub result : StreamResult
-  pub stated : Bounds
-  pub found : Bounds
   pub first : IsFirstWithout (HasBoundsAt stage) (length stage.graph.streams) stream
   pub result_is : slice_get stage.streams stream ≡ Some result
-  pub stated_is : result.bounds ≡ Some stated
-  pub found_is :
-      stream_bounds (printed_price stage) stage.graph.streams (printed_gap stage) stream result.classified
-      ≡ Some found
-  pub is :
-      fault ≡ record {
-        place = StreamAt stream;
-        stated = (bounds_numbers stated found).0;
-        found = (bounds_numbers stated found).1;
-      }
+  pub differs : DifferAt stream result.bounds (found_bounds stage stream result) fault
 
 -- ---- 10: the low end, beside that of the rule; where it is that, the high end, of which -1 says that there is none
 abbrev pub high_or_none : Option ℤ → ℤ
 high_or_none None = negsuc 0
 high_or_none (Some high) = high
 
-abbrev pub statistic_numbers : Stage → ℤ × ℤ
-statistic_numbers stage =
-    first_differing stage.low (found_low stage) (high_or_none stage.high)
-    (high_or_none (high_of stage.graph.streams (printed_flows stage)))
+-- the ends of two statistics differ
+pub record EndsDiffer (low : ℤ) (high : Option ℤ) (found_low : ℤ) (found_high : Option ℤ) (fault : Fault) : Type 0 where
+  pub differ : (low ≡ found_low) × (high ≡ found_high) → ⊥
+  pub is : fault ≡ fault_at Whole (first_differing low found_low (high_or_none high) (high_or_none found_high))
 
-pub record IsStatisticFault (stage : Stage) (fault : Fault) : Type 0 where
-  pub differs : IsStatistic stage → ⊥
-  pub is :
-      fault ≡ record {
-        place = Whole;
-        stated = (statistic_numbers stage).0;
-        found = (statistic_numbers stage).1;
-      }
+abbrev pub IsStatisticFault : Stage → Fault → Type 0
+IsStatisticFault stage = EndsDiffer stage.low stage.high (found_low stage) (high_of stage.graph.streams (printed_flows stage))
 
 -- ---- 11: the number of rows, beside that of the free groups; where it is that, the first row that isn't that of its group: its node,
 -- beside the least node of the group, its net flow or its variance, in this order
@@ -170,7 +169,12 @@ row_numbers row test =
 -- the rows are too few or too many
 pub record IsCountFault (rows tests : List NodalTest) (fault : Fault) : Type 0 where
   pub differs : length rows ≢ length tests
-  pub is : fault ≡ record { place = Whole; stated = pos (length rows); found = pos (length tests) }
+  pub is : fault ≡ fault_at Whole (pos (length rows), pos (length tests))
+
+-- a row isn't the test at its place
+pub record IsRowDifference (row test : NodalTest) (fault : Fault) : Type 0 where
+  pub differ : unjudged row ≢ test
+  pub is : fault ≡ fault_at (Node row.node) (row_numbers row test)
 
 -- they are as many as the tests, and one isn't the test at its place
 pub record IsRowFault (rows tests : List NodalTest) (fault : Fault) : Type 0 where
@@ -181,59 +185,46 @@ pub record IsRowFault (rows tests : List NodalTest) (fault : Fault) : Type 0 whe
   pub first : IsFirstWithout (IsRowAt rows tests) (length rows) place
   pub row_is : slice_get rows place ≡ Some row
   pub test_is : slice_get tests place ≡ Some test
-  pub is :
-      fault ≡ record {
-        place = Node row.node;
-        stated = (row_numbers row test).0;
-        found = (row_numbers row test).1;
-      }
+  pub differs : IsRowDifference row test fault
+
+-- the rows aren't the tests
+abbrev pub IsRowsFault : List NodalTest → List NodalTest → Fault → Type 0
+IsRowsFault rows tests fault = IsCountFault rows tests fault ⊎ IsRowFault rows tests fault
 
 -- the tests of the graph, without critical values, which the rows aren't
 pub record IsNodalRowsFault (stage : Stage) (tests : Tests) (fault : Fault) : Type 0 where
   pub rule : List NodalTest
   pub are : AreNodalTests stage.graph None rule
-  pub says : IsCountFault tests.nodal rule fault ⊎ IsRowFault tests.nodal rule fault
+  pub says : IsRowsFault tests.nodal rule fault
 
 abbrev pub IsNodalFault : Stage → Fault → Type 0
 IsNodalFault stage fault = IsSomeAnd stage.tests (λ tests. IsNodalRowsFault stage tests fault)
 
 -- ---- 12: the first verdict, that of the whole, of the nodes and of the streams in this order, that doesn't follow; without numbers
-abbrev pub IsNodalVerdictAt : Tests → ℕ → Type 0
-IsNodalVerdictAt tests i =
-    (row : NodalTest) → slice_get tests.nodal i ≡ Some row → IsNodalVerdict row
-
-abbrev pub IsMeasureVerdictAt : Tests → ℕ → Type 0
-IsMeasureVerdictAt tests i =
-    (row : MeasureTest) → slice_get tests.measure i ≡ Some row → IsMeasureVerdict row
-
--- the global verdict doesn't follow
 pub record IsGlobalFault (stage : Stage) (tests : Tests) (fault : Fault) : Type 0 where
   pub differs : IsGlobalVerdict stage tests → ⊥
-  pub is : fault ≡ record { place = Whole; stated = pos 0; found = pos 0 }
+  pub is : fault ≡ bare_fault_at Whole
 
--- it does, and a nodal verdict doesn't
-pub record IsNodalVerdictFault (stage : Stage) (tests : Tests) (fault : Fault) : Type 0 where
-  pub overall : IsGlobalVerdict stage tests
-  pub place : ℕ
+-- the first nodal row whose verdict doesn't follow
+pub record IsFirstNodal (rows : List NodalTest) (fault : Fault) : Type 0 where
   pub row : NodalTest
-  pub first : IsFirstWithout (IsNodalVerdictAt tests) (length tests.nodal) place
-  pub row_is : slice_get tests.nodal place ≡ Some row
-  pub is : fault ≡ record { place = Node row.node; stated = pos 0; found = pos 0 }
+  pub first : IsFirstOf IsNodalVerdict rows row
+  pub is : fault ≡ bare_fault_at (Node row.node)
 
--- these do, and the verdict of a measurement doesn't
-pub record IsMeasureVerdictFault (stage : Stage) (tests : Tests) (fault : Fault) : Type 0 where
-  pub overall : IsGlobalVerdict stage tests
-  pub nodal : All IsNodalVerdict tests.nodal
-  pub place : ℕ
+-- the first measurement whose verdict doesn't follow
+pub record IsFirstMeasure (rows : List MeasureTest) (fault : Fault) : Type 0 where
   pub row : MeasureTest
-  pub first : IsFirstWithout (IsMeasureVerdictAt tests) (length tests.measure) place
-  pub row_is : slice_get tests.measure place ≡ Some row
-  pub is : fault ≡ record { place = StreamAt row.stream; stated = pos 0; found = pos 0 }
+  pub first : IsFirstOf IsMeasureVerdict rows row
+  pub is : fault ≡ bare_fault_at (StreamAt row.stream)
+
+abbrev pub AreVerdictsFault : Stage → Tests → Fault → Type 0
+AreVerdictsFault stage tests fault =
+    IsGlobalFault stage tests fault
+    ⊎ ((IsGlobalVerdict stage tests × IsFirstNodal tests.nodal fault)
+    ⊎ (IsGlobalVerdict stage tests × All IsNodalVerdict tests.nodal × IsFirstMeasure tests.measure fault))
 
 abbrev pub IsVerdictFault : Stage → Fault → Type 0
-IsVerdictFault stage fault =
-    IsSomeAnd stage.tests (λ tests. IsGlobalFault stage tests fault
-    ⊎ (IsNodalVerdictFault stage tests fault ⊎ IsMeasureVerdictFault stage tests fault))
+IsVerdictFault stage fault = IsSomeAnd stage.tests (λ tests. AreVerdictsFault stage tests fault)
 
 -- ---- 13: least_lo of the first stream with other least bounds, in a stage that has some, beside that of the rule; where it is that,
 -- least_hi
@@ -241,18 +232,6 @@ pub record IsLeastFault (stage : Stage) (fault : Fault) : Type 0 where
   pub have : HasLeastBounds stage
   pub stream : ℕ
   pub result : StreamResult
-  pub stated : Bounds
-  pub found : Bounds
   pub first : IsFirstWithout (HasLeastBoundsAt stage) (length stage.graph.streams) stream
   pub result_is : slice_get stage.streams stream ≡ Some result
-  pub stated_is : result.least ≡ Some stated
-  pub found_is :
-      stream_least_bounds (printed_price stage) stage.graph.streams (printed_flows stage)
-      (printed_gap stage) stream result.classified
-      ≡ Some found
-  pub is :
-      fault ≡ record {
-        place = StreamAt stream;
-        stated = (bounds_numbers stated found).0;
-        found = (bounds_numbers stated found).1;
-      }
+  pub differs : DifferAt stream result.least (found_least stage stream result) fault

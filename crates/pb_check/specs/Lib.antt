@@ -9,4 +9,3 @@ pub mod Laws
 pub mod Among
 pub mod Others
 pub mod Pairs
-pub mod Rows

@@ -9,8 +9,8 @@ ghost use Rattle.pb_elim.specs.Printed.{printed_gap, printed_price};
 ghost use Rattle.pb_elim.specs.Signs.{AreWitnessSigns};
 ghost use Rattle.pb_check.specs.declared.faults.Place.TheVariants.{Stream as StreamAt};
 ghost use Rattle.pb_check.specs.Asked.{AreShown, HaveBounds, HaveClasses};
-ghost use Rattle.pb_check.specs.Faults.{IsBoundsFault};
-ghost use Rattle.pb_check.specs.Pairs.{DifferAt, IsPairOf};
+ghost use Rattle.pb_check.specs.Faults.{DifferAt, IsBoundsFault};
+ghost use Rattle.pb_check.specs.Pairs.{IsPairOf};
 
 use crate::faults::{Fault, Place};
 use pb_elim::sum_for;

@@ -5,8 +5,7 @@ ghost use Rattle.pb_graph.specs.ProcessGraph.{IsMeasurement, IsProcessGraph};
 ghost use Rattle.pb_graph.specs.WellFormed.{IsWellFormed};
 ghost use Rattle.pb_dual.specs.Candidates.{room_of};
 ghost use Rattle.pb_check.specs.Asked.{IsInBoxAt, AreInBox};
-ghost use Rattle.pb_check.specs.Faults.{IsBoxFault};
-ghost use Rattle.pb_check.specs.Others.{IsOutOfBox};
+ghost use Rattle.pb_check.specs.Faults.{IsBoxFault, IsOutOfBox};
 
 use crate::faults::{Fault, Place};
 use pb_fixed::div_floor;

@@ -8,10 +8,10 @@ ghost use Rattle.pb_gap.specs.GapRange.{IsGapInRange};
 ghost use Rattle.pb_elim.specs.Printed.{printed_gap};
 ghost use Rattle.pb_check.specs.declared.faults.Test.{Test as TestValue};
 ghost use Rattle.pb_check.specs.Asked.{IsGapOfFlows, IsStateAt, IsStateOfGap, IsStatistic};
-ghost use Rattle.pb_check.specs.Faults.{IsGapFault, IsStateFault, IsStatisticFault, high_or_none};
+ghost use Rattle.pb_check.specs.Faults.{EndsDiffer, GapsDiffer, IsGapFault, IsStateFault, IsStatisticFault, high_or_none};
 ghost use Rattle.pb_check.specs.Verdict.{Passes, code_of};
 ghost use Rattle.pb_check.specs.Among.{IsAmong};
-ghost use Rattle.pb_check.specs.Pairs.{IsPairOf, GapsDiffer, EndsDiffer};
+ghost use Rattle.pb_check.specs.Pairs.{IsPairOf};
 
 use crate::bounds::bounds_fault;
 use crate::faults::{Fault, Test, whole};

@@ -7,8 +7,7 @@ ghost use Rattle.pb_graph.specs.WellFormed.{IsWellFormed};
 ghost use Rattle.pb_merge.specs.Grouping.{AreGroupsOf};
 ghost use Rattle.pb_elim.specs.Printed.{printed_price};
 ghost use Rattle.pb_check.specs.Asked.{HasGroupPriceAt, AreGroupPrices};
-ghost use Rattle.pb_check.specs.Faults.{IsPriceFault};
-ghost use Rattle.pb_check.specs.Others.{IsOtherPrice};
+ghost use Rattle.pb_check.specs.Faults.{IsOtherPrice, IsPriceFault};
 
 use crate::faults::{Fault, Place};
 use pb_graph::Stage;

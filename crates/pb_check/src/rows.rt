@@ -7,10 +7,9 @@ ghost use Rattle.pb_tests.specs.Laws.{IsNodalNumber};
 ghost use Rattle.pb_elim.specs.Certified.{IsMeasureVerdict, IsNodalVerdict, unjudged};
 ghost use Rattle.pb_check.specs.declared.faults.Test.{Test as TestValue};
 ghost use Rattle.pb_check.specs.Asked.{AreNodalRows, AreVerdicts, IsGlobalVerdict};
-ghost use Rattle.pb_check.specs.Faults.{IsNodalRowsFault};
+ghost use Rattle.pb_check.specs.Faults.{AreVerdictsFault, IsFirstMeasure, IsFirstNodal, IsNodalRowsFault, IsRowDifference, IsRowsFault};
 ghost use Rattle.pb_check.specs.Verdict.{Passes, code_of};
 ghost use Rattle.pb_check.specs.Among.{IsAmong};
-ghost use Rattle.pb_check.specs.Rows.{AreVerdictsFault, IsFirstMeasure, IsFirstNodal, IsRowDifference, IsRowsFault};
 
 use crate::faults::{Fault, Test, at_node, at_stream, whole};
 use pb_graph::{MeasureTest, NodalTest, Stage, Tests};

@@ -1,5 +1,6 @@
 // What no clause says: that a stage is judged where memory is ample. Most of the tests fail once each, at the stage of two meters or of a
-// meter with two ways out, with one thing changed. Balance and bounds fail in the tests of `pb_cli`.
+// meter with two ways out, with one thing changed. Balance and bounds fail in the tests of `pb_cli`, and each test in many reports of
+// `block_cases`.
 
 use crate::{CheckFault, Place, Test, check};
 use pb_elim::study;

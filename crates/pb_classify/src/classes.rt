@@ -3,16 +3,20 @@
 ghost use Rattle.std.specs.Prelude.{◌≡◌, ◌<◌, Some, length, slice_get, IfOk, if◌then◌else◌};
 ghost use Rattle.pb_graph.specs.ProcessGraph.{IsProcessGraph, is_measured};
 ghost use Rattle.pb_graph.specs.Walk.{ends_of, unmeasured_but, Reaches};
+ghost use Rattle.pb_graph.specs.Boundary.{boundary_of};
 ghost use Rattle.pb_forest.specs.Forest.{IsForestOf};
-ghost use Rattle.pb_points.specs.Points.{ArePoints};
+ghost use Rattle.pb_points.specs.Points.{ArePoints, IsSideOf};
 ghost use Rattle.pb_points.specs.Tables.{points_of};
+ghost use Rattle.pb_points.specs.Cuts.{AreCuts};
 ghost use Rattle.pb_classify.specs.Chords.{IsFirstBefore, AreFirstBefore};
 ghost use Rattle.pb_classify.specs.Classification.{IsClassified, IsClassification};
 
 use crate::cycles::{cycle_of, first_cycles};
 use pb_forest::Forest;
-use pb_graph::{Class, Classified, Graph, List, Neighbours, Step, Stream, Witness, boundary};
-use pb_points::Points;
+use pb_graph::{
+    Class, Classified, Graph, List, Member, Neighbours, Step, Stream, Witness, boundary,
+};
+use pb_points::{Cuts, Points};
 use std::alloc::{AllocError, Global};
 
 // Stream j, whose ends other unmeasured streams join, with its cycle: a measured stream has its own, another the first that
@@ -61,17 +65,40 @@ fn determined_class(stream: &Stream) -> Class
     }
 }
 
+// The boundary of stream j's side: of a measured stream it is that of a tree, and made already.
+fn members_of(
+    alloc: Global,
+    graph: &Graph,
+    points: &Points,
+    cuts: &Cuts,
+    j: u32,
+    side: &[bool],
+) -> Result<List<Member>, AllocError>
+    requires points { ArePoints graph.now (points_of points.now) }
+    requires cuts { AreCuts graph.now (points_of points.now) cuts.now }
+    requires stream { j < length graph.now.streams }
+    requires side { IsSideOf graph.now j side.now }
+    ensures { IfOk result (λ members. members ≡ boundary_of side.now graph.now.streams) }
+{
+    if graph.stream(j).meas.is_some() {
+        return cuts.members(graph, points, j).copy(alloc);
+    }
+    boundary(alloc, graph.streams(), side)
+}
+
 // The class of stream j with its canonical certificate.
 fn classified(
     alloc: Global,
     graph: &Graph,
     points: &Points,
+    cuts: &Cuts,
     forest: &Forest,
     j: u32,
     first: Option<List<Step>>,
 ) -> Result<Classified, AllocError>
     requires limits { IsProcessGraph graph.now }
     requires points { ArePoints graph.now (points_of points.now) }
+    requires cuts { AreCuts graph.now (points_of points.now) cuts.now }
     requires forest { IsForestOf graph.now forest.now }
     requires stream { j < length graph.now.streams }
     requires first { IsFirstBefore graph.now forest.now.held (length graph.now.streams) j first }
@@ -82,7 +109,7 @@ fn classified(
         return free_stream(alloc, graph, forest, j, &stream, first);
     }
     let side = points.side_of(alloc, graph, j)?;
-    let members = boundary(alloc, graph.streams(), side.as_slice())?;
+    let members = members_of(alloc, graph, points, cuts, j, side.as_slice())?;
     Ok(Classified {
         class: determined_class(&stream),
         witness: Witness::Cut { side, members },
@@ -94,10 +121,12 @@ fn classify_each(
     alloc: Global,
     graph: &Graph,
     points: &Points,
+    cuts: &Cuts,
     forest: &Forest,
     cycles: &mut [Option<List<Step>>],
 ) -> Result<List<Classified>, AllocError>
     requires points { ArePoints graph.now (points_of points.now) }
+    requires cuts { AreCuts graph.now (points_of points.now) cuts.now }
     requires forest { IsForestOf graph.now forest.now }
     requires cycles { AreFirstBefore graph.now forest.now.held
         (length graph.now.streams) cycles.old }
@@ -106,7 +135,7 @@ fn classify_each(
     let mut classes = List::new(alloc);
     for j in 0..graph.len() {
         let first = cycles[j as usize].take();
-        classes.push(classified(alloc, graph, points, forest, j, first)?)?;
+        classes.push(classified(alloc, graph, points, cuts, forest, j, first)?)?;
     }
     Ok(classes)
 }
@@ -122,8 +151,9 @@ pub fn classify_in(
 {
     let near = Neighbours::of(alloc, graph)?;
     let points = Points::of(alloc, graph, &near, forest)?;
+    let cuts = Cuts::of(alloc, graph, &points)?;
     let mut cycles = first_cycles(alloc, graph, forest)?;
-    classify_each(alloc, graph, &points, forest, &mut cycles)
+    classify_each(alloc, graph, &points, &cuts, forest, &mut cycles)
 }
 
 /// The class of each stream, in order, with its canonical certificate.

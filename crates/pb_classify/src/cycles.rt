@@ -12,7 +12,8 @@ use std::alloc::{AllocError, Global};
 
 // A stream forward, and then these steps.
 fn forward_then(alloc: Global, stream: u32, back: &[Step]) -> Result<List<Step>, AllocError>
-    ensures { IfOk result (λ steps. steps ≡ record { stream = stream; forward = true } ∷ back.now) }
+    ensures { IfOk result (λ steps.
+        steps ≡ record { stream = stream; forward = true } ∷ back.now) }
 {
     let mut steps = Vec::new(alloc);
     steps.push(Step {

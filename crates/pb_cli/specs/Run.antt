@@ -1,5 +1,5 @@
 -- Statement. What a run did: the command that its words give, the bytes it took, and the bytes it put.
-use Rattle.std.specs.Prelude.{◌≡◌, ℕ, ◌≤◌, Bool, true, false, List, [], length, Some, ⊤}
+use Rattle.std.specs.Prelude.{◌≡◌, ℕ, ◌≤◌, Bool, true, false, List, [], length, Some}
 use Rattle.std.specs.Io.KnownBytes.{IsAtEnd}
 use Rattle.pb_io.specs.Counts.{Rose}
 use Rattle.pb_io.specs.Source.{SourceSeen, TakesInTurns}
@@ -8,7 +8,7 @@ use Rattle.pb_limits.specs.Limits.{most_bytes}
 use Rattle.pb_rows.specs.Records.{records_of}
 use Rattle.pb_graph.specs.declared.results.Options.{Options}
 use Rattle.pb_report.specs.declared.form.Form.{Form}
-use Rattle.pb_session.specs.Session.{SessionState, IsSessionText, refuses_some}
+use Rattle.pb_session.specs.Session.{IsSessionText, new_session, refuses_some}
 use Rattle.pb_make.specs.Rows.{session_text}
 use Rattle.pb_summary.specs.Summary.{IsSummaryText}
 use Rattle.pb_words.specs.declared.command.Command.{Command}
@@ -23,10 +23,6 @@ use Rattle.pb_cli.specs.Prefix.{AreTextsOfSome, AreTextsCutShort, IsBeginningOf}
 -- the accepted words: those that give a command
 abbrev pub AreAccepted : List (List ℕ) → Type 0
 AreAccepted words = (command : Command) × IsCommandOf words command
-
--- a session that has stored nothing
-abbrev pub new_session : Options → Form → SessionState
-new_session options form = record { options = options; form = form; rows = [] }
 
 -- The text of a run with these options in this form: the texts of the records of the input, in order, from a session that has stored
 -- nothing. Each report in it is that of the rows before it, and each of its stages is certified, has least bounds at each stream that has
@@ -43,21 +39,9 @@ pub record IsOutput (options : Options) (form : Form) (refused : Bool) (input ou
   pub is_text : IsTextOfRun options form input output
   pub refuses_as : refuses options form input ≡ refused
 
--- the texts of the first records of these bytes, and a beginning of the next one's
-abbrev pub IsCutShort : Options → Form → List ℕ → List ℕ → Type 0
-IsCutShort options form input bytes = AreTextsCutShort (new_session options form) (records_of input) bytes
-
--- the texts of the first records of these bytes
-abbrev pub IsPart : Options → Form → List ℕ → List ℕ → Type 0
-IsPart options form input bytes = AreTextsOfSome (new_session options form) (records_of input) bytes
-
--- The text of a session that is made: it is that of the session of this number with so many streams.
-pub record IsMadeSession (number streams : ℕ) (text : List ℕ) : Type 0 where
-  pub is : text ≡ session_text number streams
-
--- the text that is made: that of the session, or its summary
+-- the text that is made: that of the session of this number with so many streams, or its summary
 abbrev pub IsMade : ℕ → ℕ → Bool → ℕ → ℕ → List ℕ → Type 0
-IsMade number streams false gap sweeps text = IsMadeSession number streams text
+IsMade number streams false gap sweeps text = text ≡ session_text number streams
 IsMade number streams true gap sweeps text = IsSummaryText number streams gap sweeps text
 
 -- whether a command makes a session or its summary
@@ -87,13 +71,13 @@ IsWhole wrong (Make number streams summary gap sweeps) input output = (wrong ≡
 
 -- a proper beginning of the output; of a run, the texts of the first records and a beginning of the next one's
 abbrev pub IsCut : Command → List ℕ → List ℕ → Type 0
-IsCut (Run options form) input bytes = IsCutShort options form input bytes
+IsCut (Run options form) input bytes = AreTextsCutShort (new_session options form) (records_of input) bytes
 IsCut Check input bytes = IsBeginningOf (IsTextOfCheck input) bytes
 IsCut (Make number streams summary gap sweeps) input bytes = IsBeginningOf (IsMade number streams summary gap sweeps) bytes
 
 -- the texts of the first records of a run, or the first rows of a check, whole
 abbrev pub IsFront : Command → List ℕ → List ℕ → Type 0
-IsFront (Run options form) input bytes = IsPart options form input bytes
+IsFront (Run options form) input bytes = AreTextsOfSome (new_session options form) (records_of input) bytes
 IsFront Check input bytes = IsJudgementPart (records_of input) bytes
 IsFront (Make number streams summary gap sweeps) input bytes = ⊥
 

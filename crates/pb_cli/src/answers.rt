@@ -4,12 +4,13 @@ ghost use Rattle.pb_io.specs.Counts.{Rose};
 ghost use Rattle.pb_io.specs.Sink.{PutsSuch};
 ghost use Rattle.pb_limits.specs.Limits.{most_bytes};
 ghost use Rattle.pb_elim.specs.Options.{AreOptions};
+ghost use Rattle.pb_rows.specs.Records.{records_of};
 ghost use Rattle.pb_book.specs.Answer.{answer_of, is_refused};
-ghost use Rattle.pb_session.specs.Session.{Adds, IsSessionText, refuses_some, state_after};
+ghost use Rattle.pb_session.specs.Session.{Adds, IsSessionText, new_session, refuses_some, state_after};
 ghost use Rattle.pb_cli.specs.declared.status.Status.TheVariants.{Done, DoneRefused, WriteFault, NoMemory};
 ghost use Rattle.pb_cli.specs.Status.{done_status};
 ghost use Rattle.pb_cli.specs.Prefix.{AreTextsOfSome, AreTextsCutShort, IsBeginningOf};
-ghost use Rattle.pb_cli.specs.Run.{IsCutShort, IsOutput, IsPart, new_session, refuses};
+ghost use Rattle.pb_cli.specs.Run.{IsOutput, refuses};
 
 use crate::status::Status;
 use pb_graph::Options;
@@ -68,13 +69,15 @@ pub fn answer<W: Sink>(
     ensures write_fault { result ≡ WriteFault →
         Rose (W.seen sink.old).faults (W.seen sink.new).faults }
     ensures write_fault_cut { result ≡ WriteFault →
-        PutsSuch (IsCutShort options form input.now) (W.seen sink.old) (W.seen sink.new) }
+        PutsSuch (AreTextsCutShort (new_session options form) (records_of input.now))
+        (W.seen sink.old) (W.seen sink.new) }
     ensures no_write_fault { result ≢ WriteFault →
         (W.seen sink.new).faults ≡ (W.seen sink.old).faults }
 
     // After want of memory the texts of the first records were written, whole.
     ensures no_memory { result ≡ NoMemory →
-        PutsSuch (IsPart options form input.now) (W.seen sink.old) (W.seen sink.new) }
+        PutsSuch (AreTextsOfSome (new_session options form) (records_of input.now))
+        (W.seen sink.old) (W.seen sink.new) }
 
     // There is no other answer.
     ensures answers { (result ≡ done_status (refuses options form input.now))
@@ -126,7 +129,8 @@ fn answer_records<W: Sink>(
 {
     let mut session = Session::new(alloc, options, form);
     let mut some_refused = false;
-    'turns: while let Some(fields) = records.next()? {
+    let mut fields = Row::new(alloc);
+    'turns: while records.fill(&mut fields)? {
         let at = records.taken() as u32;
         some_refused |= answer_record(alloc, &mut session, at, &fields, sink)?;
     }

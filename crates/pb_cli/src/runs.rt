@@ -33,9 +33,9 @@ pub fn run<R: Source, W: Sink>(alloc: Global, words: &Words, source: &mut R, sin
     //
     // So says the text of a run, which besides reports has the row of each refusal, the classes of each design and the edits of
     // each history. A vector lies within bounds where each measured and each observable stream does. A least one is balanced and
-    // no worse than each balanced fractional vector. After none of the allowed sweeps the gap is met where it is Unconverged. In a
-    // check the bytes written are the judgement, and each block that gets a yes is certified in the same way, wherever it came
-    // from, though it may have no least bounds.
+    // no worse than each balanced fractional vector. Where it says Unconverged, the gap is met neither before the first sweep nor
+    // after any that was allowed. In a check the bytes written are the judgement, and each block that gets a yes is certified in
+    // the same way, wherever it came from, though it may have no least bounds.
     ensures done { result ≡ Done → Does (IsWhole false) words.now
         (R.seen source.old) (R.seen source.new) (W.seen sink.old) (W.seen sink.new) }
     ensures done_refused { result ≡ DoneRefused → Does (IsWhole true) words.now

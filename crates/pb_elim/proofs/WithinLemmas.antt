@@ -1,5 +1,5 @@
 -- A study is well formed by its definition: each number of a stage is within its range.
-use Rattle.std.proofs.Common.{◌≡◌, ◌∙◌, ℕ, zero, suc, ◌+◌, ◌*◌, ◌^◌, ◌<◌, ◌≤◌, ℤ, pos, neg_ℤ, ◌-ℤ◌, ◌≤ℤ◌, unsigned_abs, Bool, true, false, List, [], ◌∷◌, ◌++◌, length, map, take, Option, Some, None, slice_get, get_or, All, refl, sym, ap, ap₂, subst, inl, inr, arith}
+use Rattle.std.proofs.Common.{◌≡◌, ◌∙◌, ℕ, zero, suc, ◌+◌, ◌^◌, ◌<◌, ◌≤◌, ℤ, pos, ◌-ℤ◌, ◌≤ℤ◌, Bool, true, false, List, [], ◌∷◌, length, take, Option, Some, None, slice_get, get_or, All, sym, ap, subst, arith}
 use Rattle.std.specs.Prelude.{IfSome, ◌&&◌, option_map, if◌then◌else◌}
 use Rattle.std.specs.Int.{int_max}
 use Rattle.std.proofs.lemmas.Int.{ints}
@@ -7,11 +7,9 @@ use Rattle.std.proofs.lemmas.List.{get_or_default, length-map}
 use Rattle.std.proofs.lemmas.List.Elements.{All-nil, All-cons, All-append}
 use Rattle.std.proofs.lemmas.Option.{slice_get-get_or, slice_get_within}
 use Rattle.pb_limits.specs.Ranges.{IsCriticalValue}
-use Rattle.pb_integers.specs.Sums.{item}
 use Rattle.pb_integers.proofs.Lists.{all_each}
 use Rattle.pb_graph.specs.declared.records.Stream.{Stream}
 use Rattle.pb_graph.specs.declared.records.Member.{Member}
-use Rattle.pb_graph.specs.declared.records.Classified.{Classified}
 use Rattle.pb_graph.specs.declared.results.Bounds.{Bounds}
 use Rattle.pb_graph.specs.declared.results.StreamResult.{StreamResult}
 use Rattle.pb_graph.specs.declared.results.GlobalTest.{GlobalTest}
@@ -25,7 +23,7 @@ use Rattle.pb_graph.specs.declared.results.Critical.{Critical}
 use Rattle.pb_graph.specs.ProcessGraph.{ProcessGraph, IsProcessGraph, is_measured}
 use Rattle.pb_graph.specs.Prices.{PricesFit}
 use Rattle.pb_graph.specs.Groups.{group_count, is_free_group}
-use Rattle.pb_graph.specs.WellFormed.{AreBoundsWithin, AreTestsWithin, HasShapeOf, IsFlow, IsMeasureWithin, IsNodalWithin, IsPrice, IsResultWithin, IsTakenWithin, IsWellFormed, IsWellFormedStudy, IsWide}
+use Rattle.pb_graph.specs.WellFormed.{AreBoundsWithin, AreTestsWithin, HasShapeOf, IsFlow, IsMeasureWithin, IsNodalWithin, IsPrice, IsResultWithin, IsTakenWithin, IsWellFormed, IsWide}
 use Rattle.pb_graph.proofs.CertificateLemmas.{witness_within}
 use Rattle.pb_forest.specs.Forest.{degrees_of_freedom}
 use Rattle.pb_dual.specs.Laws.{AscentLaw}
@@ -35,21 +33,20 @@ use Rattle.pb_gap.specs.Bounds.{bounds_of}
 use Rattle.pb_gap.specs.StreamBounds.{stream_bounds, sum_for}
 use Rattle.pb_gap.specs.LeastBounds.{least_bounds_of, stream_least_bounds}
 use Rattle.pb_gap.specs.State.{AreRoundedFlows}
-use Rattle.pb_gap.specs.Statistic.{low_of, high_of}
+use Rattle.pb_gap.specs.Statistic.{low_of}
 use Rattle.pb_gap.specs.Solution.{IsSolvedStatistic}
 use Rattle.pb_gap.specs.Laws.{StreamSumLaw, SumsTo}
 use Rattle.pb_gap.specs.RangeLaws.{AreNumbersWithin, IsEnd, RangeLaw}
 use Rattle.pb_gap.specs.LeastBoundsLaws.{LeastRangeLaw}
-use Rattle.pb_tests.specs.Verdicts.{global_critical}
 use Rattle.pb_tests.specs.Nodal.{AreNodalTests, nodal_test, nodal_tests_below, test_of_group}
 use Rattle.pb_tests.specs.Drop.{AreMeasureTests, drop_high, drop_low, without_measurement}
 use Rattle.pb_tests.specs.Laws.{FreeGroupsLaw, NodalRangeLaw}
 use Rattle.pb_elim.specs.Options.{AreOptions}
 use Rattle.pb_elim.specs.Criticals.{AreCritical}
-use Rattle.pb_elim.specs.Printed.{printed_price, printed_flows, printed_gap}
+use Rattle.pb_elim.specs.Printed.{printed_price, printed_flows}
 use Rattle.pb_elim.specs.StageTests.{AreTestsOf, redundant_streams}
 use Rattle.pb_elim.specs.Stage.{IsReconciliationOf, IsStageOf}
-use Rattle.pb_elim.specs.Study.{IsStudyOf, without_taken}
+use Rattle.pb_elim.specs.Study.{without_taken}
 use Rattle.pb_elim.specs.Laws.{FormedLaw}
 use Rattle.pb_elim.proofs.ListLemmas.{at_map, some_at}
 use Rattle.pb_elim.proofs.TakenLemmas.{unmeasured_limits, without_limits, without_nodes, without_streams}

@@ -1,6 +1,8 @@
 -- Statement. A shown stage, which an auditor can check, and a certified stage: what a shown one promises to whoever reads it.
-use Rattle.std.specs.Prelude.{◌≡◌, ℕ, ℤ, length, map, None, is_some, All, IfSome, MatchOption}
+use Rattle.std.specs.Prelude.{◌≡◌, ℕ, ℤ, length, map, Option, None, is_some, All, IfSome, MatchOption}
+use Rattle.pb_graph.specs.declared.records.Class.{Class}
 use Rattle.pb_graph.specs.declared.records.Class.TheVariants.{Unobservable}
+use Rattle.pb_graph.specs.declared.results.Bounds.{Bounds}
 use Rattle.pb_graph.specs.declared.results.StreamResult.{StreamResult}
 use Rattle.pb_graph.specs.declared.results.Verdict.{Verdict}
 use Rattle.pb_graph.specs.declared.results.Verdict.TheVariants.{Reject, Accept, NoCritical}
@@ -27,12 +29,15 @@ use Rattle.pb_elim.specs.StageTests.{redundant_streams}
 use Rattle.pb_elim.specs.Stage.{HasFreedom}
 use Rattle.pb_elim.specs.Printed.{printed_price, printed_flows, printed_gap, EachStream, HasLeastBounds}
 
--- the least bounds of each stream are what the rules make of the printed flows, prices and certificates
-abbrev pub AreLeastBounds : Stage → Type 0
-AreLeastBounds stage =
-    EachStream stage (λ j r. r.least
-    ≡ stream_least_bounds (printed_price stage) stage.graph.streams (printed_flows stage)
-    (printed_gap stage) j r.classified)
+-- the bounds of a stream, and its least bounds, by the printed flows, prices and gap, and by its certificate
+abbrev pub found_bounds : Stage → ℕ → StreamResult → Option Bounds
+found_bounds stage j r =
+    stream_bounds (printed_price stage) stage.graph.streams (printed_gap stage) j r.classified
+
+abbrev pub found_least : Stage → ℕ → StreamResult → Option Bounds
+found_least stage j r =
+    stream_least_bounds (printed_price stage) stage.graph.streams (printed_flows stage)
+    (printed_gap stage) j r.classified
 
 -- The gap, the bounds, the least bounds where the stage has any, the degrees of freedom and the statistic are what the rules make of the
 -- printed flows, prices and certificates.
@@ -40,10 +45,8 @@ pub record AreNumbersOf (stage : Stage) : Type 0 where
   pub deviation :
       IsGap (deviations_of (printed_price stage) stage.graph.streams (printed_flows stage))
       (printed_gap stage)
-  pub bounded :
-      EachStream stage (λ j r. r.bounds
-      ≡ stream_bounds (printed_price stage) stage.graph.streams (printed_gap stage) j r.classified)
-  pub least_bounded : HasLeastBounds stage → AreLeastBounds stage
+  pub bounded : EachStream stage (λ j r. r.bounds ≡ found_bounds stage j r)
+  pub least_bounded : HasLeastBounds stage → EachStream stage (λ j r. r.least ≡ found_least stage j r)
   pub freedom : HasFreedom stage.graph.streams stage.dof
   pub from_below : stage.low ≡ low_of stage.graph.streams (printed_flows stage) (printed_gap stage)
   pub from_above : stage.high ≡ high_of stage.graph.streams (printed_flows stage)
@@ -93,13 +96,9 @@ pub record IsShownStage (stage : Stage) : Type 0 where
   pub numbers : AreNumbersOf stage
   pub tests : IfSome stage.tests (AreShownTests stage)
 
--- x keeps a stream within its printed bounds; only an unobservable stream has none
-abbrev pub IsEnclosed : Fractional → ℕ → StreamResult → Type 0
-IsEnclosed x j r = MatchOption r.bounds (r.classified.class ≡ Unobservable) (IsStreamWithin x j)
-
--- x keeps a stream within its printed least bounds; only an unobservable stream has none
-abbrev pub IsEnclosedLeast : Fractional → ℕ → StreamResult → Type 0
-IsEnclosedLeast x j r = MatchOption r.least (r.classified.class ≡ Unobservable) (IsStreamWithin x j)
+-- x keeps a stream of a class within bounds of it; only an unobservable stream has none
+abbrev pub IsEnclosed : Fractional → ℕ → Class → Option Bounds → Type 0
+IsEnclosed x j class bounds = MatchOption bounds (class ≡ Unobservable) (IsStreamWithin x j)
 
 -- balanced fractional flows that are no worse than the printed ones
 pub record IsAsGood (stage : Stage) (x : Fractional) : Type 0 where
@@ -132,10 +131,10 @@ pub record IsCertifiedStage (stage : Stage) : Type 0 where
   -- each stream's class holds by meaning
   pub classes : EachStream stage (λ j r. IsClassOf stage.graph j r.classified.class)
   -- balanced flows no worse than the printed ones have each measured and each observable stream within its bounds
-  pub enclosed : (x : Fractional) → IsAsGood stage x → EachStream stage (IsEnclosed x)
+  pub enclosed : (x : Fractional) → IsAsGood stage x → EachStream stage (λ j r. IsEnclosed x j r.classified.class r.bounds)
   -- least flows have each measured and each observable stream within its least bounds, where the stage has any
   pub hypercircle : HasLeastBounds stage → (x : Fractional) → IsLeast stage.graph x
-      → EachStream stage (IsEnclosedLeast x)
+      → EachStream stage (λ j r. IsEnclosed x j r.classified.class r.least)
   -- the printed flows are at most the printed gap from a least vector
   pub near : (x : Fractional) → IsLeast stage.graph x
       → AreWithinGap stage.graph (printed_gap stage) (whole_flows (printed_flows stage)) x

@@ -30,7 +30,7 @@ use Rattle.pb_facts.proofs.PositionLemmas.{any_absent, is_some-position, positio
 -- ---- lists whose items are changed
 
 -- the item at a place
-at_map : {X Y : Type 0} (f : X → Y) (xs : List X) (i : ℕ) (d : X) (e : Y) → i < length xs → get_or (map f xs) i e ≡ f (get_or xs i d)
+pub at_map : {X Y : Type 0} (f : X → Y) (xs : List X) (i : ℕ) (d : X) (e : Y) → i < length xs → get_or (map f xs) i e ≡ f (get_or xs i d)
 at_map f [] i d e within = absurd (omega (arith, within))
 at_map f (x ∷ xs) zero d e within = refl
 at_map f (x ∷ xs) (suc i) d e within = at_map f xs i d e (omega (arith, within))
@@ -236,7 +236,6 @@ pub kept_amended : (id : List ℕ) (c : Change) (kept : List KeptFact) (places :
 kept_amended id c kept places new right =
     let one = amend_one id c in
     record {
-      ids = λ q. right.ids q ∙ sym (position_map (has_id q) one kept (λ i d lt. amend_one_same (λ b fact. same_name (id_of fact) q) id c (get_or kept i d) (λ b fact. ap (λ (i : List ℕ). same_name i q) (changed_id c fact))));
       readings = λ key. right.readings key
           ∙ sym (position_map (is_live_reading_on key.0 key.1) one kept (λ i d lt. amend_one_same (λ b fact. not b && is_reading_on key.0 key.1 fact) id c (get_or kept i d) (λ b fact. ap (λ (x : Bool). not b && x) (changed_reading key.0 key.1 c fact))));
       dips = λ key. right.dips key
@@ -356,7 +355,6 @@ pub kept_struck : (id : List ℕ) (kept : List KeptFact) (old new : Places) (i :
 kept_struck id kept old new i d only right forgets =
     let one = strike_one id in
     record {
-      ids = λ q. forgets.ids q ∙ right.ids q ∙ sym (position_map (has_id q) one kept (λ k e lt. strike_one_fact (λ fact. same_name (id_of fact) q) id (get_or kept k e)));
       readings = λ key. forgets.readings key
           ∙ forgotten (is_reading_on key.0 key.1) id kept i d (get same_key old.readings key) (same_reading_day key.0 key.1) right.no_repeats only (right.readings key);
       dips = λ key. forgets.dips key
@@ -410,16 +408,6 @@ fault_at id c kept i d only =
     ]
 
 -- ---- the same of the item that was found at the place
-
-pub set_amended_item : (id : List ℕ) (c : Change) (kept : List KeptFact) (i : ℕ) (item : KeptFact) (fact : Fact) → IsOnly id kept i item → item ≡ get_or kept i item → fact ≡ changed c item.fact
-    → set kept i (record { fact = fact; struck = false }) ≡ amended id c kept
-set_amended_item id c kept i item fact only is new =
-    ap (λ (f : Fact). set kept i (record { fact = f; struck = false })) (new ∙ ap (λ (k : KeptFact). changed c k.fact) is) ∙ set_amended id c kept i item only
-
-pub set_struck_item : (id : List ℕ) (kept : List KeptFact) (i : ℕ) (item : KeptFact) → IsOnly id kept i item → item ≡ get_or kept i item
-    → set kept i (record { fact = item.fact; struck = true }) ≡ struck id kept
-set_struck_item id kept i item only is =
-    ap (λ (k : KeptFact). set kept i (record { fact = k.fact; struck = true })) is ∙ set_struck id kept i item only
 
 pub kept_struck_item : (id : List ℕ) (kept : List KeptFact) (old new : Places) (i : ℕ) (item : KeptFact) → IsOnly id kept i item → item ≡ get_or kept i item → IsKept kept old
     → Forgets old new item.fact → IsKept (struck id kept) new

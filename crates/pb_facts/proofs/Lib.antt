@@ -3,4 +3,5 @@ mod LiveLemmas
 mod PlaceLemmas
 mod PositionLemmas
 mod ShareLemmas
+mod ShelfLemmas
 mod TransferLemmas

@@ -1,5 +1,5 @@
 -- The maps of kept facts, as facts are looked up and added.
-use Rattle.std.proofs.Common.{◌≡◌, ◌<◌, ◌≤◌, ◌+◌, ◌++◌, ◌∷◌, [], ◌∙◌, ℕ, ℤ, List, Bool, true, false, Option, Some, None, length, get_or, arith, ap, sym, refl, inl, inr, subst, length-append}
+use Rattle.std.proofs.Common.{◌≡◌, ◌<◌, ◌≤◌, ◌+◌, ◌++◌, ◌∷◌, [], ◌∙◌, ℕ, ℤ, pos, List, Bool, true, false, Option, Some, None, length, get_or, arith, ap, sym, refl, inl, inr, subst, length-append}
 use Rattle.std.specs.Prelude.{◌||◌, ◌&&◌, not, is_some, if◌then◌else◌, position}
 use Rattle.std.specs.Cmp.{signed_Decides}
 use Rattle.std.specs.Cmp.Lexicographic.{bytes_decides}
@@ -50,6 +50,25 @@ no_fault kept fact fine = by (is_duplicate kept fact) (is_out_of_order fact) (is
     by false false false true e = cc e
     by false false false false e = (refl, refl, refl)
 
+-- so there is room for it, and no fact has its id
+pub room_for : (kept : List KeptFact) (fact : Fact) → fault_of kept fact ≡ None → length kept < most_facts
+room_for kept fact fine = omega (arith, leb-false most_facts (length kept) (no_fault kept fact fine).1)
+
+pub new_id : (kept : List KeptFact) (fact : Fact) → fault_of kept fact ≡ None → list_any (has_id (id_of fact)) kept ≡ false
+new_id kept fact fine = (or_none _ _ (sym (list_any-or (has_id (id_of fact)) (is_repeat_by_day fact) kept) ∙ (no_fault kept fact fine).0)).0
+
+-- maps that give the same places
+pub kept_same : (kept : List KeptFact) (old new : Places) → IsKept kept old → SamePlaces old new → IsKept kept new
+kept_same kept old new right same = record {
+  readings = λ key. same.readings key ∙ right.readings key;
+  dips = λ key. same.dips key ∙ right.dips key;
+  transfers = λ key. same.transfers key ∙ right.transfers key;
+  no_repeats = right.no_repeats;
+  in_range = right.in_range;
+  short = right.short;
+  few = right.few;
+}
+
 -- ---- the maps after a new fact
 
 -- an entry for a new fact keeps a map right
@@ -59,10 +78,6 @@ noted p kept new place old right fresh at = elim (cases_Bool (p new)) [
   | inl passes ↦ rw (passes, at) (sym (position_push_new p kept new (fresh passes) passes))
   | inr fails ↦ rw fails (right ∙ sym (position_push_other p kept new fails))
 ]
-
--- no kept fact has the id of a new one
-fresh_id : (kept : List KeptFact) (fact : Fact) (id : List ℕ) → list_any (has_id (id_of fact)) kept ≡ false → same_name (id_of fact) id ≡ true → list_any (has_id id) kept ≡ false
-fresh_id kept fact id none same = subst (λ (q : List ℕ). list_any (has_id q) kept ≡ false) ((bytes_decides (id_of fact) id).0 same) none
 
 -- no live reading has the stream and day of a new one
 fresh_reading : (kept : List KeptFact) (fact : Fact) (stream : List ℕ) (day : ℤ) → list_any (is_repeat_by_day fact) kept ≡ false → is_reading_on stream day fact ≡ true
@@ -93,7 +108,6 @@ kept_more kept old mid new fact place right same notes fine ranges at =
     let apart = or_none _ _ (sym (list_any-or (has_id (id_of fact)) (is_repeat_by_day fact) kept) ∙ free.0) in
     let item : KeptFact = record { fact = fact; struck = false } in
     record {
-      ids = λ id. notes.ids id ∙ noted (has_id id) kept item place (get same_name mid.ids id) (same.ids id ∙ right.ids id) (fresh_id kept fact id apart.0) at;
       readings = λ key. notes.readings key
           ∙ noted (is_live_reading_on key.0 key.1) kept item place (get same_key mid.readings key) (same.readings key ∙ right.readings key) (fresh_reading kept fact key.0 key.1 apart.1) at;
       dips = λ key. notes.dips key
@@ -119,6 +133,10 @@ kept_more kept old mid new fact place right same notes fine ranges at =
     few kept item free = omega (arith, leb-false most_facts (length kept) free, length-append kept (item ∷ []))
 
 -- ---- looking up
+
+-- what stands where no fact stands
+abbrev pub no_fact : KeptFact
+no_fact = record { fact = Reading [] [] (pos 0) (pos 0) (pos 0); struck = false }
 
 and_false : (a : Bool) → (a && false) ≡ false
 and_false true = refl

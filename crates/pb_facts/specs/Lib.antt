@@ -5,3 +5,4 @@ pub mod Changes
 pub mod Share
 -- Inside
 pub mod Places
+pub mod Shelf

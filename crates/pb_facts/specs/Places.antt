@@ -7,10 +7,10 @@ use Rattle.std.specs.HashMap.{HashMap, get, spare}
 use Rattle.std.specs.Global.{Vec}
 use Rattle.pb_limits.specs.Limits.{most_facts}
 use Rattle.pb_rows.specs.Name.{same_name}
-use Rattle.pb_facts.specs.Fact.{IsInRange, id_of, is_dip_on, is_reading_on, is_too_long}
-use Rattle.pb_facts.specs.Facts.{NoRepeats, has_id, is_live_dip_on, is_live_reading_on}
+use Rattle.pb_facts.specs.Fact.{IsInRange, is_dip_on, is_reading_on, is_too_long}
+use Rattle.pb_facts.specs.Facts.{NoRepeats, is_live_dip_on, is_live_reading_on}
 use Rattle.pb_facts.specs.declared.fact.Fact.{Fact}
-use Rattle.pb_facts.specs.declared.fact.Fact.TheVariants.{Transfer}
+use Rattle.pb_facts.specs.declared.fact.Fact.TheVariants.{Reading, Transfer, Dip}
 use Rattle.pb_facts.specs.declared.facts.KeptFact.{KeptFact}
 use Rattle.pb_facts.specs.declared.places.Places.{Places}
 
@@ -46,7 +46,6 @@ HasRoomAt transfers key =
 
 -- the maps give the places of the kept facts, no fact repeats an earlier one, each lies in its ranges, and no transfer is too long
 pub record IsKept (kept : List KeptFact) (places : Places) : Type 0 where
-  pub ids : (id : List ℕ) → get same_name places.ids id ≡ position (has_id id) kept
   pub readings : (key : List ℕ × ℤ)
       → get same_key places.readings key ≡ position (is_live_reading_on key.0 key.1) kept
   pub dips : (key : List ℕ × ℤ)
@@ -60,28 +59,20 @@ pub record IsKept (kept : List KeptFact) (places : Places) : Type 0 where
 
 -- maps that give the same places
 pub record SamePlaces (old new : Places) : Type 0 where
-  pub ids : (id : List ℕ) → get same_name new.ids id ≡ get same_name old.ids id
   pub readings : (key : List ℕ × ℤ) → get same_key new.readings key ≡ get same_key old.readings key
   pub dips : (key : List ℕ × ℤ) → get same_key new.dips key ≡ get same_key old.dips key
   pub transfers : (key : List ℕ × ℤ) → places_at new.transfers key ≡ places_at old.transfers key
 
--- there is room for the place of a fact under its stream and the blocks of days about its first one
-abbrev pub HasRoomAbout : {S : Type 0} → HashMap (List ℕ × ℤ) (Vec ℕ) S → Fact → Type 0
-HasRoomAbout transfers (Transfer id stream first last grams variance) =
-    HasRoomAt transfers (stream, block_of first) × HasRoomAt transfers (stream, block_of first +ℤ pos 1)
-HasRoomAbout transfers _ = Unit {0}
+-- there is room for the place of a new fact: by its stream or tank, and its day or the blocks of days about its first one
+abbrev pub HasRoom : Places → Fact → Type 0
+HasRoom places (Reading id stream day grams variance) = 0 < spare places.readings
+HasRoom places (Transfer id stream first last grams variance) =
+    HasRoomAt places.transfers (stream, block_of first)
+    × HasRoomAt places.transfers (stream, block_of first +ℤ pos 1)
+HasRoom places (Dip id tank day mm density variance) = 0 < spare places.dips
 
--- there is room for the place of a new fact in each map
-pub record HasRoom (places : Places) (fact : Fact) : Type 0 where
-  pub ids : 0 < spare places.ids
-  pub readings : 0 < spare places.readings
-  pub dips : 0 < spare places.dips
-  pub transfers : HasRoomAbout places.transfers fact
-
--- the maps give the place of a new fact by its id, by its stream or tank and day or days, and else what they gave
+-- the maps give the place of a new fact by its stream or tank and day or days, and else what they gave
 pub record Notes (old new : Places) (fact : Fact) (place : ℕ) : Type 0 where
-  pub ids : (id : List ℕ)
-      → get same_name new.ids id ≡ (if same_name (id_of fact) id then Some place else get same_name old.ids id)
   pub readings : (key : List ℕ × ℤ)
       → get same_key new.readings key
       ≡ (if is_reading_on key.0 key.1 fact then Some place else get same_key old.readings key)
@@ -94,7 +85,6 @@ pub record Notes (old new : Places) (fact : Fact) (place : ℕ) : Type 0 where
 
 -- the maps don't give the place of a fact by its stream or tank and day, and else what they gave
 pub record Forgets (old new : Places) (fact : Fact) : Type 0 where
-  pub ids : (id : List ℕ) → get same_name new.ids id ≡ get same_name old.ids id
   pub readings : (key : List ℕ × ℤ)
       → get same_key new.readings key
       ≡ (if is_reading_on key.0 key.1 fact then None else get same_key old.readings key)

@@ -3,6 +3,7 @@
 ghost use Rattle.std.specs.Prelude.{◌≡◌};
 ghost use Rattle.pb_facts.specs.Changes.{changed, fits};
 ghost use Rattle.pb_facts.specs.Fact.{id_of, is_out_of_order, is_too_long};
+ghost use Rattle.pb_facts.specs.Shelf.{stream_or_tank};
 
 use pb_limits::MOST_DAYS_OF_TRANSFER;
 use pb_rows::Name;
@@ -82,6 +83,17 @@ impl Fact {
             Fact::Reading { id, .. } => *id,
             Fact::Transfer { id, .. } => *id,
             Fact::Dip { id, .. } => *id,
+        }
+    }
+
+    // The name of its stream or tank.
+    pub(crate) fn stream_or_tank(&self) -> Name
+        ensures { result ≡ stream_or_tank self.now }
+    {
+        match self {
+            Fact::Reading { stream, .. } => *stream,
+            Fact::Transfer { stream, .. } => *stream,
+            Fact::Dip { tank, .. } => *tank,
         }
     }
 

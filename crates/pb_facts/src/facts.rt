@@ -9,6 +9,7 @@ ghost use Rattle.pb_facts.specs.Facts.{HoldsTransfers, NoRepeats, fault_of, has_
 
 use crate::fact::{Change, Fact, FactFault};
 use crate::places::{Places, block_of};
+use crate::shelf::Shelf;
 use pb_limits::MOST_FACTS;
 use pb_rows::Name;
 use std::alloc::{AllocError, Global};
@@ -26,7 +27,7 @@ pub struct KeptFact {
 #[derive(Drop)]
 pub struct Facts {
     alloc: Global,
-    kept: Vec<KeptFact>,
+    shelf: Shelf,
     places: Places,
 }
 
@@ -37,9 +38,9 @@ impl Model for Facts {
 
     ghost Value = { List KeptFact };
 
-    ghost view = { λ a. a.kept.items };
+    ghost view = { λ a. a.shelf };
 
-    ghost invariant = { λ a. IsKept a.kept.items a.places };
+    ghost invariant = { λ a. IsKept a.shelf a.places };
 }
 
 impl Facts {
@@ -49,9 +50,8 @@ impl Facts {
     {
         Facts {
             alloc,
-            kept: Vec::new(alloc),
+            shelf: Shelf::new(alloc),
             places: Places {
-                ids: HashMap::new(alloc),
                 readings: HashMap::new(alloc),
                 dips: HashMap::new(alloc),
                 transfers: HashMap::new(alloc),
@@ -71,7 +71,7 @@ impl Facts {
             Some(FactFault::Order)
         } else if fact.is_too_long() {
             Some(FactFault::Range)
-        } else if self.kept.len() >= MOST_FACTS {
+        } else if self.shelf.len() as usize >= MOST_FACTS {
             Some(FactFault::Full)
         } else {
             None
@@ -86,13 +86,10 @@ impl Facts {
             ≡ self.old ++ record { fact = fact; struck = false } ∷ []) }
         ensures unchanged { OnErr result (self.new ≡ self.old) }
     {
-        self.kept.reserve(1)?;
         self.places.reserve(self.alloc, &fact)?;
-        self.places.note(&fact, self.kept.len() as u32);
-        self.kept.push_reserved(KeptFact {
-            fact,
-            struck: false,
-        });
+        let place = self.shelf.len();
+        self.shelf.push(&fact)?;
+        self.places.note(&fact, place);
         Ok(())
     }
 
@@ -104,8 +101,7 @@ impl Facts {
         match self.find(id) {
             None => Some(FactFault::Unknown),
             Some(place) => {
-                let kept = self.kept[place as usize];
-                if change.fits(&kept.fact) {
+                if change.fits(&self.shelf.at(place).fact) {
                     None
                 } else {
                     Some(FactFault::Mismatch)
@@ -121,11 +117,7 @@ impl Facts {
         ensures { self.new ≡ amended id.now change self.old }
     {
         if let Some(place) = self.find(id) {
-            let kept = self.kept[place as usize];
-            self.kept[place as usize] = KeptFact {
-                fact: kept.fact.changed(change),
-                struck: false,
-            };
+            self.shelf.change(place, change);
         }
     }
 
@@ -135,12 +127,8 @@ impl Facts {
         ensures { self.new ≡ struck id.now self.old }
     {
         if let Some(place) = self.find(id) {
-            let kept = self.kept[place as usize];
-            self.places.forget(&kept.fact);
-            self.kept[place as usize] = KeptFact {
-                fact: kept.fact,
-                struck: true,
-            };
+            self.places.forget(&self.shelf.at(place).fact);
+            self.shelf.strike(place);
         }
     }
 
@@ -149,24 +137,24 @@ impl Facts {
         ensures value { result ≡ length self.now }
         ensures within { length self.now ≤ most_facts }
     {
-        self.kept.len() as u32
+        self.shelf.len()
     }
 
     /// Whether no fact was added.
     pub fn is_empty(&self) -> bool
         ensures { IsTrue result ↔ (self.now ≡ []) }
     {
-        self.kept.is_empty()
+        self.shelf.len() == 0
     }
 
     /// The fact at a place, counted from 0 in the order of adding, with its last values, and whether it was struck.
-    pub fn kept(&self, place: u32) -> &KeptFact
+    pub fn kept(&self, place: u32) -> KeptFact
         requires { place < length self.now }
-        ensures value { slice_get self.now place ≡ Some result.now }
-        ensures in_range { IsInRange result.now.fact }
-        ensures short { is_too_long result.now.fact ≡ false }
+        ensures value { slice_get self.now place ≡ Some result }
+        ensures in_range { IsInRange result.fact }
+        ensures short { is_too_long result.fact ≡ false }
     {
-        &self.kept[place as usize]
+        self.shelf.at(place)
     }
 
     /// The fact at a place, counted from 0 in the order of adding, with its last values; `None` exactly where it was struck.
@@ -186,8 +174,8 @@ impl Facts {
         ensures within { IfSome result (λ place. place < length self.now) }
         ensures no_repeats { NoRepeats self.now }
     {
-        let place = *self.places.ids.get(id)?;
-        if self.kept[place as usize].struck {
+        let place = self.shelf.place_of(id)?;
+        if self.shelf.is_struck(place) {
             None
         } else {
             Some(place)
@@ -198,7 +186,7 @@ impl Facts {
     pub fn place_of(&self, id: &Name) -> Option<u32>
         ensures { result ≡ place_of id.now self.now }
     {
-        self.places.ids.get(id).copied()
+        self.shelf.place_of(id)
     }
 
     /// The place of the live reading of a stream on a day; `None` exactly where there is none.
@@ -244,7 +232,7 @@ impl Facts {
     fn has_id(&self, id: &Name) -> bool
         ensures { result ≡ list_any (has_id id.now) self.now }
     {
-        self.places.ids.contains_key(id)
+        self.place_of(id).is_some()
     }
 
     // Whether a live fact has the same stream or tank and day.

@@ -8,6 +8,7 @@ mod facts;
 mod laws;
 mod places;
 mod shares;
+mod shelf;
 #[cfg(test)]
 mod tests;
 

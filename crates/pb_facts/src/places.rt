@@ -13,11 +13,10 @@ use std::alloc::{AllocError, Global};
 use std::collections::HashMap;
 use std::hash::Hash;
 
-/// The places of the kept facts: of each by its id, of the live readings and dips by stream or tank and day, and of the transfers
-/// by stream and each block of days in which they may be asked for.
+/// The places of the kept facts: of the live readings and dips by stream or tank and day, and of the transfers by stream and each
+/// block of days in which they may be asked for.
 #[derive(Drop)]
 pub struct Places {
-    pub ids: HashMap<Name, u32>,
     pub readings: HashMap<(Name, i32), u32>,
     pub dips: HashMap<(Name, i32), u32>,
     pub transfers: HashMap<(Name, i32), Vec<u32>>,
@@ -29,23 +28,20 @@ impl Places {
         ensures same { SamePlaces self.old self.new }
         ensures room { OnOk result (HasRoom self.new fact.now) }
     {
-        self.ids.reserve(1)?;
-        self.readings.reserve(1)?;
-        self.dips.reserve(1)?;
         match fact {
+            Fact::Reading { .. } => self.readings.reserve(1),
+            Fact::Dip { .. } => self.dips.reserve(1),
             Fact::Transfer { stream, first, .. } => {
                 make_room(alloc, &mut self.transfers, *stream, block_of(*first))
             }
-            _ => Ok(()),
         }
     }
 
-    /// Notes the place of a new fact, by its id, and by its stream or tank and day or days.
+    /// Notes the place of a new fact, by its stream or tank and day or days.
     pub fn note(&mut self, fact: &Fact, place: u32)
         requires { HasRoom self.old fact.now }
         ensures { Notes self.old self.new fact.now place }
     {
-        put(&mut self.ids, fact.id(), place);
         match fact {
             Fact::Reading { stream, day, .. } => put(&mut self.readings, (*stream, *day), place),
             Fact::Dip { tank, day, .. } => put(&mut self.dips, (*tank, *day), place),
@@ -55,7 +51,7 @@ impl Places {
         }
     }
 
-    /// Takes out the place of a fact that is struck, by its stream or tank and day. Its id keeps its place, and so does a transfer.
+    /// Takes out the place of a fact that is struck, by its stream or tank and day. A transfer keeps its place.
     pub fn forget(&mut self, fact: &Fact)
         ensures { Forgets self.old self.new fact.now }
     {

@@ -1,7 +1,9 @@
 -- Directed quotients.
-use Rattle.std.proofs.Common.{◌≡◌, ◌∙◌, ℕ, ◌≤◌, ℤ, pos, negsuc, neg_ℤ, ◌+ℤ◌, ◌-ℤ◌, ◌*ℤ◌, ◌≤ℤ◌, ◌<ℤ◌, unsigned_abs, [], ◌∷◌, refl, sym, ap, arith}
-use Rattle.std.specs.Int.{int_rem_euclid}
+use Rattle.std.proofs.Common.{◌≡◌, ◌∙◌, ℕ, zero, suc, ◌-◌, ◌^◌, ◌<◌, ◌≤◌, ℤ, pos, negsuc, neg_ℤ, ◌+ℤ◌, ◌-ℤ◌, ◌*ℤ◌, ◌≤ℤ◌, ◌<ℤ◌, unsigned_abs, [], ◌∷◌, refl, sym, ap, subst, arith}
+use Rattle.std.specs.Int.{int_rem_euclid, int_shr}
 use Rattle.std.proofs.lemmas.Int.{ints}
+use Rattle.std.proofs.lemmas.Nat.{pow_pos}
+use Rattle.std.proofs.Math.Nat.{two-pow-succ}
 use Rattle.pb_integers.proofs.Order.{le_antisym, le_by_eq, le_trans, lt_by_eq, mul_cancel_strict, mul_mono, mul_strict}
 use Rattle.pb_integers.proofs.Ring.{var, lit, plus, times, minus, ring}
 use Rattle.pb_integers.proofs.RingLaws.{add_mul, mul_assoc, one_mul}
@@ -151,6 +153,33 @@ nearest_shift k n d d_pos =
     ring (k ∷ n ∷ d ∷ []) (plus (times (lit (pos 2)) (plus (var 1) (times (var 0) (var 2)))) (var 2))
     (plus (plus (times (lit (pos 2)) (var 1)) (var 2)) (times (var 0) (times (lit (pos 2)) (var 2)))) refl in
     ap (λ (x : ℤ). floor_div x (pos 2 *ℤ d)) e ∙ floor_shift k ((pos 2 *ℤ n) +ℤ d) (pos 2 *ℤ d) (twice_positive d d_pos)
+
+-- the nearest quotient by an even divisor: half of it added, and rounded down
+pub nearest_even : (n h : ℤ) → pos 0 <ℤ h → nearest_div n (pos 2 *ℤ h) ≡ floor_div (n +ℤ h) (pos 2 *ℤ h)
+nearest_even n h h_pos =
+    let d = pos 2 *ℤ h in
+    let q = floor_div (n +ℤ h) d in
+    let floor = floor_is (n +ℤ h) d (twice_positive h h_pos) in
+    let below = floor.below in
+    let next = floor.next in
+    let e = twice_multiple q d in
+    sym (nearest_only n d q (twice_positive h h_pos) (record { below = omega (arith, ints, e, below); next = omega (arith, ints, e, next) }))
+
+twice_power : (k : ℕ) → pos (2 ^ suc k) ≡ pos 2 *ℤ pos (2 ^ k)
+twice_power k = let e = two-pow-succ k in omega (arith, ints, e)
+
+-- the nearest quotient by a power of two, from 2 on
+pub nearest_power : (n : ℤ) (k : ℕ) → 0 < k → nearest_div n (pos (2 ^ k)) ≡ floor_div (n +ℤ pos (2 ^ (k - 1))) (pos (2 ^ k))
+nearest_power n zero h = absurd (omega (arith, h))
+nearest_power n (suc k) h =
+    let e : suc k - 1 ≡ k = omega arith in
+    let even = nearest_even n (pos (2 ^ k)) (let some = pow_pos k in omega (arith, ints, some)) in
+    rw e (subst (λ (d : ℤ). nearest_div n d ≡ floor_div (n +ℤ pos (2 ^ k)) d) (sym (twice_power k)) even)
+
+-- a shift to the right is the quotient by a power of two, rounded down
+pub shift_floor : (n : ℤ) (k : ℕ) → int_shr n k ≡ floor_div n (pos (2 ^ k))
+shift_floor (pos n) k = refl
+shift_floor (negsuc n) k = refl
 
 -- twice the error of a nearest quotient, in units of 1/d
 pub nearest_error_below : (n d q : ℤ) → IsNearest n d q → neg_ℤ d <ℤ ((pos 2 *ℤ (q *ℤ d)) -ℤ (pos 2 *ℤ n))

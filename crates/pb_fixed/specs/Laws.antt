@@ -1,5 +1,5 @@
 -- Statement. What follows from the definitions of quotients, roots and blocks.
-use Rattle.std.specs.Prelude.{◌≡◌, ℕ, ◌*◌, ◌≤◌, ℤ, pos, neg_ℤ, ◌+ℤ◌, ◌-ℤ◌, ◌*ℤ◌, ◌≤ℤ◌, ◌<ℤ◌, List}
+use Rattle.std.specs.Prelude.{◌≡◌, ℕ, ◌-◌, ◌*◌, ◌^◌, ◌<◌, ◌≤◌, ℤ, pos, neg_ℤ, ◌+ℤ◌, ◌-ℤ◌, ◌*ℤ◌, ◌≤ℤ◌, ◌<ℤ◌, List}
 use Rattle.pb_fixed.specs.Quotients.{IsFloor, IsCeiling, IsNearest, floor_div, ceil_div, nearest_div}
 use Rattle.pb_fixed.specs.Roots.{IsRootFloor, IsRootCeiling, IsScaledRoot, root_floor_of, root_ceil_of, scaled_root_of}
 use Rattle.pb_fixed.specs.Blocks.{FitBlocks, IsBlockExponent, block_exponent_of}
@@ -23,6 +23,9 @@ pub record AreDirected : Type 0 where
   pub floor_to_nearest : (n d : ℤ) → pos 0 <ℤ d → floor_div n d ≤ℤ nearest_div n d
   pub nearest_to_ceiling : (n d : ℤ) → pos 0 <ℤ d → nearest_div n d ≤ℤ ceil_div n d
   pub ceiling_to_floor : (n d : ℤ) → pos 0 <ℤ d → ceil_div n d ≤ℤ (floor_div n d +ℤ pos 1)
+  -- the nearest quotient by an even divisor, as by a power of two from 2 on: half of it added, and rounded down
+  pub nearest_even : (n h : ℤ) → pos 0 <ℤ h → nearest_div n (pos 2 *ℤ h) ≡ floor_div (n +ℤ h) (pos 2 *ℤ h)
+  pub nearest_power : (n : ℤ) (k : ℕ) → 0 < k → nearest_div n (pos (2 ^ k)) ≡ floor_div (n +ℤ pos (2 ^ (k - 1))) (pos (2 ^ k))
   -- twice the error of a nearest quotient, in units of 1/d, is above -d and at most d
   pub error_below : (n d : ℤ) → pos 0 <ℤ d → neg_ℤ d <ℤ ((pos 2 *ℤ (nearest_div n d *ℤ d)) -ℤ (pos 2 *ℤ n))
   pub error_above : (n d : ℤ) → pos 0 <ℤ d → ((pos 2 *ℤ (nearest_div n d *ℤ d)) -ℤ (pos 2 *ℤ n)) ≤ℤ d

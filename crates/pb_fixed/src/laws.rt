@@ -4,7 +4,7 @@ ghost use Rattle.pb_fixed.specs.Quotients.{floor_div, ceil_div, nearest_div};
 ghost use Rattle.pb_fixed.specs.Laws.{RoundsQuotients, AreDirected, AreRoots, AreBlockExponents};
 
 /// Each of the three quotients is exact at multiples, keeps the order and moves along with multiples of the divisor; each is what
-/// its name says and the only one, and they stand in order.
+/// its name says and the only one, and they stand in order. The nearest by an even divisor is one rounded down.
 pub fn quotient_laws()
     ensures floor { RoundsQuotients floor_div }
     ensures ceiling { RoundsQuotients ceil_div }

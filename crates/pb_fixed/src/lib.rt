@@ -14,5 +14,5 @@ mod tests;
 
 pub use blocks::{block_exponent, block_squares, half_width};
 pub use laws::{block_laws, quotient_laws, root_laws};
-pub use quotients::{div_ceil, div_floor, div_nearest};
+pub use quotients::{div_ceil, div_floor, div_nearest, shift_nearest};
 pub use roots::{root_ceil, root_floor, scaled_root};

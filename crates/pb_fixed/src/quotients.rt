@@ -39,3 +39,15 @@ pub fn div_nearest(n: i128, d: i128) -> i128
 {
     (2 * n + d).div_euclid(2 * d)
 }
+
+/// The greatest whole number not above `n / 2^bits + 1/2`: `div_nearest` of a power of two, from 2 on, by a sum and a shift.
+pub fn shift_nearest(n: i128, bits: u32) -> i128
+    requires dividend { unsigned_abs n < 2 ^ 125 }
+    requires some { 0 < bits }
+    requires bits { bits < 126 }
+    ensures value { result ≡ nearest_div n (pos (2 ^ bits)) }
+    ensures nearest { IsNearest n (pos (2 ^ bits)) result }
+    ensures size { unsigned_abs result ≤ unsigned_abs n }
+{
+    (n + (1 << (bits - 1))) >> bits
+}

@@ -37,6 +37,26 @@ fn quotients(rt: HostRuntime) {
         assert!(rt; d > 0 && d <= most && n <= most && n >= -most);
         assert_eq!(rt; div_nearest(n, d), want, "{n} / {d}");
     }
+    for (n, bits, want) in [
+        (0, 1, 0),
+        (-1, 1, 0),
+        (1, 1, 1),
+        (-3, 1, -1),
+        (-5, 2, -1),
+        (-6, 2, -1),
+        (-7, 2, -2),
+        (5, 2, 1),
+        (6, 2, 2),
+        (1 << 55, 56, 1),
+        (-1 << 55, 56, 0),
+        ((-1 << 55) - 1, 56, -1),
+        (most, 125, 1),
+        (-most, 125, -1),
+        (-1 << 124, 125, 0),
+    ] {
+        assert!(rt; bits > 0 && bits < 126 && n <= most && n >= -most);
+        assert_eq!(rt; shift_nearest(n, bits), want, "{n} / 2^{bits}");
+    }
 }
 
 #[test]

@@ -10,6 +10,7 @@ mod SideLemmas
 mod TreeLemmas
 mod ClimbLemmas
 mod NetLemmas
+mod ChordLemmas
 mod SomeForestLemmas
 mod SomeBalancedLemmas
 mod SomePathLemmas

@@ -142,7 +142,7 @@ added_small (Some j) x out b c small le k =
     ]
 
 -- ---- what crosses is small
-item_small : (xs : List ℤ) (b : ℕ) → All (λ (v : ℤ). unsigned_abs v ≤ b) xs → (k : ℕ) → unsigned_abs (item xs k) ≤ b
+pub item_small : (xs : List ℤ) (b : ℕ) → All (λ (v : ℤ). unsigned_abs v ≤ b) xs → (k : ℕ) → unsigned_abs (item xs k) ≤ b
 item_small xs b small k = elim (cases_lt k (length xs)) [
   | inl lt ↦ small k (pos 0) lt
   | inr past ↦ let e = get_or_past xs k (pos 0) (omega (arith, past)) in omega (arith, ints, e)

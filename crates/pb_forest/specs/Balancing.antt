@@ -1,19 +1,43 @@
 -- Inside. How flows are balanced: net flows are kept at the branches, from the leaves of each tree to its root.
-use Rattle.std.specs.Prelude.{◌≡◌, ◌≢◌, ℕ, ◌<◌, ◌≤◌, ◌^◌, ℤ, pos, neg_ℤ, ◌+ℤ◌, Bool, false, ◌==◌, List, length, Option, Some, None, get_or, set, unsigned_abs, if◌then◌else◌}
+use Rattle.std.specs.Prelude.{◌≡◌, ◌≢◌, ℕ, zero, suc, ◌<◌, ◌≤◌, ◌^◌, ℤ, pos, neg_ℤ, ◌+ℤ◌, Bool, false, ◌==◌, List, [], ◌∷◌, ◌++◌, length, map, Option, Some, None, get_or, set, unsigned_abs, if◌then◌else◌}
 use Rattle.pb_integers.specs.Sums.{sum_below, item}
 use Rattle.pb_graph.specs.declared.records.Stream.{Stream}
-use Rattle.pb_graph.specs.ProcessGraph.{ProcessGraph}
+use Rattle.pb_graph.specs.ProcessGraph.{ProcessGraph, IsProcessGraph, some_stream}
 use Rattle.pb_graph.specs.Groups.{entering}
 use Rattle.pb_graph.specs.Balance.{brought_to}
-use Rattle.pb_graph.specs.ProcessGraph.{some_stream}
+pub use Rattle.pb_forest.specs.declared.chords.Chord.{Chord}
+pub use Rattle.pb_forest.specs.declared.branches.Branch.{Branch}
 use Rattle.pb_forest.specs.Forest.{IsForest}
 use Rattle.pb_forest.specs.Flows.{AgreeOffForest}
 use Rattle.pb_forest.specs.Trees.{RootedTrees, AreWhole, node_at, up_of, end_from}
 
--- what a spanning forest is kept with: its trees
-pub record IsKept (graph : ProcessGraph) (held : List Bool) (trees : RootedTrees) : Type 0 where
+-- the stream at place k as a chord, with the branches that its ends hang by
+abbrev pub chord_at : List Stream → RootedTrees → ℕ → Chord
+chord_at streams trees k =
+    record { stream = k; from = up_of trees (get_or streams k some_stream).from; to = up_of trees (get_or streams k some_stream).to }
+
+-- the streams not held among the first n
+abbrev pub chords_of : List Stream → List Bool → RootedTrees → ℕ → List Chord
+chords_of streams held trees zero = []
+chords_of streams held trees (suc n) = chords_of streams held trees n ++ (if get_or held n false then [] else chord_at streams trees n ∷ [])
+
+-- the branch that node n hangs by, if it has one, with that of its parent
+abbrev pub branch_from : List Stream → RootedTrees → ℕ → Option ℕ → Option Branch
+branch_from streams trees n None = None
+branch_from streams trees n (Some k) =
+    Some (record { stream = k; enters = (get_or streams k some_stream).to == n; parent = up_of trees (end_from streams n k) })
+
+-- the branch of each node in the order found
+abbrev pub branches_of : List Stream → RootedTrees → List (Option Branch)
+branches_of streams trees = map (λ n. branch_from streams trees n (up_of trees n)) trees.order
+
+-- what a spanning forest is kept with: its trees, its chords, and the branch of each node in the order found
+pub record IsKept (graph : ProcessGraph) (held : List Bool) (trees : RootedTrees) (chords : List Chord) (branches : List (Option Branch)) : Type 0 where
   pub forest : IsForest graph.streams held
   pub rooted : AreWhole graph.nodes graph.streams held trees
+  pub limits : IsProcessGraph graph
+  pub are_chords : chords ≡ chords_of graph.streams held trees (length graph.streams)
+  pub are_branches : branches ≡ branches_of graph.streams trees
 
 -- what a flow of a stream brings into a set of nodes
 abbrev pub entering_of : (ℕ → Bool) → Stream → ℤ → ℤ
@@ -36,6 +60,15 @@ abbrev pub added_at : Option ℕ → ℤ → List ℤ → List ℤ
 added_at None amount out = out
 added_at (Some k) amount out = set out k (item out k +ℤ amount)
 
+-- the flow of a chord joins the net flows of its ends
+abbrev pub brought : Chord → ℤ → List ℤ → List ℤ
+brought chord flow out = added_at chord.to flow (added_at chord.from (neg_ℤ flow) out)
+
+-- the flows of chords join the net flows of their ends
+abbrev pub gathered : List Chord → List ℤ → List ℤ → List ℤ
+gathered [] off out = out
+gathered (chord ∷ chords) off out = gathered chords off (brought chord (item off chord.stream) out)
+
 -- the flow of a branch that balances its lower end n, where the net flow there is this without it
 abbrev pub balancing : ℕ → Stream → ℤ → ℤ
 balancing n stream net = if stream.to == n then neg_ℤ net else net
@@ -45,6 +78,22 @@ abbrev pub settled : List Stream → RootedTrees → ℕ → Option ℕ → List
 settled streams trees n None out = out
 settled streams trees n (Some k) out =
     added_at (up_of trees (end_from streams n k)) (item out k) (set out k (balancing n (get_or streams k some_stream) (item out k)))
+
+-- the same by the branch of a node
+abbrev pub settled_by : Option Branch → List ℤ → List ℤ
+settled_by None out = out
+settled_by (Some b) out =
+    added_at b.parent (item out b.stream) (set out b.stream (if b.enters then neg_ℤ (item out b.stream) else item out b.stream))
+
+-- the places of a chord and of a branch are within a list of flows
+pub record IsChordWithin (n : ℕ) (chord : Chord) : Type 0 where
+  pub stream : chord.stream < n
+  pub from : (k : ℕ) → chord.from ≡ Some k → k < n
+  pub to : (k : ℕ) → chord.to ≡ Some k → k < n
+
+pub record IsBranchWithin (n : ℕ) (branch : Branch) : Type 0 where
+  pub stream : branch.stream < n
+  pub parent : (k : ℕ) → branch.parent ≡ Some k → k < n
 
 -- The net flows of the streams not held are kept at the branches: at that of node n what the streams not held before place j
 -- bring to n.

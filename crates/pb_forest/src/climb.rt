@@ -12,7 +12,8 @@ use std::alloc::{AllocError, Global};
 fn step_up(graph: &Graph, held: &[bool], trees: &Trees, node: u32) -> (Step, u32)
     requires trees { AreWhole graph.now.nodes graph.now.streams held.now trees.now }
     requires node { node < graph.now.nodes }
-    requires later { (m : ℕ) × (m < graph.now.nodes) × (root_of trees.now node ≡ root_of trees.now m)
+    requires later { (m : ℕ) × (m < graph.now.nodes)
+        × (root_of trees.now node ≡ root_of trees.now m)
         × (place_of trees.now m < place_of trees.now node) }
     ensures { IsRise graph.now.nodes graph.now.streams held.now trees.now node result.1 result.0 }
 {

@@ -1,17 +1,19 @@
 // The balanced flows that the forest repairs: from the leaves of each tree to its root.
 
 ghost use Rattle.std.specs.Prelude.{◌≡◌, ℕ, ◌<◌, ◌≤◌, ◌^◌, ℤ, neg_ℤ, List as Seq, All, Some, length, unsigned_abs};
+ghost use Rattle.pb_limits.specs.Limits.{most_streams};
 ghost use Rattle.pb_integers.specs.Sums.{item};
-ghost use Rattle.pb_graph.specs.ProcessGraph.{IsStream, IsProcessGraph};
+ghost use Rattle.pb_graph.specs.ProcessGraph.{IsProcessGraph};
 ghost use Rattle.pb_graph.specs.Balance.{IsBalanced};
 ghost use Rattle.pb_graph.specs.WellFormed.{IsFlow};
-ghost use Rattle.pb_forest.specs.Forest.{IsForest};
 ghost use Rattle.pb_forest.specs.Flows.{AgreeOffForest, IsGivenFlow};
-ghost use Rattle.pb_forest.specs.Trees.{AreWhole, node_at, up_of};
-ghost use Rattle.pb_forest.specs.Balancing.{AreNets, AreBalancedFrom, chord_flow, added_at, settled};
+ghost use Rattle.pb_forest.specs.Trees.{AreWhole};
+ghost use Rattle.pb_forest.specs.Balancing.{IsKept, AreNets, AreBalancedFrom, IsChordWithin, IsBranchWithin, branches_of, chord_flow, added_at, brought, gathered, settled_by};
 
+use crate::branches::Branch;
+use crate::chords::Chord;
 use crate::trees::Trees;
-use pb_graph::{Graph, Stream};
+use pb_graph::Graph;
 
 // The flow at a place where the stream isn't held, and 0 where it is.
 fn chord_flow(held: &[bool], off: &[i128], k: usize) -> i128
@@ -36,87 +38,91 @@ fn write_chords(held: &[bool], off: &[i128], out: &mut [i128])
     }
 }
 
-// Adds to the net flow of a node, which is kept at the held stream to its parent; none is kept of a root.
-fn add(trees: &Trees, node: u32, amount: i128, out: &mut [i128])
-    requires node { node < length trees.now.up }
-    requires branch { (k : ℕ) → up_of trees.now node ≡ Some k → k < length out.old }
-    requires small { unsigned_abs amount < 2 ^ 69 }
-    requires nets { All (λ v. unsigned_abs v < 2 ^ 69) out.old }
-    ensures { out.new ≡ added_at (up_of trees.now node) amount out.old }
+// Adds to the net flow that is kept at a branch; none is kept at a root.
+fn add(branch: Option<u32>, amount: i128, out: &mut [i128])
+    requires branch { (k : ℕ) → branch ≡ Some k → k < length out.old }
+    requires small { unsigned_abs amount < 2 ^ 70 }
+    requires nets { All (λ v. unsigned_abs v < 2 ^ 70) out.old }
+    ensures { out.new ≡ added_at branch amount out.old }
 {
-    if let Some(k) = trees.up(node) {
+    if let Some(k) = branch {
         out[k as usize] += amount;
     }
 }
 
-// Brings the flow of a stream to the net flows of its ends.
-fn bring(trees: &Trees, stream: &Stream, flow: i128, out: &mut [i128])
-    requires ends { IsStream (length trees.now.up) stream.now }
-    requires branches { (n k : ℕ) → up_of trees.now n ≡ Some k → k < length out.old }
+// Brings the flow of a chord to the net flows of its ends.
+fn bring(chord: &Chord, flow: i128, out: &mut [i128])
+    requires there { IsChordWithin (length out.old) chord.now }
     requires given { IsGivenFlow flow }
-    requires nets { All (λ v. unsigned_abs v < 2 ^ 68) out.old }
-    ensures { out.new ≡ added_at (up_of trees.now stream.now.to) flow
-        (added_at (up_of trees.now stream.now.from) (neg_ℤ flow) out.old) }
+    requires nets { All (λ v. unsigned_abs v < 2 ^ 69) out.old }
+    ensures { out.new ≡ brought chord.now flow out.old }
 {
-    add(trees, stream.from, -flow, out);
-    add(trees, stream.to, flow, out);
+    add(chord.from, -flow, out);
+    add(chord.to, flow, out);
 }
 
-// Brings the flow of each stream not held to the net flows of its ends.
-fn gather(graph: &Graph, held: &[bool], trees: &Trees, off: &[i128], out: &mut [i128])
-    requires marks { length held.now ≡ length graph.now.streams }
-    requires trees { AreWhole graph.now.nodes graph.now.streams held.now trees.now }
-    requires each { length off.now ≡ length graph.now.streams }
+// Brings the flow of each chord to the net flows of its ends.
+fn gather(chords: &[Chord], off: &[i128], out: &mut [i128])
+    requires few { length chords.now ≤ most_streams }
+    requires there { All (IsChordWithin (length out.old)) chords.now }
+    requires each { length off.now ≡ length out.old }
     requires given { All IsGivenFlow off.now }
-    requires start { AreNets graph.now.streams held.now off.now trees.now 0 out.old }
-    ensures { AreNets graph.now.streams held.now off.now trees.now
-        (length graph.now.streams) out.new }
+    requires start { (k : ℕ) → unsigned_abs (item out.old k) ≤ 2 ^ 57 }
+    ensures { out.new ≡ gathered chords.now off.now out.old }
 {
-    for (k, stream) in graph.streams().iter().enumerate() {
-        bring(trees, stream, chord_flow(held, off, k), out);
+    for chord in chords {
+        bring(chord, off[chord.stream as usize], out);
     }
 }
 
-// Balances the node at a place: the held stream to its parent takes its net flow there.
-fn settle(streams: &[Stream], trees: &Trees, i: usize, out: &mut [i128])
-    requires ends { All (IsStream (length trees.now.up)) streams.now }
-    requires place { i < length trees.now.order }
-    requires node { node_at trees.now i < length trees.now.up }
-    requires branches { (n k : ℕ) → up_of trees.now n ≡ Some k → k < length streams.now }
-    requires room { length out.old ≡ length streams.now }
+// Balances a node: its branch takes its net flow, which the parent's net flow grows by.
+fn settle(branch: &Option<Branch>, out: &mut [i128])
+    requires there { (b : Branch) → branch.now ≡ Some b → IsBranchWithin (length out.old) b }
     requires nets { All (λ v. unsigned_abs v < 2 ^ 68) out.old }
-    ensures { out.new ≡ settled streams.now trees.now (node_at trees.now i)
-        (up_of trees.now (node_at trees.now i)) out.old }
+    ensures { out.new ≡ settled_by branch.now out.old }
 {
-    let node = trees.node_at(i);
-    if let Some(k) = trees.up(node) {
-        let stream = &streams[k as usize];
-        let net = out[k as usize];
-        out[k as usize] = if stream.to == node { -net } else { net };
-        add(trees, stream.end_from(node), net, out);
+    if let Some(branch) = branch {
+        let k = branch.stream as usize;
+        let net = out[k];
+        out[k] = if branch.enters { -net } else { net };
+        add(branch.parent, net, out);
     }
 }
 
 // Balances the nodes, each before its parent.
-fn settle_all(graph: &Graph, held: &[bool], trees: &Trees, off: &[i128], out: &mut [i128])
+fn settle_all(
+    graph: &Graph,
+    held: &[bool],
+    trees: &Trees,
+    branches: &[Option<Branch>],
+    off: &[i128],
+    out: &mut [i128],
+)
+    requires limits { IsProcessGraph graph.now }
     requires marks { length held.now ≡ length graph.now.streams }
     requires trees { AreWhole graph.now.nodes graph.now.streams held.now trees.now }
+    requires branches { branches.now ≡ branches_of graph.now.streams trees.now }
     requires given { All IsGivenFlow off.now }
     requires nets { AreNets graph.now.streams held.now off.now trees.now
         (length graph.now.streams) out.old }
-    ensures balanced { AreBalancedFrom graph.now.streams held.now off.now trees.now 0 out.new }
-    ensures limits { IsProcessGraph graph.now }
+    ensures { AreBalancedFrom graph.now.streams held.now off.now trees.now 0 out.new }
 {
-    let streams = graph.streams();
-    for i in (0..trees.len()).rev() {
-        settle(streams, trees, i, out);
+    for i in (0..branches.len()).rev() {
+        settle(&branches[i], out);
     }
 }
 
 /// Writes the balanced flow vector that has the given flows off the forest.
-pub fn write_flows(graph: &Graph, held: &[bool], trees: &Trees, off: &[i128], out: &mut [i128])
-    requires forest { IsForest graph.now.streams held.now }
-    requires trees { AreWhole graph.now.nodes graph.now.streams held.now trees.now }
+pub fn write_flows(
+    graph: &Graph,
+    held: &[bool],
+    trees: &Trees,
+    chords: &[Chord],
+    branches: &[Option<Branch>],
+    off: &[i128],
+    out: &mut [i128],
+)
+    requires kept { IsKept graph.now held.now trees.now chords.now branches.now }
     requires each { length off.now ≡ length graph.now.streams }
     requires room { length out.old ≡ length graph.now.streams }
     requires within { All IsGivenFlow off.now }
@@ -127,6 +133,6 @@ pub fn write_flows(graph: &Graph, held: &[bool], trees: &Trees, off: &[i128], ou
     ensures within { All IsFlow out.new }
 {
     write_chords(held, off, out);
-    gather(graph, held, trees, off, out);
-    settle_all(graph, held, trees, off, out);
+    gather(chords, off, out);
+    settle_all(graph, held, trees, branches, off, out);
 }

@@ -8,6 +8,8 @@ ghost use Rattle.pb_graph.specs.WellFormed.{IsFlow};
 ghost use Rattle.pb_forest.specs.Forest.{SpanningForest, IsHeld, IsTied, IsForest, degrees_of_freedom, held_ends};
 ghost use Rattle.pb_forest.specs.Flows.{AgreeOffForest, IsGivenFlow};
 
+use crate::branches::{Branch, branches_of};
+use crate::chords::{Chord, chords_of};
 use crate::climb::path_in_tree;
 use crate::flows::write_flows;
 use crate::labels::held_streams;
@@ -27,6 +29,9 @@ pub struct Forest<'a> {
     held: Vec<bool>,
     // The trees of the held streams, each from a root.
     trees: Trees,
+    chords: Vec<Chord>,
+    // The branch of each node, in the order found.
+    branches: Vec<Option<Branch>>,
 }
 
 impl<'a> Model for Forest<'a> {
@@ -37,7 +42,7 @@ impl<'a> Model for Forest<'a> {
 
     ghost view = { λ a. record { graph = a.graph.now; held = a.held.items } };
 
-    ghost invariant = { λ a. IsKept a.graph.now a.held.items a.trees };
+    ghost invariant = { λ a. IsKept a.graph.now a.held.items a.trees a.chords.items a.branches.items };
 }
 
 impl<'a> Forest<'a> {
@@ -49,7 +54,15 @@ impl<'a> Forest<'a> {
         let held = held_streams(alloc, graph.nodes(), graph.streams())?;
         let near = Neighbours::of(alloc, graph)?;
         let trees = Trees::of(alloc, graph, &near, &held)?;
-        Ok(Forest { graph, held, trees })
+        let chords = chords_of(alloc, graph, &held, &trees)?;
+        let branches = branches_of(alloc, graph, &held, &trees)?;
+        Ok(Forest {
+            graph,
+            held,
+            trees,
+            chords,
+            branches,
+        })
     }
 
     /// Whether the forest holds a stream.
@@ -109,6 +122,14 @@ impl<'a> Forest<'a> {
         ensures within { All IsFlow out.new }
         ensures forest { IsForest self.now.graph.streams self.now.held }
     {
-        write_flows(graph, &self.held, &self.trees, off, out);
+        write_flows(
+            graph,
+            &self.held,
+            &self.trees,
+            &self.chords,
+            &self.branches,
+            off,
+            out,
+        );
     }
 }

@@ -4,6 +4,8 @@
 //! The laws stand on empty functions, whose contracts state them for the crates above.
 #![tactic(auto)]
 
+mod branches;
+mod chords;
 mod climb;
 mod flows;
 mod forest;

@@ -1,6 +1,6 @@
 -- Inside. What a solver keeps with a state.
-use Rattle.std.specs.Prelude.{◌≡◌, ◌<◌, ◌^◌, ℕ, ℤ, pos, ◌≤ℤ◌, List, length, get_or, All, unsigned_abs}
-use Rattle.pb_integers.specs.Sums.{item}
+use Rattle.std.specs.Prelude.{◌≡◌, ◌<◌, ◌^◌, ℕ, ℤ, pos, ◌*ℤ◌, ◌≤ℤ◌, ◌<ℤ◌, List, length, get_or, take, All, unsigned_abs}
+use Rattle.pb_integers.specs.Sums.{item, sum_over}
 use Rattle.pb_graph.specs.ProcessGraph.{ProcessGraph, IsProcessGraph}
 use Rattle.pb_graph.specs.Balance.{IsBalanced}
 use Rattle.pb_graph.specs.Groups.{AreGroups, group_count}
@@ -67,3 +67,9 @@ pub record IsGapOf (state : State) (gap : Gap) : Type 0 where
 pub record IsSettled (state : State) (gap : Gap) : Type 0 where
   pub is : IsState state
   pub measure : IsGapOf state gap
+
+-- the first of these deviations have squares that add up to more than that of a limit
+pub record AreFar (limit : ℤ) (deviations : List ℤ) : Type 0 where
+  pub count : ℕ
+  pub nonneg : (k : ℕ) → k < count → pos 0 ≤ℤ item deviations k
+  pub above : (limit *ℤ limit) <ℤ sum_over (λ a. a *ℤ a) (take count deviations)

@@ -9,7 +9,7 @@ ghost use Rattle.pb_dual.specs.DualValue.{scale, most_dual_flow};
 ghost use Rattle.pb_gap.specs.Statistic.{most_adjustment};
 
 use pb_dual::SCALE;
-use pb_fixed::{div_ceil, div_floor, div_nearest};
+use pb_fixed::{div_ceil, div_floor, shift_nearest};
 
 /// The most that an adjustment counts.
 pub const MOST_ADJUSTMENT: i128 = 1 << 52;
@@ -20,7 +20,7 @@ pub fn nearest_gram(dual_flow: i128) -> i128
     ensures value { result ≡ nearest_div dual_flow scale }
     ensures within { unsigned_abs result ≤ 2 ^ 57 }
 {
-    div_nearest(dual_flow, SCALE)
+    shift_nearest(dual_flow, 56)
 }
 
 /// How far a flow is from a dual flow, in units of 2^-56 gram.
@@ -79,6 +79,18 @@ pub fn square(adjustment: i128) -> i128
     ensures within { result ≤ℤ pos (2 ^ 104) }
 {
     adjustment * adjustment
+}
+
+/// The square of a deviation, which counts up to one above a limit.
+pub fn square_up_to(deviation: i128, limit: i128) -> i128
+    requires deviation { pos 0 ≤ℤ deviation }
+    requires from { pos 0 ≤ℤ limit }
+    requires to { limit <ℤ most_adjustment }
+    ensures below { result ≤ℤ (deviation *ℤ deviation) }
+    ensures nonneg { pos 0 ≤ℤ result }
+    ensures within { result <ℤ pos (2 ^ 105) }
+{
+    square(deviation.min(limit + 1))
 }
 
 /// A number with a sign.

@@ -1,14 +1,15 @@
 // How far each stream's flow is from its dual flow.
 
 ghost use Rattle.std.specs.Prelude.{◌≡◌, ◌<◌, ◌≤◌, ◌^◌, ℕ, ℤ, false, pos, ◌≤ℤ◌, ◌<ℤ◌, length, unsigned_abs, All, IsTrue};
-ghost use Rattle.std.specs.List.{Any};
 ghost use Rattle.pb_fixed.specs.Blocks.{IsBlockItem};
 ghost use Rattle.pb_graph.specs.ProcessGraph.{IsWithinLimits};
 ghost use Rattle.pb_dual.specs.DualValue.{dual_flow, dual_flows_of, most_dual_flow};
 ghost use Rattle.pb_gap.specs.Gap.{standard_deviation_of, deviation_of, deviations_of};
+ghost use Rattle.pb_gap.specs.Statistic.{most_adjustment};
 ghost use Rattle.pb_gap.specs.FlowPair.{AreMeasured, AreDualFlows};
+ghost use Rattle.pb_gap.specs.Iterate.{AreFar};
 
-use crate::arithmetic::deviation;
+use crate::arithmetic::{deviation, square, square_up_to};
 use pb_graph::Stream;
 
 // The deviation of the flow of a stream; 0 where it is unmeasured.
@@ -27,8 +28,28 @@ fn stream_deviation(stream: &Stream, root: i128, dual: i128, flow: i128) -> i128
     }
 }
 
-/// Writes the deviation of each stream's flow, up to the first one above a limit. Whether there is none.
+/// Writes the deviation of each stream's flow.
 pub fn write_deviations(
+    streams: &[Stream],
+    standard_deviations: &[i128],
+    dual_flows: &[i128],
+    flows: &[i128],
+    out: &mut [i128],
+)
+    requires measured { AreMeasured streams.now standard_deviations.now flows.now }
+    requires duals { AreDualFlows streams.now dual_flows.now }
+    requires room { length out.old ≡ length streams.now }
+    ensures value { (price : ℕ → ℤ) → dual_flows.now ≡ dual_flows_of price streams.now
+        → out.new ≡ deviations_of price streams.now flows.now }
+    ensures within { All IsBlockItem out.new }
+{
+    for (j, stream) in streams.iter().enumerate() {
+        out[j] = stream_deviation(stream, standard_deviations[j], dual_flows[j], flows[j]);
+    }
+}
+
+/// Writes the deviation of each stream's flow, until their squares add up to more than that of a limit. Whether they never do.
+pub fn write_near_deviations(
     streams: &[Stream],
     standard_deviations: &[i128],
     dual_flows: &[i128],
@@ -38,19 +59,22 @@ pub fn write_deviations(
 ) -> bool
     requires measured { AreMeasured streams.now standard_deviations.now flows.now }
     requires duals { AreDualFlows streams.now dual_flows.now }
+    requires from { pos 0 ≤ℤ limit }
+    requires to { limit <ℤ most_adjustment }
     requires room { length out.old ≡ length streams.now }
     ensures value { IsTrue result → (price : ℕ → ℤ)
         → dual_flows.now ≡ dual_flows_of price streams.now
         → out.new ≡ deviations_of price streams.now flows.now }
     ensures within { IsTrue result → All IsBlockItem out.new }
-    ensures all { pos (2 ^ 89) ≤ℤ limit → IsTrue result }
-    ensures above { result ≡ false → (price : ℕ → ℤ)
+    ensures far { result ≡ false → (price : ℕ → ℤ)
         → dual_flows.now ≡ dual_flows_of price streams.now
-        → Any (λ a. (limit <ℤ a) × IsBlockItem a) (deviations_of price streams.now flows.now) }
+        → AreFar limit (deviations_of price streams.now flows.now) }
 {
+    let mut left = square(limit);
     for (j, stream) in streams.iter().enumerate() {
         let deviation = stream_deviation(stream, standard_deviations[j], dual_flows[j], flows[j]);
-        if deviation > limit {
+        left -= square_up_to(deviation, limit);
+        if left < 0 {
             return false;
         }
         out[j] = deviation;

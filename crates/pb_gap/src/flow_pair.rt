@@ -9,15 +9,12 @@ ghost use Rattle.pb_gap.specs.Statistic.{statistic_of};
 ghost use Rattle.pb_gap.specs.FlowPair.{AreMeasured, AreDualFlows, AreOfPrices};
 
 use crate::adjustments::{high, low};
-use crate::deviations::write_deviations;
+use crate::deviations::{write_deviations, write_near_deviations};
 use crate::gap::{Gap, gap_from, is_met, most_deviation};
 use crate::least::{about_middle, flow_sum};
 use crate::sums::{dual_flow_sum, half_width_of, outward};
 use pb_graph::{Bounds, Graph, Member};
 use std::marker::Model;
-
-// The greatest deviation.
-const MOST_DEVIATION: i128 = 1 << 89;
 
 /// The flows of a graph beside the dual flows of prices.
 ///
@@ -80,7 +77,6 @@ impl<'a> FlowPair<'a> {
             self.standard_deviations,
             self.dual_flows,
             self.flows,
-            MOST_DEVIATION,
             deviations,
         );
         gap_from(deviations)
@@ -95,7 +91,7 @@ impl<'a> FlowPair<'a> {
             ↔ MeetsGap thousandths (gap_of price self.now.graph.streams self.now.flows)) }
     {
         let streams = self.graph.streams();
-        let near = write_deviations(
+        let near = write_near_deviations(
             streams,
             self.standard_deviations,
             self.dual_flows,

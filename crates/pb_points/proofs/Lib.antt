@@ -5,3 +5,4 @@ mod OverLemmas
 mod SpanLemmas
 mod PointLemmas
 mod SideLemmas
+mod CutLemmas

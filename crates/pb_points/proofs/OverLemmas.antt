@@ -166,6 +166,18 @@ rise nodes ss held w may (suc bound) i entries ups less lt = elim (option_cases 
       (subst (λ (m : ℕ). Reaches (ends_of may ss) (node_at w m) (node_at w h.parent)) h.tree rest) (parent_reach nodes ss held w may i e h (ups i e lt up))
 ]
 
+-- a label is at most the number of each entry that has it
+pub label_least : (nodes : ℕ) (ss : List Stream) (held : List Bool) (w : Entries) (bound i : ℕ) → AreEntries nodes ss held w → i < bound → i < length w.list → tree_at w i ≤ i
+label_least nodes ss held w zero i entries less lt = absurd (omega (arith, less))
+label_least nodes ss held w (suc bound) i entries less lt = elim (option_cases (up_at w i)) [
+  | inl none ↦ let own = entries.label i lt none in omega (arith, own)
+  | inr some ↦
+      let (e, up) = some in
+      let h = entries.branch i e lt up in
+      let rest = label_least nodes ss held w bound h.parent entries (omega (arith, h.before, less)) (omega (arith, h.before, lt)) in
+      omega (arith, rest, h.tree, h.before)
+]
+
 -- entries with one label are joined by the streams by which entries hang
 pub label_reach : (nodes : ℕ) (ss : List Stream) (held : List Bool) (w : Entries) (may : ℕ → Stream → Bool) (i k : ℕ) → AreEntries nodes ss held w → TakesUps ss w may
     → i < length w.list → k < length w.list → tree_at w i ≡ tree_at w k → Reaches (ends_of may ss) (node_at w i) (node_at w k)

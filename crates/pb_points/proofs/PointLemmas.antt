@@ -1,6 +1,7 @@
 -- What a walk and its spans tell are the entry numbers and the points of a graph.
-use Rattle.std.proofs.Common.{◌≡◌, ◌∙◌, ◌↔◌, ℕ, suc, ◌+◌, ◌<◌, ◌≤◌, Bool, true, false, List, [], ◌∷◌, length, Some, slice_get, get_or, refl, sym, ap, subst, inl, inr, arith}
+use Rattle.std.proofs.Common.{◌≡◌, ◌∙◌, ◌↔◌, ℕ, suc, ◌+◌, ◌<◌, ◌≤◌, Bool, true, false, List, [], ◌∷◌, length, Some, slice_get, get_or, map, refl, sym, ap, subst, inl, inr, arith}
 use Rattle.std.proofs.lemmas.Bool.{cases_lt}
+use Rattle.std.proofs.lemmas.List.{get_or_default}
 use Rattle.std.proofs.lemmas.Option.{slice_get_within, get_or_from_slice_get}
 use Rattle.pb_integers.proofs.Lists.{all_each}
 use Rattle.pb_graph.specs.declared.records.Stream.{Stream}
@@ -10,11 +11,11 @@ use Rattle.pb_forest.specs.Forest.{IsForest}
 use Rattle.pb_forest.proofs.ForestLaws.{end_cases}
 use Rattle.pb_points.specs.declared.spans.Span.{Span}
 use Rattle.pb_points.specs.Points.{NodePoints, branch_but, unheld_unmeasured, IsBelow, IsNumbering, Counts, IsCounted, HasPoints, ArePoints}
-use Rattle.pb_points.specs.Tables.{Entries, node_at, up_at, number_of, span_at, points_of}
+use Rattle.pb_points.specs.Tables.{Entries, node_at, tree_at, up_at, number_of, span_at, points_of}
 use Rattle.pb_points.specs.Walk.{unentered, IsWalked}
 use Rattle.pb_points.specs.Spans.{CountsAmong, IsWholeSpan, AreWholeFrom, AreKept}
 use Rattle.pb_points.proofs.BridgeLemmas.{reach_within}
-use Rattle.pb_points.proofs.OverLemmas.{IsOver, number_there, over_reach, reach_over, each_hangs, labels_tell, stream_there}
+use Rattle.pb_points.proofs.OverLemmas.{IsOver, number_there, over_reach, reach_over, label_least, each_hangs, labels_tell, stream_there}
 
 -- ---- as many entries as nodes
 none_left : (marks : List Bool) → ((n : ℕ) → n < length marks → get_or marks n false ≡ true) → unentered marks ≡ 0
@@ -27,14 +28,27 @@ as_many nodes ss held w walked =
     let left = none_left w.entered (λ n lt. walked.all n (omega (arith, lt, walked.entries.marks))) in
     omega (arith, left, walked.entries.room)
 
-pub kept : (nodes : ℕ) (ss : List Stream) (held : List Bool) (w : Entries) (spans : List Span) → IsWalked nodes ss held w → AreWholeFrom ss held w 0 spans → AreKept w spans
-kept nodes ss held w spans walked whole =
+pub kept : (nodes : ℕ) (ss : List Stream) (held : List Bool) (w : Entries) (labels : List ℕ) (spans : List Span) → IsWalked nodes ss held w
+    → labels ≡ map (tree_at w) w.numbers → AreWholeFrom ss held w 0 spans → AreKept w labels spans
+kept nodes ss held w labels spans walked is whole =
     let many = as_many nodes ss held w walked in
     record {
       list = many ∙ sym walked.entries.numbers;
       each = whole.each ∙ many ∙ sym walked.entries.numbers;
       few = λ n lt. let less = walked.entries.few n (walked.all n (omega (arith, lt, walked.entries.numbers))) in omega (arith, less, many, walked.entries.numbers);
+      each_label = is;
+      few_labels = λ n lt.
+          let less = walked.entries.few n (walked.all n (omega (arith, lt, walked.entries.numbers))) in
+          let least = label_least nodes ss held w (number_of w n + 1) (number_of w n) walked.entries (omega arith) less in
+          omega (arith, least, less, many, walked.entries.numbers);
     }
+
+-- each node's number is that of an entry
+pub numbers_there : (nodes : ℕ) (ss : List Stream) (held : List Bool) (w : Entries) (n d : ℕ) → IsWalked nodes ss held w → n < length w.numbers
+    → get_or w.numbers n d < length w.list
+numbers_there nodes ss held w n d walked lt =
+    let few = walked.entries.few n (walked.all n (omega (arith, lt, walked.entries.numbers))) in
+    subst (λ (k : ℕ). k < length w.list) (get_or_default w.numbers n 0 d lt) few
 
 -- ---- the entries below one have the numbers of its span
 over_span : (ss : List Stream) (held : List Bool) (w : Entries) (k i : ℕ) (span : Span) → IsWholeSpan ss held w k span → i < length w.list

@@ -13,6 +13,7 @@ use Rattle.pb_forest.specs.Laws.{held_unmeasured, except}
 use Rattle.pb_forest.proofs.ForestLaws.{spans_law}
 use Rattle.pb_points.specs.Points.{NodePoints, IsBelow, IsNumbering, ArePoints, IsApart, IsJoined, IsSideOf}
 use Rattle.pb_points.specs.Laws.{IsNumberBelow}
+use Rattle.pb_points.specs.Cuts.{IsTreeOf}
 use Rattle.pb_points.proofs.BridgeLemmas.{but_bare, branches_but, joins_reach, reach_within, below_but, not_below, below_reach, past, points_apart, points_law}
 
 -- ---- a stream that no node hangs by
@@ -124,6 +125,17 @@ within_if_apart g points j n s graph are lt up at apart =
         | inr high ↦ (low, high)
       ]
     ]
+
+-- the side of a measured stream is the tree of its `from` end
+pub measured_tree : (g : ProcessGraph) (points : NodePoints) (j : ℕ) (s : Stream) (side : List Bool) → ArePoints g points → slice_get g.streams j ≡ Some s
+    → is_measured s ≡ true → IsSideOf g j side → IsTreeOf g s.from side
+measured_tree g points j s side are at measured is =
+    let reach = is s at in
+    record {
+      each = reach.each;
+      reached = λ n inside. bare_reach g j s.from n (reach.reached n inside);
+      whole = λ n r. reach.whole n (others_reach g are.held j s.from n s are.forest at (measured_out are.held j s measured) r);
+    }
 
 -- ---- sides
 in_within : (nodes m : ℕ) (side : List Bool) → length side ≡ nodes → is_in side m ≡ true → m < nodes

@@ -1,10 +1,10 @@
 -- Inside. The spans of entry numbers below each node, with the least and the greatest number that count there: how they are joined.
-use Rattle.std.specs.Prelude.{◌≡◌, ◌⊎◌, ℕ, ◌+◌, ◌<◌, ◌≤◌, Bool, true, List, length, get_or, set, min, max}
+use Rattle.std.specs.Prelude.{◌≡◌, ◌⊎◌, ℕ, ◌+◌, ◌<◌, ◌≤◌, Bool, true, List, length, get_or, set, map, min, max}
 use Rattle.pb_graph.specs.declared.records.Stream.{Stream}
 use Rattle.pb_graph.specs.ProcessGraph.{some_stream}
 use Rattle.pb_points.specs.declared.spans.Span.{Span}
 use Rattle.pb_points.specs.Points.{NodePoints, unheld_unmeasured}
-use Rattle.pb_points.specs.Tables.{Entries, depth_at, number_of, span_at}
+use Rattle.pb_points.specs.Tables.{Entries, depth_at, tree_at, number_of, span_at}
 
 -- a span that begins with one entry
 abbrev pub own_span : ℕ → Span
@@ -70,11 +70,13 @@ pub record AreWholeFrom (streams : List Stream) (held : List Bool) (w : Entries)
   pub own : (n : ℕ) → n < i → IsSpan streams held w (length streams) n (span_at spans n)
   pub whole : (n : ℕ) → i ≤ n → n < length w.list → IsWholeSpan streams held w n (span_at spans n)
 
--- a walk and its spans have as many items as nodes
-pub record AreKept (w : Entries) (spans : List Span) : Type 0 where
+-- A walk, its spans and its labels have as many items as nodes, and the labels are numbers of entries.
+pub record AreKept (w : Entries) (labels : List ℕ) (spans : List Span) : Type 0 where
   pub list : length w.list ≡ length w.numbers
   pub each : length spans ≡ length w.numbers
   pub few : (n : ℕ) → n < length w.numbers → number_of w n < length w.numbers
+  pub each_label : labels ≡ map (tree_at w) w.numbers
+  pub few_labels : (n : ℕ) → n < length w.numbers → tree_at w (number_of w n) < length w.numbers
 
 -- the entry number of node m is one of those below node n
 abbrev pub IsInSpan : NodePoints → ℕ → ℕ → Type 0

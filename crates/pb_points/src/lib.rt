@@ -2,6 +2,7 @@
 //! high point of each node (Tarjan 1974, "A note on finding the bridges of a graph").
 #![tactic(auto)]
 
+mod cuts;
 mod laws;
 mod points;
 mod spans;
@@ -9,5 +10,6 @@ mod spans;
 mod tests;
 mod walk;
 
+pub use cuts::Cuts;
 pub use laws::points_law;
 pub use points::Points;

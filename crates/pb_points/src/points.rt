@@ -1,12 +1,13 @@
 // Low and high points, and what they tell of each stream.
 
-ghost use Rattle.std.specs.Prelude.{◌≡◌, ◌≢◌, ℕ, ◌<◌, ◌≤◌, ◌↔◌, ◌⊎◌, Bool, true, false, List as Seq, Some, length, slice_get, IsTrue, IfOk, MatchOption};
+ghost use Rattle.std.specs.Prelude.{◌≡◌, ◌≢◌, ℕ, ◌<◌, ◌≤◌, ◌↔◌, ◌⊎◌, Bool, true, false, List as Seq, Some, ◌==◌, length, slice_get, get_or, IsTrue, IfOk, MatchOption};
 ghost use Rattle.pb_graph.specs.Walk.{is_in};
 ghost use Rattle.pb_graph.specs.Neighbours.{IsNeighbours};
 ghost use Rattle.pb_forest.specs.Forest.{IsForestOf};
 ghost use Rattle.pb_points.specs.Points.{ArePoints, IsApart, IsJoined, IsSideOf};
 ghost use Rattle.pb_points.specs.Tables.{points_of};
 ghost use Rattle.pb_points.specs.Spans.{IsInSpan};
+ghost use Rattle.pb_points.specs.CutLists.{HasFewLabels};
 
 use crate::spans::{Span, spans_of};
 use crate::walk::{Entry, Walk};
@@ -19,6 +20,8 @@ use std::marker::Model;
 #[derive(Debug, Drop)]
 pub struct Points {
     walk: Walk,
+    // For each node the label of its tree.
+    labels: Vec<u32>,
     // For each entry number the span of those below it.
     spans: Vec<Span>,
 }
@@ -31,7 +34,20 @@ impl Model for Points {
 
     ghost view = { λ a. record { walk = a.walk; spans = a.spans.items } };
 
-    ghost invariant = { λ a. AreKept a.walk a.spans.items };
+    ghost invariant = { λ a. AreKept a.walk a.labels.items a.spans.items };
+}
+
+// For each label whether it is this one.
+fn equal_to(alloc: Global, labels: &[u32], label: u32) -> Result<List<bool>, AllocError>
+    ensures each { IfOk result (λ side. length side ≡ length labels.now) }
+    ensures equal { IfOk result (λ side. (m : ℕ) → m < length labels.now
+        → is_in side m ≡ (get_or labels.now m 0 == label)) }
+{
+    let mut side = vec![in alloc; false; labels.len()]?;
+    for (node, &other) in labels.iter().enumerate() {
+        side[node] = other == label;
+    }
+    Ok(List::from_vec(side))
 }
 
 impl Points {
@@ -49,8 +65,13 @@ impl Points {
         ensures { IfOk result (λ points. ArePoints graph.now (points_of points)) }
     {
         let walk = Walk::of(alloc, graph, near, forest)?;
+        let labels = walk.labels(alloc)?;
         let spans = spans_of(alloc, graph, forest, &walk)?;
-        Ok(Points { walk, spans })
+        Ok(Points {
+            walk,
+            labels,
+            spans,
+        })
     }
 
     // A node's entry number.
@@ -68,6 +89,23 @@ impl Points {
         ensures label { result.tree ≡ (points_of self.now).label node }
     {
         self.walk.entry(self.number(node) as usize)
+    }
+
+    // The number of entries. Each label is less.
+    pub(crate) fn len(&self) -> usize
+        ensures value { result ≡ (points_of self.now).nodes }
+        ensures labels { HasFewLabels (points_of self.now) }
+    {
+        self.walk.len()
+    }
+
+    // The label of a node's tree.
+    pub(crate) fn label(&self, node: u32) -> u32
+        requires { node < (points_of self.now).nodes }
+        ensures value { result ≡ (points_of self.now).label node }
+        ensures within { result < (points_of self.now).nodes }
+    {
+        self.labels[node as usize]
     }
 
     // The span of the numbers below a node.
@@ -144,23 +182,18 @@ impl Points {
         ensures { IsTrue result
             ↔ ((points_of self.now).label node ≡ (points_of self.now).label other) }
     {
-        self.entry(node).tree == self.entry(other).tree
+        self.label(node) == self.label(other)
     }
 
     // The nodes of a node's tree.
-    fn tree_of(&self, alloc: Global, graph: &Graph, node: u32) -> Result<List<bool>, AllocError>
-        requires nodes { (points_of self.now).nodes ≡ graph.now.nodes }
-        requires node { node < (points_of self.now).nodes }
+    fn tree_of(&self, alloc: Global, node: u32) -> Result<List<bool>, AllocError>
+        requires { node < (points_of self.now).nodes }
         ensures each { IfOk result (λ side. length side ≡ (points_of self.now).nodes) }
         ensures tree { let points = points_of self.now in
             IfOk result (λ side. (m : ℕ) → m < points.nodes
             → (is_in side m ≡ true) ↔ (points.label node ≡ points.label m)) }
     {
-        let mut side = List::new(alloc);
-        for other in 0..graph.nodes() {
-            side.push(self.are_in_one_tree(node, other))?;
-        }
-        Ok(side)
+        equal_to(alloc, &self.labels, self.label(node))
     }
 
     // The nodes below a node.
@@ -208,7 +241,7 @@ impl Points {
     {
         let stream = graph.stream(j);
         match self.lower_end(j, &stream) {
-            None => self.tree_of(alloc, graph, stream.from),
+            None => self.tree_of(alloc, stream.from),
             Some(node) => {
                 if node == stream.from {
                     self.below(alloc, graph, node)

@@ -1,9 +1,9 @@
 ghost use Rattle.std.specs.Prelude.{◌≡◌, ◌≤◌, length, IfOk};
 ghost use Rattle.pb_limits.specs.Limits.{most_nodes, most_streams};
 
-use crate::Points;
+use crate::{Cuts, Points};
 use pb_forest::Forest;
-use pb_graph::{Graph, Meas, Neighbours, Stream, reach};
+use pb_graph::{Graph, Meas, Neighbours, Stream, boundary, reach};
 use std::alloc::{AllocError, Global};
 use std::process::Abort;
 
@@ -45,11 +45,12 @@ fn others(alloc: Global, streams: &[Stream], j: u32) -> Result<Vec<bool>, AllocE
     Ok(marks)
 }
 
-// Each stream's points tell what a search of the graph finds.
+// Each stream's points tell what a search of the graph finds, and each measured one has the boundary of what is found.
 fn assert_as_searched(rt: &impl Abort, alloc: Global, g: &Graph) -> Result<(), AllocError> {
     let near = Neighbours::of(alloc, g)?;
     let forest = Forest::of(alloc, g)?;
     let points = Points::of(alloc, g, &near, &forest)?;
+    let cuts = Cuts::of(alloc, g, &points)?;
     for j in 0..g.len() {
         let s = g.stream(j);
         let side = reach(alloc, g, &near, &others(alloc, g.streams(), j)?, s.from)?;
@@ -57,6 +58,10 @@ fn assert_as_searched(rt: &impl Abort, alloc: Global, g: &Graph) -> Result<(), A
         assert_eq!(rt; points.is_apart(g, j), apart, "stream {j}");
         if points.is_apart(g, j) {
             assert_eq!(rt; points.side_of(alloc, g, j)?, side, "stream {j}");
+        }
+        if s.meas.is_some() {
+            let members = boundary(alloc, g.streams(), side.as_slice())?;
+            assert_eq!(rt; *cuts.members(g, &points, j), members, "stream {j}");
         }
     }
     Ok(())
@@ -96,6 +101,21 @@ fn line_of_plain_streams(rt: HostRuntime) -> Result<(), AllocError> {
     let mut g = Graph::new(alloc, 1_001);
     for n in 0..1_000 {
         let s = stream(n, n + 1, None);
+        assert!(rt; g.fits(&s));
+        g.push(s)?;
+    }
+    assert_as_searched(&rt, alloc, &g)
+}
+
+/// 120 streams between 40 nodes, every fourth one plain: some of the meters lead from tree to tree, others stay within one.
+#[test]
+fn meters_between_trees(rt: HostRuntime) -> Result<(), AllocError> {
+    let alloc = rt.alloc();
+    let mut g = Graph::new(alloc, 40);
+    for n in 0..120 {
+        let from = n * 7 % 40;
+        let to = (from + 1 + n % 39) % 40;
+        let s = stream(from, to, if n % 4 == 0 { None } else { METER });
         assert!(rt; g.fits(&s));
         g.push(s)?;
     }

@@ -1,6 +1,6 @@
 // A walk of the trees of held unmeasured streams, which gives each node an entry number.
 
-ghost use Rattle.std.specs.Prelude.{◌≡◌, ℕ, ◌+◌, ◌*◌, ◌<◌, ◌≤◌, true, false, [], ◌∷◌, ◌++◌, Some, None, length, get_or, IfOk, OnOk};
+ghost use Rattle.std.specs.Prelude.{◌≡◌, ℕ, ◌+◌, ◌*◌, ◌<◌, ◌≤◌, true, false, [], ◌∷◌, ◌++◌, Some, None, All, length, get_or, map, IfOk, OnOk};
 ghost use Rattle.pb_limits.specs.Limits.{most_nodes};
 ghost use Rattle.pb_graph.specs.ProcessGraph.{IsProcessGraph, some_stream};
 ghost use Rattle.pb_graph.specs.Neighbours.{touches, touching, IsNeighbours};
@@ -78,6 +78,18 @@ impl Walk {
         ensures { result ≡ number_of self.now node }
     {
         self.numbers[node as usize]
+    }
+
+    /// For each node the label of its tree, where each was entered.
+    pub fn labels(&self, alloc: Global) -> Result<Vec<u32>, AllocError>
+        requires { All (λ number. number < length self.now.list) self.now.numbers }
+        ensures { IfOk result (λ labels. labels.items ≡ map (tree_at self.now) self.now.numbers) }
+    {
+        let mut labels = Vec::new(alloc);
+        for &number in &self.numbers {
+            labels.push(self.list[number as usize].tree)?;
+        }
+        Ok(labels)
     }
 
     // Whether a node was entered.

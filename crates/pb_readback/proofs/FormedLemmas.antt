@@ -27,12 +27,12 @@ use Rattle.pb_readback.specs.declared.draft.StreamRow.{StreamRow}
 use Rattle.pb_readback.specs.declared.fault.RowFault.TheVariants.{Fields, Name as NameFault, Number as NumberFault, Unknown, Duplicate, Word, Shape, Count, Env}
 use Rattle.pb_readback.specs.declared.kind.RowKind.{RowKind}
 use Rattle.pb_readback.specs.declared.kind.RowKind.TheVariants.{Report, Node, Stream, Solved, Global, Nodal, Measure, End}
-use Rattle.pb_readback.specs.Columns.{Number, Optional, columns_of, count_column, critical_column, flow_column, gap_column, has_all_fields, is_bad_number, is_half_told, most_round, price_column, round_column, some_bad, sweeps_column, value_column, variance_column, wide_column, wide_or_none_column}
+use Rattle.pb_readback.specs.Columns.{Number, Optional, columns_of, critical_column, flow_column, gap_column, has_all_fields, is_bad_number, is_half_told, most_round, price_column, round_column, some_bad, sweeps_column, value_column, variance_column, wide_column, wide_or_none_column}
 use Rattle.pb_readback.specs.Fields.{IsBetween}
 use Rattle.pb_readback.specs.Forms.{form_of, in_full}
 use Rattle.pb_readback.specs.Kinds.{field, is_blank, kind_of}
 use Rattle.pb_readback.specs.Lists.{is_among, is_plus, items, member_of, name_in, names_no_stream, side_of, step_of}
-use Rattle.pb_readback.specs.Values.{bounds_of, heading_in, meas_of, measure_in, natural_in, nodal_in, optional_in, solved_by, state_in, stream_in, stream_row_in, value_in}
+use Rattle.pb_readback.specs.Values.{bounds_of, heading_in, meas_of, measure_in, natural_in, nodal_in, solved_by, state_in, stream_in, stream_row_in, value_in}
 use Rattle.pb_readback.specs.Faults.{fault_behind, fault_if, fault_of, first_unknown, has_bad_name, has_bad_number, has_bad_word, has_other_fields, has_unknown_part, is_duplicate, is_loop, is_miscounted, is_misshapen, is_other_env, is_unknown, may_stand, opening_fault, opening_if}
 use Rattle.pb_readback.specs.Drafts.{told_if, told_with, with_measure, with_nodal, with_row, with_rows, with_stream}
 use Rattle.pb_readback.specs.Reading.{IsHeading, IsUnderWay}
@@ -61,7 +61,7 @@ between lo hi text fine = by (number text) fine
     ]
 
 -- the same where it may be left out
-between_if : (lo hi : ℤ) (text : List ℕ) → is_bad_number (Optional lo hi) text ≡ false → IfSome (optional_in text) (IsBetween lo hi)
+between_if : (lo hi : ℤ) (text : List ℕ) → is_bad_number (Optional lo hi) text ≡ false → IfSome (number text) (IsBetween lo hi)
 between_if lo hi text fine = elim (cases_Bool (is_blank text)) [
   | inl blank ↦ rw (left_out text blank) tt
   | inr there ↦ by (number text) (rw there at fine)
@@ -184,14 +184,14 @@ record IsFormed (draft : Draft) : Type 0 where
 wide_in : (text : List ℕ) → is_bad_number wide_column text ≡ false → IsWide (value_in text)
 wide_in text fine = abs_within (2 ^ 126) (value_in text) (between (neg_ℤ (pos (2 ^ 126))) (pos (2 ^ 126)) text fine)
 
-wide_if : (text : List ℕ) → is_bad_number wide_or_none_column text ≡ false → IfSome (optional_in text) IsWide
-wide_if text fine = by (optional_in text) (between_if (neg_ℤ (pos (2 ^ 126))) (pos (2 ^ 126)) text fine)
+wide_if : (text : List ℕ) → is_bad_number wide_or_none_column text ≡ false → IfSome (number text) IsWide
+wide_if text fine = by (number text) (between_if (neg_ℤ (pos (2 ^ 126))) (pos (2 ^ 126)) text fine)
   where
     by : (o : Option ℤ) → IfSome o (IsBetween (neg_ℤ (pos (2 ^ 126))) (pos (2 ^ 126))) → IfSome o IsWide
     by None h = tt
     by (Some z) h = abs_within (2 ^ 126) z h
 
-critical_if : (text : List ℕ) → is_bad_number critical_column text ≡ false → IfSome (optional_in text) IsCriticalValue
+critical_if : (text : List ℕ) → is_bad_number critical_column text ≡ false → IfSome (number text) IsCriticalValue
 critical_if text fine = between_if (pos 0) (pos most_critical) text fine
 
 flow_in : (text : List ℕ) → is_bad_number flow_column text ≡ false → IsFlow (value_in text)
@@ -275,13 +275,13 @@ stream_formed draft form row formed may fine =
           apart = places_apart draft.nodes (field row 2) (field row 3) ends.0 ends.1 fine.apart;
         });
         limits = All-push IsWithinLimits draft.graph.streams (stream_in draft.nodes row) formed.streams.limits
-            (meas_in (optional_in (field row 4)) (optional_in (field row 5)) (between_if (neg_ℤ (pos most_value)) (pos most_value) (field row 4) value.0)
+            (meas_in (number (field row 4)) (number (field row 5)) (between_if (neg_ℤ (pos most_value)) (pos most_value) (field row 4) value.0)
             (between_if (pos 1) (pos most_variance) (field row 5) variance.0));
         rows = All-push (IsFormedRow draft.heading.nodes) draft.rows (stream_row_in draft.nodes row) formed.streams.rows (record {
           side = long ∙ nodes;
           flow = flow_in (field row 7) flow.0;
-          bounds = bounds_in (optional_in (field row 8)) (optional_in (field row 9)) (wide_if (field row 8) lo.0) (wide_if (field row 9) hi.0);
-          least = bounds_in (optional_in (field row 10)) (optional_in (field row 11)) (wide_if (field row 10) least_lo.0) (wide_if (field row 11) least_hi.0);
+          bounds = bounds_in (number (field row 8)) (number (field row 9)) (wide_if (field row 8) lo.0) (wide_if (field row 9) hi.0);
+          least = bounds_in (number (field row 10)) (number (field row 11)) (wide_if (field row 10) least_lo.0) (wide_if (field row 11) least_hi.0);
         });
       };
       solution = formed.solution;
@@ -474,10 +474,10 @@ opened_formed row opens =
     let fine = heading_fine row opens in
     let name = not_false (is_name (field row 1)) ((or_parts (not (is_name (field row 1))) false fine.names).0) in
     let numbers = (or_parts (some_bad is_bad_number (columns_of Report) 1 row) false fine.numbers).0 in
-    let round = or_parts (is_bad_number round_column (field row 2)) (is_bad_number count_column (field row 3) || (is_bad_number count_column (field row 4)
+    let round = or_parts (is_bad_number round_column (field row 2)) (is_bad_number wide_column (field row 3) || (is_bad_number wide_column (field row 4)
     || (is_bad_number gap_column (field row 5) || (is_bad_number sweeps_column (field row 6) || false)))) numbers in
-    let nodes = or_parts (is_bad_number count_column (field row 3)) (is_bad_number count_column (field row 4) || (is_bad_number gap_column (field row 5) || (is_bad_number sweeps_column (field row 6) || false))) round.1 in
-    let streams = or_parts (is_bad_number count_column (field row 4)) (is_bad_number gap_column (field row 5) || (is_bad_number sweeps_column (field row 6) || false)) nodes.1 in
+    let nodes = or_parts (is_bad_number wide_column (field row 3)) (is_bad_number wide_column (field row 4) || (is_bad_number gap_column (field row 5) || (is_bad_number sweeps_column (field row 6) || false))) round.1 in
+    let streams = or_parts (is_bad_number wide_column (field row 4)) (is_bad_number gap_column (field row 5) || (is_bad_number sweeps_column (field row 6) || false)) nodes.1 in
     let gap = or_parts (is_bad_number gap_column (field row 5)) (is_bad_number sweeps_column (field row 6) || false) streams.1 in
     let sweeps = or_parts (is_bad_number sweeps_column (field row 6)) false gap.1 in
     let gap_range = natural_within 1 most_gap (value_in (field row 5)) (between (pos 1) (pos most_gap) (field row 5) gap.0) in

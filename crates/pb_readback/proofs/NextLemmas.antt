@@ -16,8 +16,13 @@ use Rattle.pb_readback.specs.Faults.{fault_behind, fault_if, first_unknown, open
 use Rattle.pb_readback.specs.Kinds.{field, is_passed_over, kind_by, kind_of, may_come_after}
 use Rattle.pb_readback.specs.Laws.{JoinLaw, NextLaw}
 use Rattle.pb_readback.specs.Next.{AreBlocks, ArePassedOver, AreSound, Found, IsFault, IsFound, IsNext, Next, NoBlock, Refused, fault_next, opened}
-use Rattle.pb_readback.specs.Reading.{IsReadWhole, is_end}
+use Rattle.pb_readback.specs.Reading.{IsReadWhole}
 use Rattle.pb_readback.proofs.ReadingLemmas.{not_below, sound_more, stands, unended, with_rows_more}
+
+-- the row that ends a block
+abbrev pub is_end : RowKind → Bool
+is_end End = true
+is_end kind = false
 
 pub at_end : (kind : RowKind) → is_end kind ≡ true → kind ≡ End
 at_end Report h = cc h

@@ -20,9 +20,9 @@ use Rattle.pb_readback.specs.Drafts.{draft_of, told_if, with_row, with_rows}
 use Rattle.pb_readback.specs.Faults.{first_unknown, has_unknown_part}
 use Rattle.pb_readback.specs.Kinds.{kind_of}
 use Rattle.pb_readback.specs.Lists.{is_among, items, member_of, name_in, names_no_stream, place_of, step_of}
-use Rattle.pb_readback.specs.Reading.{IsReadTo, IsUnderWay, KeepsResults, has_stream, is_end, is_on_stream}
+use Rattle.pb_readback.specs.Reading.{IsReadTo, IsUnderWay, KeepsResults, has_stream, is_on_stream}
 use Rattle.pb_readback.proofs.NameLemmas.{any_place, none_place}
-use Rattle.pb_readback.proofs.NextLemmas.{rows_complete}
+use Rattle.pb_readback.proofs.NextLemmas.{is_end, rows_complete}
 use Rattle.pb_readback.proofs.ReadingLemmas.{not_below}
 
 same_number : (n : ℕ) → (n == n) ≡ true

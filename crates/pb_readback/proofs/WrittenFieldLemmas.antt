@@ -16,7 +16,7 @@ use Rattle.pb_report.specs.Names.{name_at}
 use Rattle.pb_report.specs.Row.{optional}
 use Rattle.pb_readback.specs.Columns.{Number, Optional, is_bad_number}
 use Rattle.pb_readback.specs.Lists.{is_among, place_of}
-use Rattle.pb_readback.specs.Values.{natural_in, optional_in, value_in}
+use Rattle.pb_readback.specs.Values.{natural_in, value_in}
 
 -- ---- numbers
 
@@ -66,7 +66,7 @@ pub optional_value : (key : List ℕ) (o : Option ℤ) → (optional key o).valu
 optional_value key None = refl
 optional_value key (Some z) = refl
 
-pub optional_back : HaveOneNumberText → (o : Option ℤ) → optional_in (optional_text o) ≡ o
+pub optional_back : HaveOneNumberText → (o : Option ℤ) → number (optional_text o) ≡ o
 optional_back texts None = refl
 optional_back texts (Some z) = texts.read z
 

@@ -11,7 +11,7 @@ use Rattle.pb_readback.specs.declared.draft.StreamForm.TheVariants.{WithLeast, W
 use Rattle.pb_readback.specs.declared.kind.RowKind.{RowKind}
 use Rattle.pb_readback.specs.declared.kind.RowKind.TheVariants.{Solved, Global, Nodal, Measure, End}
 use Rattle.pb_readback.specs.Kinds.{may_come_after}
-use Rattle.pb_readback.specs.Columns.{Number, class_by, shape_by, state_by, verdict_by, is_bad_number, is_half, price_column, round_column, count_column, gap_column, sweeps_column, value_column, variance_column, flow_column, wide_column, wide_or_none_column, critical_column}
+use Rattle.pb_readback.specs.Columns.{Number, class_by, shape_by, state_by, verdict_by, is_bad_number, is_half, price_column, round_column, gap_column, sweeps_column, value_column, variance_column, flow_column, wide_column, wide_or_none_column, critical_column}
 use Rattle.pb_limits.specs.Limits.{most_freedom}
 use Rattle.pb_readback.specs.Forms.{form_of, form_wanted}
 use Rattle.pb_readback.specs.Faults.{fault_behind, opening_fault}
@@ -23,8 +23,8 @@ use Rattle.pb_readback.proofs.WrittenFieldLemmas.{is_empty}
 pub record IsHeadingRow (period round nodes streams gap sweeps : List ℕ) : Type 0 where
   pub name : is_name period ≡ true
   pub good_round : is_bad_number round_column round ≡ false
-  pub good_nodes : is_bad_number count_column nodes ≡ false
-  pub good_streams : is_bad_number count_column streams ≡ false
+  pub good_nodes : is_bad_number wide_column nodes ≡ false
+  pub good_streams : is_bad_number wide_column streams ≡ false
   pub good_gap : is_bad_number gap_column gap ≡ false
   pub good_sweeps : is_bad_number sweeps_column sweeps ≡ false
   pub some_node : int_le (pos 1) (value_in nodes) ≡ true

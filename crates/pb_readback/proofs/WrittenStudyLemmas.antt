@@ -86,8 +86,8 @@ heading_back texts period options round stage =
     rw (natural_back texts round, natural_back texts stage.graph.nodes, natural_back texts (length stage.graph.streams), natural_back texts options.gap, natural_back texts options.sweeps) refl
 
 -- a count within 2^126, since it is far smaller
-count_column_between : (most n : ℕ) → most ≤ 2 ^ 126 → n ≤ most → IsBetween (neg_ℤ (pos (2 ^ 126))) (pos (2 ^ 126)) (pos n)
-count_column_between most n small le = abs_between (2 ^ 126) (pos n) (omega (arith, small, le))
+wide_between : (most n : ℕ) → most ≤ 2 ^ 126 → n ≤ most → IsBetween (neg_ℤ (pos (2 ^ 126))) (pos (2 ^ 126)) (pos n)
+wide_between most n small le = abs_between (2 ^ 126) (pos n) (omega (arith, small, le))
 
 heading_fine : HaveOneNumberText → (names : Names) (period : List ℕ) (options : Options) (round : ℕ) (stage : Stage) → IsStageToWrite names period options round stage
     → opening_fault (heading_fields period options round stage) ≡ None
@@ -98,8 +98,8 @@ heading_fine texts names period options round stage h =
     (record {
       name = h.name;
       good_round = good_number texts (pos 0) (pos most_round) (pos round) (count_between 0 most_round round (omega arith) h.greatest_round);
-      good_nodes = good_number texts (neg_ℤ (pos (2 ^ 126))) (pos (2 ^ 126)) (pos nodes) (count_column_between most_nodes nodes (omega arith) h.graph.few_nodes);
-      good_streams = good_number texts (neg_ℤ (pos (2 ^ 126))) (pos (2 ^ 126)) (pos streams) (count_column_between most_streams streams (omega arith) h.graph.few_streams);
+      good_nodes = good_number texts (neg_ℤ (pos (2 ^ 126))) (pos (2 ^ 126)) (pos nodes) (wide_between most_nodes nodes (omega arith) h.graph.few_nodes);
+      good_streams = good_number texts (neg_ℤ (pos (2 ^ 126))) (pos (2 ^ 126)) (pos streams) (wide_between most_streams streams (omega arith) h.graph.few_streams);
       good_gap = good_number texts (pos 1) (pos most_gap) (pos options.gap) (count_between 1 most_gap options.gap h.asked.some_gap h.asked.greatest_gap);
       good_sweeps = good_number texts (pos 0) (pos most_sweeps) (pos options.sweeps) (count_between 0 most_sweeps options.sweeps (omega arith) h.asked.greatest_sweeps);
       some_node = rw (value_back texts (pos nodes)) (le_count 1 nodes h.graph.env);

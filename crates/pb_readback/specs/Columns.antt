@@ -67,10 +67,6 @@ most_round = 20
 abbrev pub round_column : Column
 round_column = Number (pos 0) (pos most_round)
 
--- how many nodes or streams a block has, which is asked further once it is read
-abbrev pub count_column : Column
-count_column = Number (neg_ℤ (pos (2 ^ 126))) (pos (2 ^ 126))
-
 -- a gap, in thousandths of a standard deviation
 abbrev pub gap_column : Column
 gap_column = Number (pos 1) (pos most_gap)
@@ -95,7 +91,8 @@ variance_column = Optional (pos 1) (pos most_variance)
 abbrev pub flow_column : Column
 flow_column = Number (neg_ℤ (pos (2 ^ 68 - 1))) (pos (2 ^ 68 - 1))
 
--- a net flow with its variance, or a statistic in thousandths
+-- a net flow with its variance, a statistic in thousandths, or how many nodes or streams a block has, which is asked further once
+-- it is read
 abbrev pub wide_column : Column
 wide_column = Number (neg_ℤ (pos (2 ^ 126))) (pos (2 ^ 126))
 
@@ -110,7 +107,7 @@ critical_column = Optional (pos 0) (pos most_critical)
 -- The columns of a row behind its first field. A stream's last columns are its two bounds, its two least bounds, which old rows
 -- haven't, and its certificate.
 abbrev pub columns_of : RowKind → List Column
-columns_of Report = Name ∷ round_column ∷ count_column ∷ count_column ∷ gap_column ∷ sweeps_column ∷ []
+columns_of Report = Name ∷ round_column ∷ wide_column ∷ wide_column ∷ gap_column ∷ sweeps_column ∷ []
 columns_of Node = Name ∷ price_column ∷ []
 columns_of Stream =
     Name ∷ Name ∷ Name ∷ value_column ∷ variance_column ∷ ClassWord ∷ flow_column ∷ wide_or_none_column ∷ wide_or_none_column

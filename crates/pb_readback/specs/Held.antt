@@ -2,8 +2,9 @@
 use Rattle.std.specs.Prelude.{◌≡◌, ◌≤◌, ℕ, Bool, true, ◌==◌, ◌||◌, ◌&&◌, not, nat_le, List, [], ◌∷◌, length, slice_index_or, if◌then◌else◌}
 use Rattle.std.specs.List.{list_all, position_or_len, slice_split}
 use Rattle.pb_limits.specs.Limits.{most_streams}
+use Rattle.pb_rows.specs.Bytes.{dash}
 use Rattle.pb_rows.specs.Name.{is_name, is_name_byte}
-use Rattle.pb_readback.specs.Lists.{differ, is_plus, minus, name_in, place_of, plus, space}
+use Rattle.pb_readback.specs.Lists.{differ, is_plus, name_in, place_of, plus, space}
 
 -- the items left of a text
 abbrev pub items_left : List ℕ → Bool → List (List ℕ)
@@ -27,7 +28,7 @@ is_whole_name text end = not (end == 0) && nat_le end 32 && ends_at text end
 
 -- the sign of a part
 abbrev pub sign_if : Bool → ℕ
-sign_if positive = if positive then plus else minus
+sign_if positive = if positive then plus else dash
 
 -- the first item of a list and those behind it, and its name and its sign as a part
 pub record IsNextPart (streams old new : List (List ℕ)) (stream : ℕ) (positive : Bool) : Type 0 where

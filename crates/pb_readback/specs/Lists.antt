@@ -1,6 +1,7 @@
 -- Statement. Lists in a field: the side of a cut, and the parts of a certificate.
 use Rattle.std.specs.Prelude.{ℕ, ◌+◌, ◌==◌, pos, negsuc, Bool, true, ◌||◌, ◌&&◌, not, nat_le, List, [], ◌∷◌, map, drop, if◌then◌else◌, slice_index_or}
 use Rattle.std.specs.List.{list_all, list_any, position_or_len, slice_split}
+use Rattle.pb_rows.specs.Bytes.{dash}
 use Rattle.pb_rows.specs.Name.{is_name, same_name}
 use Rattle.pb_graph.specs.declared.records.Member.{Member}
 use Rattle.pb_graph.specs.declared.records.Step.{Step}
@@ -10,13 +11,9 @@ use Rattle.pb_readback.specs.Kinds.{is_blank}
 abbrev pub space : ℕ
 space = 32
 
--- `+`: a stream that enters the side, or is taken along its arrow
+-- `+`: a stream that enters the side, or is taken along its arrow; one that leaves it, or is taken against its arrow, has `-`
 abbrev pub plus : ℕ
 plus = 43
-
--- `-`: a stream that leaves the side, or is taken against its arrow
-abbrev pub minus : ℕ
-minus = 45
 
 -- the items of a list: the pieces between single spaces; none in an empty field
 abbrev pub items : List ℕ → List (List ℕ)
@@ -66,7 +63,7 @@ name_in part = drop 1 part
 
 -- a part: a sign and a name
 abbrev pub is_part : List ℕ → Bool
-is_part part = (is_plus part || sign_of part == minus) && is_name (name_in part)
+is_part part = (is_plus part || sign_of part == dash) && is_name (name_in part)
 
 -- a part that names none of these streams
 abbrev pub names_no_stream : List (List ℕ) → List ℕ → Bool

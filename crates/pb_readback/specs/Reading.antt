@@ -1,5 +1,5 @@
 -- Inside. A draft under way, and what reading on has shown of the records.
-use Rattle.std.specs.Prelude.{◌≡◌, ◌⊎◌, ◌≤◌, ◌+◌, ◌≤ℤ◌, ◌==◌, ℕ, ℤ, Bool, pos, true, false, List, [], ◌∷◌, ◌++◌, length, map, Option, Some, None}
+use Rattle.std.specs.Prelude.{◌≡◌, ◌⊎◌, ◌≤◌, ◌+◌, ◌≤ℤ◌, ◌==◌, ℕ, ℤ, Bool, pos, false, List, [], ◌∷◌, ◌++◌, length, map, Option, Some, None}
 use Rattle.std.specs.List.{list_any}
 use Rattle.pb_limits.specs.Limits.{most_nodes, most_streams}
 use Rattle.pb_graph.specs.declared.records.Member.{Member}
@@ -16,7 +16,6 @@ use Rattle.pb_readback.specs.declared.fault.ReadRefused.{ReadRefused}
 use Rattle.pb_readback.specs.declared.fault.ReadRefused.TheVariants.{At, NoMemory}
 use Rattle.pb_readback.specs.declared.fault.RowFault.{RowFault}
 use Rattle.pb_readback.specs.declared.fault.RowFault.TheVariants.{Unknown, Ended}
-use Rattle.pb_readback.specs.declared.kind.RowKind.{RowKind}
 use Rattle.pb_readback.specs.declared.kind.RowKind.TheVariants.{End}
 use Rattle.pb_readback.specs.Blocks.{block_of, result_of}
 use Rattle.pb_readback.specs.Drafts.{with_rows}
@@ -64,11 +63,6 @@ is_on_stream stream found = has_stream stream found.classified.witness
 abbrev pub KeepsResults : Draft → List StreamResult → Type 0
 KeepsResults draft results =
     length draft.streams ≡ draft.heading.streams → results ≡ map (result_of draft.streams) draft.rows
-
--- the row that ends a block
-abbrev pub is_end : RowKind → Bool
-is_end End = true
-is_end kind = false
 
 -- behind rows that are passed over comes another, or none
 abbrev pub Skips : List (List (List ℕ)) → List (List (List ℕ)) → Option (List (List ℕ)) → Type 0

@@ -31,10 +31,6 @@ value_in text = unwrap_or (number text) (pos 0)
 abbrev pub natural_in : List ℕ → ℕ
 natural_in text = unsigned_abs (value_in text)
 
--- the number that a field writes, or none where it is left out
-abbrev pub optional_in : List ℕ → Option ℤ
-optional_in text = number text
-
 -- the class, the shape, the state and the verdict that a field writes
 abbrev pub class_in : List ℕ → Class
 class_in text = unwrap_or (class_by text) Observable
@@ -74,7 +70,7 @@ abbrev pub stream_in : List (List ℕ) → List (List ℕ) → Stream
 stream_in nodes row = record {
   from = place_of nodes (field row 2);
   to = place_of nodes (field row 3);
-  meas = meas_of (optional_in (field row 4)) (optional_in (field row 5));
+  meas = meas_of (number (field row 4)) (number (field row 5));
 }
 
 -- a stream's class, flow, bounds and least bounds, and its certificate, of which the parts are kept as they are written
@@ -82,8 +78,8 @@ abbrev pub stream_row_in : List (List ℕ) → List (List ℕ) → StreamRow
 stream_row_in nodes row = record {
   class = class_in (field row 6);
   flow = value_in (field row 7);
-  bounds = bounds_of (optional_in (field row 8)) (optional_in (field row 9));
-  least = bounds_of (optional_in (field row 10)) (optional_in (field row 11));
+  bounds = bounds_of (number (field row 8)) (number (field row 9));
+  least = bounds_of (number (field row 10)) (number (field row 11));
   shape = shape_in (field row 12);
   side = side_of nodes (items (field row 13));
   parts = field row 14;
@@ -100,12 +96,12 @@ solution_in row = record {
   h = natural_in (field row 4);
   dof = natural_in (field row 5);
   low = value_in (field row 6);
-  high = optional_in (field row 7);
+  high = number (field row 7);
 }
 
 -- the global test
 abbrev pub global_in : List (List ℕ) → GlobalTest
-global_in row = record { critical = optional_in (field row 1); verdict = verdict_in (field row 2) }
+global_in row = record { critical = number (field row 1); verdict = verdict_in (field row 2) }
 
 -- the test of a balance, by the place of its node
 abbrev pub nodal_in : List (List ℕ) → List (List ℕ) → NodalTest
@@ -113,7 +109,7 @@ nodal_in nodes row = record {
   node = place_of nodes (field row 1);
   net = value_in (field row 2);
   variance = value_in (field row 3);
-  critical = optional_in (field row 4);
+  critical = number (field row 4);
   verdict = verdict_in (field row 5);
 }
 
@@ -122,7 +118,7 @@ abbrev pub measure_in : List (List ℕ) → List (List ℕ) → MeasureTest
 measure_in streams row = record {
   stream = place_of streams (field row 1);
   low = value_in (field row 2);
-  high = optional_in (field row 3);
-  critical = optional_in (field row 4);
+  high = number (field row 3);
+  critical = number (field row 4);
   verdict = verdict_in (field row 5);
 }

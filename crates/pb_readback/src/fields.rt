@@ -2,8 +2,9 @@
 
 ghost use Rattle.std.specs.Prelude.{◌≡◌, pos, neg_ℤ, IfOk, IfSome};
 ghost use Rattle.pb_limits.specs.Limits.{most_freedom, most_gap, most_sweeps, most_value, most_variance};
-ghost use Rattle.pb_readback.specs.Columns.{Number, Optional, critical_column, flow_column, gap_column, is_half, price_column, round_column, sweeps_column, value_column, variance_column, wide_column, wide_or_none_column};
-ghost use Rattle.pb_readback.specs.Fields.{IsBetween, ReadsName, ReadsNatural, ReadsNumber, ReadsOptional};
+ghost use Rattle.pb_readback.specs.declared.fault.RowFault.TheVariants.{Name as NameFault};
+ghost use Rattle.pb_readback.specs.Columns.{Name as NameColumn, Number, Optional, critical_column, flow_column, gap_column, is_bad_name, is_half, price_column, round_column, sweeps_column, value_column, variance_column, wide_column, wide_or_none_column};
+ghost use Rattle.pb_readback.specs.Fields.{IsBetween, Reads, ReadsNatural, ReadsNumber, ReadsOptional};
 
 use crate::fault::RowFault;
 use pb_limits::{MOST_CRITICAL, MOST_FREEDOM, MOST_GAP, MOST_SWEEPS, MOST_VALUE, MOST_VARIANCE};
@@ -29,7 +30,7 @@ const MOST_EXPONENT: u32 = 32;
 
 // A name.
 pub(crate) fn name(text: &[u8]) -> Result<Name, RowFault>
-    ensures { ReadsName text.now result }
+    ensures { Reads (is_bad_name NameColumn text.now) NameFault text.now result }
 {
     Name::read(text).ok_or(RowFault::Name)
 }

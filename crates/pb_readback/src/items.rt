@@ -2,9 +2,10 @@
 
 ghost use Rattle.std.specs.Prelude.{◌≡◌, ◌+◌, ◌∷◌, ◌==◌, ◌≤◌, ◌||◌, [], false, true, IfSome, IfNone, length, take};
 ghost use Rattle.std.specs.List.{list_all, slice_split};
+ghost use Rattle.pb_rows.specs.Bytes.{dash};
 ghost use Rattle.pb_rows.specs.Name.{is_name, is_name_byte};
 ghost use Rattle.pb_readback.specs.Held.{ends_at, is_whole_name, item_end, name_end, sign_if};
-ghost use Rattle.pb_readback.specs.Lists.{is_part, is_plus, items, minus, name_in, plus, space};
+ghost use Rattle.pb_readback.specs.Lists.{is_part, is_plus, items, name_in, plus, space};
 
 use pb_rows::Name;
 use std::marker::Model;
@@ -199,7 +200,7 @@ fn begins_with(text: &[u8], name: &[u8]) -> bool
 
 // Whether a byte is a sign.
 fn is_sign(byte: u8) -> bool
-    ensures { result ≡ (byte == plus) || (byte == minus) }
+    ensures { result ≡ (byte == plus) || (byte == dash) }
 {
     byte == b'+' || byte == b'-'
 }

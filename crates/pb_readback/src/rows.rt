@@ -4,6 +4,7 @@ ghost use Rattle.std.specs.Prelude.{◌≡◌, false, pos, neg_ℤ, IfOk, IfSome
 ghost use Rattle.pb_graph.specs.ProcessGraph.{IsMeasurement};
 ghost use Rattle.pb_limits.specs.Limits.{most_value, most_variance};
 ghost use Rattle.pb_rows.specs.Name.{same_name};
+ghost use Rattle.pb_rows.specs.Number.{number};
 ghost use Rattle.pb_readback.specs.declared.fault.RowFault.TheVariants.{Name as NameFault, Number as NumberFault};
 ghost use Rattle.pb_readback.specs.declared.kind.RowKind.TheVariants.{Report, Node, Stream as StreamKind, Solved as SolvedKind, Global, Nodal, Measure, End};
 ghost use Rattle.pb_readback.specs.Columns.{is_half_told};
@@ -12,7 +13,7 @@ ghost use Rattle.pb_readback.specs.Fields.{IsBetween, Refuses, told};
 ghost use Rattle.pb_readback.specs.Kinds.{field};
 ghost use Rattle.pb_readback.specs.Lists.{is_among, place_of};
 ghost use Rattle.pb_readback.specs.Reading.{AreCounts, IsHeading, IsStreamOf, IsUnderWay};
-ghost use Rattle.pb_readback.specs.Values.{bounds_of, class_in, global_in, heading_in, meas_of, measure_in, natural_in, nodal_in, optional_in, shape_in, solution_in, solved_by, stream_in, value_in};
+ghost use Rattle.pb_readback.specs.Values.{bounds_of, class_in, global_in, heading_in, meas_of, measure_in, natural_in, nodal_in, shape_in, solution_in, solved_by, stream_in, value_in};
 
 use crate::draft::{Draft, Heading, Shape, Solution};
 use crate::fault::RowFault;
@@ -140,9 +141,9 @@ pub(crate) fn stream(draft: &Draft, row: &FullRow) -> Result<StreamFields, RowFa
     ensures class { IfOk result (λ stream. stream.class ≡ class_in (field row.now 6)) }
     ensures flow { IfOk result (λ stream. stream.flow ≡ value_in (field row.now 7)) }
     ensures bounds { IfOk result (λ stream. stream.bounds
-        ≡ bounds_of (optional_in (field row.now 8)) (optional_in (field row.now 9))) }
+        ≡ bounds_of (number (field row.now 8)) (number (field row.now 9))) }
     ensures least { IfOk result (λ stream. stream.least
-        ≡ bounds_of (optional_in (field row.now 10)) (optional_in (field row.now 11))) }
+        ≡ bounds_of (number (field row.now 10)) (number (field row.now 11))) }
     ensures shape { IfOk result (λ stream. stream.shape ≡ shape_in (field row.now 12)) }
     ensures new { IfOk result (λ stream. is_among draft.now.streams stream.name ≡ false) }
     ensures fits { IfOk result (λ stream. IsStreamOf draft.now stream.arc) }
@@ -220,12 +221,12 @@ struct StreamNumbers {
 fn stream_numbers(row: &FullRow) -> Result<StreamNumbers, RowFault>
     ensures fault { Refuses (has_bad_number StreamKind row.now) NumberFault result }
     ensures meas { IfOk result (λ numbers. numbers.meas
-        ≡ meas_of (optional_in (field row.now 4)) (optional_in (field row.now 5))) }
+        ≡ meas_of (number (field row.now 4)) (number (field row.now 5))) }
     ensures flow { IfOk result (λ numbers. numbers.flow ≡ value_in (field row.now 7)) }
     ensures bounds { IfOk result (λ numbers. numbers.bounds
-        ≡ bounds_of (optional_in (field row.now 8)) (optional_in (field row.now 9))) }
+        ≡ bounds_of (number (field row.now 8)) (number (field row.now 9))) }
     ensures least { IfOk result (λ numbers. numbers.least
-        ≡ bounds_of (optional_in (field row.now 10)) (optional_in (field row.now 11))) }
+        ≡ bounds_of (number (field row.now 10)) (number (field row.now 11))) }
     ensures limits { IfOk result (λ numbers. IfSome numbers.meas IsMeasurement) }
 {
     let value = fields::value(row.field(4))?;

@@ -1,4 +1,5 @@
-// What no clause says: that a block is read where memory is ample.
+// What no clause says: that a block is read where memory is ample. What is told of rows with one fault, of each kind, stands in many
+// cases of `block_cases`.
 
 use crate::{ReadRefused, read};
 use pb_graph::Bounds;

@@ -1,8 +1,10 @@
 // Words of fields.
 
 ghost use Rattle.std.specs.Prelude.{◌≡◌};
-ghost use Rattle.pb_readback.specs.Columns.{ClassWord, ShapeWord, StateWord, VerdictWord, class_by, shape_by, state_by, verdict_by};
-ghost use Rattle.pb_readback.specs.Fields.{ReadsClass, ReadsShape, ReadsState, ReadsVerdict};
+ghost use Rattle.pb_readback.specs.declared.fault.RowFault.TheVariants.{Word as WordFault};
+ghost use Rattle.pb_readback.specs.Columns.{ClassWord, ShapeWord, StateWord, VerdictWord, class_by, is_bad_word, shape_by, state_by, verdict_by};
+ghost use Rattle.pb_readback.specs.Fields.{Reads};
+ghost use Rattle.pb_readback.specs.Values.{class_in, shape_in, state_in, verdict_in};
 
 use crate::draft::Shape;
 use crate::fault::RowFault;
@@ -11,28 +13,28 @@ use pb_graph::{Class, Verdict};
 
 // The word of a class.
 pub(crate) fn class(text: &[u8]) -> Result<Class, RowFault>
-    ensures { ReadsClass text.now result }
+    ensures { Reads (is_bad_word ClassWord text.now) WordFault (class_in text.now) result }
 {
     class_by(text).ok_or(RowFault::Word)
 }
 
 // The word of a certificate's shape.
 pub(crate) fn shape(text: &[u8]) -> Result<Shape, RowFault>
-    ensures { ReadsShape text.now result }
+    ensures { Reads (is_bad_word ShapeWord text.now) WordFault (shape_in text.now) result }
 {
     shape_by(text).ok_or(RowFault::Word)
 }
 
 // The word of a state: whether the gap was met.
 pub(crate) fn state(text: &[u8]) -> Result<bool, RowFault>
-    ensures { ReadsState text.now result }
+    ensures { Reads (is_bad_word StateWord text.now) WordFault (state_in text.now) result }
 {
     state_by(text).ok_or(RowFault::Word)
 }
 
 // The word of a verdict.
 pub(crate) fn verdict(text: &[u8]) -> Result<Verdict, RowFault>
-    ensures { ReadsVerdict text.now result }
+    ensures { Reads (is_bad_word VerdictWord text.now) WordFault (verdict_in text.now) result }
 {
     verdict_by(text).ok_or(RowFault::Word)
 }

@@ -1,5 +1,5 @@
 -- Statement. The history of a period: its state, and the edits that touch it, in the order in which they were made.
-use Rattle.std.specs.Prelude.{ℕ, pos, Bool, true, false, List, [], ◌∷◌, length, map, Option, Some, None, codes}
+use Rattle.std.specs.Prelude.{ℕ, pos, Bool, true, false, List, [], ◌∷◌, length, map, Option, unwrap_or, codes}
 use Rattle.pb_report.specs.declared.history.HistoryRow.{HistoryRow}
 use Rattle.pb_report.specs.declared.history.HistoryWord.{HistoryWord}
 use Rattle.pb_report.specs.declared.history.HistoryWord.TheVariants.{Close, Late, Amend, Strike}
@@ -18,24 +18,16 @@ edit_word Late = codes "late"
 edit_word Amend = codes "amend"
 edit_word Strike = codes "strike"
 
--- a text, or nothing where there is none
-abbrev pub text_or_nothing : Option (List ℕ) → List ℕ
-text_or_nothing None = []
-text_or_nothing (Some value) = value
-
 -- the fact that an edit is about; a closing is about none
 abbrev pub edit_id : HistoryWord → Option (List ℕ) → List ℕ
 edit_id Close id = []
-edit_id Late id = text_or_nothing id
-edit_id Amend id = text_or_nothing id
-edit_id Strike id = text_or_nothing id
+edit_id word id = unwrap_or id []
 
 -- the reason of an edit; only an amendment and a strike have one
 abbrev pub edit_reason : HistoryWord → Option (List ℕ) → List ℕ
-edit_reason Close reason = []
-edit_reason Late reason = []
-edit_reason Amend reason = text_or_nothing reason
-edit_reason Strike reason = text_or_nothing reason
+edit_reason Amend reason = unwrap_or reason []
+edit_reason Strike reason = unwrap_or reason []
+edit_reason word reason = []
 
 -- the row of an edit: the number of its record in the session, its word, its fact and its reason
 abbrev pub edit_row : HistoryRow → Columns

@@ -1,8 +1,8 @@
 // The rows of a history.
 
-ghost use Rattle.std.specs.Prelude.{◌≡◌, ◌∷◌, [], map, IfOk, OnOk, OnErr};
+ghost use Rattle.std.specs.Prelude.{◌≡◌, ◌∷◌, [], map, unwrap_or, IfOk, OnOk, OnErr};
 ghost use Rattle.pb_report.specs.Form.{AppendsRows};
-ghost use Rattle.pb_report.specs.History.{edit_id, edit_reason, edit_row, edit_word, history_rows, period_row, period_word, text_or_nothing};
+ghost use Rattle.pb_report.specs.History.{edit_id, edit_reason, edit_row, edit_word, history_rows, period_row, period_word};
 ghost use Rattle.pb_report.specs.Output.{AddsRows};
 
 use crate::form::Form;
@@ -119,7 +119,7 @@ fn edit_id(word: HistoryWord, id: &Option<Name>) -> &str
 }
 
 fn name_text(name: &Option<Name>) -> &str
-    ensures { result.now ≡ text_or_nothing name.now }
+    ensures { result.now ≡ unwrap_or name.now [] }
 {
     match name {
         Some(name) => name.as_str(),
@@ -138,7 +138,7 @@ fn edit_reason(word: HistoryWord, reason: &Option<Reason>) -> &str
 }
 
 fn reason_text(reason: &Option<Reason>) -> &str
-    ensures { result.now ≡ text_or_nothing reason.now }
+    ensures { result.now ≡ unwrap_or reason.now [] }
 {
     match reason {
         Some(reason) => reason.as_str(),

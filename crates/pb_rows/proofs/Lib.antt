@@ -1,5 +1,4 @@
 mod NameLemmas
-mod CutLemmas
 mod RowLemmas
 mod ReadLemmas
 mod NumberLemmas

@@ -1,17 +1,20 @@
 -- What a field of the form of a whole number reads as.
-use Rattle.std.proofs.Common.{◌≡◌, ◌<◌, ◌∷◌, [], ◌∙◌, ℕ, zero, suc, ℤ, List, true, false, length, arith, refl, inl, inr, rules}
-use Rattle.std.specs.Prelude.{◌==◌, not, FitsSigned, Result, Ok, Err, slice_index, IsUtf8}
-use Rattle.std.specs.Char.{is_ascii_digit}
+use Rattle.std.proofs.Common.{◌≡◌, ◌<◌, ◌≤◌, ◌+◌, ◌-◌, ◌*◌, ◌^◌, ◌∷◌, [], ◌∙◌, ℕ, zero, suc, ℤ, List, true, false, length, take, get_or, arith, refl, inl, inr, rules, tests}
+use Rattle.std.specs.Prelude.{◌==◌, not, FitsSigned, None, Result, Ok, Err, slice_index, IsUtf8}
+use Rattle.std.specs.Char.{digit_value, is_ascii_digit}
 use Rattle.std.specs.List.{list_all}
 use Rattle.std.specs.Result.{OkIff}
 use Rattle.std.specs.Str.{IsAscii}
 use Rattle.std.specs.Str.Parse.{IsNumeral, ParsesSigned, digits_value, signed_digits_value, without_leading_sign}
 use Rattle.std.proofs.lemmas.Bool.{and_parts, cases_Bool, eqb-true, ne_eqb}
 use Rattle.std.proofs.lemmas.Fmt.{IsAscii-from_digits}
-use Rattle.std.proofs.lemmas.Str.{IsUtf8-from_ascii}
-use Rattle.std.proofs.lemmas.Str.Parse.{IsNumeralModel, numerals_by_value, digit_from_value}
+use Rattle.std.proofs.lemmas.Int.Digits.{digits_value_more}
+use Rattle.std.proofs.lemmas.List.{length-take-le}
+use Rattle.std.proofs.lemmas.Str.{IsUtf8-from_ascii, digit_value_digit}
+use Rattle.std.proofs.lemmas.Str.Parse.{IsNumeralModel, numerals_by_value, digit_from_value, digits_value-take-le, digits_value_short}
 use mir.Syntax.{w128}
-use Rattle.pb_rows.specs.Number.{are_digits, is_plain, is_whole, whole_value}
+use Rattle.pb_rows.specs.Bytes.{dash}
+use Rattle.pb_rows.specs.Number.{are_digits, is_plain, is_whole, number, whole_value}
 
 own : IsNumeralModel (λ ds. list_all is_ascii_digit ds ≡ true) (digits_value 10)
 own = numerals_by_value (λ ds. list_all is_ascii_digit ds ≡ true) (search rules)
@@ -70,3 +73,29 @@ parsed_ok field (Ok z) whole parses =
 parsed_ok field (Err e) whole parses =
     let reads = whole_reads field whole in
     λ fits. parses (reads.0, rw reads.1 fits)
+
+-- digits that were read so far, and one more of them
+pub more_digits : (field : List ℕ) (i : ℕ) → i < length field → is_ascii_digit (get_or field i 0) ≡ true
+    → digits_value 10 (take i field) * 10 + (get_or field i 0 - 48) ≡ digits_value 10 (take (i + 1) field)
+more_digits field i lt digit =
+    let value = digit_value_digit (get_or field i 0) (search (rules, tests)) in
+    let more = digits_value_more 10 field i lt in
+    omega (arith, more, value)
+
+-- fewer than 19 digits write a number of 64 bits, and so do ten times it and one more digit
+pub few_digits : (field : List ℕ) (i : ℕ) → i < length field → length field ≤ 19 → list_all is_ascii_digit (take i field) ≡ true
+    → digits_value 10 (take i field) < 10 ^ 18
+few_digits field i lt few digits = digits_value_short own (take i field) 18 digits (omega (arith, length-take-le i field (omega (arith, lt))))
+
+-- a number of the form that is zero is written with a zero in front
+zero_first : (field : List ℕ) → is_plain field ≡ true → digits_value 10 field ≡ 0 → slice_index field 0 ≡ 48
+zero_first [] plain none = cc plain
+zero_first (first ∷ rest) plain none =
+    let numeral = plain_numeral (first ∷ rest) plain in
+    let value = digit_value_digit first (digit_from_value first numeral.1.0) in
+    let least : 0 + digit_value first ≤ digits_value 10 (first ∷ rest) = digits_value-take-le 10 (first ∷ rest) 1 (omega arith) in
+    omega (arith, value, least, none)
+
+-- so it has no minus sign
+pub unsigned_zero : (field : List ℕ) → is_plain field ≡ true → digits_value 10 field ≡ 0 → None ≡ number (dash ∷ field)
+unsigned_zero field plain none = rw (plain, zero_first field plain none) refl

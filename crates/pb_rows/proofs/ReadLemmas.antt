@@ -1,9 +1,9 @@
 -- Each record takes at least one byte, so what a reader of bytes in hand has left are the records that follow.
 use Rattle.std.proofs.Common.{Bor, ap, ◌≡◌, ◌<◌, ◌≤◌, ◌+◌, ◌∷◌, ◌++◌, [], ◌∙◌, ℕ, zero, suc, List, Bool, true, false, Option, Some, None, length, arith, sym, refl, inl, inr}
-use Rattle.std.specs.Prelude.{◌==◌, ◌||◌, if◌then◌else◌}
+use Rattle.std.specs.Prelude.{◌==◌, ◌||◌, IfOk, OnOk, if◌then◌else◌, Result, Ok, Err}
 use Rattle.std.proofs.lemmas.Bool.{cases_Bool}
 use Rattle.csv.specs.Machine.{Read, ends_at_end, fields_after, field_after, in_field, is_end, next_record, start_field, start_record, step}
-use Rattle.csv.specs.Reading.{ExplainsRead, NotLengths, ReadRecord, Reached, default_config, is_bom, is_flexible, reader_state, records_from, records_next, strip_bom, took_first}
+use Rattle.csv.specs.Reading.{ExplainsRead, NotLengths, ReadRecord, Reached, Ready, default_config, is_bom, is_flexible, reader_state, reader_trim, records_from, records_next, strip_bom, took_first}
 use Rattle.csv.specs.declared.error.ErrorKind.{ErrorKind}
 use Rattle.csv.specs.declared.error.ErrorKind.TheVariants as kind
 use Rattle.csv.specs.declared.parser.Action.{Action}
@@ -11,8 +11,9 @@ use Rattle.csv.specs.declared.parser.Action.TheVariants as act
 use Rattle.csv.specs.declared.parser.State.{State}
 use Rattle.csv.specs.declared.parser.State.TheVariants as st
 use Rattle.csv.specs.declared.reader.Reader.{Reader}
+use Rattle.csv.specs.declared.reader.Trim.TheVariants as trim
 use Rattle.csv.proofs.ReadFacts.{rows-end, rows-more}
-use Rattle.pb_rows.specs.InHand.{IsBetween, records_in, records_left, unread_by}
+use Rattle.pb_rows.specs.InHand.{IsBetween, ReadsFirst, records_in, records_left, unread_by}
 use Rattle.pb_rows.specs.Records.{records_of}
 
 -- what a byte does in a field: it is a comma, a carriage return, a line feed, or another one
@@ -162,19 +163,14 @@ follows : (p : Read) (fields : List (List ℕ)) (s : State) (ys : List ℕ) (unr
 follows p fields s ys unread first state bytes known = rw (first, known, state, bytes) refl
 
 -- what a read of a record leaves of a reader of bytes in hand, and of its records
-pub record AfterRecord (old new : Reader (Bor (List ℕ))) (fields : List (List ℕ)) : Type 0 where
-  pub stands : IsBetween new
-  pub left : records_left old false ≡ fields ∷ records_left new false
-
-pub record_read : (old new : Reader (Bor (List ℕ))) (fields : List (List ℕ)) → IsBetween old
-    → ReadRecord (λ s. Some s.now) old new true fields → took_first new ≡ true → is_flexible new ≡ is_flexible old → AfterRecord old new fields
+record_read : (old new : Reader (Bor (List ℕ))) (fields : List (List ℕ)) → IsBetween old
+    → ReadRecord (λ s. Some s.now) old new true fields → took_first new ≡ true → is_flexible new ≡ is_flexible old → ReadsFirst old new true fields
 unfolding Reached
 record_read old new fields stands read first flexible =
     let more = rows-more (λ (s : Bor (List ℕ)). Some s.now) old new fields default_config (reader_state old) stands.bytes stands.bytes [] stands.config stands.unread (refl, refl) read in
     let p = more.2.0 in
-    let leaves = record_leaves (reader_state old) [] [] stands.bytes p more.2.1 in
-    record {
-      stands = record {
+    let leaves = record_leaves (reader_state old) [] [] stands.bytes p more.2.1 in (
+      record {
         config = read.2 ∙ stands.config;
         trim = read.3 ∙ stands.trim;
         flexible = flexible ∙ stands.flexible;
@@ -182,17 +178,25 @@ record_read old new fields stands read first flexible =
         between = rw more.2.3.0 at leaves.0;
         bytes = more.0;
         unread = more.1;
-      };
-      left = ap (records_in (reader_state old)) stands.unread ∙ records_more (reader_state old) stands.bytes p stands.between more.2.1
-          ∙ follows p fields (reader_state new) more.0 (unread_by new) more.2.2 more.2.3.0 more.2.3.1 more.1;
-    }
+      },
+      ap (records_in (reader_state old)) stands.unread ∙ records_more (reader_state old) stands.bytes p stands.between more.2.1
+          ∙ follows p fields (reader_state new) more.0 (unread_by new) more.2.2 more.2.3.0 more.2.3.1 more.1,
+    )
 
 -- where a read finds no record, none was left
-pub none_read : (old new : Reader (Bor (List ℕ))) (fields : List (List ℕ)) → IsBetween old
+none_read : (old new : Reader (Bor (List ℕ))) (fields : List (List ℕ)) → IsBetween old
     → ReadRecord (λ s. Some s.now) old new false fields → records_left old false ≡ []
 none_read old new fields stands read =
     let none = rows-end (λ (s : Bor (List ℕ)). Some s.now) old new fields default_config stands.bytes stands.config stands.unread read in
     rw stands.unread (records_none (reader_state old) stands.bytes none)
+
+-- what a read does to a reader of bytes in hand, where it has an answer
+pub reads_first : {E : Type 0} (old new : Reader (Bor (List ℕ))) (fields : List (List ℕ)) (r : Result Bool E) → IsBetween old
+    → IfOk r (λ found. (reader_trim old ≡ trim.None) → Ready old → ReadRecord (λ s. Some s.now) old new found fields)
+    → OnOk r (took_first new ≡ true) → OnOk r (is_flexible new ≡ is_flexible old) → IfOk r (λ found. ReadsFirst old new found fields)
+reads_first old new fields (Ok true) stands reads first flexible = record_read old new fields stands (reads stands.trim stands.ready) first flexible
+reads_first old new fields (Ok false) stands reads first flexible = none_read old new fields stands (reads stands.trim stands.ready)
+reads_first old new fields (Err e) stands reads first flexible = tt
 
 -- a text without its byte order mark is no longer than it
 strip_bom_within : (bytes : List ℕ) → length (strip_bom bytes) ≤ length bytes

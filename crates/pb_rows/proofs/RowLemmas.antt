@@ -1,10 +1,12 @@
--- The empty fields at the end of a record.
+-- The fields of a record, and the empty ones at its end.
 use Rattle.std.proofs.Common.{◌≡◌, ◌<◌, ◌≤◌, ◌+◌, ◌-◌, ◌++◌, ◌∷◌, [], ◌∙◌, ℕ, List, length, take, get_or, true, false, arith, ap, sym, refl, inl, inr, length-append, Bool}
-use Rattle.std.specs.Prelude.{◌==◌, ◌&&◌, if◌then◌else◌, None, Some}
+use Rattle.std.specs.Borrow.{Bor}
+use Rattle.std.specs.Option.{unwrap_or}
+use Rattle.std.specs.Prelude.{◌==◌, ◌&&◌, if◌then◌else◌, min, Option, None, Some, option_map}
 use Rattle.std.proofs.lemmas.Bool.{cases_lt, ne_eqb}
-use Rattle.std.proofs.lemmas.List.{take_all, take_more}
+use Rattle.std.proofs.lemmas.List.{length-take-le, take-take, take_all, take_more}
 use Rattle.csv.specs.Records.{field_at}
-use Rattle.csv.proofs.RecordFacts.{field-get, field-none, field-there}
+use Rattle.csv.proofs.RecordFacts.{field-get, field-there}
 use Rattle.pb_rows.specs.Records.{without_trailing_empty}
 
 -- an empty field behind the others goes
@@ -41,19 +43,21 @@ trailing_stop fields n some within full =
     let last = take_last fields n some within in
     last ∙ sym (trailing_push_full (take (n - 1) fields) (get_or fields (n - 1) []) full) ∙ ap without_trailing_empty (sym last)
 
--- one more field copied
-pub copied_more : (row : List (List ℕ)) (fields : List (List ℕ)) (i : ℕ) (field : List ℕ) → row ≡ take i fields
-    → field_at fields i ≡ Some field → row ++ field ∷ [] ≡ take (i + 1) fields
-copied_more row fields i field so_far there =
-    let within : i < length fields = elim (cases_lt i (length fields)) [ inl lt ↦ lt | inr past ↦ cc (field-none fields i past, there) ] in
-    ap (λ (r : List (List ℕ)). r ++ field ∷ []) so_far ∙ ap (λ (f : List ℕ). take i fields ++ f ∷ []) (sym (field-get fields i field there)) ∙ sym (take_more fields i [] within)
+-- the field at a place within a record
+pub field_here : (fields : List (List ℕ)) (i : ℕ) (found : Option (Bor (List ℕ))) (other : Bor (List ℕ)) → i < length fields
+    → option_map (λ field. field.now) found ≡ field_at fields i → (unwrap_or found other).now ≡ get_or fields i []
+field_here fields i (Some field) other lt is = sym (field-get fields i field.now (sym is))
+field_here fields i None other lt is = absurd (field-there fields i lt (sym is))
 
--- no field is left to copy
-pub copied_all : (row : List (List ℕ)) (fields : List (List ℕ)) (i : ℕ) → row ≡ take i fields → field_at fields i ≡ None → row ≡ fields
-copied_all row fields i so_far none = so_far ∙ all fields i none
-  where
-    all : (fields : List (List ℕ)) (i : ℕ) → field_at fields i ≡ None → take i fields ≡ fields
-    all fields i none = elim (cases_lt i (length fields)) [
-      | inl lt ↦ absurd (field-there fields i lt none)
-      | inr past ↦ take_all i fields past
-    ]
+-- as many of the fields up to the last one that isn't empty as there are places for
+pub lent : (filled places : ℕ) (fields front : List (List ℕ)) → filled ≤ length fields → take filled fields ≡ front
+    → take (min filled places) fields ≡ take places front
+lent filled places fields front within is = elim (cases_lt filled places) [
+  | inl few ↦
+      let count : min filled places ≡ filled = omega (arith, few) in
+      let long : length front ≡ filled = ap length (sym is) ∙ length-take-le filled fields within in
+      rw count (is ∙ sym (take_all places front (omega (arith, few, long))))
+  | inr many ↦
+      let count : min filled places ≡ places = omega (arith, many) in
+      rw count (sym (ap (take places) (sym is) ∙ take-take places filled fields (omega (arith, many))))
+]

@@ -1,5 +1,5 @@
 -- Inside. What a reader of bytes in hand has left.
-use Rattle.std.specs.Prelude.{◌≡◌, ◌+◌, ◌<◌, ◌^◌, [], ℕ, List, length, Option, Some, None, Bool, true, false}
+use Rattle.std.specs.Prelude.{◌≡◌, ◌+◌, ◌<◌, ◌^◌, ◌∷◌, [], ℕ, List, length, Option, Some, None, Bool, true, false}
 use Rattle.std.specs.Borrow.{Bor}
 use Rattle.csv.specs.Machine.{ends_at_end}
 use Rattle.csv.specs.Reading.{Ready, default_config, is_flexible, reader_config, reader_state, reader_trim, records_from, source_of}
@@ -35,3 +35,8 @@ pub record IsBetween (reader : Reader (Bor (List ℕ))) : Type 0 where
 pub record IsInHand (reader : Reader (Bor (List ℕ))) (ended : Bool) (taken : ℕ) : Type 0 where
   pub stands : ended ≡ false → IsBetween reader
   pub few : taken + length (records_left reader ended) < 2 ^ 64
+
+-- a reader that stood between two records takes the first record that it had left, where it had one
+abbrev pub ReadsFirst : Reader (Bor (List ℕ)) → Reader (Bor (List ℕ)) → Bool → List (List ℕ) → Type 0
+ReadsFirst old new true fields = IsBetween new × (records_left old false ≡ fields ∷ records_left new false)
+ReadsFirst old new false fields = records_left old false ≡ []

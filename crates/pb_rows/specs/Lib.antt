@@ -9,7 +9,6 @@ pub mod Date
 pub mod Written
 pub mod Texts
 -- Inside
-pub mod Cut
 pub mod InHand
 pub mod Padded
 pub mod Hashed

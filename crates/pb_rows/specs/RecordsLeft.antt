@@ -1,5 +1,5 @@
 -- Statement. Records that are taken one at a time.
-use Rattle.std.specs.Prelude.{◌≡◌, ◌+◌, ◌∷◌, [], ℕ, List, Option, Some, None}
+use Rattle.std.specs.Prelude.{◌≡◌, ◌+◌, ◌∷◌, [], ℕ, List, Bool, true, false, Option, Some, None}
 
 -- how many records were taken, and those that are left, in order
 pub record RecordsLeft : Type 0 where
@@ -10,3 +10,8 @@ pub record RecordsLeft : Type 0 where
 abbrev pub TakesNext : RecordsLeft → RecordsLeft → Option (List (List ℕ)) → Type 0
 TakesNext old new None = (old.left ≡ []) × (new ≡ old)
 TakesNext old new (Some row) = (old.left ≡ row ∷ new.left) × (new.taken ≡ old.taken + 1)
+
+-- the same with a row that takes the record's fields, and has none where no record was left
+abbrev pub FillsNext : RecordsLeft → RecordsLeft → List (List ℕ) → Bool → Type 0
+FillsNext old new row true = TakesNext old new (Some row)
+FillsNext old new row false = TakesNext old new None × (row ≡ [])

@@ -48,7 +48,7 @@ impl PartialEq for Name {
     ghost laws = { partial_equiv_from_equiv nat_list_eq_equiv };
 
     fn eq(&self, other: &Name) -> bool {
-        self.bytes() == other.bytes()
+        self.len == other.len && self.bytes == other.bytes
     }
 }
 
@@ -97,11 +97,17 @@ impl Name {
         ensures { MatchOption result (is_name field.now ≡ false)
             (λ name. (is_name field.now ≡ true) × (name ≡ field.now)) }
     {
-        if !is_name(field) {
+        if !has_name_length(field) {
             return None;
         }
         let mut bytes = [0u8; 32];
-        bytes[..field.len()].copy_from_slice(field);
+        for i in 0..field.len() {
+            let byte = field[i];
+            if !is_name_byte(byte) {
+                return None;
+            }
+            bytes[i] = byte;
+        }
         Some(Name {
             bytes,
             len: field.len() as u8,
@@ -136,20 +142,6 @@ impl fmt::Debug for Name {
     fn fmt<W: fmt::Write>(&self, f: &mut fmt::Formatter<W>) -> fmt::Result {
         f.write_str(self.as_str())
     }
-}
-
-// Whether a field has the form of a name.
-fn is_name(field: &[u8]) -> bool
-    ensures { result ≡ is_name field.now }
-{
-    has_name_length(field) && has_name_bytes(field)
-}
-
-// Whether each byte of a field may stand in a name.
-fn has_name_bytes(field: &[u8]) -> bool
-    ensures { result ≡ list_all is_name_byte field.now }
-{
-    field.iter().all(|byte| is_name_byte(*byte))
 }
 
 // Whether a field is as long as a name may be.

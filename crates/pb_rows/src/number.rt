@@ -1,28 +1,90 @@
 // Whole numbers: read from fields, written as fields.
 
-ghost use Rattle.std.specs.Prelude.{◌≡◌, true, FitsSigned, IfOk};
+ghost use Rattle.std.specs.Prelude.{◌≡◌, ◌≤◌, ◌∷◌, length, true, FitsSigned, IfOk, Some};
 ghost use Rattle.std.specs.Option.{SomeIff};
 ghost use mir.Syntax.{w128};
 ghost use Rattle.std.specs.List.{list_all};
 ghost use Rattle.std.specs.Char.{is_ascii_digit};
+ghost use Rattle.std.specs.Str.Parse.{digits_value};
+ghost use Rattle.pb_rows.specs.Bytes.{dash};
 ghost use Rattle.pb_rows.specs.Number.{are_digits, is_padded, is_plain, is_whole, number, whole_text, whole_value, within};
 
 use std::alloc::{AllocError, Global};
+
+// The greatest number of digits that always write a number of 64 bits.
+const MOST_DIGITS: usize = 19;
 
 /// The whole number that a field writes, where it lies from `lo` to `hi`: decimal digits without leading zeros, and `-` only
 /// before a number that isn't zero. `None` exactly where the field isn't of this form or the number lies outside.
 pub fn read_whole(field: &[u8], lo: i128, hi: i128) -> Option<i128>
     ensures { result ≡ within lo hi (number field.now) }
 {
-    if !is_whole(field) {
-        return None;
+    if field.len() <= MOST_DIGITS {
+        within(short_number(field)?, lo, hi)
+    } else {
+        read_long(field, lo, hi)
     }
-    let value = whole_value(field)?;
-    if (lo..=hi).contains(&value) {
+}
+
+// A number, where it lies from `lo` to `hi`.
+fn within(value: i128, lo: i128, hi: i128) -> Option<i128>
+    ensures { result ≡ within lo hi (Some value) }
+{
+    if lo <= value && value <= hi {
         Some(value)
     } else {
         None
     }
+}
+
+// The number that a field of so few bytes writes, in one pass over them.
+fn short_number(field: &[u8]) -> Option<i128>
+    requires { length field.now ≤ 19 }
+    ensures { result ≡ number field.now }
+{
+    match field {
+        [b'-', digits @ ..] => negative_number(digits),
+        _ => Some(i128::from(plain_number(field)?)),
+    }
+}
+
+// The number that digits behind a minus sign write.
+fn negative_number(digits: &[u8]) -> Option<i128>
+    requires { length digits.now ≤ 19 }
+    ensures { result ≡ number (dash ∷ digits.now) }
+{
+    match plain_number(digits)? {
+        0 => None,
+        value => Some(-i128::from(value)),
+    }
+}
+
+// The number that digits without leading zeros write; `None` exactly where the field isn't of this form.
+fn plain_number(field: &[u8]) -> Option<u64>
+    requires { length field.now ≤ 19 }
+    ensures { SomeIff result (is_plain field.now ≡ true) (digits_value 10 field.now) }
+{
+    if field.is_empty() || is_padded(field) {
+        return None;
+    }
+    let mut value = 0;
+    for byte in field {
+        if !byte.is_ascii_digit() {
+            return None;
+        }
+        value = value * 10 + u64::from(*byte - b'0');
+    }
+    Some(value)
+}
+
+// The same as `read_whole`, for a field of any length.
+fn read_long(field: &[u8], lo: i128, hi: i128) -> Option<i128>
+    ensures { result ≡ within lo hi (number field.now) }
+{
+    if !is_whole(field) {
+        return None;
+    }
+    within(whole_value(field)?, lo, hi)
 }
 
 // The number that a field of the form writes; `None` exactly where it passes 128 bits.

@@ -3,12 +3,11 @@
 ghost use Rattle.std.specs.Prelude.{◌≡◌, ◌<◌, ◌^◌, ◌≤◌, ◌∷◌, ◌++◌, [], length, slice_index_or, IfOk, OnOk, OnErr, IsTrue, ◌↔◌};
 ghost use Rattle.std.specs.Slice.Iter.{iter_rest};
 ghost use Rattle.csv.specs.Reading.{NotLengths, error_kind};
-ghost use Rattle.csv.specs.Records.{fields_of};
 ghost use Rattle.pb_rows.specs.Records.{records_of};
-ghost use Rattle.pb_rows.specs.RecordsLeft.{TakesNext};
+ghost use Rattle.pb_rows.specs.RecordsLeft.{FillsNext, TakesNext};
 
 use crate::row::Row;
-use csv::{ByteRecord, Error, Reader, ReaderBuilder};
+use csv::{Error, Reader, ReaderBuilder};
 use std::alloc::{AllocError, Global};
 use std::marker::Model;
 use std::slice::Iter;
@@ -19,7 +18,6 @@ use std::slice::Iter;
 pub struct Records<'a> {
     alloc: Global,
     reader: Reader<&'a [u8]>,
-    entry: ByteRecord,
     taken: usize,
     ended: bool,
 }
@@ -49,7 +47,6 @@ impl<'a> Records<'a> {
         Records {
             alloc,
             reader,
-            entry: ByteRecord::new(alloc),
             taken: 0,
             ended: false,
         }
@@ -63,25 +60,46 @@ impl<'a> Records<'a> {
         if self.ended {
             return Ok(None);
         }
-        match self.reader.read_byte_record(&mut self.entry) {
-            Ok(true) => {}
-            Ok(false) => {
-                self.ended = true;
-                return Ok(None);
-            }
-            Err(error) => {
-                self.ended = true;
-                return Err(out_of_memory(error));
-            }
-        }
-        match row_of(self.alloc, &self.entry) {
-            Ok(row) => {
-                self.taken += 1;
-                Ok(Some(row))
+        match Row::with_room(self.alloc) {
+            Ok(mut row) => {
+                if self.fill(&mut row)? {
+                    Ok(Some(row))
+                } else {
+                    Ok(None)
+                }
             }
             Err(error) => {
                 self.ended = true;
                 Err(error)
+            }
+        }
+    }
+
+    /// Takes the next record into a row, in place of its fields, and answers whether one was left. Where none was, and after an
+    /// `Err`, want of memory, the row is without fields, and none is left.
+    pub fn fill(&mut self, row: &mut Row) -> Result<bool, AllocError>
+        ensures ok { IfOk result (λ found. FillsNext self.old self.new row.new found) }
+        ensures err { OnErr result (self.new.left ≡ []) }
+        ensures err_row { OnErr result (row.new ≡ []) }
+    {
+        if self.ended {
+            row.clear();
+            return Ok(false);
+        }
+        match row.read(&mut self.reader) {
+            Ok(true) => {
+                self.taken += 1;
+                Ok(true)
+            }
+            Ok(false) => {
+                self.ended = true;
+                row.clear();
+                Ok(false)
+            }
+            Err(error) => {
+                self.ended = true;
+                row.clear();
+                Err(out_of_memory(error))
             }
         }
     }
@@ -182,15 +200,4 @@ fn out_of_memory(_error: Error) -> AllocError
     requires { NotLengths (error_kind _error) }
 {
     AllocError
-}
-
-// A record that `csv` has read, as a row of its own.
-fn row_of(alloc: Global, entry: &ByteRecord) -> Result<Row, AllocError>
-    ensures { IfOk result (λ row. row ≡ fields_of entry.now) }
-{
-    let mut row = Row::with_room(alloc, entry.as_slice().len(), entry.len())?;
-    for field in entry {
-        row.push(field)?;
-    }
-    Ok(row)
 }

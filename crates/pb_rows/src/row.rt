@@ -1,30 +1,37 @@
 // A record: a list of fields, and each field its bytes.
 
-ghost use Rattle.std.specs.Prelude.{◌≡◌, ◌<◌, ◌≤◌, ◌∷◌, ◌++◌, [], length, map, min, take, slice_index_or, IfOk, OnOk, OnErr, IsTrue, ◌↔◌};
-ghost use Rattle.csv.specs.Records.{cut_from, prev};
-ghost use Rattle.pb_rows.specs.Cut.{AreEnds};
+ghost use Rattle.std.specs.Prelude.{◌≡◌, ◌<◌, ◌≤◌, ◌∷◌, ◌++◌, [], length, map, min, take, slice_index_or, IfOk, IfErr, OnOk, OnErr, IsTrue, ◌↔◌};
+ghost use Rattle.csv.specs.Reading.{NotLengths, error_kind};
+ghost use Rattle.csv.specs.Records.{fields_of, partial_of};
+ghost use Rattle.pb_rows.specs.InHand.{IsBetween, ReadsFirst};
 ghost use Rattle.pb_rows.specs.Records.{without_trailing_empty};
 
+use csv::{ByteRecord, Error, Reader};
 use std::alloc::{AllocError, Global};
 use std::marker::Model;
 
-/// A record: a list of fields, each of which is a list of bytes. They lie in one buffer, with the place where each ends.
+// The room that a row is made with: usual records are of fewer bytes, and of no more fields.
+const USUAL_BYTES: usize = 64;
+
+const USUAL_FIELDS: usize = 8;
+
+/// A record: a list of fields, each of which is a list of bytes. It is kept as `csv` reads it.
 #[derive(Debug, Drop)]
 pub struct Row {
-    bytes: Vec<u8>,
-    ends: Vec<usize>,
+    fields: ByteRecord,
+    // Whether it is known that no bytes of an unfinished field lie behind the fields.
+    tidy: bool,
 }
 
 impl Model for Row {
-    ghost use Rattle.std.specs.Prelude.{List, ℕ};
-    ghost use Rattle.csv.specs.Records.{cut_from};
-    ghost use Rattle.pb_rows.specs.Cut.{AreEnds};
+    ghost use Rattle.std.specs.Prelude.{◌≡◌, List, ℕ, [], true};
+    ghost use Rattle.csv.specs.Records.{fields_of, partial_of};
 
     ghost Value = { List (List ℕ) };
 
-    ghost view = { λ a. cut_from 0 a.ends.items a.bytes.items };
+    ghost view = { λ a. fields_of a.fields };
 
-    ghost invariant = { λ a. AreEnds a.ends.items a.bytes.items };
+    ghost invariant = { λ a. a.tidy ≡ true → partial_of a.fields ≡ [] };
 }
 
 impl Row {
@@ -33,18 +40,18 @@ impl Row {
         ensures { result ≡ [] }
     {
         Row {
-            bytes: Vec::new(alloc),
-            ends: Vec::new(alloc),
+            fields: ByteRecord::new(alloc),
+            tidy: true,
         }
     }
 
-    // The row without any field, with room for so many bytes and fields.
-    pub(crate) fn with_room(alloc: Global, bytes: usize, fields: usize) -> Result<Row, AllocError>
+    // The row without any field, with room for a usual record.
+    pub(crate) fn with_room(alloc: Global) -> Result<Row, AllocError>
         ensures { IfOk result (λ row. row ≡ []) }
     {
         Ok(Row {
-            bytes: Vec::with_capacity(alloc, bytes)?,
-            ends: Vec::with_capacity(alloc, fields)?,
+            fields: ByteRecord::with_capacity(alloc, USUAL_BYTES, USUAL_FIELDS)?,
+            tidy: true,
         })
     }
 
@@ -53,25 +60,52 @@ impl Row {
         ensures appended { OnOk result (self.new ≡ self.old ++ field.now ∷ []) }
         ensures unchanged { OnErr result (self.new ≡ self.old) }
     {
-        self.ends.reserve(1)?;
-        self.bytes.extend_from_slice(field)?;
-        let end = self.bytes.len();
-        self.ends.push_reserved(end);
+        if !self.tidy {
+            drop_unfinished(&mut self.fields)?;
+        }
+        self.tidy = false;
+        self.fields.push_field(field)?;
+        self.tidy = true;
         Ok(())
+    }
+
+    // Takes every field away. The memory stays for those to come.
+    pub(crate) fn clear(&mut self)
+        ensures { self.new ≡ [] }
+    {
+        self.fields.clear();
+        self.tidy = true;
+    }
+
+    // Takes the next record of a reader in place of the fields, and answers whether there was one.
+    pub(crate) fn read(&mut self, reader: &mut Reader<&[u8]>) -> Result<bool, Error>
+        requires { IsBetween reader.old }
+        ensures reads { IfOk result (λ found. ReadsFirst reader.old reader.new found self.new) }
+        ensures refused { IfErr result (λ e. NotLengths (error_kind e)) }
+    {
+        self.tidy = false;
+        reader.read_byte_record(&mut self.fields)
+    }
+
+    // The record as `csv` has it.
+    pub(crate) fn as_record(&self) -> &ByteRecord
+        ensures { fields_of result.now ≡ self.now }
+    {
+        &self.fields
     }
 
     /// The number of fields.
     pub fn len(&self) -> usize
         ensures { result ≡ length self.now }
     {
-        self.ends.len()
+        self.fields.len()
     }
 
     /// Whether the row has no field.
     pub fn is_empty(&self) -> bool
         ensures { IsTrue result ↔ (self.now ≡ []) }
     {
-        self.ends.is_empty()
+        self.fields.is_empty()
     }
 
     /// The bytes of the field at a place, counted from 0.
@@ -79,7 +113,7 @@ impl Row {
         requires { i < length self.now }
         ensures { result.now ≡ slice_index_or self.now i [] }
     {
-        field_in(&self.bytes, &self.ends, i)
+        self.fields.get(i).unwrap_or(b"")
     }
 
     /// Lends the fields up to the last one that isn't empty, in order, as many of them as there are places for, and answers how
@@ -116,19 +150,13 @@ fn fewer(a: usize, b: usize) -> usize
     if a < b { a } else { b }
 }
 
-// The bytes of the field at a place: those from the end of the field before it to its own.
-fn field_in<'a>(bytes: &'a [u8], ends: &[usize], i: usize) -> &'a [u8]
-    requires cut { AreEnds ends.now bytes.now }
-    requires place { i < length ends.now }
-    ensures { result.now ≡ slice_index_or (cut_from 0 ends.now bytes.now) i [] }
+// Takes the bytes of an unfinished field away: they are made a field, and that one goes.
+fn drop_unfinished(fields: &mut ByteRecord) -> Result<(), AllocError>
+    ensures same { fields_of fields.new ≡ fields_of fields.old }
+    ensures none { OnOk result (partial_of fields.new ≡ []) }
 {
-    &bytes[start_of(ends, i)..ends[i]]
-}
-
-// Where the field at a place begins: at the end of the one before.
-fn start_of(ends: &[usize], i: usize) -> usize
-    requires { i < length ends.now }
-    ensures { result ≡ prev 0 ends.now i }
-{
-    if i == 0 { 0 } else { ends[i - 1] }
+    let count = fields.len();
+    fields.push_field(b"")?;
+    fields.truncate(count);
+    Ok(())
 }

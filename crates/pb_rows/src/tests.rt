@@ -46,6 +46,23 @@ fn reads_whole_numbers(rt: HostRuntime) {
             "the number of {field:?}"
         );
     }
+    let long: [(&[u8], i128); 6] = [
+        (b"123456789012345678", 123456789012345678),
+        (b"-123456789012345678", -123456789012345678),
+        (b"9999999999999999999", 9999999999999999999),
+        (b"-9999999999999999999", -9999999999999999999),
+        (b"18446744073709551616", 18446744073709551616),
+        (b"99999999999999999999", 99999999999999999999),
+    ];
+    for (field, value) in long {
+        assert_eq!(rt;
+            read_whole(field, i128::MIN, i128::MAX),
+            Some(value),
+            "the number of {field:?}"
+        );
+    }
+    assert_eq!(rt; read_whole(b"1234567890123456x8", 0, i128::MAX), None);
+    assert_eq!(rt; read_whole(b"01234567890123456789", 0, i128::MAX), None);
     let least = i128::MIN;
     assert_eq!(rt;
         read_whole(b"-170141183460469231731687303715884105728", least, 0),
@@ -219,4 +236,27 @@ fn reads_reasons(rt: HostRuntime) {
         }
         None => assert!(rt; false, "no reason"),
     }
+}
+
+#[test]
+fn fills_rows(rt: HostRuntime) -> Result<(), Fail> {
+    let mut records = Records::of(rt.alloc(), b"unit,U,\n\"a\"\"b\"\n");
+    let mut row = Row::new(rt.alloc());
+    row.push(b"before")?;
+    assert!(rt; records.fill(&mut row)?);
+    assert_eq!(rt; row.len(), 3);
+    assert_eq!(rt; row.field(1), b"U".as_slice());
+    assert!(rt; records.fill(&mut row)?);
+    assert_eq!(rt; row.len(), 1);
+    assert_eq!(rt; row.field(0), b"a\"b".as_slice());
+    assert_eq!(rt; records.taken(), 2);
+    row.push(b"behind")?;
+    assert_eq!(rt; row.len(), 2);
+    assert_eq!(rt; row.field(0), b"a\"b".as_slice());
+    assert_eq!(rt; row.field(1), b"behind".as_slice());
+    assert!(rt; !records.fill(&mut row)?);
+    assert!(rt; row.is_empty());
+    assert!(rt; !records.fill(&mut row)?);
+    assert_eq!(rt; records.taken(), 2);
+    Ok(())
 }

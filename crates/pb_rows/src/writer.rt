@@ -1,7 +1,7 @@
 // Rows out: the text of the rows ended so far, and the fields of the row that is being filled.
 
 ghost use Rattle.std.specs.Prelude.{◌≡◌, ◌∷◌, ◌++◌, [], IfOk, OnOk, OnErr};
-ghost use Rattle.csv.specs.Records.{fields_of, partial_of};
+ghost use Rattle.csv.specs.Records.{fields_of};
 ghost use Rattle.pb_rows.specs.Number.{whole_text};
 ghost use Rattle.pb_rows.specs.Written.{AddsField, AddsLine, EndsRow, line_of};
 
@@ -61,7 +61,7 @@ impl RowWriter {
         ensures unchanged { OnErr result (self.new ≡ self.old) }
     {
         self.row.write_to(&mut self.text)?;
-        self.row = Row::new(*self.text.allocator());
+        self.row.clear();
         Ok(())
     }
 
@@ -81,20 +81,9 @@ impl Row {
         ensures unchanged { OnErr result (text.new.items ≡ text.old.items) }
     {
         let alloc = *text.allocator();
-        let line = line_of(alloc, &byte_record(alloc, self)?)?;
+        let line = line_of(alloc, self.as_record())?;
         text.extend_from_slice(line.as_slice())
     }
-}
-
-// A row as `csv` takes it.
-fn byte_record(alloc: Global, row: &Row) -> Result<ByteRecord, AllocError>
-    ensures { IfOk result (λ copy. fields_of copy ≡ row.now) }
-{
-    let mut copy = ByteRecord::new(alloc);
-    for i in 0..row.len() {
-        copy.push_field(row.field(i))?;
-    }
-    Ok(copy)
 }
 
 // The line of one row, by a writer of its own: so no length of an earlier row and no pending byte matters.

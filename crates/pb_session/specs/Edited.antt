@@ -6,11 +6,11 @@ use Rattle.pb_book.specs.Answer.{Says, answer_of}
 use Rattle.pb_book.specs.Plain.{plain_rows}
 use Rattle.pb_book.specs.Rows.{StoredRow}
 use Rattle.pb_book.specs.Written.{WriteRows}
-use Rattle.pb_session.specs.Session.{Adds, IsSessionText, SessionState, refuses_some}
+use Rattle.pb_session.specs.Session.{Adds, IsSessionText, SessionState, new_session, refuses_some}
 
 -- the session with the same options and form that has stored nothing
 abbrev pub begun : SessionState → SessionState
-begun state = record { options = state.options; form = state.form; rows = [] }
+begun state = new_session state.options state.form
 
 -- Records of the edited file: they write the plain rows, one each, as if nothing had been closed, late, amended or struck.
 abbrev pub IsEditedFile : List StoredRow → List (List (List ℕ)) → Type 0

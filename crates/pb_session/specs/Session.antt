@@ -103,6 +103,10 @@ AddsBy state at (Says accepted) text = AddsAccepted state accepted text
 abbrev pub Adds : SessionState → ℕ → List (List ℕ) → List ℕ → Type 0
 Adds state at fields text = AddsBy state at (answer_of state.rows fields) text
 
+-- a session that has stored nothing
+abbrev pub new_session : Options → Form → SessionState
+new_session options form = record { options = options; form = form; rows = [] }
+
 -- what a session holds after the record with this number
 abbrev pub state_after : SessionState → ℕ → List (List ℕ) → SessionState
 state_after state at fields = record { options = state.options; form = state.form; rows = after state.rows at fields }

@@ -1,6 +1,7 @@
 // What no clause says: that records are answered where memory is ample, and outputs from outside.
 
 ghost use Rattle.std.specs.Prelude.{◌≡◌, ◌≤◌, ◌<◌, false, true, length, IfSome};
+ghost use Rattle.pb_limits.specs.Limits.{most_gap};
 ghost use Rattle.pb_elim.specs.Options.{AreOptions};
 
 use crate::Session;
@@ -37,7 +38,7 @@ fn tested(eliminate: u32) -> Options
 // The output of a session, and how many of its records were refused.
 fn output(alloc: Global, gap: u32, text: &[u8]) -> Result<(Vec<u8>, u32), Fail>
     requires gap_from { 1 ≤ gap }
-    requires gap_to { gap ≤ 1000000 }
+    requires gap_to { gap ≤ most_gap }
 {
     output_by(alloc, asked(gap), text)
 }

@@ -17,20 +17,16 @@ use Rattle.pb_report.specs.Row.{Columns}
 use Rattle.pb_report.specs.Summary.{summary_row}
 use Rattle.pb_make.specs.Rows.{session_rows, stored_rows}
 use Rattle.pb_session.specs.FirstStage.{IsFirstStage}
-use Rattle.pb_session.specs.Session.{SessionState, state_after_all}
+use Rattle.pb_session.specs.Session.{SessionState, new_session, state_after_all}
 
 -- what is asked of the study of a made session: a gap and so many sweeps, and no tests
 abbrev pub made_options : ℕ → ℕ → Options
 made_options gap sweeps = record { gap = gap; sweeps = sweeps; tests = false; eliminate = 0 }
 
--- a session that has stored nothing
-abbrev pub new_session : Options → SessionState
-new_session options = record { options = options; form = Csv; rows = [] }
-
 -- the session made from a number, with so many streams, when it is asked for its report
 abbrev pub made_state : ℕ → ℕ → ℕ → ℕ → SessionState
 made_state number streams gap sweeps =
-    state_after_all (new_session (made_options gap sweeps)) 1 (stored_rows number streams)
+    state_after_all (new_session (made_options gap sweeps) Csv) 1 (stored_rows number streams)
 
 -- the row that names a stream of a period that is over the limits
 abbrev pub stream_row : List StoredRow → Period → ℕ → Columns

@@ -10,8 +10,8 @@ ghost use Rattle.pb_report.specs.Form.{text_in};
 ghost use Rattle.pb_report.specs.Summary.{summary_row};
 ghost use Rattle.pb_report.specs.declared.form.Form.TheVariants.{Csv};
 ghost use Rattle.pb_make.specs.Plant.{least_streams};
-ghost use Rattle.pb_session.specs.Session.{state_after_all};
-ghost use Rattle.pb_summary.specs.Summary.{IsSummaryText, SumsUp, made_options, new_session, stream_row};
+ghost use Rattle.pb_session.specs.Session.{new_session, state_after_all};
+ghost use Rattle.pb_summary.specs.Summary.{IsSummaryText, SumsUp, made_options, stream_row};
 
 use pb_book::Book;
 use pb_graph::{Options, Stage};
@@ -65,7 +65,7 @@ fn stored(alloc: Global, rows: &Rows, options: Options) -> Result<Session, Alloc
     requires some { 1 ≤ length rows.now }
     requires few { length rows.now < 2 ^ 32 }
     ensures { IfOk result (λ session. session.state
-        ≡ state_after_all (new_session options) 1 (take (length rows.now - 1) rows.now)) }
+        ≡ state_after_all (new_session options Csv) 1 (take (length rows.now - 1) rows.now)) }
 {
     let mut session = Session::new(alloc, options, Form::Csv);
     let mut out = Vec::new(alloc);

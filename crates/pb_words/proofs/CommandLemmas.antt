@@ -1,5 +1,5 @@
 -- What was given, and the command that it asks for.
-use Rattle.std.proofs.Common.{inl, inr, ◌≡◌, ◌∙◌, ◌+◌, ◌||◌, ◌&&◌, ◌==◌, ◌<◌, ◌≤◌, ◌≢◌, arith, ℕ, ℤ, pos, negsuc, Bool, cond, true, false, refl, sym, ap, ap₂, subst, IsTrue, List, [], ◌∷◌, Option, Some, None, is_some, codes, leb-true, true≢false, int_le, unwrap_or, IfSome, ◌≤ℤ◌}
+use Rattle.std.proofs.Common.{inl, inr, ◌≡◌, ◌∙◌, ◌||◌, ◌&&◌, ◌≤◌, ◌≢◌, arith, ℕ, ℤ, pos, negsuc, Bool, cond, true, false, refl, sym, ap, ap₂, subst, List, Option, Some, None, is_some, codes, leb-true, true≢false, int_le, unwrap_or, IfSome, ◌≤ℤ◌}
 use Rattle.std.proofs.lemmas.Int.{ints}
 use Rattle.std.specs.Str.{bytes_eq}
 use Rattle.pb_rows.specs.Number.{number, within}
@@ -9,7 +9,7 @@ use Rattle.pb_words.specs.Given.{Given}
 use Rattle.pb_limits.specs.Limits.{most_gap, most_streams, most_sweeps}
 use Rattle.pb_elim.specs.Options.{AreOptions, most_rounds}
 use Rattle.pb_make.specs.Plant.{least_streams}
-use Rattle.pb_words.specs.Command.{Asks, AsksCheckOf, AsksMake, AsksMakeOf, AsksRun, AsksRunOf, IsCommandOf, IsFormOf, IsInRange, greatest_number, natural, number_or}
+use Rattle.pb_words.specs.Command.{Asks, AsksCheck, AsksMake, AsksRun, IsCommandOf, IsFormOf, IsInRange, greatest_number, natural, number_or}
 use Rattle.pb_words.specs.Line.{IsGivenByClap}
 use Rattle.pb_words.proofs.EndLemmas.{parts_of_taken, taken_of_parts}
 use Rattle.pb_words.specs.declared.command.Command.{Command}
@@ -66,21 +66,24 @@ run_or_check e = true≢false (ap (λ (t : List ℕ). bytes_eq t (codes "run")) 
 check_or_make : codes "check" ≡ codes "make" → ⊥
 check_or_make e = true≢false (ap (λ (t : List ℕ). bytes_eq t (codes "check")) e)
 
--- what asks for a command of one mode asks for none of another
-pub run_only : (given : Given) (command : Command) → given.mode ≡ Some (codes "run") → Asks given command → AsksRunOf given command
-run_only given (Run options form) mode asks = asks
-run_only given Check mode asks = absurd (run_or_check (same_some _ _ (sym mode ∙ asks.mode)))
-run_only given (Make number streams summary gap sweeps) mode asks = absurd (run_or_make (same_some _ _ (sym mode ∙ asks.mode)))
+-- where nothing asks for a command of a mode, nothing of that mode asks for any
+pub no_run : (given : Given) → given.mode ≡ Some (codes "run") → ((options : Options) (form : Form) → AsksRun given options form → ⊥)
+    → (command : Command) → Asks given command → ⊥
+no_run given mode none (Run options form) asks = none options form asks
+no_run given mode none Check asks = run_or_check (same_some _ _ (sym mode ∙ asks.mode))
+no_run given mode none (Make number streams summary gap sweeps) asks = run_or_make (same_some _ _ (sym mode ∙ asks.mode))
 
-pub check_only : (given : Given) (command : Command) → given.mode ≡ Some (codes "check") → Asks given command → AsksCheckOf given command
-check_only given (Run options form) mode asks = absurd (run_or_check (same_some _ _ (sym asks.mode ∙ mode)))
-check_only given Check mode asks = asks
-check_only given (Make number streams summary gap sweeps) mode asks = absurd (check_or_make (same_some _ _ (sym mode ∙ asks.mode)))
+pub no_check : (given : Given) → given.mode ≡ Some (codes "check") → (AsksCheck given → ⊥) → (command : Command) → Asks given command → ⊥
+no_check given mode none (Run options form) asks = run_or_check (same_some _ _ (sym asks.mode ∙ mode))
+no_check given mode none Check asks = none asks
+no_check given mode none (Make number streams summary gap sweeps) asks = check_or_make (same_some _ _ (sym mode ∙ asks.mode))
 
-pub make_only : (given : Given) (command : Command) → given.mode ≡ Some (codes "make") → Asks given command → AsksMakeOf given command
-make_only given (Run options form) mode asks = absurd (run_or_make (same_some _ _ (sym asks.mode ∙ mode)))
-make_only given Check mode asks = absurd (check_or_make (same_some _ _ (sym asks.mode ∙ mode)))
-make_only given (Make number streams summary gap sweeps) mode asks = asks
+pub no_make : (given : Given) → given.mode ≡ Some (codes "make")
+    → ((number streams : ℕ) (summary : Bool) (gap sweeps : ℕ) → AsksMake given number streams summary gap sweeps → ⊥)
+    → (command : Command) → Asks given command → ⊥
+no_make given mode none (Run options form) asks = run_or_make (same_some _ _ (sym asks.mode ∙ mode))
+no_make given mode none Check asks = check_or_make (same_some _ _ (sym asks.mode ∙ mode))
+no_make given mode none (Make number streams summary gap sweeps) asks = none number streams summary gap sweeps asks
 
 -- ---- at most one command
 

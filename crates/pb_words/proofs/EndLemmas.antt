@@ -1,9 +1,9 @@
 -- The end of `clap`'s walk, and the law that its reading of the words agrees with the parts of the line.
-use Rattle.std.proofs.Common.{◌≡◌, ◌∙◌, ◌||◌, ◌&&◌, ◌==◌, length, arith, ℕ, zero, suc, Bool, cond, true, false, not, refl, sym, ap, ap₂, subst, IsTrue, fold, All, List, [], ◌∷◌, ◌++◌, map, Option, Some, None, option_map, option_and_then, codes, append-nil, true≢false}
-use Rattle.std.specs.List.{find, list_all, list_any}
+use Rattle.std.proofs.Common.{◌≡◌, ◌∙◌, ◌||◌, ◌&&◌, ◌==◌, length, arith, ℕ, zero, suc, Bool, cond, true, false, refl, sym, ap, ap₂, subst, IsTrue, fold, All, List, [], ◌∷◌, ◌++◌, map, Option, Some, None, option_and_then, codes}
+use Rattle.std.specs.List.{list_all}
 use Rattle.std.specs.Prelude.{slice_get}
 use Rattle.std.specs.Str.{bytes_eq}
-use Rattle.std.proofs.lemmas.List.Elements.{All-nil, All-push}
+use Rattle.std.proofs.lemmas.List.Elements.{All-nil}
 use Rattle.std.proofs.lemmas.Slice.Eq.{bytes_eq-Decides}
 use Rattle.clap.specs.Kinds.{or_else}
 use Rattle.clap.specs.declared.builder.value_parser.Reading.TheVariants.{AsWritten}
@@ -11,15 +11,15 @@ use Rattle.clap.specs.declared.parser.matches.ValueSource.TheVariants.{DefaultVa
 use Rattle.std.proofs.lemmas.List.Folds.{list_all-append}
 use Rattle.clap.specs.Walk.{Held, Row, Rule, Text, Walk, finished, first_of, has_row, nothing_held, rows_of, settled, walk_from, walked, with_default, with_values}
 use Rattle.clap.specs.Simple.{built, matches_of}
-use Rattle.clap.specs.Faults.{check_fault, default_fault, defaults_fault, fault_of, given_default_fault, level_fault, settle_fault, walk_fault}
+use Rattle.clap.specs.Faults.{check_fault, default_fault, defaults_fault, fault_of, given_default_fault, settle_fault, walk_fault}
 use Rattle.clap.proofs.FaultLemmas.{leaf_fault}
 use Rattle.clap.proofs.WalkLemmas.{both, first_value-rows}
 use Rattle.clap.specs.Matches.{first_value}
 use Rattle.clap.specs.declared.parser.matches.Found.{Found}
 use Rattle.pb_words.specs.Parts.{Part, mode, flag, apart, joined, ArePartsOf, EachOnce, IsKnownPart, has_hyphen, is_among, line_of, option_names, flag_names, words_of}
-use Rattle.pb_words.specs.Given.{Given, given_by, given_of, is_true, said_of}
+use Rattle.pb_words.specs.Given.{Given, given_by, given_of, is_true}
 use Rattle.pb_words.specs.Line.{IsGivenByClap, given_in, is_plain_or_named, line}
-use Rattle.pb_words.proofs.RowLemmas.{find_last, find_none, find_past, neither, new_values, row_of, said_row}
+use Rattle.pb_words.proofs.RowLemmas.{find_last, find_none, find_past, new_values, row_of, said_row}
 use Rattle.pb_words.proofs.StepLemmas.{IsFresh, IsKnownLast, Last, nothing, all_parts, both_empty, built_flag, built_mode, built_option, first_empty, one_of, rules_in, settle_first, settle_passes, settled_rows_are, shape, walk_at}
 use Rattle.pb_words.proofs.WalkLemmas.{Standing, all_line, known_all, never_empty, once_all, walk_back}
 use Rattle.pb_words.proofs.PartLemmas.{Stands, walk_goes}

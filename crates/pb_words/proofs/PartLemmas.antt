@@ -1,14 +1,12 @@
 -- How `clap` goes over the words of parts, forwards: where each part is known and says something new, it takes them all.
-use Rattle.std.proofs.Common.{◌≡◌, ◌∙◌, ◌+◌, ◌||◌, ◌&&◌, ◌==◌, ◌<◌, arith, ℕ, zero, suc, Bool, cond, true, false, not, refl, sym, ap, ap₂, subst, IsTrue, fold, All, List, [], ◌∷◌, ◌++◌, length, map, Option, Some, None, is_some, codes, append-nil, append_assoc, true≢false}
-use Rattle.std.specs.List.{list_all, list_any}
+use Rattle.std.proofs.Common.{◌≡◌, ◌∙◌, ◌==◌, arith, ℕ, suc, true, false, refl, sym, ap, subst, IsTrue, fold, All, List, [], ◌∷◌, ◌++◌, Option, Some, None, codes, append-nil, append_assoc, true≢false}
 use Rattle.std.specs.Str.{bytes_eq}
 use Rattle.clap.specs.Lexer.{name_and_value}
 use Rattle.clap.specs.Kinds.{or_else}
-use Rattle.clap.specs.Walk.{Held, Row, Rule, Text, Walk, idle, option, arg_by_index, next_position, reacted, settled, to_positional, value, walked}
-use Rattle.clap.specs.Faults.{react_fault, settle_fault, step_fault, turn_fault, walk_fault}
+use Rattle.clap.specs.Walk.{Row, Rule, Text, Walk, idle, option, arg_by_index, next_position, reacted, to_positional, value, walked}
+use Rattle.clap.specs.Faults.{react_fault, step_fault, turn_fault, walk_fault}
 use Rattle.pb_words.specs.Parts.{Part, mode, flag, apart, joined, EachOnce, IsKnownPart, has_hyphen, is_among, is_named, line_of, name_of, option_names, flag_names, words_of}
-use Rattle.pb_words.specs.Line.{is_plain_or_named}
-use Rattle.pb_words.proofs.RowLemmas.{neither, row_of}
+use Rattle.pb_words.proofs.RowLemmas.{neither}
 use Rattle.pb_words.proofs.StepLemmas.{Last, nothing, mode_word, waits_for, has_value, IsFresh, IsKnownLast, all_parts, at, both_empty, built_flag, built_mode, built_option, flag_by_long, held_at, one_of, option_by_long, rules_in, settle_passes, settled_rows_are, shape, step_of, turn_of, waiting_of, walk_at}
 use Rattle.pb_words.proofs.WalkLemmas.{IsUseOf, flag_use, idle_walk, index_there, mode_fault, mode_walk, option_use, plain_idle, plain_waits, use_passes_here, use_walk, value_walk}
 

@@ -1,5 +1,5 @@
 -- What `clap` makes of one word of the line.
-use Rattle.std.proofs.Common.{◌≡◌, ◌∙◌, ◌+◌, ◌<◌, ◌||◌, ◌&&◌, ◌==◌, ◌⊎◌, inl, inr, arith, length, take, take_all, eqb-true, ℕ, Bool, cond, true, false, not, min, refl, sym, ap, ap₂, subst, IsTrue, List, [], ◌∷◌, ◌++◌, map, Option, Some, None, is_some, codes, append-nil, append_assoc, true≢false}
+use Rattle.std.proofs.Common.{◌≡◌, ◌∙◌, ◌<◌, ◌||◌, ◌&&◌, ◌==◌, ◌⊎◌, inl, inr, arith, length, take, take_all, eqb-true, ℕ, Bool, cond, true, false, not, refl, sym, ap, ap₂, subst, IsTrue, List, [], ◌∷◌, ◌++◌, map, Option, Some, None, codes, append-nil, true≢false}
 use Rattle.std.specs.List.{after_first, before_first, list_any, position_or_len}
 use Rattle.std.proofs.lemmas.List.Sums.{passes_at_first, split_at_first}
 use Rattle.std.specs.Option.{option_map_or}
@@ -10,10 +10,10 @@ use Rattle.clap.specs.Kinds.{Kinds, or_else}
 use Rattle.clap.specs.declared.error.kind.ErrorKind.{ErrorKind}
 use Rattle.clap.specs.declared.error.kind.ErrorKind.TheVariants.{ArgumentConflict, InvalidValue}
 use Rattle.std.proofs.lemmas.List.{map-append}
-use Rattle.clap.specs.Walk.{Held, Row, Rule, Step, Text, Waiting, Walk, idle, option, positional, after_flag, after_step, arg_by_id, arg_by_index, arg_by_long, has_row, long_met, next_position, settled, used_by_id, walked}
+use Rattle.clap.specs.Walk.{Held, Row, Rule, Step, Text, Waiting, Walk, idle, option, positional, after_flag, after_step, arg_by_id, arg_by_long, has_row, long_met, settled, used_by_id, walked}
 use Rattle.clap.specs.Simple.{Shape, built, filled}
 use Rattle.clap.specs.Faults.{long_fault, settle_fault, step_fault, turn_fault, use_fault}
-use Rattle.pb_words.specs.Parts.{Part, mode, flag, apart, joined, option_names, flag_names, has_hyphen, is_among, is_named, name_of}
+use Rattle.pb_words.specs.Parts.{Part, mode, apart, option_names, flag_names, has_hyphen, is_among, is_named}
 use Rattle.pb_words.specs.Line.{is_plain_or_named, line, flag_rule, mode_rule, option_rule}
 use Rattle.pb_words.proofs.RowLemmas.{named_row, neither, row_of, used_values}
 

@@ -1,20 +1,19 @@
 -- How `clap` goes over the words of parts: what each word adds to the parts so far, forwards and back.
-use Rattle.std.proofs.Common.{◌≡◌, ◌∙◌, ◌+◌, ◌||◌, ◌&&◌, ◌==◌, ◌⊎◌, inl, inr, ⊎_elim, ℕ, Bool, cond, true, false, not, refl, sym, ap, ap₂, subst, IsTrue, fold, All, List, [], ◌∷◌, ◌++◌, map, Option, Some, None, is_some, codes, append-nil, append_assoc, true≢false}
-use Rattle.std.specs.List.{after_first, before_first, list_all, list_any}
+use Rattle.std.proofs.Common.{◌≡◌, ◌∙◌, ◌==◌, ◌⊎◌, inl, inr, ⊎_elim, ℕ, Bool, cond, true, false, refl, sym, ap, ap₂, subst, IsTrue, fold, All, List, [], ◌∷◌, ◌++◌, Option, Some, None, codes, append-nil, append_assoc, true≢false}
+use Rattle.std.specs.List.{after_first, before_first, list_all}
 use Rattle.std.specs.Str.{bytes_eq}
 use Rattle.std.proofs.lemmas.List.{map-append}
-use Rattle.std.proofs.lemmas.List.Elements.{All-nil, All-cons, All-append, All-push}
+use Rattle.std.proofs.lemmas.List.Elements.{All-push}
 use Rattle.std.proofs.lemmas.Slice.Eq.{bytes_eq-Decides}
 use Rattle.clap.specs.Lexer.{has_byte, name_and_value}
-use Rattle.clap.specs.Kinds.{Kinds, or_else}
-use Rattle.clap.specs.Walk.{Held, Row, Rule, Text, Waiting, Walk, idle, option, arg_by_index, has_row, is_pending, next_position, pushed, reacted, settled, to_positional, used, value, walked}
+use Rattle.clap.specs.Walk.{Held, Row, Rule, Text, Walk, idle, option, arg_by_index, has_row, is_pending, next_position, pushed, reacted, settled, to_positional, used, value, walked}
 use Rattle.clap.specs.Faults.{positional_fault, react_fault, settle_fault, step_fault, stray_fault, turn_fault, use_fault, walk_fault}
 use Rattle.clap.specs.declared.error.kind.ErrorKind.TheVariants.{TooManyValues, UnknownArgument}
 use Rattle.std.specs.Option.{option_map_or}
 use Rattle.clap.proofs.WalkLemmas.{both}
-use Rattle.pb_words.specs.Parts.{Part, mode, flag, apart, joined, EachOnce, IsKnownPart, has_hyphen, is_among, is_named, line_of, name_of, option_names, flag_names, text_of, words_of}
+use Rattle.pb_words.specs.Parts.{Part, mode, flag, apart, joined, EachOnce, IsKnownPart, has_hyphen, is_among, is_named, line_of, name_of, option_names, flag_names, words_of}
 use Rattle.pb_words.specs.Line.{is_plain_or_named}
-use Rattle.pb_words.proofs.RowLemmas.{named_row, neither, row_of, used_values}
+use Rattle.pb_words.proofs.RowLemmas.{named_row, row_of, used_values}
 use Rattle.pb_words.proofs.StepLemmas.{Last, nothing, mode_word, waits_for, has_value, IsFresh, IsKnownLast, all_parts, and_false, at, both_empty, built_flag, built_mode, built_option, first_empty, flag_by_long, flag_first, flag_passes, held_at, last_parts, last_words, name_alone, option_by_id, option_by_long, option_first, option_passes, pending_of, plain_dashes, plain_long, plain_short, rules_in, settle_first, settle_passes, settled_rows_are, shape, some_fault, step_of, turn_of, unknown_by_long, value_behind, waiting_of, walk_at, word_kinds}
 
 -- ---- a use that a word makes at once

@@ -1,5 +1,5 @@
 -- Statement. The commands, and the words that give each.
-use Rattle.std.specs.Prelude.{◌≡◌, ◌≤◌, ◌⊎◌, ℕ, ℤ, pos, negsuc, Bool, true, false, ◌||◌, List, Option, Some, None, is_some, codes, ⊤}
+use Rattle.std.specs.Prelude.{◌≡◌, ◌≤◌, ◌⊎◌, ℕ, ℤ, pos, negsuc, Bool, false, ◌||◌, List, Option, Some, None, is_some, codes, ⊤}
 use Rattle.pb_rows.specs.Number.{number, within}
 use Rattle.pb_limits.specs.Limits.{most_gap, most_streams, most_sweeps}
 use Rattle.pb_graph.specs.declared.results.Options.{Options}
@@ -68,24 +68,6 @@ pub record AsksMake (given : Given) (from count : ℕ) (summed : Bool) (within_g
   pub no_eliminate : given.eliminate ≡ None
   pub no_format : given.format ≡ None
   pub no_tests : given.tests ≡ false
-
--- the command is a run, and what was given asks for it
-abbrev pub AsksRunOf : Given → Command → Type 0
-AsksRunOf given (Run options form) = AsksRun given options form
-AsksRunOf given Check = ⊥
-AsksRunOf given (Make number streams summary gap sweeps) = ⊥
-
--- the command is a check, and what was given asks for it
-abbrev pub AsksCheckOf : Given → Command → Type 0
-AsksCheckOf given (Run options form) = ⊥
-AsksCheckOf given Check = AsksCheck given
-AsksCheckOf given (Make number streams summary gap sweeps) = ⊥
-
--- the command is a session to be made, and what was given asks for it
-abbrev pub AsksMakeOf : Given → Command → Type 0
-AsksMakeOf given (Run options form) = ⊥
-AsksMakeOf given Check = ⊥
-AsksMakeOf given (Make number streams summary gap sweeps) = AsksMake given number streams summary gap sweeps
 
 -- what was given asks for the command
 abbrev pub Asks : Given → Command → Type 0

@@ -5,7 +5,7 @@ use Rattle.clap.specs.Walk.{Row, Rule, Text, first_of}
 use Rattle.clap.specs.Simple.{App, matches_of, new_app, new_rule, on_top, with_rule}
 use Rattle.clap.specs.Faults.{fault_of}
 use Rattle.clap.specs.declared.builder.action.ArgAction.TheVariants.{Set, SetTrue}
-use Rattle.pb_words.specs.Parts.{hyphen}
+use Rattle.pb_rows.specs.Bytes.{dash}
 use Rattle.pb_words.specs.Given.{Given, given_of}
 
 abbrev pub mode_rule : Rule
@@ -38,9 +38,9 @@ line = with_make (with_run (with_mode bare))
 -- a word without a hyphen at its head, or two hyphens and a name
 abbrev pub is_plain_or_named : Text → Bool
 is_plain_or_named [] = true
-is_plain_or_named (first ∷ []) = not (first == hyphen)
-is_plain_or_named (first ∷ second ∷ []) = not (first == hyphen)
-is_plain_or_named (first ∷ second ∷ third ∷ rest) = not (first == hyphen) || (second == hyphen)
+is_plain_or_named (first ∷ []) = not (first == dash)
+is_plain_or_named (first ∷ second ∷ []) = not (first == dash)
+is_plain_or_named (first ∷ second ∷ third ∷ rest) = not (first == dash) || (second == dash)
 
 -- what the rows of the matches give
 abbrev pub given_in : List Row → Given

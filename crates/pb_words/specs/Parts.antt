@@ -2,6 +2,7 @@
 use Rattle.std.specs.Prelude.{◌≡◌, ℕ, ◌==◌, Bool, false, IsTrue, List, [], ◌∷◌, ◌++◌, codes}
 use Rattle.std.specs.List.{list_any, All}
 use Rattle.std.specs.Str.{bytes_eq}
+use Rattle.pb_rows.specs.Bytes.{dash}
 
 -- the options that take a value, without their hyphens
 abbrev pub option_names : List (List ℕ)
@@ -17,10 +18,6 @@ pub data Part : Type 0 where
   flag : List ℕ → Part
   apart : List ℕ → List ℕ → Part
   joined : List ℕ → List ℕ → Part
-
--- the byte `-`, which an option begins with twice
-abbrev pub hyphen : ℕ
-hyphen = 45
 
 -- the byte `=`, which joins an option and its value
 abbrev pub equals_sign : ℕ
@@ -55,7 +52,7 @@ text_of (joined name value) = value
 -- whether a word begins with a hyphen
 abbrev pub has_hyphen : List ℕ → Bool
 has_hyphen [] = false
-has_hyphen (first ∷ rest) = first == hyphen
+has_hyphen (first ∷ rest) = first == dash
 
 -- whether a name is one of these
 abbrev pub is_among : List ℕ → List (List ℕ) → Bool

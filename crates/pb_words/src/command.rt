@@ -1,10 +1,10 @@
 // The commands, and the words that give each.
-ghost use Rattle.std.specs.Prelude.{◌≡◌, ◌↔◌, ◌||◌, ◌≤ℤ◌, pos, IfOk, IfErr, IfSome, IsNone, IsTrue, Some, is_some, codes, string_bytes};
+ghost use Rattle.std.specs.Prelude.{◌≡◌, ◌↔◌, ◌||◌, ◌≤ℤ◌, ℕ, pos, Bool, IfOk, IfErr, IfSome, IsNone, IsTrue, Some, is_some, codes, string_bytes};
 ghost use Rattle.std.specs.List.{All};
 ghost use Rattle.pb_rows.specs.Number.{number, within};
 ghost use Rattle.clap.specs.Matches.{found_of, first_value};
 ghost use Rattle.pb_words.specs.Given.{given_of, is_true};
-ghost use Rattle.pb_words.specs.Command.{Asks, AsksCheckOf, AsksMakeOf, AsksRunOf, IsCommandOf, IsFormOf, IsInRange, number_or};
+ghost use Rattle.pb_words.specs.Command.{Asks, AsksCheck, AsksMake, AsksRun, IsCommandOf, IsFormOf, IsInRange, number_or};
 ghost use Rattle.pb_words.specs.Line.{is_plain_or_named};
 ghost use Rattle.pb_words.specs.declared.command.WordsRefused.TheVariants.{Usage, NoMemory};
 
@@ -114,9 +114,9 @@ fn asked(matches: &ArgMatches) -> Option<Command>
 // The run that they ask for.
 fn run_asked(matches: &ArgMatches) -> Option<Command>
     requires mode { first_value (found_of matches.now) (codes "mode") ≡ Some (codes "run") }
-    ensures some { IfSome result (AsksRunOf (given_of (first_value (found_of matches.now)))) }
-    ensures none { IsNone result → (command : Command)
-        → AsksRunOf (given_of (first_value (found_of matches.now))) command → ⊥ }
+    ensures some { IfSome result (Asks (given_of (first_value (found_of matches.now)))) }
+    ensures none { IsNone result → (options : Options) (form : Form)
+        → AsksRun (given_of (first_value (found_of matches.now))) options form → ⊥ }
 {
     if is_there(matches, "number") || is_there(matches, "streams") || is_set(matches, "summary") {
         return None;
@@ -135,9 +135,9 @@ fn run_asked(matches: &ArgMatches) -> Option<Command>
 // The check that they ask for: it takes no option.
 fn check_asked(matches: &ArgMatches) -> Option<Command>
     requires mode { first_value (found_of matches.now) (codes "mode") ≡ Some (codes "check") }
-    ensures some { IfSome result (AsksCheckOf (given_of (first_value (found_of matches.now)))) }
-    ensures none { IsNone result → (command : Command)
-        → AsksCheckOf (given_of (first_value (found_of matches.now))) command → ⊥ }
+    ensures some { IfSome result (Asks (given_of (first_value (found_of matches.now)))) }
+    ensures none { IsNone result
+        → AsksCheck (given_of (first_value (found_of matches.now))) → ⊥ }
 {
     if is_there(matches, "gap")
         || is_there(matches, "sweeps")
@@ -156,9 +156,10 @@ fn check_asked(matches: &ArgMatches) -> Option<Command>
 // The session to be made that they ask for.
 fn make_asked(matches: &ArgMatches) -> Option<Command>
     requires mode { first_value (found_of matches.now) (codes "mode") ≡ Some (codes "make") }
-    ensures some { IfSome result (AsksMakeOf (given_of (first_value (found_of matches.now)))) }
-    ensures none { IsNone result → (command : Command)
-        → AsksMakeOf (given_of (first_value (found_of matches.now))) command → ⊥ }
+    ensures some { IfSome result (Asks (given_of (first_value (found_of matches.now)))) }
+    ensures none { IsNone result → (number streams : ℕ) (summary : Bool) (gap sweeps : ℕ)
+        → AsksMake (given_of (first_value (found_of matches.now))) number streams summary
+        gap sweeps → ⊥ }
 {
     if is_there(matches, "eliminate") || is_there(matches, "format") || is_set(matches, "tests") {
         return None;

@@ -8,7 +8,7 @@ use Rattle.pb_book.proofs.book.touches_by_id.Goals as goal
 
 pub returns-in-Some : goal.returns-in-Some
 returns-in-Some c =
-    let found = find_at_first (has_id c.args.id.now) c.args.facts.now c.in-Some.place c.kept.result.now c.in-Some.ensures c.kept.ensures.value in
+    let found = find_at_first (has_id c.args.id.now) c.args.facts.now c.in-Some.place c.kept.result c.in-Some.ensures c.kept.ensures.value in
     c.touches.ensures ∙ sym (ap (λ (o : Option KeptFact). option_map_or (λ (k : KeptFact). touches k.fact c.args.period.now) o false) found)
 
 pub returns-in-None : goal.returns-in-None

@@ -1,6 +1,6 @@
 use Rattle.std.proofs.Common.{◌≡◌, ◌∙◌, length, is_some, sym, ap, arith}
 use Rattle.pb_check.specs.Asked.{HasLeastBoundsAt}
-use Rattle.pb_check.specs.Pairs.{DifferAt}
+use Rattle.pb_check.specs.Faults.{DifferAt}
 use Rattle.pb_check.proofs.FirstLemmas.{place_more}
 use Rattle.pb_check.proofs.RowLemmas.{none_there, some_there}
 use Rattle.pb_check.proofs.StateLemmas.{all_least, have_by, least_fail, least_here, none_by, place_small, result_at, result_least_bounded, result_signs}

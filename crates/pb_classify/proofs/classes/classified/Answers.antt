@@ -1,4 +1,4 @@
-use Rattle.std.proofs.Common.{rules, ◌≡◌, ◌∙◌, true, false, ap₂, sym, subst, inl, inr}
+use Rattle.std.proofs.Common.{rules, ◌≡◌, ◌∙◌, Bool, true, false, List, ap, sym, subst, inl, inr}
 use Rattle.std.proofs.lemmas.Bool.{cases_Bool}
 use Rattle.pb_graph.specs.declared.records.Class.{Class}
 use Rattle.pb_graph.specs.declared.records.Witness.TheVariants.{Cut}
@@ -26,6 +26,6 @@ returns c =
       | inl inside ↦ absurd (apart (reach.reached s.to inside))
       | inr outside ↦ outside
     ] in
-    let whole : members ≡ boundary_of side g.streams = c.in_ok-members.ensures.value ∙ ap₂ boundary_of c.as_slice.ensures c.streams.ensures.value in
+    let whole : members ≡ boundary_of side g.streams = c.in_ok-members.ensures ∙ ap (λ (b : List Bool). boundary_of b g.streams) c.as_slice.ensures in
     subst (λ (class : Class). IsClassified g c.args.j (record { class = class; witness = Cut side members })) (sym c.determined_class.ensures)
     (determined_item g c.args.forest.now.held c.args.j s side members c.requires.limits c.requires.forest.marks c.stream-stream.ensures reach out whole)

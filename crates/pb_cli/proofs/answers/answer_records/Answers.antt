@@ -1,9 +1,9 @@
 use Rattle.std.proofs.Common.{◌≡◌, ◌∙◌, ◌||◌, ℕ, ◌+◌, List, [], ◌++◌, drop, get_or, ap, refl, sym, subst}
 use Rattle.std.proofs.lemmas.Result.{err_from_is_err_and}
 use Rattle.pb_book.specs.Answer.{answer_of, is_refused}
-use Rattle.pb_session.specs.Session.{Adds, SessionState, state_after}
+use Rattle.pb_session.specs.Session.{Adds, SessionState, new_session, state_after}
+use Rattle.pb_cli.specs.declared.answers.Stopped.TheVariants.{OutOfMemory, SinkFault}
 use Rattle.pb_cli.specs.Prefix.{IsBeginningOf}
-use Rattle.pb_cli.specs.Run.{new_session}
 use Rattle.pb_io.proofs.PieceLemmas.{puts_more, puts_none}
 use Rattle.pb_cli.proofs.TextLemmas.{Answered, all_answered, answered_more, answered_none, any_err, cut_short, next_at, none_left, stopped}
 use Rattle.pb_cli.proofs.answers.answer_records.Goals as goal
@@ -21,20 +21,19 @@ turns-init g c =
       idle = refl;
     }
 
--- want of memory is no fault of the sink
-pub returns-in_err-fields-clause-cut : goal.returns-in_err-fields-clause-cut
-returns-in_err-fields-clause-cut g c =
-    let p = err_from_is_err_and c.from_residual.result c.from_residual.ensures.1 in
-    rw (p.1, p.2) (λ e.
-    let no : ⊥ = cc e in
-    absurd no)
+no_sink_fault : OutOfMemory ≡ SinkFault → ⊥
+no_sink_fault e = cc e
 
-pub returns-in_err-fields-clause-cause : goal.returns-in_err-fields-clause-cause
-returns-in_err-fields-clause-cause g c =
+-- want of memory is no fault of the sink
+pub returns-in_err-fill-clause-cut : goal.returns-in_err-fill-clause-cut
+returns-in_err-fill-clause-cut g c =
     let p = err_from_is_err_and c.from_residual.result c.from_residual.ensures.1 in
-    rw (p.1, p.2) (λ e.
-    let no : ⊥ = cc e in
-    absurd no)
+    rw (p.1, p.2) (λ e. absurd (no_sink_fault e))
+
+pub returns-in_err-fill-clause-cause : goal.returns-in_err-fill-clause-cause
+returns-in_err-fill-clause-cause g c =
+    let p = err_from_is_err_and c.from_residual.result c.from_residual.ensures.1 in
+    rw (p.1, p.2) (λ e. absurd (no_sink_fault e))
 
 pub returns-in_err-some_refused-clause-memory_no_fault : goal.returns-in_err-some_refused-clause-memory_no_fault
 returns-in_err-some_refused-clause-memory_no_fault g c =
@@ -47,8 +46,8 @@ returns-in_err-some_refused-clause-cause g c =
     rw (p.1, p.2, ← c.turns.invariant.faults) c.in_err-some_refused.ensures.cause
 
 -- no memory was found for the next record
-pub returns-in_err-fields-clause-some : goal.returns-in_err-fields-clause-some
-returns-in_err-fields-clause-some g c =
+pub returns-in_err-fill-clause-some : goal.returns-in_err-fill-clause-some
+returns-in_err-fill-clause-some g c =
     let (text, a, puts) = c.turns.invariant.so_far in
     any_err c.from_residual.result _ (λ e same.
     (text, stopped (new_session c.args.options c.args.form) c.args.records.now.left c.turns.records.taken c.turns.session.state c.turns.some_refused text a, puts))
@@ -59,8 +58,8 @@ returns-in_err-some_refused-clause-cut g c =
     let rows = c.args.records.now.left in
     let i = c.turns.records.taken in
     let state : SessionState = c.turns.session.state in
-    let took = rw c.in-Some.is at c.in_ok-fields.ensures.ok in
-    let next = next_at rows c.turns.records c.next.new.self c.in-Some.fields c.turns.invariant.left took in
+    let took = rw c.if-branch.true at c.in_ok-fill.ensures.ok in
+    let next = next_at rows c.turns.records c.fill.new.self c.fill.new.row c.turns.invariant.left took in
     let at : c.taken-at.result ≡ i + 1 = c.taken-at.ensures ∙ next.place in
     let (text, a, puts) = c.turns.invariant.so_far in
     let p = err_from_is_err_and c.from_residual-in_err-some_refused.result c.from_residual-in_err-some_refused.ensures.1 in
@@ -90,15 +89,15 @@ turns-preserved g c =
     let start = new_session c.args.options c.args.form in
     let state : SessionState = c.turns.session.state in
     let after : SessionState = c.answer_record.new.session.state in
-    let took = rw c.in-Some.is at c.in_ok-fields.ensures.ok in
-    let next = next_at rows c.turns.records c.next.new.self c.in-Some.fields c.turns.invariant.left took in
+    let took = rw c.if-branch.true at c.in_ok-fill.ensures.ok in
+    let next = next_at rows c.turns.records c.fill.new.self c.fill.new.row c.turns.invariant.left took in
     let at : c.taken-at.result ≡ i + 1 = c.taken-at.ensures ∙ next.place in
     let (text, a, puts) = c.turns.invariant.so_far in
     let (piece, adds, more) = c.in_ok-some_refused.ensures.whole in
     let there : Adds state c.taken-at.result (get_or rows i []) piece = subst (λ (r : List (List ℕ)). Adds state c.taken-at.result r piece) (sym next.here) adds in
     let here : Adds state (i + 1) (get_or rows i []) piece = subst (λ (k : ℕ). Adds state k (get_or rows i []) piece) at there in
     let new_is : after ≡ state_after state (i + 1) (get_or rows i []) =
-    c.in_ok-some_refused.ensures.stored ∙ ap (λ (k : ℕ). state_after state k c.in-Some.fields) at ∙ ap (state_after state (i + 1)) (sym next.here) in
+    c.in_ok-some_refused.ensures.stored ∙ ap (λ (k : ℕ). state_after state k c.fill.new.row) at ∙ ap (state_after state (i + 1)) (sym next.here) in
     let now_is = c.in_ok-some_refused.ensures.refused ∙ ap (λ (r : List (List ℕ)). is_refused (answer_of state.rows r)) (sym next.here) in
     let so_far = answered_more start rows i state after c.turns.some_refused _ text piece next.within a here new_is now_is in
     record {
@@ -112,16 +111,16 @@ turns-preserved g c =
 pub returns-clause-refused : goal.returns-clause-refused
 returns-clause-refused g c =
     let rows = c.args.records.now.left in
-    let took = rw c.in_default.is at c.in_ok-fields.ensures.ok in
+    let took = (rw c.if-branch.false at c.in_ok-fill.ensures.ok).0 in
     let (text, a, puts) = c.turns.invariant.so_far in
-    (all_answered (new_session c.args.options c.args.form) rows c.turns.records.taken c.turns.session.state c.turns.some_refused text (none_left rows c.turns.records c.next.new.self c.turns.invariant.left took) a).0
+    (all_answered (new_session c.args.options c.args.form) rows c.turns.records.taken c.turns.session.state c.turns.some_refused text (none_left rows c.turns.records c.fill.new.self c.turns.invariant.left took) a).0
 
 pub returns-clause-whole : goal.returns-clause-whole
 returns-clause-whole g c =
     let rows = c.args.records.now.left in
-    let took = rw c.in_default.is at c.in_ok-fields.ensures.ok in
+    let took = (rw c.if-branch.false at c.in_ok-fill.ensures.ok).0 in
     let (text, a, puts) = c.turns.invariant.so_far in (
       text,
-      (all_answered (new_session c.args.options c.args.form) rows c.turns.records.taken c.turns.session.state c.turns.some_refused text (none_left rows c.turns.records c.next.new.self c.turns.invariant.left took) a).1,
+      (all_answered (new_session c.args.options c.args.form) rows c.turns.records.taken c.turns.session.state c.turns.some_refused text (none_left rows c.turns.records c.fill.new.self c.turns.invariant.left took) a).1,
       puts,
     )

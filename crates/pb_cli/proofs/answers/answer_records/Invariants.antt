@@ -1,6 +1,6 @@
 use Rattle.std.proofs.Common.{ℕ, ◌≡◌, List, drop, length}
 use Rattle.pb_io.specs.Sink.{PutsSuch}
-use Rattle.pb_cli.specs.Run.{new_session}
+use Rattle.pb_session.specs.Session.{new_session}
 use Rattle.pb_cli.proofs.TextLemmas.{Answered}
 use Rattle.pb_cli.proofs.answers.answer_records.Given as goal
 

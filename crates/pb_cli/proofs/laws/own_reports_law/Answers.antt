@@ -1,7 +1,7 @@
 use Rattle.std.proofs.Common.{refl}
 use Rattle.pb_rows.specs.Records.{records_of}
 use Rattle.pb_report.specs.declared.form.Form.TheVariants.{Csv}
-use Rattle.pb_cli.specs.Run.{new_session}
+use Rattle.pb_session.specs.Session.{new_session}
 use Rattle.pb_cli.proofs.OwnLemmas.{AreKnown, IsSound, reads_right, session_read}
 use Rattle.pb_cli.proofs.laws.own_reports_law.Goals as goal
 

@@ -1,5 +1,5 @@
 use Rattle.pb_rows.specs.Records.{records_of}
-use Rattle.pb_cli.specs.Run.{new_session}
+use Rattle.pb_session.specs.Session.{new_session}
 use Rattle.pb_cli.proofs.laws.run_text_law.Goals as goal
 
 pub returns-clause-some : goal.returns-clause-some

@@ -11,4 +11,4 @@ returns-then-summary c = rw c.if-summary.true (search rules)
 pub returns-else-summary : goal.returns-else-summary
 returns-else-summary c =
     let made : IfOk c.make.result (λ text. text.items ≡ session_text c.args.number c.args.streams) = search rules in
-    rw c.if-summary.false (IfOk-weaker c.make.result _ _ (λ text is. record { is = is }) made)
+    rw c.if-summary.false (IfOk-weaker c.make.result _ _ (λ text is. is) made)

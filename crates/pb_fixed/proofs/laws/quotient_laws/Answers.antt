@@ -1,5 +1,5 @@
 use Rattle.pb_fixed.specs.Quotients.{nearest_div}
-use Rattle.pb_fixed.proofs.QuotientLaws.{ceiling_from, ceiling_is, ceiling_mono, ceiling_multiple, ceiling_only, ceiling_shift, ceiling_to, ceiling_to_floor, floor_from, floor_is, floor_mono, floor_multiple, floor_only, floor_shift, floor_to, floor_to_nearest, nearest_error_above, nearest_error_below, nearest_from, nearest_is, nearest_mono, nearest_multiple, nearest_only, nearest_shift, nearest_to, nearest_to_ceiling}
+use Rattle.pb_fixed.proofs.QuotientLaws.{ceiling_from, ceiling_is, ceiling_mono, ceiling_multiple, ceiling_only, ceiling_shift, ceiling_to, ceiling_to_floor, floor_from, floor_is, floor_mono, floor_multiple, floor_only, floor_shift, floor_to, floor_to_nearest, nearest_error_above, nearest_error_below, nearest_even, nearest_from, nearest_is, nearest_mono, nearest_multiple, nearest_only, nearest_power, nearest_shift, nearest_to, nearest_to_ceiling}
 use Rattle.pb_fixed.proofs.laws.quotient_laws.Goals as goal
 
 pub returns-clause-floor : goal.returns-clause-floor
@@ -22,6 +22,8 @@ returns-clause-directed c = record {
   floor_to_nearest = floor_to_nearest;
   nearest_to_ceiling = nearest_to_ceiling;
   ceiling_to_floor = ceiling_to_floor;
+  nearest_even = nearest_even;
+  nearest_power = nearest_power;
   error_below = λ n d d_pos. nearest_error_below n d (nearest_div n d) (nearest_is n d d_pos);
   error_above = λ n d d_pos. nearest_error_above n d (nearest_div n d) (nearest_is n d d_pos);
 }

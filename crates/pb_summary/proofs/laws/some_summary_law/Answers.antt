@@ -3,14 +3,16 @@ use Rattle.pb_elim.specs.Options.{AreOptions}
 use Rattle.pb_book.specs.declared.rows.Period.{Period}
 use Rattle.pb_make.specs.Laws.{HasMadePeriod}
 use Rattle.pb_make.specs.Rows.{session_rows, stored_rows}
-use Rattle.pb_summary.specs.Summary.{SumsUp, made_options, made_state, new_session}
+use Rattle.pb_report.specs.declared.form.Form.TheVariants.{Csv}
+use Rattle.pb_session.specs.Session.{new_session}
+use Rattle.pb_summary.specs.Summary.{SumsUp, made_options, made_state}
 use Rattle.pb_summary.proofs.StateLemmas.{accepted_after, holds_after, made_period_at, options_stay}
 use Rattle.pb_summary.proofs.SumLemmas.{some_sum}
 use Rattle.pb_summary.proofs.laws.some_summary_law.Goals as goal
 
 pub returns : goal.returns
 returns c = λ number streams gap sweeps least most asked.
-    let start = new_session (made_options gap sweeps) in
+    let start = new_session (made_options gap sweeps) Csv in
     let rows = stored_rows number streams in
     let state = made_state number streams gap sweeps in
     let has : HasMadePeriod state.rows = holds_after HasMadePeriod start 1 rows (c.period_law.ensures number streams least most) in

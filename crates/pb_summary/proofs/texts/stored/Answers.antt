@@ -1,6 +1,6 @@
 use Rattle.std.proofs.Common.{◌≡◌, ◌∙◌, ◌<◌, ◌+◌, ◌-◌, ℕ, [], length, get_or, take, ap, arith}
-use Rattle.pb_session.specs.Session.{state_after, state_after_all}
-use Rattle.pb_summary.specs.Summary.{new_session}
+use Rattle.pb_report.specs.declared.form.Form.TheVariants.{Csv}
+use Rattle.pb_session.specs.Session.{new_session, state_after, state_after_all}
 use Rattle.pb_summary.proofs.StateLemmas.{state_more}
 use Rattle.pb_summary.proofs.texts.stored.Goals as goal
 
@@ -12,7 +12,7 @@ loop-i-preserved c =
     let at : c.at.result.now ≡ get_or rows i [] = c.at.ensures in
     let new_is = c.in_ok-row.ensures.stored ∙ ap (state_after c.loop-i.session.state (i + 1)) at in
     record {
-      so_far = state_more (new_session c.args.options) c.loop-i.session.state c.row.new.self.state rows i lt c.loop-i.invariant.so_far new_is;
+      so_far = state_more (new_session c.args.options Csv) c.loop-i.session.state c.row.new.self.state rows i lt c.loop-i.invariant.so_far new_is;
       end = c.loop-i.invariant.end;
     }
 
@@ -20,4 +20,4 @@ pub returns : goal.returns
 returns c =
     let rows = c.args.rows.now in
     let all : c.loop-i.i ≡ length rows - 1 = omega (arith, c.loop-i.auto.i-end, c.loop-i-test.false, c.loop-i.invariant.end) in
-    c.loop-i.invariant.so_far ∙ ap (λ (n : ℕ). state_after_all (new_session c.args.options) 1 (take n rows)) all
+    c.loop-i.invariant.so_far ∙ ap (λ (n : ℕ). state_after_all (new_session c.args.options Csv) 1 (take n rows)) all

@@ -5,8 +5,9 @@ use Rattle.pb_elim.specs.Options.{AreOptions}
 use Rattle.pb_book.specs.Rows.{periods_of}
 use Rattle.pb_make.specs.Laws.{HasMadePeriod}
 use Rattle.pb_make.specs.Rows.{report_row, session_rows, stored_rows}
-use Rattle.pb_session.specs.Session.{SessionState, state_after_all}
-use Rattle.pb_summary.specs.Summary.{SumsUp, made_options, made_state, new_session}
+use Rattle.pb_report.specs.declared.form.Form.TheVariants.{Csv}
+use Rattle.pb_session.specs.Session.{SessionState, new_session, state_after_all}
+use Rattle.pb_summary.specs.Summary.{SumsUp, made_options, made_state}
 use Rattle.pb_summary.proofs.StateLemmas.{all_but_last, holds_after, some_period}
 use Rattle.pb_summary.proofs.texts.summary.Goals as goal
 
@@ -38,14 +39,14 @@ stored-requires-clause-few c =
 
 pub summed-requires : goal.summed-requires
 summed-requires c =
-    let start = new_session (made_options c.args.gap c.args.sweeps) in
+    let start = new_session (made_options c.args.gap c.args.sweeps) Csv in
     let stored = stored_rows c.args.number c.args.streams in
     let state = made_state c.args.number c.args.streams c.args.gap c.args.sweeps in
     let rows = c.in_ok-rows.rows in
     let rows_is : rows ≡ session_rows c.args.number c.args.streams =
     c.in_ok-rows.ensures.records ∙ ap records_of (c.deref.ensures.value ∙ c.in_ok-make.ensures.value) ∙ c.reads_back_law.ensures c.args.number c.args.streams in
     let state_is : c.in_ok-session.session.state ≡ state = c.in_ok-session.ensures
-    ∙ ap (λ (o : Options). state_after_all (new_session o) 1 (take (length rows - 1) rows)) c.made_options.ensures
+    ∙ ap (λ (o : Options). state_after_all (new_session o Csv) 1 (take (length rows - 1) rows)) c.made_options.ensures
     ∙ ap (state_after_all start 1) (all_but_last rows stored report_row rows_is) in
     let has : HasMadePeriod state.rows = holds_after HasMadePeriod start 1 stored (c.period_law.ensures c.args.number c.args.streams c.requires.least c.requires.most) in
     subst (λ (s : SessionState). 0 < length (periods_of s.rows)) (sym state_is) (some_period state.rows has)
@@ -54,13 +55,13 @@ pub returns : goal.returns
 returns c =
     let number = c.args.number in
     let streams = c.args.streams in
-    let start = new_session (made_options c.args.gap c.args.sweeps) in
+    let start = new_session (made_options c.args.gap c.args.sweeps) Csv in
     let state = made_state number streams c.args.gap c.args.sweeps in
     let rows = c.in_ok-rows.rows in
     let rows_is : rows ≡ session_rows number streams =
     c.in_ok-rows.ensures.records ∙ ap records_of (c.deref.ensures.value ∙ c.in_ok-make.ensures.value) ∙ c.reads_back_law.ensures number streams in
     let state_is : c.in_ok-session.session.state ≡ state = c.in_ok-session.ensures
-    ∙ ap (λ (o : Options). state_after_all (new_session o) 1 (take (length rows - 1) rows)) c.made_options.ensures
+    ∙ ap (λ (o : Options). state_after_all (new_session o Csv) 1 (take (length rows - 1) rows)) c.made_options.ensures
     ∙ ap (state_after_all start 1) (all_but_last rows (stored_rows number streams) report_row rows_is) in
     let counted = subst (λ (n : ℕ). IfOk c.summed.result (λ text. SumsUp number streams n c.in_ok-session.session.state (slice_get (periods_of c.in_ok-session.session.state.rows) 0) text.items))
     (c.len.ensures ∙ ap (λ (l : List (List (List ℕ))). length l) rows_is) c.summed.ensures in

@@ -1,20 +1,20 @@
 use Rattle.std.proofs.Common.{rules, ◌≡◌, Some, codes}
 use Rattle.clap.specs.Matches.{found_of, first_value}
 use Rattle.pb_words.specs.Given.{given_of}
-use Rattle.pb_words.proofs.CommandLemmas.{check_only, make_only, run_only}
+use Rattle.pb_words.proofs.CommandLemmas.{no_check, no_make, no_run}
 use Rattle.pb_words.proofs.command.asked.Goals as goal
 
 pub returns-in-Some-run-clause-none : goal.returns-in-Some-run-clause-none
 returns-in-Some-run-clause-none c = λ none command asks.
     let mode : first_value (found_of c.args.matches.now) (codes "mode") ≡ Some (codes "run") = search rules in
-    c.run_asked.ensures.none none command (run_only (given_of (first_value (found_of c.args.matches.now))) command mode asks)
+    no_run (given_of (first_value (found_of c.args.matches.now))) mode (c.run_asked.ensures.none none) command asks
 
 pub returns-in-Some-make-clause-none : goal.returns-in-Some-make-clause-none
 returns-in-Some-make-clause-none c = λ none command asks.
     let mode : first_value (found_of c.args.matches.now) (codes "mode") ≡ Some (codes "make") = search rules in
-    c.make_asked.ensures.none none command (make_only (given_of (first_value (found_of c.args.matches.now))) command mode asks)
+    no_make (given_of (first_value (found_of c.args.matches.now))) mode (c.make_asked.ensures.none none) command asks
 
 pub returns-in-Some-check-clause-none : goal.returns-in-Some-check-clause-none
 returns-in-Some-check-clause-none c = λ none command asks.
     let mode : first_value (found_of c.args.matches.now) (codes "mode") ≡ Some (codes "check") = search rules in
-    c.check_asked.ensures.none none command (check_only (given_of (first_value (found_of c.args.matches.now))) command mode asks)
+    no_check (given_of (first_value (found_of c.args.matches.now))) mode (c.check_asked.ensures.none none) command asks

@@ -1,4 +1,4 @@
-use Rattle.std.proofs.Common.{◌≡◌, ℕ, List, sym, subst}
+use Rattle.std.proofs.Common.{sym, subst}
 use Rattle.pb_words.specs.Given.{Given}
 use Rattle.pb_words.specs.Line.{IsGivenByClap}
 use Rattle.pb_words.proofs.EndLemmas.{parts_of_taken, taken_of_parts}

@@ -1,7 +1,6 @@
-use Rattle.std.proofs.Common.{◌≡◌, ◌∙◌, ℕ, List, sym, subst}
-use Rattle.pb_words.specs.Command.{Asks, IsCommandOf}
+use Rattle.std.proofs.Common.{◌∙◌, sym, subst}
+use Rattle.pb_words.specs.Command.{Asks}
 use Rattle.pb_words.specs.Given.{Given, given_by}
-use Rattle.pb_words.specs.declared.command.Command.{Command}
 use Rattle.pb_words.proofs.CommandLemmas.{one_asked}
 use Rattle.pb_words.proofs.EndLemmas.{taken_of_parts}
 use Rattle.pb_words.proofs.laws.one_command_law.Goals as goal

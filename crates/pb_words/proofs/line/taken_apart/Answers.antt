@@ -1,4 +1,4 @@
-use Rattle.std.proofs.Common.{rules, ◌≡◌, ◌∙◌, refl, ap, ap₂}
+use Rattle.std.proofs.Common.{◌≡◌, ◌∙◌, ap, ap₂}
 use Rattle.clap.specs.Simple.{app_of, is_simple, matches_of}
 use Rattle.pb_words.specs.Line.{line}
 use Rattle.pb_words.proofs.line.taken_apart.Goals as goal

@@ -1,3 +1,4 @@
+use Rattle.pb_book.specs.Kept.{told_at}
 use Rattle.pb_book.proofs.KeptLemmas.{kept_declaration}
 use Rattle.pb_book.proofs.book.Book.add_declaration.Goals as goal
 
@@ -6,7 +7,7 @@ invariant_of-self-2 c =
     let inside = c.self.inside in
     let fine = rw (← c.self.view_is) at c.requires in
     rw (c.push_reserved.ensures.items, c.in_ok-reserve.ensures.items, c.in_ok-add.ensures.added)
-    (kept_declaration inside.site inside.told.items inside.periods inside.edited.items inside.facts inside.places.items inside.edits.items c.args.at c.len.result c.args.declared.now c.self.invariant fine
+    (kept_declaration inside.site (told_at inside.facts inside.originals) inside.periods inside.edited.items inside.facts inside.places.items inside.edits.items c.args.at c.len.result c.args.declared.now c.self.invariant fine
     c.len.ensures).right
 
 pub returns-clause-ok : goal.returns-clause-ok
@@ -14,5 +15,5 @@ returns-clause-ok c =
     let inside = c.self.inside in
     let fine = rw (← c.self.view_is) at c.requires in
     rw (c.push_reserved.ensures.items, c.in_ok-reserve.ensures.items, c.in_ok-add.ensures.added, ← c.self.view_is)
-    (kept_declaration inside.site inside.told.items inside.periods inside.edited.items inside.facts inside.places.items inside.edits.items c.args.at c.len.result c.args.declared.now c.self.invariant fine
+    (kept_declaration inside.site (told_at inside.facts inside.originals) inside.periods inside.edited.items inside.facts inside.places.items inside.edits.items c.args.at c.len.result c.args.declared.now c.self.invariant fine
     c.len.ensures).rows

@@ -6,4 +6,4 @@ use Rattle.pb_facts.proofs.facts.Facts.has_id.Goals as goal
 
 pub returns : goal.returns
 returns c =
-    rw (← c.self.view_is) (c.contains_key.ensures ∙ ap is_some (c.self.invariant.ids c.args.id.now) ∙ is_some-position (has_id c.args.id.now) c.self.inside.kept.items)
+    c.is_some.ensures ∙ ap is_some c.place_of.ensures ∙ is_some-position (has_id c.args.id.now) c.args.self.now

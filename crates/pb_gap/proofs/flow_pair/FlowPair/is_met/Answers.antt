@@ -11,10 +11,10 @@ returns-then-not-near c = record {
   met = λ price of_price.
       let i = c.self.inside in
       let fits : FitsSigned w128 c.most_deviation.result = record { sfits = c.most_deviation.type_inv } in
-      let above = simp to_z-of_z at c.write_deviations-near.ensures.above in
-      let far = not_near c.args.self.now i.graph.now i.dual_flows.now i.flows.now c.streams-streams.result.now c.args.thousandths c.write_deviations-near.result c.most_deviation.result price
-      c.self.view_is c.streams-streams.ensures.value c.most_deviation.ensures c.if-not-near.true above of_price in
-      (λ no_. search rules, λ met. absurd (far met));
+      let far = simp to_z-of_z at c.write_near_deviations-near.ensures.far in
+      let none = not_near c.args.self.now i.graph.now i.dual_flows.now i.flows.now c.streams-streams.result.now c.args.thousandths c.write_near_deviations-near.result c.most_deviation.result price
+      c.self.view_is c.streams-streams.ensures.value c.most_deviation.ensures c.if-not-near.true far of_price in
+      (λ no_. search rules, λ met. absurd (none met));
 }
 
 pub returns : goal.returns
@@ -22,7 +22,7 @@ returns c = record {
   met = λ price of_price.
       let i = c.self.inside in
       let yes_ : IsTrue true = search rules in
-      let gap = gap_written c.args.self.now i.graph.now i.dual_flows.now i.flows.now c.write_deviations-near.new.out c.streams-streams.result.now c.gap_from.result price c.self.view_is
+      let gap = gap_written c.args.self.now i.graph.now i.dual_flows.now i.flows.now c.write_near_deviations-near.new.out c.streams-streams.result.now c.gap_from.result price c.self.view_is
       c.streams-streams.ensures.value (c.if-not-near.ensures.value yes_) c.gap_from.ensures.value of_price in
       subst (λ (gap : Gap). IsTrue c.is_met.result ↔ MeetsGap c.args.thousandths gap) gap c.is_met.ensures;
 }

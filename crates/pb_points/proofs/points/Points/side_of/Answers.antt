@@ -15,8 +15,8 @@ lower_end-requires-clause-to c =
     let is = stream_in c.args.graph.now c.args.j c.stream-stream.result c.requires.points.limits c.stream-stream.ensures in
     omega (arith, is.to, c.requires.points.nodes)
 
-pub tree_of-requires-clause-node : goal.tree_of-requires-clause-node
-tree_of-requires-clause-node c =
+pub tree_of-requires : goal.tree_of-requires
+tree_of-requires c =
     let is = stream_in c.args.graph.now c.args.j c.stream-stream.result c.requires.points.limits c.stream-stream.ensures in
     omega (arith, is.from, c.requires.points.nodes)
 

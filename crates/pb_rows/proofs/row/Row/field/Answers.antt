@@ -1,6 +1,9 @@
-use Rattle.pb_rows.proofs.CutLemmas.{cut_long}
+use Rattle.std.proofs.Common.{◌<◌, length}
+use Rattle.csv.specs.Records.{fields_of}
+use Rattle.pb_rows.proofs.RowLemmas.{field_here}
 use Rattle.pb_rows.proofs.row.Row.field.Goals as goal
 
-pub field_in-requires-clause-place : goal.field_in-requires-clause-place
-field_in-requires-clause-place c =
-    rw c.deref-2.ensures.value (rw (← c.self.view_is, cut_long c.self.inside.ends.items c.self.inside.bytes.items) at c.requires)
+pub returns : goal.returns
+returns c =
+    let within : c.args.i < length (fields_of c.self.inside.fields) = rw c.self.view_is c.requires in
+    rw (c.unwrap_or.ensures, ← c.self.view_is) (field_here (fields_of c.self.inside.fields) c.args.i c.get.result _ within c.get.ensures.value)

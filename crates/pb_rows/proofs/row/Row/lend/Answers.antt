@@ -1,5 +1,5 @@
-use Rattle.std.proofs.Common.{◌≡◌, ◌≤◌, ◌∙◌, ℕ, List, min, ap, arith, take}
-use Rattle.pb_rows.proofs.CutLemmas.{lent}
+use Rattle.std.proofs.Common.{◌≡◌, ◌∙◌, ℕ, ap, arith, take}
+use Rattle.pb_rows.proofs.RowLemmas.{lent}
 use Rattle.pb_rows.specs.Records.{without_trailing_empty}
 use Rattle.pb_rows.proofs.row.Row.lend.Goals as goal
 

@@ -1,0 +1,38 @@
+-- Inside. The facts as they stand on their shelf: each under its id, with the number of its stream's or tank's name.
+use Rattle.std.specs.Prelude.{◌<◌, ◌≤◌, ℕ, ℤ, List, [], length, map, All, slice_index_or}
+use Rattle.pb_limits.specs.Limits.{most_facts}
+use Rattle.pb_facts.specs.declared.fact.Fact.{Fact}
+use Rattle.pb_facts.specs.declared.fact.Fact.TheVariants.{Reading, Transfer, Dip}
+use Rattle.pb_facts.specs.declared.facts.KeptFact.{KeptFact}
+use Rattle.pb_facts.specs.declared.shelf.Told.{Told}
+use Rattle.pb_facts.specs.declared.shelf.Told.TheVariants.{Reading as ReadingTold, Transfer as TransferTold, Dip as DipTold}
+use Rattle.pb_facts.specs.declared.shelf.Entry.{Entry}
+
+-- the name of the fact's stream or tank
+abbrev pub stream_or_tank : Fact → List ℕ
+stream_or_tank (Reading id stream day grams variance) = stream
+stream_or_tank (Transfer id stream first last grams variance) = stream
+stream_or_tank (Dip id tank day mm density variance) = tank
+
+-- the fact with this id, of the stream or tank of this name, that says this
+abbrev pub told_fact : List ℕ → List ℕ → ℤ → Told → Fact
+told_fact id name variance (ReadingTold day grams) = Reading id name day grams variance
+told_fact id name variance (TransferTold first last grams) = Transfer id name first last grams variance
+told_fact id name variance (DipTold day mm density) = Dip id name day mm density variance
+
+-- the fact of an id and an entry, whose number is the place of a name
+abbrev pub kept_of : List (List ℕ) → List ℕ × Entry → KeptFact
+kept_of names one = record {
+  fact = told_fact one.0 (slice_index_or names one.1.name []) one.1.variance one.1.told;
+  struck = one.1.struck;
+}
+
+-- the facts of the ids and entries
+abbrev pub kept_facts : List (List ℕ) → List (List ℕ × Entry) → List KeptFact
+kept_facts names entries = map (kept_of names) entries
+
+-- each entry has the number of a name, and there are no more names than facts, and no more of these than there may be
+pub record IsShelf (names : List (List ℕ)) (entries : List (List ℕ × Entry)) : Type 0 where
+  pub numbered : All (λ one. one.1.name < length names) entries
+  pub few_names : length names ≤ length entries
+  pub few : length entries ≤ most_facts

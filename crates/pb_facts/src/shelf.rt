@@ -1,0 +1,276 @@
+// The facts on their shelf, in the order in which they were added: each under its id, its stream or tank by a number.
+
+ghost use Rattle.std.specs.Prelude.{◌≡◌, ℕ, ◌<◌, ◌≤◌, ◌∷◌, ◌++◌, [], List, length, set, true, false, IfSome, OnOk, OnErr, slice_get, slice_index_or};
+ghost use Rattle.std.specs.List.{list_any};
+ghost use Rattle.indexmap.specs.IndexSet as names_of;
+ghost use Rattle.indexmap.specs.IndexMap as entries_of;
+ghost use Rattle.pb_limits.specs.Limits.{most_facts};
+ghost use Rattle.pb_rows.specs.Name.{same_name};
+ghost use Rattle.pb_facts.specs.Changes.{changed};
+ghost use Rattle.pb_facts.specs.Fact.{id_of};
+ghost use Rattle.pb_facts.specs.Facts.{has_id, place_of};
+ghost use Rattle.pb_facts.specs.Shelf.{stream_or_tank, told_fact};
+
+use crate::fact::{Change, Fact};
+use crate::facts::KeptFact;
+use indexmap::{IndexMap, IndexSet};
+use pb_rows::Name;
+use std::alloc::{AllocError, Global};
+use std::marker::Model;
+
+/// What a fact says beside its id, its stream or tank and the variance.
+#[derive(Clone, Copy)]
+pub enum Told {
+    Reading { day: i32, grams: i64 },
+    Transfer { first: i32, last: i32, grams: i64 },
+    Dip { day: i32, mm: i64, density: i64 },
+}
+
+/// A fact beside its id: its stream or tank is told by the number of its name.
+#[derive(Clone, Copy)]
+pub struct Entry {
+    pub variance: i128,
+    pub told: Told,
+    pub name: u32,
+    pub struck: bool,
+}
+
+/// The facts in the order in which they were added: each id stands once, and each name of a stream or tank.
+#[derive(Drop)]
+pub struct Shelf {
+    names: IndexSet<Name>,
+    entries: IndexMap<Name, Entry>,
+}
+
+impl Model for Shelf {
+    ghost use Rattle.std.specs.Prelude.{List};
+    ghost use Rattle.pb_facts.specs.declared.facts.KeptFact.{KeptFact};
+    ghost use Rattle.pb_facts.specs.Shelf.{IsShelf, kept_facts};
+
+    ghost Value = { List KeptFact };
+
+    ghost view = { λ a. kept_facts a.names.keys a.entries.entries };
+
+    ghost invariant = { λ a. IsShelf a.names.keys a.entries.entries };
+}
+
+impl Shelf {
+    ghost use Rattle.pb_facts.specs.declared.facts.KeptFact.{KeptFact};
+
+    /// No fact.
+    pub fn new(alloc: Global) -> Shelf
+        ensures { result ≡ [] }
+    {
+        Shelf {
+            names: IndexSet::new(alloc),
+            entries: IndexMap::new(alloc),
+        }
+    }
+
+    /// The number of facts.
+    pub fn len(&self) -> u32
+        ensures value { result ≡ length self.now }
+        ensures within { length self.now ≤ most_facts }
+    {
+        self.entries.len() as u32
+    }
+
+    /// Puts a fact with a new id behind the others. After an `Err`, want of memory, the shelf is as it was.
+    pub fn push(&mut self, fact: &Fact) -> Result<(), AllocError>
+        requires room { length self.old < most_facts }
+        requires new { list_any (has_id (id_of fact.now)) self.old ≡ false }
+        ensures pushed { OnOk result (self.new
+            ≡ self.old ++ record { fact = fact.now; struck = false } ∷ []) }
+        ensures unchanged { OnErr result (self.new ≡ self.old) }
+    {
+        self.names.reserve(1)?;
+        self.entries.reserve(1)?;
+        let name = number_of(&mut self.names, fact.stream_or_tank());
+        put_entry(&mut self.entries, fact.id(), Entry::of(fact, name));
+        Ok(())
+    }
+
+    /// The fact at a place.
+    pub fn at(&self, place: u32) -> KeptFact
+        requires { place < length self.now }
+        ensures { slice_get self.now place ≡ Some result }
+    {
+        match self.entries.get_index(place as usize) {
+            Some((id, entry)) => KeptFact {
+                fact: entry.fact(*id, self.names[entry.name as usize]),
+                struck: entry.struck,
+            },
+            None => unreachable!(),
+        }
+    }
+
+    /// Whether the fact at a place was struck.
+    pub fn is_struck(&self, place: u32) -> bool
+        requires { place < length self.now }
+        ensures { (d : KeptFact) → result ≡ (slice_index_or self.now place d).struck }
+    {
+        self.entries[place as usize].struck
+    }
+
+    /// Gives the fact at a place new values, where they are of its kind, and takes it as live.
+    pub fn change(&mut self, place: u32, change: Change)
+        requires { place < length self.old }
+        ensures { (d : KeptFact) → self.new ≡ set self.old place (record {
+          fact = changed change (slice_index_or self.old place d).fact;
+          struck = false;
+        }) }
+    {
+        let entry = self.entries[place as usize];
+        self.entries[place as usize] = entry.changed(change);
+    }
+
+    /// Takes the fact at a place as struck.
+    pub fn strike(&mut self, place: u32)
+        requires { place < length self.old }
+        ensures { (d : KeptFact) → self.new ≡ set self.old place (record {
+          fact = (slice_index_or self.old place d).fact;
+          struck = true;
+        }) }
+    {
+        self.entries[place as usize].struck = true;
+    }
+
+    /// The place of the fact that has the id; `None` exactly where there is none.
+    pub fn place_of(&self, id: &Name) -> Option<u32>
+        ensures value { result ≡ place_of id.now self.now }
+        ensures within { IfSome result (λ place. place < length self.now) }
+    {
+        match self.entries.get_index_of(id) {
+            Some(place) => Some(place as u32),
+            None => None,
+        }
+    }
+}
+
+impl Entry {
+    // The entry of a live fact whose stream or tank has the number.
+    fn of(fact: &Fact, name: u32) -> Entry
+        ensures told { let id = id_of fact.now in
+            told_fact id (stream_or_tank fact.now) result.variance result.told ≡ fact.now }
+        ensures name { result.name ≡ name }
+        ensures live { result.struck ≡ false }
+    {
+        let (told, variance) = match *fact {
+            Fact::Reading {
+                day,
+                grams,
+                variance,
+                ..
+            } => (Told::Reading { day, grams }, variance),
+            Fact::Transfer {
+                first,
+                last,
+                grams,
+                variance,
+                ..
+            } => (Told::Transfer { first, last, grams }, variance),
+            Fact::Dip {
+                day,
+                mm,
+                density,
+                variance,
+                ..
+            } => (Told::Dip { day, mm, density }, variance),
+        };
+        Entry {
+            variance,
+            told,
+            name,
+            struck: false,
+        }
+    }
+
+    // The fact with the id, of the stream or tank of the name.
+    fn fact(&self, id: Name, name: Name) -> Fact
+        ensures { result ≡ told_fact id name self.now.variance self.now.told }
+    {
+        let variance = self.variance;
+        match self.told {
+            Told::Reading { day, grams } => Fact::Reading {
+                id,
+                stream: name,
+                day,
+                grams,
+                variance,
+            },
+            Told::Transfer { first, last, grams } => Fact::Transfer {
+                id,
+                stream: name,
+                first,
+                last,
+                grams,
+                variance,
+            },
+            Told::Dip { day, mm, density } => Fact::Dip {
+                id,
+                tank: name,
+                day,
+                mm,
+                density,
+                variance,
+            },
+        }
+    }
+
+    // The entry with these values in place of its own, where they are of its kind, and live.
+    fn changed(&self, change: Change) -> Entry
+        ensures told { (id : List ℕ) (name : List ℕ) → told_fact id name result.variance result.told
+            ≡ changed change (told_fact id name self.now.variance self.now.told) }
+        ensures name { result.name ≡ self.now.name }
+        ensures live { result.struck ≡ false }
+    {
+        let (told, variance) = match (change, self.told) {
+            (Change::Amount { grams, variance }, Told::Reading { day, .. }) => {
+                (Told::Reading { day, grams }, variance)
+            }
+            (Change::Amount { grams, variance }, Told::Transfer { first, last, .. }) => {
+                (Told::Transfer { first, last, grams }, variance)
+            }
+            (
+                Change::Level {
+                    mm,
+                    density,
+                    variance,
+                },
+                Told::Dip { day, .. },
+            ) => (Told::Dip { day, mm, density }, variance),
+            (_, told) => (told, self.variance),
+        };
+        Entry {
+            variance,
+            told,
+            name: self.name,
+            struck: false,
+        }
+    }
+}
+
+// The number of a name, which is put behind the others where it is new.
+fn number_of(names: &mut IndexSet<Name>, name: Name) -> u32
+    requires room { 0 < names_of.spare names.old }
+    requires few { length names.old.keys < most_facts }
+    ensures names { names.new.keys ≡ names_of.insert_key same_name names.old.keys name }
+    ensures number { slice_get names.new.keys result ≡ Some name }
+{
+    match names.insert_full(name) {
+        Ok((number, _)) => number as u32,
+        Err(_) => unreachable!(),
+    }
+}
+
+// Puts an entry with a new id behind the others.
+fn put_entry(entries: &mut IndexMap<Name, Entry>, id: Name, entry: Entry)
+    requires room { 0 < entries_of.spare entries.old }
+    requires new { list_any (same_name id) (entries_of.keys entries.old) ≡ false }
+    ensures { entries.new.entries ≡ entries.old.entries ++ (id, entry) ∷ [] }
+{
+    match entries.insert(id, entry) {
+        Ok(_) => {}
+        Err(_) => unreachable!(),
+    }
+}
