@@ -1,6 +1,7 @@
 // Prices of the sweeps with flows beside them, and all that the next sweeps need.
 
 ghost use Rattle.std.specs.Prelude.{◌≡◌, ◌↔◌, ℕ, suc, ◌<◌, ◌≤◌, ◌^◌, ℤ, Bool, false, List as Seq, Some, length, slice_get, unsigned_abs, IsTrue, IfOk};
+ghost use Rattle.pb_graph.specs.Balance.{IsBalanced};
 ghost use Rattle.pb_graph.specs.Groups.{AreGroups};
 ghost use Rattle.pb_graph.specs.Prices.{PricesFit};
 ghost use Rattle.pb_forest.specs.Forest.{IsForest, IsForestOf, degrees_of_freedom};
@@ -37,6 +38,8 @@ pub struct Iterate<'a> {
     flows: Vec<i128>,
     // Room for the deviations.
     deviations: Vec<i128>,
+    // The group whose net dual flow is asked for first: those before it were found small.
+    first: u32,
 }
 
 impl<'a> Model for Iterate<'a> {
@@ -85,6 +88,7 @@ impl<'a> Iterate<'a> {
             nearest,
             flows,
             deviations,
+            first: 0,
         })
     }
 
@@ -147,6 +151,7 @@ impl<'a> Iterate<'a> {
         ensures after { price_in self.new ≡ prices_after self.old.graph self.old.group 0 }
     {
         self.dual.reset();
+        self.first = 0;
     }
 
     // Sweeps once. The flows stay. Whether a price changed.
@@ -188,6 +193,15 @@ impl<'a> Iterate<'a> {
         pair.is_met(gap, &mut self.deviations)
     }
 
+    // Whether the net dual flow of a group tells that the gap isn't met, whatever the flows are.
+    fn has_far_net(&mut self, gap: u32) -> bool
+        ensures same { self.new ≡ self.old }
+        ensures far { IsTrue result → (flows : Seq ℤ) → IsBalanced self.old.graph flows
+            → MeetsGap gap (gap_of (price_in self.old) self.old.graph.streams flows) → ⊥ }
+    {
+        is_beyond(&self.dual, &self.roots, gap, &mut self.first)
+    }
+
     // Whether the gap of the flows that belong to the prices is met. They are written, unless the
     // groups' net dual flows tell that it isn't.
     fn is_met(&mut self, gap: u32) -> bool
@@ -200,7 +214,7 @@ impl<'a> Iterate<'a> {
             → AreRoundedFlows self.old.graph (price_in self.old) flows
             → MeetsGap gap (gap_of (price_in self.old) self.old.graph.streams flows) → ⊥ }
     {
-        if is_beyond(&self.dual, &self.roots, gap) {
+        if self.has_far_net(gap) {
             return false;
         }
         self.settle();

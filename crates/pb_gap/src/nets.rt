@@ -56,17 +56,20 @@ fn is_far(net: i128, allowed: i128) -> bool
 }
 
 /// Whether the net dual flow of a group is beyond what a gap that is met at so many thousandths
-/// allows.
-pub fn is_beyond(dual: &Dual, roots: &[i128], thousandths: u32) -> bool
+/// allows. The groups before `first` aren't asked; it becomes the first one that is beyond. (So over sweeps each group is asked
+/// until its net dual flow is small, and not again.)
+pub fn is_beyond(dual: &Dual, roots: &[i128], thousandths: u32, first: &mut u32) -> bool
     requires { HaveRoots dual.now roots.now }
     ensures { IsTrue result → (flows : Seq ℤ) → IsBalanced dual.now.graph flows
         → MeetsGap thousandths (gap_of (price_of dual.now) dual.now.graph.streams flows) → ⊥ }
 {
     let most = most_deviation(thousandths);
-    for k in 1..dual.groups() {
+    for k in *first..dual.groups() {
         if is_far(dual.net_flow(k), allowed(most, roots[k as usize])) {
+            *first = k;
             return true;
         }
     }
+    *first = dual.groups();
     false
 }

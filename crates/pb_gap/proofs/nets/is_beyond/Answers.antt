@@ -8,12 +8,6 @@ use Rattle.pb_dual.specs.Priced.{price_of}
 use Rattle.pb_gap.proofs.NetLemmas.{beyond}
 use Rattle.pb_gap.proofs.nets.is_beyond.Goals as goal
 
-pub loop-k-init : goal.loop-k-init
-loop-k-init c = omega arith
-
-pub loop-k-preserved : goal.loop-k-preserved
-loop-k-preserved c = omega (arith, c.loop-k.invariant)
-
 pub allowed-requires-clause-root : goal.allowed-requires-clause-root
 allowed-requires-clause-root c =
     let k = c.loop-k.k in
