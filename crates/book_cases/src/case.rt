@@ -11,74 +11,86 @@ use std::alloc::{AllocError, Global};
 #[derive(Drop)]
 pub struct Case {
     alloc: Global,
-    book: Book,
+    book: Box<Book>,
     stored: Rows,
+}
+
+/// The first word of a line: one that asks, or that of a record.
+#[derive(Clone, Copy)]
+enum Word {
+    Case,
+    Try,
+    Plain,
+    Edits,
+    Touched,
+    Record,
 }
 
 impl Case {
     /// A book without rows.
-    pub fn new(alloc: Global) -> Case {
-        Case {
+    pub fn new(alloc: Global) -> Result<Case, AllocError> {
+        Ok(Case {
             alloc,
-            book: Book::new(alloc),
+            book: new_book(alloc)?,
             stored: Rows::new(alloc),
-        }
+        })
     }
 
-    /// Appends what is told of a line, and the line. `case,..` begins a case; `try,RECORD` tells the answer to a record behind the
-    /// stored ones, which stay as they are; `plain` tells the plain rows; `edits,PERIOD` the edits that touch a period;
+    /// Appends the answer to a line, and the line. `case,..` begins a case; `try,RECORD` asks for the answer to a record after the
+    /// stored ones, which stay as they are; `plain` asks for the plain rows; `edits,PERIOD` for the edits that touch a period;
     /// `touched,PERIOD` whether the row stored last takes it out. Any other line is a record that the book takes.
     pub fn line(&mut self, line: &[u8], text: &mut Vec<u8>) -> Result<(), AllocError> {
-        let mut row = Row::new(self.alloc);
-        for field in line.split(|byte| *byte == b',') {
-            row.push(field)?;
-        }
-        let word = field(&row, 0);
-        if is(word, b"case") {
-            *self = Case::new(self.alloc);
-        } else if is(word, b"try") {
-            self.try_behind(&row, text)?;
-        } else if is(word, b"plain") {
-            self.plain(text)?;
-        } else if is(word, b"edits") {
-            self.edits(field(&row, 1), text)?;
-        } else if is(word, b"touched") {
-            self.touched(field(&row, 1), text)?;
-        } else {
-            self.take(row, text)?;
-        }
+        let row = fields_of(self.alloc, line)?;
+        self.row(&row, text)?;
         text.extend_from_slice(line)?;
         text.push(b'\n')?;
         Ok(())
     }
 
+    // Appends the answer to the fields of a line.
+    fn row(&mut self, row: &Row, text: &mut Vec<u8>) -> Result<(), AllocError> {
+        match word_of(field(row, 0)) {
+            Word::Case => self.begin(),
+            Word::Try => self.try_after(row, text),
+            Word::Plain => self.plain(text),
+            Word::Edits => self.edits(field(row, 1), text),
+            Word::Touched => self.touched(field(row, 1), text),
+            Word::Record => self.take(row, text),
+        }
+    }
+
+    // Begins a case.
+    fn begin(&mut self) -> Result<(), AllocError> {
+        *self = Case::new(self.alloc)?;
+        Ok(())
+    }
+
     // The book takes a record.
-    fn take(&mut self, row: Row, text: &mut Vec<u8>) -> Result<(), AllocError> {
-        let told = self.book.accept(1, &row);
+    fn take(&mut self, row: &Row, text: &mut Vec<u8>) -> Result<(), AllocError> {
+        let told = self.book.accept(1, row);
         if told == Ok(Accepted::Stored) {
-            self.stored.push(row)?;
+            self.stored.push(fields_from(self.alloc, row, 0)?)?;
         }
         tell(text, answer(told))
     }
 
-    // A book that has stored the same records takes the record behind the first field.
-    fn try_behind(&self, row: &Row, text: &mut Vec<u8>) -> Result<(), AllocError> {
-        let mut book = Book::new(self.alloc);
-        for stored in self.stored.iter() {
-            let _ = book.accept(1, stored);
-        }
-        let mut record = Row::new(self.alloc);
-        for i in 1..row.len() {
-            record.push(row.field(i))?;
-        }
+    // A book that has stored the same records takes the record after the first field.
+    fn try_after(&self, row: &Row, text: &mut Vec<u8>) -> Result<(), AllocError> {
+        let record = fields_from(self.alloc, row, 1)?;
+        let mut book = self.same_book()?;
         tell(text, answer(book.accept(1, &record)))
     }
 
+    // A book that has stored the same records.
+    fn same_book(&self) -> Result<Box<Book>, AllocError> {
+        let mut book = new_book(self.alloc)?;
+        accept_all(&mut book, &self.stored);
+        Ok(book)
+    }
+
     fn plain(&self, text: &mut Vec<u8>) -> Result<(), AllocError> {
-        for record in self.book.plain(self.alloc)?.iter() {
-            record.write_to(text)?;
-        }
-        Ok(())
+        let plain = self.book.plain(self.alloc)?;
+        write_rows(&plain, text)
     }
 
     fn edits(&self, period: &[u8], text: &mut Vec<u8>) -> Result<(), AllocError> {
@@ -103,7 +115,7 @@ impl Case {
 
     // The place of the period of a name.
     fn period(&self, name: &[u8]) -> Option<u32>
-        ensures { IfSome result (λ place. place < length (periods_of self.now.book)) }
+        ensures { IfSome result (λ place. place < length (periods_of self.now.book.value)) }
     {
         let place = self.book.period_of(&Name::read(name)?)?;
         if place < self.book.periods() {
@@ -112,6 +124,59 @@ impl Case {
             None
         }
     }
+}
+
+fn new_book(alloc: Global) -> Result<Box<Book>, AllocError> {
+    Ok(Box::new(alloc, Book::new(alloc))?)
+}
+
+// A book takes records.
+fn accept_all(book: &mut Book, records: &Rows) {
+    for record in records.iter() {
+        let _ = book.accept(1, record);
+    }
+}
+
+// Appends records, each as a line.
+fn write_rows(records: &Rows, text: &mut Vec<u8>) -> Result<(), AllocError> {
+    for record in records.iter() {
+        record.write_to(text)?;
+    }
+    Ok(())
+}
+
+fn word_of(field: &[u8]) -> Word {
+    if is(field, b"case") {
+        Word::Case
+    } else if is(field, b"try") {
+        Word::Try
+    } else if is(field, b"plain") {
+        Word::Plain
+    } else if is(field, b"edits") {
+        Word::Edits
+    } else if is(field, b"touched") {
+        Word::Touched
+    } else {
+        Word::Record
+    }
+}
+
+// The fields of a line, between commas.
+fn fields_of(alloc: Global, line: &[u8]) -> Result<Row, AllocError> {
+    let mut row = Row::new(alloc);
+    for field in line.split(|byte| *byte == b',') {
+        row.push(field)?;
+    }
+    Ok(row)
+}
+
+// The fields of a row from a place on.
+fn fields_from(alloc: Global, row: &Row, from: usize) -> Result<Row, AllocError> {
+    let mut fields = Row::new(alloc);
+    for i in from..row.len() {
+        fields.push(row.field(i))?;
+    }
+    Ok(fields)
 }
 
 // The field at a place, or an empty one.

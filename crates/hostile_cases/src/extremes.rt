@@ -15,32 +15,61 @@ const GAP: u32 = 10;
 
 const SWEEPS: u32 = 20;
 
-// The streams of a line in turn, until there are as many as a graph has at the most. A stream is `in` or `out`, its value and its
-// variance, with commas between; `None` where the line has another form or is beyond the limits.
+// The streams of a line in turn, until there are as many as a graph has at most. A stream is `in` or `out`, its value and its
+// variance, with commas between; `None` if the line has another form or is beyond the limits.
 fn graph_of(alloc: Global, line: &[u8]) -> Result<Option<Graph>, AllocError> {
     let mut turn = Vec::new(alloc);
+    if append_streams(alloc, line, &mut turn)? {
+        full_graph(alloc, &turn)
+    } else {
+        Ok(None)
+    }
+}
+
+// Appends the streams of a line. False if it has another form.
+fn append_streams(alloc: Global, line: &[u8], turn: &mut Vec<Stream>) -> Result<bool, AllocError> {
+    let fields = fields_of(alloc, line)?;
+    for stream in fields.chunks_exact(3) {
+        match stream_of(stream) {
+            Some(stream) => turn.push(stream)?,
+            None => return Ok(false),
+        }
+    }
+    Ok(true)
+}
+
+// The fields of a line, between commas.
+fn fields_of<'a>(alloc: Global, line: &'a [u8]) -> Result<Vec<&'a [u8]>, AllocError> {
     let mut fields = Vec::new(alloc);
     for field in line.split(|byte| *byte == b',') {
         fields.push(field)?;
     }
-    for stream in fields.chunks_exact(3) {
-        match stream_of(stream) {
-            Some(stream) => turn.push(stream)?,
-            None => return Ok(None),
-        }
-    }
-    if turn.is_empty() {
-        return Ok(None);
-    }
+    Ok(fields)
+}
+
+// A graph with these streams in turn. `None` if there are none or one is beyond the limits.
+fn full_graph(alloc: Global, turn: &[Stream]) -> Result<Option<Graph>, AllocError> {
     let mut graph = Graph::new(alloc, 2);
+    if fill(&mut graph, turn)? {
+        Ok(Some(graph))
+    } else {
+        Ok(None)
+    }
+}
+
+// Appends these streams in turn, until there are as many as a graph has at most. False if there are none or one is beyond the limits.
+fn fill(graph: &mut Graph, turn: &[Stream]) -> Result<bool, AllocError> {
+    if turn.is_empty() {
+        return Ok(false);
+    }
     for j in 0..MOST_STREAMS {
         let stream = turn[j % turn.len()];
         if !graph.fits(&stream) {
-            return Ok(None);
+            return Ok(false);
         }
         graph.push(stream)?;
     }
-    Ok(Some(graph))
+    Ok(true)
 }
 
 fn stream_of(fields: &[&[u8]]) -> Option<Stream> {
@@ -98,28 +127,45 @@ fn passes(alloc: Global, graph: &Graph) -> Result<bool, AllocError> {
 /// Appends a row of what comes out of a line: how the solver ended, the price of the unit, the net flow of the unit, and whether the
 /// stage passes its check.
 pub fn append_outcome(alloc: Global, line: &[u8], text: &mut Vec<u8>) -> Result<(), AllocError> {
-    let Some(graph) = graph_of(alloc, line)? else {
-        return text.extend_from_slice(b"no graph\n");
-    };
-    let mut solver = Solver::new(alloc, &graph)?;
-    let (word, sweeps): (&[u8], u32) = match solver.solve(GAP, SWEEPS) {
+    match graph_of(alloc, line)? {
+        Some(graph) => append_outcome_of(alloc, &graph, text),
+        None => text.extend_from_slice(b"no graph\n"),
+    }
+}
+
+fn append_outcome_of(alloc: Global, graph: &Graph, text: &mut Vec<u8>) -> Result<(), AllocError> {
+    append_solution(alloc, graph, text)?;
+    if passes(alloc, graph)? {
+        text.extend_from_slice(b",passes\n")
+    } else {
+        text.extend_from_slice(b",fails\n")
+    }
+}
+
+fn append_solution(alloc: Global, graph: &Graph, text: &mut Vec<u8>) -> Result<(), AllocError> {
+    let mut solver = Solver::new(alloc, graph)?;
+    let solved = solver.solve(GAP, SWEEPS);
+    let price = solver.price(graph.nodes() - 1);
+    let net = net(graph, &solver);
+    append_numbers(alloc, solved, price, net, text)
+}
+
+// Appends how the solver ended, and after how many sweeps, a price and a net flow.
+fn append_numbers(
+    alloc: Global,
+    solved: Solved,
+    price: i128,
+    net: i128,
+    text: &mut Vec<u8>,
+) -> Result<(), AllocError> {
+    let (word, sweeps): (&[u8], u32) = match solved {
         Solved::Converged(k) => (b"converged", k),
         Solved::Unconverged(k) => (b"unconverged", k),
     };
     text.extend_from_slice(word)?;
-    for number in [
-        i128::from(sweeps),
-        solver.price(graph.nodes() - 1),
-        net(&graph, &solver),
-    ] {
+    for number in [i128::from(sweeps), price, net] {
         text.push(b',')?;
         text.extend_from_slice(&whole_bytes(alloc, number)?)?;
     }
-    let end: &[u8] = if passes(alloc, &graph)? {
-        b",passes\n"
-    } else {
-        b",fails\n"
-    };
-    text.extend_from_slice(end)?;
     Ok(())
 }

@@ -12,11 +12,17 @@ use std::io;
 
 fn main(rt: HostRuntime) -> io::Result<()> {
     let mut text = Vec::new(rt.alloc());
-    for line in rt.lines(rt.alloc()) {
-        append_outcome(rt.alloc(), line?.as_str().as_bytes(), &mut text)?;
-    }
+    append_outcomes(&rt, &mut text)?;
     match write_all(&mut StdSink::new(rt.stdout()), &text) {
         Ok(()) => Ok(()),
         Err(_) => Err(io::Error::from(io::ErrorKind::Other)),
     }
+}
+
+// Appends a row for each line of standard input.
+fn append_outcomes(rt: &HostRuntime, text: &mut Vec<u8>) -> io::Result<()> {
+    for line in rt.lines(rt.alloc()) {
+        append_outcome(rt.alloc(), line?.as_str().as_bytes(), text)?;
+    }
+    Ok(())
 }

@@ -16,7 +16,7 @@ use std::alloc::{AllocError, Global};
 pub struct Case {
     alloc: Global,
     eliminates: bool,
-    session: Session,
+    session: Box<Session>,
     taken: Rows,
 }
 
@@ -41,34 +41,34 @@ struct Answer {
 
 impl Case {
     /// A session without rows, whose studies have three rounds of elimination or no tests.
-    pub fn new(alloc: Global, eliminates: bool) -> Case {
-        Case {
+    pub fn new(alloc: Global, eliminates: bool) -> Result<Case, AllocError> {
+        Ok(Case {
             alloc,
             eliminates,
-            session: Session::new(alloc, asked(eliminates), Form::Csv),
+            session: new_session(alloc, eliminates)?,
             taken: Rows::new(alloc),
-        }
+        })
     }
 
-    /// Appends what is told of a line, and the line. `case,..` begins a case, and `rounds,..` one with rounds of elimination;
-    /// `try,RECORD` tells the answer to a record behind those taken, and they stay as they are; `study,PERIOD` tells the number
-    /// of stages and the flows of the study that is kept of a period; `classes` the kept classes of the streams. Any other line
+    /// Appends the answer to a line, and the line. `case,..` begins a case, and `rounds,..` one with rounds of elimination;
+    /// `try,RECORD` asks for the answer to a record after those taken, which stay as they are; `study,PERIOD` for the number of
+    /// stages and the flows of the study that is kept of a period; `classes` for the kept classes of the streams. Any other line
     /// is a record that the session takes.
     pub fn line(&mut self, line: &[u8], text: &mut Vec<u8>) -> Result<(), AllocError> {
         let row = fields_of(self.alloc, line)?;
-        self.row(row, text)?;
+        self.row(&row, text)?;
         text.extend_from_slice(line)?;
         text.push(b'\n')?;
         Ok(())
     }
 
-    // Appends what is told of the fields of a line.
-    fn row(&mut self, row: Row, text: &mut Vec<u8>) -> Result<(), AllocError> {
-        match word_of(field(&row, 0)) {
+    // Appends the answer to the fields of a line.
+    fn row(&mut self, row: &Row, text: &mut Vec<u8>) -> Result<(), AllocError> {
+        match word_of(field(row, 0)) {
             Word::Case => self.begin(false),
             Word::Rounds => self.begin(true),
-            Word::Try => self.try_behind(&row, text),
-            Word::Study => self.tell_study(field(&row, 1), text),
+            Word::Try => self.try_after(row, text),
+            Word::Study => self.tell_study(field(row, 1), text),
             Word::Classes => self.tell_classes(text),
             Word::Record => self.take(row, text),
         }
@@ -76,55 +76,71 @@ impl Case {
 
     // Begins a case.
     fn begin(&mut self, eliminates: bool) -> Result<(), AllocError> {
-        *self = Case::new(self.alloc, eliminates);
+        *self = Case::new(self.alloc, eliminates)?;
         Ok(())
     }
 
     // The session takes a record.
-    fn take(&mut self, row: Row, text: &mut Vec<u8>) -> Result<(), AllocError> {
-        let answer = take_record(self.alloc, &mut self.session, &row)?;
+    fn take(&mut self, row: &Row, text: &mut Vec<u8>) -> Result<(), AllocError> {
+        let answer = take_record(self.alloc, &mut self.session, row)?;
+        self.tell_taken(&answer, row, text)?;
+        self.taken.push(fields_from(self.alloc, row, 0)?)
+    }
+
+    // Appends what the session answered to a record, and which studies it keeps.
+    fn tell_taken(&self, answer: &Answer, row: &Row, text: &mut Vec<u8>) -> Result<(), AllocError> {
         if answer.is_report {
-            let plain = self.plain_report(&row)?;
-            tell_same(text, answer.added == plain)?;
+            self.tell_same(&answer.added, row, text)?;
         }
-        tell_kept(text, &self.session, answer.refused)?;
-        self.taken.push(row)
+        tell_kept(text, &self.session, answer.refused)
     }
 
-    // A session that has taken the same records takes the record behind the first field.
-    fn try_behind(&self, row: &Row, text: &mut Vec<u8>) -> Result<(), AllocError> {
-        let mut record = Row::new(self.alloc);
-        for i in 1..row.len() {
-            record.push(row.field(i))?;
-        }
-        let mut session = self.behind(&self.taken)?;
-        let answer = take_record(self.alloc, &mut session, &record)?;
-        tell_kept(text, &session, answer.refused)
+    // A session that has taken the same records takes the record after the first field.
+    fn try_after(&self, row: &Row, text: &mut Vec<u8>) -> Result<(), AllocError> {
+        let record = fields_from(self.alloc, row, 1)?;
+        let mut session = self.session_after(&self.taken)?;
+        try_record(self.alloc, &mut session, &record, text)
     }
 
-    // What a report adds behind the plain rows alone.
+    // Whether a report has the text of the one after the plain rows alone.
+    fn tell_same(&self, added: &[u8], report: &Row, text: &mut Vec<u8>) -> Result<(), AllocError> {
+        let plain = self.plain_report(report)?;
+        tell(
+            text,
+            if added == plain.as_slice() {
+                b"plain"
+            } else {
+                b"other"
+            },
+        )
+    }
+
+    // What a report adds after the plain rows alone.
     fn plain_report(&self, report: &Row) -> Result<Vec<u8>, AllocError> {
+        let mut session = self.plain_session()?;
+        added_by(self.alloc, &mut session, report)
+    }
+
+    // A session that has taken the plain rows alone.
+    fn plain_session(&self) -> Result<Box<Session>, AllocError> {
         let plain = self.session.book().plain(self.alloc)?;
-        let mut session = self.behind(&plain)?;
-        Ok(take_record(self.alloc, &mut session, report)?.added)
+        self.session_after(&plain)
     }
 
     // A session that has taken these records.
-    fn behind(&self, rows: &Rows) -> Result<Session, AllocError> {
-        let mut session = Session::new(self.alloc, asked(self.eliminates), Form::Csv);
-        for row in rows.iter() {
-            take_record(self.alloc, &mut session, row)?;
-        }
+    fn session_after(&self, rows: &Rows) -> Result<Box<Session>, AllocError> {
+        let mut session = new_session(self.alloc, self.eliminates)?;
+        take_all(self.alloc, &mut session, rows)?;
         Ok(session)
     }
 
     fn tell_study(&self, period: &[u8], text: &mut Vec<u8>) -> Result<(), AllocError> {
-        match place_of(self.session.book(), period) {
-            Some(place) => match self.session.kept(place) {
-                Some(study) => self.tell_flows(study, text),
-                None => tell(text, b"none"),
-            },
-            None => tell(text, b"unknown"),
+        let Some(place) = place_of(self.session.book(), period) else {
+            return tell(text, b"unknown");
+        };
+        match self.session.kept(place) {
+            Some(study) => self.tell_flows(study, text),
+            None => tell(text, b"none"),
         }
     }
 
@@ -156,6 +172,11 @@ impl Case {
     }
 }
 
+fn new_session(alloc: Global, eliminates: bool) -> Result<Box<Session>, AllocError> {
+    let session = Session::new(alloc, asked(eliminates), Form::Csv);
+    Ok(Box::new(alloc, session)?)
+}
+
 // A session takes a record.
 fn take_record(alloc: Global, session: &mut Session, row: &Row) -> Result<Answer, AllocError> {
     let mut added = Vec::new(alloc);
@@ -165,6 +186,30 @@ fn take_record(alloc: Global, session: &mut Session, row: &Row) -> Result<Answer
         added,
         refused,
     })
+}
+
+// A session takes records.
+fn take_all(alloc: Global, session: &mut Session, rows: &Rows) -> Result<(), AllocError> {
+    for row in rows.iter() {
+        take_record(alloc, session, row)?;
+    }
+    Ok(())
+}
+
+// What a record adds to the output of a session.
+fn added_by(alloc: Global, session: &mut Session, row: &Row) -> Result<Vec<u8>, AllocError> {
+    Ok(take_record(alloc, session, row)?.added)
+}
+
+// A session takes a record; appends whether it was refused, and which studies the session keeps.
+fn try_record(
+    alloc: Global,
+    session: &mut Session,
+    record: &Row,
+    text: &mut Vec<u8>,
+) -> Result<(), AllocError> {
+    let answer = take_record(alloc, session, record)?;
+    tell_kept(text, session, answer.refused)
 }
 
 fn word_of(field: &[u8]) -> Word {
@@ -190,6 +235,15 @@ fn fields_of(alloc: Global, line: &[u8]) -> Result<Row, AllocError> {
         row.push(field)?;
     }
     Ok(row)
+}
+
+// The fields of a row from a place on.
+fn fields_from(alloc: Global, row: &Row, from: usize) -> Result<Row, AllocError> {
+    let mut fields = Row::new(alloc);
+    for i in from..row.len() {
+        fields.push(row.field(i))?;
+    }
+    Ok(fields)
 }
 
 // What is asked of the studies.
@@ -235,11 +289,6 @@ fn tell_kept(text: &mut Vec<u8>, session: &Session, refused: bool) -> Result<(),
         }
     }
     tell(text, b":")
-}
-
-// Whether a report has the text of the plain file's.
-fn tell_same(text: &mut Vec<u8>, same: bool) -> Result<(), AllocError> {
-    tell(text, if same { b"plain" } else { b"other" })
 }
 
 // The field at a place, or an empty one.

@@ -1,4 +1,4 @@
-//! Of which periods a session keeps a study after each record of cases: each line again, with the names of the kept periods in front.
+//! Of which periods a session keeps a study after each record of cases: each line again, after the names of the kept periods.
 //!
 //! The cases stand in `stdin`, and their answers, which come from outside, in `stdout`.
 #![tactic(auto)]
@@ -10,7 +10,12 @@ use pb_io::{StdSink, write_all};
 use std::io;
 
 fn main(rt: HostRuntime) -> io::Result<()> {
-    let mut case = Case::new(rt.alloc(), false);
+    let mut case = Case::new(rt.alloc(), false)?;
+    answer_lines(&rt, &mut case)
+}
+
+// Answers each line of standard input.
+fn answer_lines(rt: &HostRuntime, case: &mut Case) -> io::Result<()> {
     let mut text = Vec::new(rt.alloc());
     for line in rt.lines(rt.alloc()) {
         case.line(line?.as_str().as_bytes(), &mut text)?;

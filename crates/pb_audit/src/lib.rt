@@ -7,8 +7,6 @@
 mod judge;
 mod laws;
 mod rows;
-#[cfg(test)]
-mod tests;
 
 pub use judge::{Judged, judge_next};
 pub use laws::{certified_law, findings_law, passed_law};

@@ -32,9 +32,6 @@ use std::alloc::{AllocError, Global};
 use std::collections::HashMap;
 use std::marker::Model;
 
-#[cfg(test)]
-mod tests;
-
 /// The accepted rows of a session, in order: the places of all and those of the edits, and what they hold by its parts.
 /// The facts are kept with their last values, and those that an amendment changed also as they came, by their places.
 #[derive(Drop)]

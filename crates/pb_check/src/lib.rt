@@ -19,8 +19,6 @@ mod least;
 mod numbers;
 mod prices;
 mod rows;
-#[cfg(test)]
-mod tests;
 mod verdicts;
 
 pub use faults::{CheckFault, Fault, Place, Test};

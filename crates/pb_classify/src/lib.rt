@@ -6,8 +6,6 @@
 mod classes;
 mod cycles;
 mod laws;
-#[cfg(test)]
-mod tests;
 
 pub use classes::{classify, classify_in};
 pub use laws::{alike_law, one_classification_law, some_classification_law};

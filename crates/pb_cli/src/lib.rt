@@ -11,8 +11,6 @@ mod laws;
 mod making;
 mod runs;
 mod status;
-#[cfg(test)]
-mod tests;
 
 pub use answers::answer;
 pub use checks::judge;

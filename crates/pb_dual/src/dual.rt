@@ -321,6 +321,3 @@ impl<'a> Dual<'a> {
         self.greatest = 0;
     }
 }
-
-#[cfg(test)]
-mod tests;

@@ -10,8 +10,6 @@ mod members;
 mod stages;
 mod studies;
 mod testing;
-#[cfg(test)]
-mod tests;
 
 pub use laws::{
     certified_law, decided_law, formed_law, least_throughout_law, one_study_law, shown_law,

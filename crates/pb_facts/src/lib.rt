@@ -9,8 +9,6 @@ mod laws;
 mod places;
 mod shares;
 mod shelf;
-#[cfg(test)]
-mod tests;
 
 pub use fact::{Change, Fact, FactFault};
 pub use facts::{Facts, KeptFact};

@@ -9,8 +9,6 @@ mod blocks;
 mod laws;
 mod quotients;
 mod roots;
-#[cfg(test)]
-mod tests;
 
 pub use blocks::{block_exponent, block_squares, half_width};
 pub use laws::{block_laws, quotient_laws, root_laws};

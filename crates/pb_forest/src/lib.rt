@@ -12,8 +12,6 @@ mod forest;
 mod labels;
 mod laws;
 mod rank;
-#[cfg(test)]
-mod tests;
 mod trees;
 
 pub use forest::Forest;

@@ -12,9 +12,6 @@ use pb_dual::SCALE;
 use pb_fixed::{div_ceil, div_floor};
 use pb_graph::{Bounds, Member, Stream};
 
-#[cfg(test)]
-mod tests;
-
 /// The signed sum of the flows, in grams.
 pub fn flow_sum(streams: &[Stream], flows: &[i128], members: &[Member]) -> i128
     requires few { length members.now ≤ most_streams }

@@ -19,8 +19,6 @@ mod measurements;
 mod nets;
 mod solver;
 mod sums;
-#[cfg(test)]
-mod tests;
 
 pub use dual_flows::write_dual_flows;
 pub use flow_pair::FlowPair;

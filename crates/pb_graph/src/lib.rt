@@ -15,8 +15,6 @@ mod parts;
 mod records;
 mod results;
 mod search;
-#[cfg(test)]
-mod tests;
 mod well_formed;
 
 pub use cut::boundary;

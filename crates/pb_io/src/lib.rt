@@ -17,8 +17,6 @@ mod reading;
 mod standard;
 mod sure_sink;
 mod sure_source;
-#[cfg(test)]
-mod tests;
 mod writing;
 
 pub use laws::sure_law;

@@ -10,8 +10,6 @@ mod plant;
 mod readings;
 mod rows;
 mod sessions;
-#[cfg(test)]
-mod tests;
 
 pub use laws::{accepted_law, balance_law, count_law, metered_law, period_law, reads_back_law};
 pub use sessions::make;

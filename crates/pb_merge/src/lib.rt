@@ -12,6 +12,3 @@ mod variance;
 
 pub use groups::Groups;
 pub use laws::{crossing_law, free_law, numbering_law, some_groups_law};
-
-#[cfg(test)]
-mod tests;

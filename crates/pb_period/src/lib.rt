@@ -8,8 +8,6 @@ mod days;
 mod graph;
 mod laws;
 mod measured;
-#[cfg(test)]
-mod tests;
 mod transfers;
 
 pub use days::Days;

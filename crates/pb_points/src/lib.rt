@@ -6,8 +6,6 @@ mod cuts;
 mod laws;
 mod points;
 mod spans;
-#[cfg(test)]
-mod tests;
 mod walk;
 
 pub use cuts::Cuts;

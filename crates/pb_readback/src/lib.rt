@@ -16,8 +16,6 @@ mod laws;
 mod lists;
 mod reading;
 mod rows;
-#[cfg(test)]
-mod tests;
 mod words;
 mod written;
 

@@ -16,8 +16,6 @@ mod refused;
 mod row;
 mod study;
 mod summary;
-#[cfg(test)]
-mod tests;
 mod verdicts;
 
 pub use design::write_design;

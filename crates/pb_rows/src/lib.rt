@@ -12,8 +12,6 @@ mod number;
 mod reason;
 mod records;
 mod row;
-#[cfg(test)]
-mod tests;
 mod writer;
 
 pub use date::read_date;

@@ -11,8 +11,6 @@ mod history;
 mod kept;
 mod laws;
 mod session;
-#[cfg(test)]
-mod tests;
 
 pub use classes::Classes;
 pub use laws::{criticals_law, edited_file_law, kept_law, one_text_law, some_text_law};

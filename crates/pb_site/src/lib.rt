@@ -7,8 +7,6 @@ mod declared;
 mod index;
 mod laws;
 mod site;
-#[cfg(test)]
-mod tests;
 
 pub use declared::{Arc, ArcKind, Declared, Kind, SiteFault};
 pub use laws::plant_law;

@@ -3,8 +3,6 @@
 
 mod laws;
 mod strap;
-#[cfg(test)]
-mod tests;
 
 pub use laws::tables_law;
 pub use strap::{Point, Strap, StrapRefused};

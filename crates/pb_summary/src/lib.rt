@@ -2,8 +2,6 @@
 #![tactic(auto)]
 
 mod laws;
-#[cfg(test)]
-mod tests;
 mod texts;
 
 pub use laws::{one_summary_law, some_summary_law};

@@ -17,6 +17,3 @@ pub use laws::{
 pub use measures::{measure, measure_tests};
 pub use nodals::{nodal, nodal_tests, nodal_verdict};
 pub use verdicts::{global, global_test, verdict};
-
-#[cfg(test)]
-mod tests;

@@ -7,8 +7,6 @@
 mod command;
 mod laws;
 mod line;
-#[cfg(test)]
-mod tests;
 mod words;
 
 pub use command::{Command, WordsRefused, read_words};

@@ -1,0 +1,100 @@
+// What no clause says: that calls succeed where memory is ample. What is answered to which record are the cases of `book_cases`.
+
+use pb_book::{Accepted, Book, EditWord};
+use pb_rows::{Name, Rows};
+use std::alloc::Global;
+use std::test::Fail;
+
+/// A unit, and then a stream, a period, a reading and its amendment.
+const UNIT: &[u8] = b"unit,U\n";
+
+const ROWS: &[u8] =
+    b"stream,A,env,U,metered,1\nperiod,p,1970-01-03,1970-01-05\nreading,r,A,1970-01-04,5,0\namend,r,6,0,drift\n";
+
+// Gives a book the rows as those of one record's number. The place of the first that isn't stored, if there is one.
+pub fn first_refused(book: &mut Book, at: u32, rows: &Rows) -> Option<usize> {
+    for place in 0..rows.len() {
+        if book.accept(at, rows.at(place)) != Ok(Accepted::Stored) {
+            return Some(place);
+        }
+    }
+    None
+}
+
+// A period's place by its name, the number of periods, and of the first its first and last day, whether it is closed and
+// whether the last row touches it.
+fn first_period(book: &Book, name: &Name) -> (Option<u32>, u32, Option<(i32, i32, bool, bool)>) {
+    let first = if book.periods() > 0 {
+        let period = book.period(0);
+        Some((period.first, period.last, period.closed, book.touched(0)))
+    } else {
+        None
+    };
+    (book.period_of(name), book.periods(), first)
+}
+
+// The number of edits, and of the first its word and whether it touches the first period.
+fn first_edit(book: &Book) -> (usize, Option<(EditWord, bool)>) {
+    let first = if book.edits() > 0 && book.periods() > 0 {
+        Some((book.edit(0).word, book.touches(0, 0)))
+    } else {
+        None
+    };
+    (book.edits(), first)
+}
+
+// The numbers of a book's arcs, facts and plain rows.
+fn counts(alloc: Global, book: &Book) -> Result<(u32, u32, usize), Fail> {
+    Ok((
+        book.site().arcs(),
+        book.facts().len(),
+        book.plain(alloc)?.len(),
+    ))
+}
+
+// The first row of each text that a book refuses.
+fn refused(alloc: Global, book: &mut Book) -> Result<(Option<usize>, Option<usize>), Fail> {
+    let unit = Rows::of(alloc, UNIT)?;
+    let rows = Rows::of(alloc, ROWS)?;
+    let of_unit = first_refused(book, 1, &unit);
+    Ok((of_unit, first_refused(book, 2, &rows)))
+}
+
+// What a book says of all of this once it was given both texts.
+type Told = (
+    (Option<usize>, Option<usize>),
+    (Option<u32>, u32, Option<(i32, i32, bool, bool)>),
+    (usize, Option<(EditWord, bool)>),
+    (u32, u32, usize),
+);
+
+fn ask(alloc: Global, book: &mut Book, period: &Name) -> Result<Told, Fail> {
+    let refused = refused(alloc, book)?;
+    let counts = counts(alloc, book)?;
+    Ok((
+        refused,
+        first_period(book, period),
+        first_edit(book),
+        counts,
+    ))
+}
+
+fn told(alloc: Global, period: &Name) -> Result<Told, Fail> {
+    let mut book = Book::new(alloc);
+    ask(alloc, &mut book, period)
+}
+
+#[test]
+fn books_rows_and_says_what_they_are(rt: HostRuntime) -> Result<(), Fail> {
+    let name = Name::read(b"p").ok_or("a name")?;
+    let (refused, period, edit, counts) = told(rt.alloc(), &name)?;
+    assert_eq!(rt; refused, (None, None), "the first row refused");
+    assert_eq!(rt;
+        period,
+        (Some(0), 1, Some((2, 4, false, true))),
+        "the period"
+    );
+    assert_eq!(rt; edit, (1, Some((EditWord::Amend, true))), "the edit");
+    assert_eq!(rt; counts, (1, 1, 4), "arcs, facts and plain rows");
+    Ok(())
+}

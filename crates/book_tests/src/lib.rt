@@ -1,0 +1,13 @@
+//! Tests of declarations, facts, the book, the graph of a period and made sessions, by their public names alone.
+#![tactic(auto)]
+
+#[cfg(test)]
+mod book;
+#[cfg(test)]
+mod facts;
+#[cfg(test)]
+mod make;
+#[cfg(test)]
+mod period;
+#[cfg(test)]
+mod site;

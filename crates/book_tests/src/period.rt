@@ -1,0 +1,204 @@
+// What no clause says: that calls succeed where memory is ample, and values from outside.
+
+use crate::book::first_refused;
+use pb_book::Book;
+use pb_graph::Graph;
+use pb_period::{Assembly, assemble, design};
+use pb_rows::Rows;
+use std::alloc::Global;
+use std::test::Fail;
+
+/// A stream that carries a transfer, and one period for each of its days and the day after.
+const TRANSFER: &[u8] =
+    b"unit,U\nstream,T,env,U,batch,1\nstream,O,U,env,plain,0\nperiod,d1,2024-01-30,2024-01-30\nperiod,d2,2024-01-31,2024-01-31\nperiod,d3,2024-02-01,2024-02-01\nperiod,d4,2024-02-02,2024-02-02\ntransfer,t1,T,2024-01-30,2024-02-01,10,9\n";
+
+/// A refinery day before its dips.
+const REFINERY: &[u8] =
+    b"unit,CDU\ntank,TK1,1000000\nstrap,TK1,0,0\nstrap,TK1,10000,5000000000\nstream,CRUDE,env,CDU,metered,1\nstream,RES,CDU,env,metered,1\nstream,NAPH,CDU,TK1,plain,0\nstream,SHIP,TK1,env,batch,1000000\nperiod,may1,2024-05-01,2024-05-01\nreading,r1,CRUDE,2024-05-01,10000000000,2500000000000000\nreading,r2,RES,2024-05-01,6000000000,900000000000000\ntransfer,t1,SHIP,2024-05-01,2024-05-01,2583475000,100000000000\n";
+
+/// Two days, on the second of which one stream isn't read.
+const TWO_DAYS: &[u8] =
+    b"unit,U\nstream,A,env,U,metered,1\nstream,B,U,env,metered,1\nperiod,d1,2024-03-01,2024-03-02\nreading,r1,A,2024-03-01,5,0\nreading,r2,A,2024-03-02,5,0\nreading,r3,B,2024-03-01,4,0\n";
+
+// Gives a book these rows, and says which it refuses.
+fn fill(alloc: Global, book: &mut Book, text: &[u8]) -> Result<Option<usize>, Fail> {
+    let rows = Rows::of(alloc, text)?;
+    Ok(first_refused(book, 0, &rows))
+}
+
+// A book of these rows, each of which it stores.
+fn book(alloc: Global, text: &[u8]) -> Result<Book, Fail> {
+    let mut book = Book::new(alloc);
+    match fill(alloc, &mut book, text)? {
+        None => Ok(book),
+        Some(place) => Err(place)?,
+    }
+}
+
+// The graph of a period of a book that accepts these rows.
+fn graph(alloc: Global, text: &[u8], period: u32) -> Result<Result<Graph, Assembly>, Fail> {
+    let book = book(alloc, text)?;
+    if period < book.periods() {
+        Ok(assemble(alloc, &book, period))
+    } else {
+        Err("no such period")?
+    }
+}
+
+// What is measured of a stream of a graph.
+fn meas(graph: &Graph, j: u32) -> Option<(i128, i128)> {
+    if j >= graph.len() {
+        return None;
+    }
+    match graph.stream(j).meas {
+        Some(meas) => Some((meas.value, meas.variance)),
+        None => None,
+    }
+}
+
+// What a design of these rows measures of a stream.
+fn designed(alloc: Global, text: &[u8], j: u32) -> Result<Option<(i128, i128)>, Fail> {
+    let book = book(alloc, text)?;
+    let graph = design(alloc, &book)?;
+    Ok(meas(&graph, j))
+}
+
+// What a period measured of a stream, by these rows and some more.
+fn measured(
+    alloc: Global,
+    text: &[u8],
+    more: &[u8],
+    period: u32,
+    j: u32,
+) -> Result<Option<(i128, i128)>, Fail> {
+    let mut rows = Vec::from_slice(alloc, text)?;
+    rows.extend_from_slice(more)?;
+    match graph(alloc, &rows, period)? {
+        Ok(graph) => Ok(meas(&graph, j)),
+        Err(_) => Err("a stream is over the limits")?,
+    }
+}
+
+#[test]
+fn designs_measure_all_but_plain_streams(rt: HostRuntime) -> Result<(), Fail> {
+    let text =
+        b"unit,U\nunit,V\ntank,K,7\nstream,A,env,U,metered,3\nstream,B,U,V,plain,0\nstream,C,V,K,batch,5\n";
+    for (j, want) in [
+        (0, Some((0, 7))),
+        (1, Some((0, 3))),
+        (2, None),
+        (3, Some((0, 5))),
+    ] {
+        assert!(rt; designed(rt.alloc(), text, j)? == want, "the stream {j}");
+    }
+    Ok(())
+}
+
+#[test]
+fn periods_share_a_transfer(rt: HostRuntime) -> Result<(), Fail> {
+    for (period, j, want) in [
+        (0, 0, Some((3, 4))),
+        (1, 0, Some((3, 4))),
+        (2, 0, Some((4, 4))),
+        (3, 0, Some((0, 1))),
+        (0, 1, None),
+    ] {
+        assert!(rt;
+            measured(rt.alloc(), TRANSFER, b"", period, j)? == want,
+            "the stream {j} of the period {period}"
+        );
+    }
+    Ok(())
+}
+
+#[test]
+fn measures_a_refinery_day(rt: HostRuntime) -> Result<(), Fail> {
+    let rising =
+        b"dip,p1,TK1,2024-04-30,0,850000,500000000000\ndip,p2,TK1,2024-05-01,3333,850000,500000000000\n";
+    for (j, want) in [
+        (0, Some((1_416_525_000, 1_000_001_000_000))),
+        (1, Some((10_000_000_000, 2_500_000_000_000_001))),
+        (2, Some((6_000_000_000, 900_000_000_000_001))),
+        (3, None),
+        (4, Some((2_583_475_000, 100_001_000_000))),
+    ] {
+        assert!(rt;
+            measured(rt.alloc(), REFINERY, rising, 0, j)? == want,
+            "the stream {j}"
+        );
+    }
+    Ok(())
+}
+
+#[test]
+fn measures_a_tank_by_its_dips(rt: HostRuntime) -> Result<(), Fail> {
+    let table: [(&[u8], Option<(i128, i128)>); 3] = [
+        (
+            b"dip,p1,TK1,2024-04-30,3333,850000,500000000000\ndip,p2,TK1,2024-05-01,0,850000,500000000000\n",
+            Some((-1_416_525_000, 1_000_001_000_000)),
+        ),
+        (
+            b"dip,p2,TK1,2024-05-01,3333,850000,500000000000\ndip,p3,TK1,2024-05-02,0,850000,1\n",
+            None,
+        ),
+        (b"dip,p1,TK1,2024-04-30,0,850000,1\n", None),
+    ];
+    for (dips, want) in table {
+        assert!(rt;
+            measured(rt.alloc(), REFINERY, dips, 0, 0)? == want,
+            "the tank with the dips {dips:?}"
+        );
+    }
+    Ok(())
+}
+
+#[test]
+fn measures_a_stream_that_is_read_each_day(rt: HostRuntime) -> Result<(), Fail> {
+    let table: [(&[u8], u32, Option<(i128, i128)>); 3] = [
+        (b"", 0, Some((10, 1))),
+        (b"", 1, None),
+        (b"reading,r4,B,2024-03-02,6,2\n", 1, Some((10, 3))),
+    ];
+    for (more, j, want) in table {
+        assert!(rt;
+            measured(rt.alloc(), TWO_DAYS, more, 0, j)? == want,
+            "the stream {j} with the rows {more:?}"
+        );
+    }
+    Ok(())
+}
+
+// The graph of a day on which a batch stream, the second one, has that many transfers of 10^13 grams.
+fn busy_day(alloc: Global, transfers: u32) -> Result<Result<Graph, Assembly>, Fail> {
+    let mut text = Vec::from_slice(
+        alloc,
+        b"unit,U\nstream,A,env,U,metered,1\nstream,T,U,env,batch,1\nperiod,d1,2024-03-01,2024-03-01\n",
+    )?;
+    for i in 0..transfers {
+        let row = format!(in alloc; "transfer,t{i},T,2024-03-01,2024-03-01,10000000000000,0\n")?;
+        text.extend_from_slice(row.as_bytes())?;
+    }
+    graph(alloc, &text, 0)
+}
+
+// What such a day measured of the batch stream.
+fn busy(alloc: Global, transfers: u32) -> Result<Result<Option<(i128, i128)>, Assembly>, Fail> {
+    match busy_day(alloc, transfers)? {
+        Ok(graph) => Ok(Ok(meas(&graph, 1))),
+        Err(why) => Ok(Err(why)),
+    }
+}
+
+#[test]
+fn tells_the_first_stream_over_the_limits(rt: HostRuntime) -> Result<(), Fail> {
+    for (transfers, want) in [
+        (100, Ok(Some((1_000_000_000_000_000, 1)))),
+        (101, Err(Assembly::Over(1))),
+    ] {
+        assert!(rt;
+            busy(rt.alloc(), transfers)? == want,
+            "{transfers} transfers"
+        );
+    }
+    Ok(())
+}

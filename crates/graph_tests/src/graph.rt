@@ -1,0 +1,403 @@
+// Each public call at a small graph.
+
+use crate::graphs::{graph_of, stream};
+use pb_graph::{
+    Bounds, Class, Classified, GlobalTest, Graph, List, Meas, Member, Neighbours, NodalTest, Parts,
+    Solved, Stage, Step, Stream, StreamResult, Study, Taken, Tests, Verdict, Witness, boundary,
+    path, reach,
+};
+use std::alloc::{AllocError, Global};
+use std::process::Abort;
+
+const METER: Option<Meas> = Some(Meas {
+    value: 0,
+    variance: 1,
+});
+
+const OTHER_METER: Option<Meas> = Some(Meas {
+    value: 5,
+    variance: 7,
+});
+
+/// Two units: A from env to U, B from U to V unmeasured, C from V to env.
+fn line(rt: &impl Abort, alloc: Global) -> Result<Graph, AllocError> {
+    let streams = [stream(0, 1, METER), stream(1, 2, None), stream(2, 0, METER)];
+    graph_of(rt, alloc, 3, &streams)
+}
+
+fn step(stream: u32, forward: bool) -> Step {
+    Step { stream, forward }
+}
+
+fn member(stream: u32, sign: i8) -> Member {
+    Member { stream, sign }
+}
+
+#[test]
+fn fits_at_the_limits(rt: HostRuntime) {
+    let g = Graph::new(rt.alloc(), 2);
+    let cases = [
+        (0, 1, 1_000_000_000_000_000, 1, true),
+        (
+            0,
+            1,
+            -1_000_000_000_000_000,
+            10_000_000_000_000_000_000_000,
+            true,
+        ),
+        (0, 1, 1_000_000_000_000_001, 1, false),
+        (0, 1, -1_000_000_000_000_001, 1, false),
+        (0, 1, 0, 0, false),
+        (0, 1, 0, 10_000_000_000_000_000_000_001, false),
+        (1, 1, 0, 1, false),
+        (0, 2, 0, 1, false),
+        (2, 0, 0, 1, false),
+    ];
+    for (from, to, value, variance, fits) in cases {
+        let stream = Stream {
+            from,
+            to,
+            meas: Some(Meas { value, variance }),
+        };
+        assert_eq!(rt; g.fits(&stream), fits, "{stream:?}");
+    }
+}
+
+#[test]
+fn decides_cuts(rt: HostRuntime) -> Result<(), AllocError> {
+    let g = line(&rt, rt.alloc())?;
+    let members = [member(0, 1), member(1, -1)];
+    let cases: [(&[bool], &[Member], bool); 4] = [
+        (&[false, true, false], &members, true),
+        (&[false, true, true], &members, false),
+        (&[false, true], &members, false),
+        (&[false, true, false], &members[..1], false),
+    ];
+    for (side, members, is_cut) in cases {
+        assert_eq!(rt; g.is_cut(side, members), is_cut, "{side:?} and {members:?}");
+    }
+    Ok(())
+}
+
+#[test]
+fn decides_cycles(rt: HostRuntime) -> Result<(), AllocError> {
+    let g = line(&rt, rt.alloc())?;
+    let round = [step(0, true), step(1, true), step(2, true)];
+    let there_and_back = [step(0, true), step(0, false)];
+    let twice = [
+        step(0, true),
+        step(1, true),
+        step(2, true),
+        step(0, true),
+        step(1, true),
+        step(2, true),
+    ];
+    let cases: [(&[Step], bool); 5] = [
+        (&round, true),
+        (&round[..2], false),
+        (&[], false),
+        (&there_and_back, false),
+        (&twice, false),
+    ];
+    for (steps, is_cycle) in cases {
+        assert_eq!(rt; g.is_cycle(steps), is_cycle, "{steps:?}");
+    }
+    Ok(())
+}
+
+#[test]
+fn balances(rt: HostRuntime) -> Result<(), AllocError> {
+    let g = line(&rt, rt.alloc())?;
+    assert!(rt; g.len() == 3 && g.nodes() == 3);
+    assert!(rt; g.is_balanced(&[7, 7, 7]));
+    assert!(rt; !g.is_balanced(&[7, 7, 8]));
+    assert_eq!(rt; g.net(&[7, 5, 8], 1), 2);
+    assert_eq!(rt; g.net(&[7, 5, 8], 0), 1);
+    Ok(())
+}
+
+#[test]
+fn copies(rt: HostRuntime) -> Result<(), AllocError> {
+    let g = line(&rt, rt.alloc())?;
+    assert!(rt; g.len() == 3 && g.nodes() == 3);
+    let bare = g.unmeasure(rt.alloc(), 2)?;
+    let want = [stream(0, 1, METER), stream(1, 2, None), stream(2, 0, None)];
+    assert_eq!(rt; bare.streams(), want.as_slice());
+    let same = g.copy(rt.alloc())?;
+    assert_eq!(rt; same.streams(), g.streams());
+    Ok(())
+}
+
+// The streams beside a node, and the nodes that B joins.
+fn assert_reached(rt: &impl Abort, alloc: Global, g: &Graph) -> Result<(), AllocError> {
+    assert!(rt; g.len() == 3 && g.nodes() == 3);
+    let near = Neighbours::of(alloc, g)?;
+    assert_eq!(rt; near.at(1).as_slice(), [0, 1].as_slice());
+    let reached = reach(alloc, g, &near, &[false, true, false], 2)?;
+    assert_eq!(rt; reached.as_slice(), [false, true, true].as_slice());
+    Ok(())
+}
+
+#[test]
+fn reaches(rt: HostRuntime) -> Result<(), AllocError> {
+    let g = line(&rt, rt.alloc())?;
+    assert_reached(&rt, rt.alloc(), &g)
+}
+
+// No path over B from env to U, and one of a step from V to U.
+fn assert_paths(rt: &impl Abort, alloc: Global, g: &Graph) -> Result<(), AllocError> {
+    assert!(rt; g.len() == 3 && g.nodes() == 3);
+    let marks = [false, true, false];
+    let near = Neighbours::of(alloc, g)?;
+    assert!(rt; path(alloc, g, &near, &marks, 0, 1)?.is_none());
+    let back = path(alloc, g, &near, &marks, 2, 1)?;
+    assert!(rt; matches!(&back, Some(steps) if steps.as_slice() == [step(1, false)].as_slice()));
+    Ok(())
+}
+
+#[test]
+fn finds_paths(rt: HostRuntime) -> Result<(), AllocError> {
+    let g = line(&rt, rt.alloc())?;
+    assert_paths(&rt, rt.alloc(), &g)
+}
+
+/// A list of two items.
+fn two_items(alloc: Global) -> Result<List<u32>, AllocError> {
+    let mut list = List::new(alloc);
+    list.push(5)?;
+    list.push(7)?;
+    Ok(list)
+}
+
+#[test]
+fn gives_lists_away(rt: HostRuntime) -> Result<(), AllocError> {
+    let list = two_items(rt.alloc())?;
+    assert!(rt; !list.is_empty() && list.len() == 2);
+    assert!(rt; list.iter().copied().max() == Some(7));
+    let copy = list.copy(rt.alloc())?;
+    assert_eq!(rt; copy.as_slice(), list.as_slice());
+    let items = copy.into_vec();
+    assert_eq!(rt; items.as_slice(), [5, 7].as_slice());
+    let none: List<u32> = List::new(rt.alloc());
+    assert!(rt; none.is_empty());
+    Ok(())
+}
+
+#[test]
+fn makes_boundaries(rt: HostRuntime) -> Result<(), AllocError> {
+    let g = line(&rt, rt.alloc())?;
+    let side = [false, true, false];
+    assert!(rt; g.nodes() == 3 && g.len() == 3);
+    let members = boundary(rt.alloc(), g.streams(), &side)?;
+    assert!(rt; g.is_cut(&side, members.as_slice()));
+    assert_eq!(rt; members.len(), 2);
+    assert_eq!(rt; g.stream(1).end_from(2), 1);
+    assert_eq!(rt; g.stream(1).end_from(1), 2);
+    Ok(())
+}
+
+/// The result of a stream that a cut shows.
+fn result(alloc: Global, members: &[Member]) -> Result<StreamResult, AllocError> {
+    let witness = Witness::Cut {
+        side: List::from_vec(Vec::from_slice(alloc, &[false, true, false])?),
+        members: List::from_vec(Vec::from_slice(alloc, members)?),
+    };
+    let classified = Classified {
+        class: Class::Redundant,
+        witness,
+    };
+    Ok(StreamResult {
+        classified: classified.copy(alloc)?,
+        flow: 7,
+        bounds: Some(Bounds { lo: 6, hi: 8 }),
+        least: Some(Bounds { lo: 6, hi: 7 }),
+    })
+}
+
+/// A result of that kind for each stream of the line.
+fn results(alloc: Global, member: Member) -> Result<List<StreamResult>, AllocError> {
+    let mut streams = List::new(alloc);
+    for _stream in 0..3 {
+        streams.push(result(alloc, &[member])?)?;
+    }
+    Ok(streams)
+}
+
+/// A balance tested.
+fn nodal_tests(alloc: Global) -> Result<List<NodalTest>, AllocError> {
+    let mut nodal = List::new(alloc);
+    nodal.push(NodalTest {
+        node: 1,
+        net: 0,
+        variance: 2,
+        critical: Some(1_000_000_000_000),
+        verdict: Verdict::Accept,
+    })?;
+    Ok(nodal)
+}
+
+/// A stage of the line, with a balance tested; its streams have cuts of this member.
+fn stage(
+    rt: &impl Abort,
+    alloc: Global,
+    member: Member,
+    prices: &[i128],
+    solved: Solved,
+) -> Result<Stage, AllocError> {
+    let prices = List::from_vec(Vec::from_slice(alloc, prices)?);
+    let nodal = nodal_tests(alloc)?;
+    let graph = line(rt, alloc)?;
+    Ok(Stage {
+        graph,
+        streams: results(alloc, member)?,
+        prices,
+        solved,
+        g: 1,
+        h: 0,
+        dof: 1,
+        low: 0,
+        high: None,
+        tests: Some(Tests {
+            global: GlobalTest {
+                critical: None,
+                verdict: Verdict::NoCritical,
+            },
+            nodal,
+            measure: List::new(alloc),
+        }),
+    })
+}
+
+// Whether such a stage is well formed.
+fn is_formed(
+    rt: &impl Abort,
+    alloc: Global,
+    member: Member,
+    prices: &[i128],
+    solved: Solved,
+) -> Result<bool, AllocError> {
+    Ok(stage(rt, alloc, member, prices, solved)?.is_well_formed())
+}
+
+const PRICES: [i128; 3] = [0, -4, 4];
+
+#[test]
+fn tests_the_form_of_a_stage(rt: HostRuntime) -> Result<(), AllocError> {
+    let converged = Solved::Converged(1);
+    let cases: [(&str, Member, &[i128], Solved, bool); 5] = [
+        ("well formed", member(2, 1), &PRICES, converged, true),
+        ("no sign", member(2, 2), &PRICES, converged, false),
+        ("no stream", member(3, 1), &PRICES, converged, false),
+        ("no prices", member(2, 1), &[], converged, false),
+        (
+            "more sweeps",
+            member(2, 1),
+            &PRICES,
+            Solved::Unconverged(100_001),
+            false,
+        ),
+    ];
+    for (case, member, prices, solved, want) in cases {
+        let is_formed = is_formed(&rt, rt.alloc(), member, prices, solved)?;
+        assert_eq!(rt; is_formed, want, "{case}");
+    }
+    Ok(())
+}
+
+/// That many stages of the line.
+fn stages_of(rt: &impl Abort, alloc: Global, count: u32) -> Result<List<Stage>, AllocError> {
+    let mut stages = List::new(alloc);
+    for _stage in 0..count {
+        stages.push(stage(rt, alloc, member(2, 1), &PRICES, Solved::Converged(1))?)?;
+    }
+    Ok(stages)
+}
+
+// Whether a study of that many stages of the line, with these meters taken, is a well formed one of this graph.
+fn is_study_of(
+    rt: &impl Abort,
+    alloc: Global,
+    graph: &Graph,
+    stages: u32,
+    taken: &[Taken],
+) -> Result<bool, AllocError> {
+    let taken = List::from_vec(Vec::from_slice(alloc, taken)?);
+    let study = Study {
+        stages: stages_of(rt, alloc, stages)?,
+        taken,
+        stop: None,
+    };
+    Ok(study.is_well_formed(graph))
+}
+
+#[test]
+fn tests_the_form_of_a_study(rt: HostRuntime) -> Result<(), AllocError> {
+    let graph = line(&rt, rt.alloc())?;
+    let bare = Graph::new(rt.alloc(), 3);
+    let meter = [Taken { stream: 0, low: 1 }];
+    let cases: [(&str, &Graph, u32, &[Taken], bool); 4] = [
+        ("no stage", &graph, 0, &[], false),
+        ("well formed", &graph, 1, &[], true),
+        ("another graph", &bare, 1, &[], false),
+        ("no stage after a meter is taken", &graph, 1, &meter, false),
+    ];
+    for (case, graph, stages, taken, want) in cases {
+        let is_study = is_study_of(&rt, rt.alloc(), graph, stages, taken)?;
+        assert_eq!(rt; is_study, want, "{case}");
+    }
+    Ok(())
+}
+
+#[test]
+fn joins_parts(rt: HostRuntime) -> Result<(), AllocError> {
+    let mut parts = Parts::new(rt.alloc(), 4)?;
+    let joined = [(2, 3, true), (1, 2, true), (3, 1, false)];
+    for (from, to, apart) in joined {
+        let stream = Stream {
+            from,
+            to,
+            meas: None,
+        };
+        assert!(rt; parts.labels().len() == 4, "from {from} to {to}");
+        assert_eq!(rt; parts.join(&stream), apart, "from {from} to {to}");
+    }
+    assert_eq!(rt; parts.labels(), [0, 1, 1, 1].as_slice());
+    assert!(rt; parts.label(3) == 1);
+    Ok(())
+}
+
+// Whether the graph is alike to one of these streams, and the other way round.
+fn are_alike(
+    rt: &impl Abort,
+    alloc: Global,
+    g: &Graph,
+    nodes: u32,
+    streams: &[Stream],
+) -> Result<(bool, bool), AllocError> {
+    assert!(rt; nodes >= 1 && nodes <= 1_001);
+    let other = graph_of(rt, alloc, nodes, streams)?;
+    Ok((g.alike(&other), other.alike(g)))
+}
+
+/// Values and variances may differ, and nothing else.
+#[test]
+fn alike_graphs(rt: HostRuntime) -> Result<(), AllocError> {
+    let g = line(&rt, rt.alloc())?;
+    let (a, b, c) = (stream(0, 1, METER), stream(1, 2, None), stream(2, 0, METER));
+    let others = [stream(0, 1, OTHER_METER), b, stream(2, 0, OTHER_METER)];
+    let cases: [(&str, u32, &[Stream], bool); 8] = [
+        ("the same", 3, &[a, b, c], true),
+        ("other values", 3, &others, true),
+        ("a node more", 4, &[a, b, c], false),
+        ("a stream less", 3, &[a, b], false),
+        ("another direction", 3, &[a, b, stream(0, 2, METER)], false),
+        ("a meter more", 3, &[a, stream(1, 2, METER), c], false),
+        ("a meter less", 3, &[stream(0, 1, None), b, c], false),
+        ("another end", 3, &[stream(0, 2, METER), b, c], false),
+    ];
+    for (case, nodes, streams, want) in cases {
+        let alike = are_alike(&rt, rt.alloc(), &g, nodes, streams)?;
+        assert_eq!(rt; alike, (want, want), "{case}");
+    }
+    Ok(())
+}

@@ -1,0 +1,15 @@
+//! Tests of the graph, its groups, its forest, its points and its classes, by their public names alone.
+#![tactic(auto)]
+
+#[cfg(test)]
+mod classify;
+#[cfg(test)]
+mod forest;
+#[cfg(test)]
+mod graph;
+#[cfg(test)]
+mod graphs;
+#[cfg(test)]
+mod merge;
+#[cfg(test)]
+mod points;

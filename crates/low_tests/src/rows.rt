@@ -1,0 +1,333 @@
+// What no clause says: that calls succeed with ample memory, and values from outside.
+
+use pb_rows::{
+    Name, NameList, Names, Reason, Records, Row, RowWriter, Rows, read_date, read_whole,
+    whole_bytes,
+};
+use std::alloc::{AllocError, Global};
+use std::process::Abort;
+use std::test::Fail;
+
+#[test]
+fn reads_dates(rt: HostRuntime) -> Result<(), Fail> {
+    let table: [(&[u8], Option<i32>); 9] = [
+        (b"1970-01-01", Some(0)),
+        (b"1900-01-01", Some(-25567)),
+        (b"2199-12-31", Some(84005)),
+        (b"2024-02-29", Some(19782)),
+        (b"2023-02-29", None),
+        (b"2024-2-9", None),
+        (b"1899-12-31", None),
+        (b"2200-01-01", None),
+        (b"2024-02-09 ", None),
+    ];
+    for (field, day) in table {
+        assert_eq!(rt; read_date(field)?, day, "the day of {field:?}");
+    }
+    Ok(())
+}
+
+#[test]
+fn reads_whole_numbers(rt: HostRuntime) {
+    let table: [(&[u8], Option<i128>); 10] = [
+        (b"0", Some(0)),
+        (b"-1", Some(-1)),
+        (b"100", Some(100)),
+        (b"101", None),
+        (b"007", None),
+        (b"-0", None),
+        (b"", None),
+        (b"-", None),
+        (b"+1", None),
+        (b"1 ", None),
+    ];
+    for (field, value) in table {
+        assert_eq!(rt;
+            read_whole(field, -100, 100),
+            value,
+            "the number of {field:?}"
+        );
+    }
+    let long: [(&[u8], i128); 6] = [
+        (b"123456789012345678", 123456789012345678),
+        (b"-123456789012345678", -123456789012345678),
+        (b"9999999999999999999", 9999999999999999999),
+        (b"-9999999999999999999", -9999999999999999999),
+        (b"18446744073709551616", 18446744073709551616),
+        (b"99999999999999999999", 99999999999999999999),
+    ];
+    for (field, value) in long {
+        assert_eq!(rt;
+            read_whole(field, i128::MIN, i128::MAX),
+            Some(value),
+            "the number of {field:?}"
+        );
+    }
+    assert_eq!(rt; read_whole(b"1234567890123456x8", 0, i128::MAX), None);
+    assert_eq!(rt; read_whole(b"01234567890123456789", 0, i128::MAX), None);
+    let least = i128::MIN;
+    assert_eq!(rt;
+        read_whole(b"-170141183460469231731687303715884105728", least, 0),
+        Some(least)
+    );
+    assert_eq!(rt;
+        read_whole(b"-170141183460469231731687303715884105729", least, 0),
+        None
+    );
+}
+
+#[test]
+fn writes_whole_numbers(rt: HostRuntime) -> Result<(), Fail> {
+    let table: [(i128, &[u8]); 4] = [
+        (0, b"0"),
+        (-25567, b"-25567"),
+        (1000, b"1000"),
+        (i128::MIN, b"-170141183460469231731687303715884105728"),
+    ];
+    for (value, text) in table {
+        let bytes = whole_bytes(rt.alloc(), value)?;
+        assert_eq!(rt; bytes.as_slice(), text, "the text of {value}");
+    }
+    Ok(())
+}
+
+#[test]
+fn reads_names(rt: HostRuntime) {
+    let table: [(&[u8], bool); 7] = [
+        (b"TK-1_a.9", true),
+        (b"", false),
+        (b"a b", false),
+        (b"a,b", false),
+        (b"\xc3\xa9", false),
+        (b"abcdefghijklmnopqrstuvwxyz012345", true),
+        (b"abcdefghijklmnopqrstuvwxyz0123456", false),
+    ];
+    for (field, is_name) in table {
+        match Name::read(field) {
+            Some(name) => assert_eq!(rt; name.bytes(), field, "the name {name}"),
+            None => assert!(rt; !is_name, "no name in {field:?}"),
+        }
+    }
+    assert!(rt; Name::read(b"a") == Name::read(b"a"));
+    assert!(rt; Name::read(b"a") != Name::read(b"b"));
+}
+
+#[test]
+fn orders_and_prints_names(rt: HostRuntime) -> Result<(), Fail> {
+    let unit = Name::read(b"U-1").ok_or("U-1")?;
+    let longer = Name::read(b"U-10").ok_or("U-10")?;
+    let other = Name::read(b"U-2").ok_or("U-2")?;
+    assert!(rt; unit < longer && longer < other);
+    assert_eq!(rt; unit.as_str(), "U-1");
+    assert_eq!(rt;
+        format!(in rt.alloc(); "{unit} {other:?}")?.as_str(),
+        "U-1 U-2"
+    );
+    Ok(())
+}
+
+#[test]
+fn lists_names(rt: HostRuntime) -> Result<(), Fail> {
+    let mut names = Names {
+        nodes: NameList::new(rt.alloc()),
+        streams: NameList::new(rt.alloc()),
+    };
+    let env = Name::read(b"env").ok_or("env")?;
+    names.nodes.push(env)?;
+    assert_eq!(rt; names.nodes.len(), 1);
+    assert_eq!(rt; names.nodes.at(0).bytes(), b"env".as_slice());
+    assert_eq!(rt; names.nodes.as_slice().len(), 1);
+    assert_eq!(rt; names.nodes.iter().count(), 1);
+    assert!(rt; names.streams.is_empty());
+    Ok(())
+}
+
+// The row has just these fields.
+fn assert_fields(rt: &impl Abort, row: &Row, fields: &[&[u8]]) {
+    assert_eq!(rt; row.len(), fields.len(), "the length of {fields:?}");
+    for (i, field) in fields.iter().enumerate() {
+        assert_eq!(rt; row.field(i), *field, "field {i} of {fields:?}");
+    }
+}
+
+#[test]
+fn reads_records(rt: HostRuntime) -> Result<(), Fail> {
+    let rows = Rows::of(rt.alloc(), b"\xef\xbb\xbfunit,U,,\r\n\"a,\"\"b\"\n\n,\n")?;
+    let table: [(&[&[u8]], usize); 3] = [
+        (&[b"unit", b"U", b"", b""], 2),
+        (&[b"a,\"b"], 1),
+        (&[b"", b""], 0),
+    ];
+    assert_eq!(rt; rows.len(), 3);
+    for (row, (fields, filled)) in rows.iter().zip(table) {
+        assert_fields(&rt, row, fields);
+        assert_eq!(rt; row.filled(), filled, "the filled fields of {fields:?}");
+    }
+    Ok(())
+}
+
+// The next record has these fields and that many of them filled; after the last there is none.
+fn assert_next(
+    rt: &impl Abort,
+    records: &mut Records,
+    fields: &[&[u8]],
+    filled: usize,
+) -> Result<(), AllocError> {
+    let next = records.next()?;
+    assert_eq!(rt; next.is_some(), !fields.is_empty(), "{fields:?}");
+    if let Some(row) = next {
+        assert_fields(rt, &row, fields);
+        assert_eq!(rt; row.filled(), filled, "the filled fields of {fields:?}");
+    }
+    Ok(())
+}
+
+// Takes each record, and asks on after the last.
+fn assert_taken(rt: &impl Abort, records: &mut Records) -> Result<(), AllocError> {
+    assert_eq!(rt; records.taken(), 0);
+    let table: [(&[&[u8]], usize, usize); 4] = [
+        (&[b"unit", b"U"], 2, 1),
+        (&[b"", b""], 0, 2),
+        (&[], 0, 2),
+        (&[], 0, 2),
+    ];
+    for (fields, filled, taken) in table {
+        assert_next(rt, records, fields, filled)?;
+        assert_eq!(rt; records.taken(), taken, "after {fields:?}");
+    }
+    Ok(())
+}
+
+#[test]
+fn takes_records(rt: HostRuntime) -> Result<(), Fail> {
+    assert_taken(&rt, &mut Records::of(rt.alloc(), b"unit,U\n\n,\n"))?;
+    Ok(())
+}
+
+// One row of two fields.
+fn one_row(rt: &impl Abort, alloc: Global) -> Result<Rows, AllocError> {
+    let mut row = Row::new(alloc);
+    assert!(rt; row.is_empty());
+    row.push(b"unit")?;
+    row.push(b"U")?;
+    let mut rows = Rows::new(alloc);
+    assert!(rt; rows.is_empty());
+    rows.push(row)?;
+    Ok(rows)
+}
+
+#[test]
+fn makes_rows(rt: HostRuntime) -> Result<(), Fail> {
+    let rows = one_row(&rt, rt.alloc())?;
+    let mut text = Vec::from_slice(rt.alloc(), b"tank,K\n")?;
+    assert_eq!(rt; rows.len(), 1);
+    assert_fields(&rt, rows.at(0), &[b"unit", b"U"]);
+    for row in rows.iter() {
+        let mut fields: [&[u8]; 3] = [b""; 3];
+        let lent = row.lend(&mut fields);
+        assert_eq!(rt; (lent, fields[1]), (2, b"U".as_slice()), "{row:?}");
+        row.write_to(&mut text)?;
+    }
+    assert_eq!(rt; text.as_slice(), b"tank,K\nunit,U\n".as_slice());
+    Ok(())
+}
+
+// A row but for its end: a text, a number, a text in quotes and an empty one.
+fn write_fields(writer: &mut RowWriter) -> Result<(), AllocError> {
+    writer.field(b"edit")?;
+    writer.whole(9)?;
+    writer.field(b"typed, \"twice\"")?;
+    writer.field(b"")
+}
+
+#[test]
+fn writes_rows(rt: HostRuntime) -> Result<(), Fail> {
+    let mut writer = RowWriter::new(rt.alloc());
+    write_fields(&mut writer)?;
+    assert_eq!(rt; writer.bytes(), b"".as_slice());
+    writer.end_row()?;
+    writer.field(b"end")?;
+    writer.end_row()?;
+    assert_eq!(rt;
+        writer.bytes(),
+        b"edit,9,\"typed, \"\"twice\"\"\",\nend\n".as_slice()
+    );
+    Ok(())
+}
+
+#[test]
+fn reads_reasons(rt: HostRuntime) {
+    let long = [b'x'; 81];
+    let table: [(&[u8], bool); 8] = [
+        (b"misread dip, see ticket 7", true),
+        (b" ", true),
+        (b"~", true),
+        (&long[..80], true),
+        (&long, false),
+        (b"", false),
+        (b"tab\there", false),
+        ("caf\u{e9}".as_bytes(), false),
+    ];
+    for (field, is) in table {
+        assert_eq!(rt; Reason::read(field).is_some(), is, "the reason {field:?}");
+    }
+    match Reason::read(b"late ticket") {
+        Some(reason) => {
+            assert_eq!(rt; reason.bytes(), b"late ticket".as_slice());
+            assert!(rt; reason == reason);
+        }
+        None => assert!(rt; false, "no reason"),
+    }
+}
+
+// The next record's fields take the place of the row's; after the last the row is empty.
+fn assert_fill(
+    rt: &impl Abort,
+    records: &mut Records,
+    row: &mut Row,
+    fields: &[&[u8]],
+) -> Result<(), AllocError> {
+    let is_filled = records.fill(row)?;
+    assert_eq!(rt; is_filled, !fields.is_empty(), "{fields:?}");
+    assert_eq!(rt; row.is_empty(), fields.is_empty(), "{fields:?}");
+    assert_fields(rt, row, fields);
+    Ok(())
+}
+
+// The row before the first record and after the last.
+fn assert_filled(rt: &impl Abort, records: &mut Records, row: &mut Row) -> Result<(), AllocError> {
+    row.push(b"before")?;
+    let table: [(&[&[u8]], usize); 4] = [
+        (&[b"unit", b"U", b""], 1),
+        (&[b"a\"b"], 2),
+        (&[], 2),
+        (&[], 2),
+    ];
+    for (fields, taken) in table {
+        assert_fill(rt, records, row, fields)?;
+        assert_eq!(rt; records.taken(), taken, "after {fields:?}");
+    }
+    Ok(())
+}
+
+#[test]
+fn fills_rows(rt: HostRuntime) -> Result<(), Fail> {
+    let mut records = Records::of(rt.alloc(), b"unit,U,\n\"a\"\"b\"\n");
+    assert_filled(&rt, &mut records, &mut Row::new(rt.alloc()))?;
+    Ok(())
+}
+
+// A record's row takes one more field, which the next record drops.
+fn assert_added(rt: &impl Abort, records: &mut Records, row: &mut Row) -> Result<(), AllocError> {
+    assert_fill(rt, records, row, &[b"a\"b"])?;
+    row.push(b"after")?;
+    assert_fields(rt, row, &[b"a\"b", b"after"]);
+    assert_fill(rt, records, row, &[])
+}
+
+#[test]
+fn adds_to_filled_rows(rt: HostRuntime) -> Result<(), Fail> {
+    let mut records = Records::of(rt.alloc(), b"\"a\"\"b\"\n");
+    assert_added(&rt, &mut records, &mut Row::new(rt.alloc()))?;
+    Ok(())
+}

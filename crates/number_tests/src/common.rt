@@ -1,0 +1,91 @@
+//! Streams, graphs and comparisons that the tests share.
+
+use pb_graph::{Bounds, Graph, Meas, Solved, Stream};
+use std::alloc::{AllocError, Global};
+use std::process::Abort;
+
+/// An unmeasured stream.
+pub const fn plain(from: u32, to: u32) -> Stream {
+    Stream {
+        from,
+        to,
+        meas: None,
+    }
+}
+
+/// A measured stream: its reading in grams, and the variance in squared grams.
+pub const fn metered(from: u32, to: u32, value: i128, variance: i128) -> Stream {
+    Stream {
+        from,
+        to,
+        meas: Some(Meas { value, variance }),
+    }
+}
+
+/// The graph with these streams.
+pub fn graph_of(
+    rt: &impl Abort,
+    alloc: Global,
+    nodes: u32,
+    streams: &[Stream],
+) -> Result<Graph, AllocError> {
+    assert!(rt; nodes >= 1 && nodes <= 1_001);
+    let mut g = Graph::new(alloc, nodes);
+    for s in streams {
+        assert!(rt; g.fits(s), "{s:?}");
+        g.push(*s)?;
+    }
+    Ok(g)
+}
+
+/// What a solution is to say: how the sweeps ended, the gap, the degrees of freedom, and the statistic.
+#[derive(Clone, Copy)]
+pub struct Numbers {
+    pub solved: Solved,
+    pub g: u64,
+    pub h: u32,
+    pub dof: u32,
+    pub low: i128,
+    pub high: Option<i128>,
+}
+
+pub fn assert_numbers(rt: &impl Abort, found: Numbers, wanted: Numbers) {
+    assert_eq!(rt; found.solved, wanted.solved);
+    assert_eq!(rt; found.g, wanted.g);
+    assert_eq!(rt; found.h, wanted.h);
+    assert_eq!(rt; found.dof, wanted.dof);
+    assert_eq!(rt; found.low, wanted.low);
+    assert_eq!(rt; found.high, wanted.high);
+}
+
+/// Compares a count.
+pub fn assert_count(rt: &impl Abort, what: &str, found: usize, wanted: usize) {
+    assert_eq!(rt; found, wanted, "{what}");
+}
+
+/// Compares an amount at a place.
+pub fn assert_at(rt: &impl Abort, what: &str, place: usize, found: i128, wanted: i128) {
+    assert_eq!(rt; found, wanted, "{what} {place}");
+}
+
+/// Compares an amount with the one at its place in a list.
+pub fn assert_listed(rt: &impl Abort, what: &str, place: u32, found: i128, wanted: &[i128]) {
+    let place = place as usize;
+    assert!(rt; place < wanted.len(), "{what} {place}");
+    assert_at(rt, what, place, found, wanted[place]);
+}
+
+/// Compares bounds of a stream.
+pub fn assert_bounds(
+    rt: &impl Abort,
+    what: &str,
+    stream: usize,
+    found: Option<Bounds>,
+    wanted: Option<Bounds>,
+) {
+    assert_eq!(rt; found, wanted, "{what} of stream {stream}");
+}
+
+pub const fn within(lo: i128, hi: i128) -> Option<Bounds> {
+    Some(Bounds { lo, hi })
+}

@@ -1,6 +1,0 @@
-use Rattle.std.proofs.Common.{◌≡◌, length}
-use Rattle.pb_points.proofs.tests.others.Given as goal
-
--- one mark for each stream so far
-abbrev pub invariant-loop-k : goal.invariant-loop-k
-invariant-loop-k l = length l.marks.items ≡ l.k

@@ -1,0 +1,388 @@
+// What no clause says: that calls succeed where memory is ample, and rows from outside.
+
+mod histories;
+mod json;
+mod studies;
+
+ghost use Rattle.std.specs.Prelude.{All, IsTrue};
+ghost use Rattle.pb_graph.specs.declared.records.Classified.{Classified};
+ghost use Rattle.pb_graph.specs.WellFormed.{IsWitnessWithin};
+ghost use Rattle.pb_report.specs.Names.{IsNamed};
+
+use pb_graph::{
+    Bounds, Class, Classified, Graph, List, MOST_NODES, Meas, MeasureTest, Member, NodalTest,
+    Options, Solved, Stage, Step, Stream, StreamResult, Study, Tests, Verdict, Witness,
+};
+use pb_report::{Form, write_design, write_over, write_refused, write_study};
+use pb_rows::{Name, NameList, Names};
+use std::alloc::Global;
+use std::test::Fail;
+
+// The row of a refusal after a text.
+fn refusal(alloc: Global, at: u32, code: u32) -> Result<Vec<u8>, Fail> {
+    if code < 1 || code > 13 {
+        return Err(Fail::new("a code"));
+    }
+    let mut out = Vec::from_slice(alloc, b"before\n")?;
+    write_refused(alloc, at, code, Form::Csv, &mut out)?;
+    Ok(out)
+}
+
+#[test]
+fn writes_refusals(rt: HostRuntime) -> Result<(), Fail> {
+    let table: [(u32, u32, &[u8]); 13] = [
+        (1, 1, b"refused,1,1,kind\n"),
+        (2, 2, b"refused,2,2,fields\n"),
+        (9, 3, b"refused,9,3,name\n"),
+        (10, 4, b"refused,10,4,number\n"),
+        (11, 5, b"refused,11,5,date\n"),
+        (99, 6, b"refused,99,6,unknown\n"),
+        (100, 7, b"refused,100,7,duplicate\n"),
+        (101, 8, b"refused,101,8,order\n"),
+        (1000, 9, b"refused,1000,9,mismatch\n"),
+        (10000, 10, b"refused,10000,10,sealed\n"),
+        (100000, 11, b"refused,100000,11,closed\n"),
+        (1000000, 12, b"refused,1000000,12,range\n"),
+        (4294967295, 13, b"refused,4294967295,13,full\n"),
+    ];
+    for (at, code, line) in table {
+        let out = refusal(rt.alloc(), at, code)?;
+        assert!(rt;
+            out.as_slice().strip_prefix(b"before\n") == Some(line),
+            "code {code}"
+        );
+    }
+    Ok(())
+}
+
+fn name(bytes: &[u8]) -> Result<Name, Fail> {
+    Ok(Name::read(bytes).ok_or("a name")?)
+}
+
+fn name_list(alloc: Global, texts: &[&[u8]]) -> Result<NameList, Fail> {
+    let mut list = NameList::new(alloc);
+    for text in texts {
+        list.push(name(text)?)?;
+    }
+    Ok(list)
+}
+
+fn names(alloc: Global, nodes: &[&[u8]], streams: &[&[u8]]) -> Result<Names, Fail> {
+    Ok(Names {
+        nodes: name_list(alloc, nodes)?,
+        streams: name_list(alloc, streams)?,
+    })
+}
+
+fn list<T: Copy>(alloc: Global, items: &[T]) -> Result<List<T>, Fail> {
+    Ok(List::from_vec(Vec::from_slice(alloc, items)?))
+}
+
+fn plain(from: u32, to: u32) -> Stream {
+    Stream {
+        from,
+        to,
+        meas: None,
+    }
+}
+
+fn metered(from: u32, to: u32, value: i128, variance: i128) -> Stream {
+    Stream {
+        from,
+        to,
+        meas: Some(Meas { value, variance }),
+    }
+}
+
+fn graph(alloc: Global, nodes: u32, streams: &[Stream]) -> Result<Graph, Fail> {
+    if nodes < 1 || nodes > MOST_NODES {
+        return Err(Fail::new("the number of nodes"));
+    }
+    let mut graph = Graph::new(alloc, nodes);
+    for stream in streams {
+        if !graph.fits(stream) {
+            return Err(Fail::new("a stream that doesn't fit"));
+        }
+        graph.push(*stream)?;
+    }
+    Ok(graph)
+}
+
+fn enters(stream: u32) -> Member {
+    Member { stream, sign: 1 }
+}
+
+fn leaves(stream: u32) -> Member {
+    Member { stream, sign: -1 }
+}
+
+fn cut(alloc: Global, class: Class, side: &[bool], members: &[Member]) -> Result<Classified, Fail> {
+    Ok(Classified {
+        class,
+        witness: Witness::Cut {
+            side: list(alloc, side)?,
+            members: list(alloc, members)?,
+        },
+    })
+}
+
+fn forward(stream: u32) -> Step {
+    Step {
+        stream,
+        forward: true,
+    }
+}
+
+fn backward(stream: u32) -> Step {
+    Step {
+        stream,
+        forward: false,
+    }
+}
+
+fn cycle(alloc: Global, class: Class, steps: &[Step]) -> Result<Classified, Fail> {
+    Ok(Classified {
+        class,
+        witness: Witness::Cycle {
+            steps: list(alloc, steps)?,
+        },
+    })
+}
+
+fn result(classified: Classified, flow: i128, bounds: Bounds, least: Bounds) -> StreamResult {
+    StreamResult {
+        classified,
+        flow,
+        bounds: Some(bounds),
+        least: Some(least),
+    }
+}
+
+fn between(lo: i128, hi: i128) -> Bounds {
+    Bounds { lo, hi }
+}
+
+fn options(tests: bool, eliminate: u32) -> Options {
+    Options {
+        gap: 10,
+        sweeps: 5000,
+        tests,
+        eliminate,
+    }
+}
+
+// Whether there is one name for each node, and one for each stream.
+fn is_named(names: &Names, graph: &Graph) -> bool
+    ensures { IsTrue result → IsNamed names.now graph.now }
+{
+    names.nodes.len() == graph.nodes() as usize && names.streams.len() == graph.len() as usize
+}
+
+// Whether each certificate speaks of the graph alone.
+fn are_within(graph: &Graph, classes: &[Classified]) -> bool
+    ensures { IsTrue result → All
+        (λ (classified : Classified). IsWitnessWithin graph.now classified.witness) classes.now }
+{
+    classes
+        .iter()
+        .all(|classified| classified.witness.is_within(graph))
+}
+
+// The rows of a study, which is let go after them.
+fn report(
+    alloc: Global,
+    names: Names,
+    period: &[u8],
+    options: &Options,
+    study: Study,
+) -> Result<Vec<u8>, Fail> {
+    report_in(alloc, &names, period, options, &study, Form::Csv)
+}
+
+fn report_in(
+    alloc: Global,
+    names: &Names,
+    period: &[u8],
+    options: &Options,
+    study: &Study,
+    form: Form,
+) -> Result<Vec<u8>, Fail> {
+    if study.stages.is_empty() {
+        return Err(Fail::new("a study without a stage"));
+    }
+    let graph = &study.stages.at(0).graph;
+    if !is_named(names, graph) {
+        return Err(Fail::new("a graph with other names"));
+    }
+    if !study.is_well_formed(graph) {
+        return Err(Fail::new("a study that isn't well formed"));
+    }
+    let mut out = Vec::new(alloc);
+    write_study(alloc, names, &name(period)?, options, study, form, &mut out)?;
+    Ok(out)
+}
+
+#[test]
+fn writes_a_total_too_great(rt: HostRuntime) -> Result<(), Fail> {
+    let mut out = Vec::from_slice(rt.alloc(), b"before\n")?;
+    write_over(rt.alloc(), &name(b"d1")?, &name(b"T")?, Form::Csv, &mut out)?;
+    assert_eq!(rt; out.as_slice(), b"before\nover,d1,T\n".as_slice());
+    Ok(())
+}
+
+// The classes of an unmeasured stream and of a metered one beside it.
+fn two_classes(alloc: Global) -> Result<List<Classified>, Fail> {
+    let mut classes = List::new(alloc);
+    classes.push(cut(
+        alloc,
+        Class::Observable,
+        &[false, true, false],
+        &[leaves(0), leaves(1)],
+    )?)?;
+    classes.push(cycle(alloc, Class::Nonredundant, &[forward(1), backward(0)])?)?;
+    Ok(classes)
+}
+
+fn design_of(
+    alloc: Global,
+    names: &Names,
+    plant: &Graph,
+    classes: &List<Classified>,
+    form: Form,
+) -> Result<Vec<u8>, Fail> {
+    if !is_named(names, plant) || !are_within(plant, classes.as_slice()) {
+        return Err(Fail::new("a graph with other names or certificates"));
+    }
+    if classes.len() != plant.len() as usize {
+        return Err(Fail::new("not one class a stream"));
+    }
+    let mut out = Vec::new(alloc);
+    write_design(alloc, names, plant, classes, form, &mut out)?;
+    Ok(out)
+}
+
+// The rows of a design of an unmeasured stream and of a metered one beside it.
+fn design(alloc: Global, form: Form) -> Result<Vec<u8>, Fail> {
+    let names = names(alloc, &[b"env", b"U", b"V"], &[b"P", b"M"])?;
+    let plant = graph(alloc, 3, &[plain(1, 2), metered(1, 2, 0, 1)])?;
+    let classes = two_classes(alloc)?;
+    design_of(alloc, &names, &plant, &classes, form)
+}
+
+#[test]
+fn writes_a_design(rt: HostRuntime) -> Result<(), Fail> {
+    assert_eq!(rt;
+        design(rt.alloc(), Form::Csv)?.as_slice(),
+        b"design,3,2
+class,P,U,V,no,observable,cut,U,-P -M
+class,M,U,V,yes,nonredundant,cycle,,+M -P
+"
+            .as_slice()
+    );
+    Ok(())
+}
+
+// One unit between two meters.
+fn meters(alloc: Global, in_value: i128, out_value: i128, variance: i128) -> Result<Graph, Fail> {
+    graph(
+        alloc,
+        2,
+        &[
+            metered(0, 1, in_value, variance),
+            metered(1, 0, out_value, variance),
+        ],
+    )
+}
+
+fn names_of_meters(alloc: Global) -> Result<Names, Fail> {
+    names(alloc, &[b"env", b"U"], &[b"A", b"B"])
+}
+
+fn cut_at_env(alloc: Global) -> Result<Classified, Fail> {
+    cut(
+        alloc,
+        Class::Redundant,
+        &[true, false],
+        &[leaves(0), enters(1)],
+    )
+}
+
+fn cut_at_unit(alloc: Global) -> Result<Classified, Fail> {
+    cut(
+        alloc,
+        Class::Redundant,
+        &[false, true],
+        &[enters(0), leaves(1)],
+    )
+}
+
+fn study(alloc: Global, stage: Stage) -> Result<Study, Fail> {
+    let mut stages = List::new(alloc);
+    stages.push(stage)?;
+    Ok(Study {
+        stages,
+        taken: List::new(alloc),
+        stop: None,
+    })
+}
+
+fn results_of_two_meters(alloc: Global) -> Result<List<StreamResult>, Fail> {
+    let mut streams = List::new(alloc);
+    streams.push(result(
+        cut_at_env(alloc)?,
+        101_000_000,
+        between(100_999_997, 101_000_002),
+        between(100_999_998, 101_000_001),
+    ))?;
+    streams.push(result(
+        cut_at_unit(alloc)?,
+        101_000_000,
+        between(100_999_998, 101_000_003),
+        between(100_999_999, 101_000_002),
+    ))?;
+    Ok(streams)
+}
+
+fn two_meters(alloc: Global, tests: Option<Tests>) -> Result<Study, Fail> {
+    study(
+        alloc,
+        Stage {
+            graph: meters(alloc, 102_000_000, 100_000_000, 1_000_000_000_000)?,
+            streams: results_of_two_meters(alloc)?,
+            prices: list(alloc, &[0, -72_057_594_038])?,
+            solved: Solved::Converged(1),
+            g: 2,
+            h: 0,
+            dof: 1,
+            low: 1999,
+            high: Some(2000),
+            tests,
+        },
+    )
+}
+
+fn measure(
+    stream: u32,
+    low: i128,
+    high: i128,
+    critical: Option<i64>,
+    verdict: Verdict,
+) -> MeasureTest {
+    MeasureTest {
+        stream,
+        low,
+        high: Some(high),
+        critical,
+        verdict,
+    }
+}
+
+fn nodal(node: u32, net: i128, variance: i128) -> NodalTest {
+    NodalTest {
+        node,
+        net,
+        variance,
+        critical: None,
+        verdict: Verdict::NoCritical,
+    }
+}

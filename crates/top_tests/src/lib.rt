@@ -1,0 +1,13 @@
+//! Tests of sessions, summaries, words and the top call, by their public names alone.
+#![tactic(auto)]
+
+#[cfg(test)]
+mod cli;
+#[cfg(test)]
+mod inputs;
+#[cfg(test)]
+mod session;
+#[cfg(test)]
+mod summary;
+#[cfg(test)]
+mod words;
