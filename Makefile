@@ -1,0 +1,72 @@
+# Installs plantbal and makes its Debian packages. The program itself is proved and built by ./plantbal.
+#
+#   make install DESTDIR= PREFIX=/usr/local   the program, the package plantbal of Python, manual pages, completions, documents
+#   make deb                                  packaging/out/plantbal_*.deb and packaging/out/python3-plantbal_*.deb
+#   make check-packages                       both packages made, unpacked elsewhere and tried
+VERSION := $(shell cat VERSION)
+PREFIX = /usr/local
+DESTDIR =
+PROGRAM = crates/plantbal/out/plantbal
+# The program as it was built, if PROGRAM is a stripped copy of it.
+BUILT = $(PROGRAM)
+PYTHON = /usr/bin/python3
+DEBS = packaging/out
+
+BIN = $(DESTDIR)$(PREFIX)/bin
+SHARE = $(DESTDIR)$(PREFIX)/share
+LIBEXEC = $(PREFIX)/libexec/plantbal
+UNITS = $(PREFIX)/lib/systemd/system
+# Debian's python3 looks into /usr/lib/python3/dist-packages, and for /usr/local into a folder with its version.
+PYTHON_FOLDER = $(if $(filter /usr/local,$(PREFIX)),$(shell $(PYTHON) -c 'import sys; print("python%d.%d" % sys.version_info[:2])'),python3)
+LIBRARY = lib/$(PYTHON_FOLDER)/dist-packages
+
+PROGRAM_DOCUMENTS = README.md CHANGELOG.md docs/GUIDE.md docs/MONTH_END.md docs/FORMAT.md docs/DEFINITIONS.md docs/STATEMENT.md docs/ASSURANCE.md docs/DECISIONS.md
+DESK_DOCUMENTS = docs/PYTHON.md docs/OPERATIONS.md
+
+.PHONY: install install-program install-desk deb check-packages clean
+
+install: install-program install-desk
+
+$(PROGRAM):
+	@echo "make: there is no $(PROGRAM): ./plantbal run </dev/null proves and builds it" >&2; exit 1
+
+install-program: $(PROGRAM)
+	install -D -m 755 $(PROGRAM) $(BIN)/plantbal
+	install -D -m 644 -t $(SHARE)/man/man1 docs/plantbal.1
+	install -D -m 644 -t $(SHARE)/man/man5 docs/plantbal-session.5 docs/plantbal-report.5
+	install -D -m 644 packaging/completions/plantbal.bash $(SHARE)/bash-completion/completions/plantbal
+	install -D -m 644 packaging/completions/plantbal.zsh $(SHARE)/zsh/vendor-completions/_plantbal
+	install -D -m 644 packaging/completions/plantbal.fish $(SHARE)/fish/vendor_completions.d/plantbal.fish
+	install -D -m 644 -t $(SHARE)/doc/plantbal $(PROGRAM_DOCUMENTS)
+	install -D -m 644 -t $(SHARE)/doc/plantbal/pictures docs/pictures/*
+	install -D -m 644 -t $(SHARE)/doc/plantbal/examples examples/*.csv
+	install -D -m 644 -t $(SHARE)/doc/plantbal/examples/conformance examples/conformance/*
+	packaging/build_record $(BUILT) $(BIN)/plantbal >$(BIN)/BUILD
+	install -D -m 644 $(BIN)/BUILD $(SHARE)/plantbal/BUILD
+	rm $(BIN)/BUILD
+
+install-desk:
+	packaging/install_library $(DESTDIR)$(PREFIX)/$(LIBRARY)
+	install -d $(BIN)
+	sed 's|@LIBRARY@|$(LIBRARY)|' packaging/plantbal-desk >$(BIN)/plantbal-desk
+	chmod 755 $(BIN)/plantbal-desk
+	install -D -m 644 -t $(SHARE)/man/man1 docs/plantbal-desk.1
+	install -D -m 644 packaging/completions/plantbal-desk.bash $(SHARE)/bash-completion/completions/plantbal-desk
+	install -D -m 644 packaging/completions/plantbal-desk.zsh $(SHARE)/zsh/vendor-completions/_plantbal-desk
+	install -D -m 644 packaging/completions/plantbal-desk.fish $(SHARE)/fish/vendor_completions.d/plantbal-desk.fish
+	install -D -m 644 -t $(SHARE)/doc/python3-plantbal $(DESK_DOCUMENTS) examples/heat_exchanger.ipynb
+	install -D -m 755 packaging/nightly $(DESTDIR)$(LIBEXEC)/nightly
+	install -d $(DESTDIR)$(UNITS)
+	for unit in packaging/*.service packaging/*.timer; do \
+	    sed 's|@BIN@|$(PREFIX)/bin|; s|@LIBEXEC@|$(LIBEXEC)|; s|@DOC@|$(PREFIX)/share/doc/python3-plantbal|' $$unit >$(DESTDIR)$(UNITS)/$$(basename $$unit); \
+	    chmod 644 $(DESTDIR)$(UNITS)/$$(basename $$unit); \
+	done
+
+deb: $(PROGRAM)
+	packaging/deb $(PROGRAM) $(DEBS)
+
+check-packages: $(PROGRAM)
+	.ci/packages $(PROGRAM)
+
+clean:
+	rm -rf $(DEBS)

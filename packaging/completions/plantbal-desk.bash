@@ -1,0 +1,172 @@
+# Completion of plantbal-desk for bash. Made by packaging/derived write: change that, or the words themselves.
+
+_plantbal_words() { # WORDS: those of them that begin as the word at hand
+    mapfile -t COMPREPLY < <(compgen -W "$1" -- "$here")
+}
+
+_plantbal_files() { # -f or -d: files, or folders, that begin so
+    compopt -o filenames 2>/dev/null
+    mapfile -t COMPREPLY < <(compgen "$1" -- "$here")
+}
+
+_plantbal_more() { # WORDS: those of them too that begin as the word at hand
+    local -a more
+    mapfile -t more < <(compgen -W "$1" -- "$here")
+    COMPREPLY+=("${more[@]}")
+}
+
+_plantbal_desk() {
+    local here=${COMP_WORDS[COMP_CWORD]} before=${COMP_WORDS[COMP_CWORD - 1]} word= at
+    COMPREPLY=()
+    # An equals sign is a word of its own here.
+    if [[ $here == = ]]; then
+        here=
+    elif [[ $before == = ]]; then
+        before=${COMP_WORDS[COMP_CWORD - 2]}
+    fi
+    for ((at = 1; at < COMP_CWORD; at++)); do
+        case ${COMP_WORDS[at]} in
+        run|lint|explain|check|report|solve|convert|template|from-spreadsheet|tables|draw|chart|page|fleet|critical|from-scipy|schema) word=${COMP_WORDS[at]}; break ;;
+        esac
+    done
+    case $word:$before in
+        run:--out) _plantbal_files -f; return ;;
+        run:--gap) :; return ;;
+        run:--sweeps) :; return ;;
+        run:--program) _plantbal_files -f; return ;;
+        run:--eliminate) :; return ;;
+        lint:--ignore) _plantbal_words 'refused nothing-asked missing-reading missing-dip no-period after-report one-sided near-names magnitude small-deviation large-deviation density worse-class no-critical nearly-full untested no-elimination no-transfer unused-dip not-reported'; return ;;
+        explain:--program) _plantbal_files -f; return ;;
+        check:--program) _plantbal_files -f; return ;;
+        report:--out) _plantbal_files -f; return ;;
+        solve:--out) _plantbal_files -f; return ;;
+        solve:--gap) :; return ;;
+        solve:--sweeps) :; return ;;
+        solve:--program) _plantbal_files -f; return ;;
+        convert:--out) _plantbal_files -f; return ;;
+        convert:--locale) :; return ;;
+        convert:--missing) :; return ;;
+        convert:--skip) :; return ;;
+        from-spreadsheet:--decimal) _plantbal_words 'point comma'; return ;;
+        from-spreadsheet:--date) :; return ;;
+        from-spreadsheet:--missing) :; return ;;
+        from-spreadsheet:--skip) :; return ;;
+        from-spreadsheet:--before) _plantbal_files -f; return ;;
+        draw:--period) :; return ;;
+        draw:--round) :; return ;;
+        draw:--mark) :; return ;;
+        chart:--most) :; return ;;
+        page:--title) :; return ;;
+        page:--session) _plantbal_files -f; return ;;
+        fleet:--out) _plantbal_files -d; return ;;
+        fleet:--engine) _plantbal_words 'parallel dask'; return ;;
+        fleet:--jobs) :; return ;;
+        fleet:--scheduler) :; return ;;
+        fleet:--program) _plantbal_files -f; return ;;
+        critical:--nodal) :; return ;;
+        critical:--measure) :; return ;;
+        from-scipy:--period) :; return ;;
+        from-scipy:--change) :; return ;;
+    esac
+    case $word in
+    run)
+        if [[ $here != -* ]]; then
+            _plantbal_files -f
+            return
+        fi
+        _plantbal_words '-h --help --out --gap --sweeps --program --no-tests --eliminate' ;;
+    lint)
+        if [[ $here != -* ]]; then
+            _plantbal_files -f
+            return
+        fi
+        _plantbal_words '-h --help --json --strict --ignore' ;;
+    explain)
+        if [[ $here != -* ]]; then
+            _plantbal_files -f
+            return
+        fi
+        _plantbal_words '-h --help --program' ;;
+    check)
+        if [[ $here != -* ]]; then
+            _plantbal_files -f
+            return
+        fi
+        _plantbal_words '-h --help --program' ;;
+    report)
+        if [[ $here != -* ]]; then
+            _plantbal_files -f
+            return
+        fi
+        _plantbal_words '-h --help --out' ;;
+    solve)
+        if [[ $here != -* ]]; then
+            _plantbal_files -f
+            return
+        fi
+        _plantbal_words '-h --help --out --gap --sweeps --program' ;;
+    convert)
+        if [[ $here != -* ]]; then
+            _plantbal_files -f
+            return
+        fi
+        _plantbal_words '-h --help --out --locale --missing --skip --limits --design' ;;
+    template)
+        if [[ $here != -* ]]; then
+            _plantbal_files -f
+            _plantbal_more 'refinery concentrator utility'
+            return
+        fi
+        _plantbal_words '-h --help' ;;
+    from-spreadsheet)
+        if [[ $here != -* ]]; then
+            _plantbal_files -f
+            return
+        fi
+        _plantbal_words '-h --help --decimal --date --limits --missing --skip --before' ;;
+    tables)
+        if [[ $here != -* ]]; then
+            _plantbal_files -f
+            _plantbal_more 'flows classes count suspects imbalance'
+            return
+        fi
+        _plantbal_words '-h --help' ;;
+    draw)
+        if [[ $here != -* ]]; then
+            _plantbal_files -f
+            return
+        fi
+        _plantbal_words '-h --help --period --round --mark --dot' ;;
+    chart)
+        if [[ $here != -* ]]; then
+            _plantbal_files -f
+            return
+        fi
+        _plantbal_words '-h --help --most' ;;
+    page)
+        if [[ $here != -* ]]; then
+            _plantbal_files -f
+            return
+        fi
+        _plantbal_words '-h --help --title --session' ;;
+    fleet)
+        if [[ $here != -* ]]; then
+            _plantbal_files -d
+            return
+        fi
+        _plantbal_words '-h --help --out --engine --jobs --scheduler --program --lint' ;;
+    critical)
+        _plantbal_words '-h --help --nodal --measure' ;;
+    from-scipy)
+        if [[ $here != -* ]]; then
+            _plantbal_files -f
+            return
+        fi
+        _plantbal_words '-h --help --period --change --without-least' ;;
+    schema)
+        _plantbal_words '-h --help' ;;
+    *) _plantbal_words 'run lint explain check report solve convert template from-spreadsheet tables draw chart page fleet critical from-scipy schema -h --help --version' ;;
+    esac
+}
+
+complete -F _plantbal_desk plantbal-desk

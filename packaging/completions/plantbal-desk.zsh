@@ -1,0 +1,191 @@
+#compdef plantbal-desk
+# Completion of plantbal-desk for zsh. Made by packaging/derived write: change that, or the words themselves.
+
+_plantbal_desk() {
+    local -a specifications
+    local word at
+    for ((at = 2; at < CURRENT; at++)); do
+        case $words[at] in run|lint|explain|check|report|solve|convert|template|from-spreadsheet|tables|draw|chart|page|fleet|critical|from-scipy|schema) word=$words[at]; break ;; esac
+    done
+    case $word in
+    run)
+        specifications=(
+            '-h[show this help message and exit]'
+            '--help[show this help message and exit]'
+            '--out=[a .csv, .sqlite or .xlsx file]:FILE:_files'
+            '--gap=[10 without it]:N:'
+            '--sweeps=[5,000 without it]:N:'
+            '--program=[the program]:PATH:_files'
+            '--no-tests[make no tests]'
+            '--eliminate=[at most N rounds of elimination]:N:'
+            '1:word:(run)'
+            '*:SESSION:_files'
+        ) ;;
+    lint)
+        specifications=(
+            '-h[show this help message and exit]'
+            '--help[show this help message and exit]'
+            '--json[a list of objects in place of lines]'
+            '--strict[status 1 on warnings too]'
+            '--ignore=[leave findings of this code out; may be said several times]:CODE:(refused nothing-asked missing-reading missing-dip no-period after-report one-sided near-names magnitude small-deviation large-deviation density worse-class no-critical nearly-full untested no-elimination no-transfer unused-dip not-reported)'
+            '1:word:(lint)'
+            '*:SESSION:_files'
+        ) ;;
+    explain)
+        specifications=(
+            '-h[show this help message and exit]'
+            '--help[show this help message and exit]'
+            '--program=[the program, which checks a report]:PATH:_files'
+            '1:word:(explain)'
+            '2:SESSION:_files'
+            '*:OUTPUT:_files'
+        ) ;;
+    check)
+        specifications=(
+            '-h[show this help message and exit]'
+            '--help[show this help message and exit]'
+            '--program=[the program]:PATH:_files'
+            '1:word:(check)'
+            '*:REPORT:_files'
+        ) ;;
+    report)
+        specifications=(
+            '-h[show this help message and exit]'
+            '--help[show this help message and exit]'
+            '--out=[a .csv, .sqlite or .xlsx file]:FILE:_files'
+            '1:word:(report)'
+            '*:REPORT:_files'
+        ) ;;
+    solve)
+        specifications=(
+            '-h[show this help message and exit]'
+            '--help[show this help message and exit]'
+            '--out=[a .csv, .sqlite or .xlsx file]:FILE:_files'
+            '--gap=[10 without it]:N:'
+            '--sweeps=[5,000 without it]:N:'
+            '--program=[the program]:PATH:_files'
+            '1:word:(solve)'
+            '*:SESSION:_files'
+        ) ;;
+    convert)
+        specifications=(
+            '-h[show this help message and exit]'
+            '--help[show this help message and exit]'
+            '--out=[the session]:FILE:_files'
+            '--locale=[whose numbers and days\: de, en_GB, fr]:NAME:'
+            '--missing=[a further text that stands for a missing figure]:TEXT:'
+            '--skip=[a column of the readings to leave out]:HEAD:'
+            '--limits[errors are limits that hold 95 times in 100\: half of each is taken]'
+            '--design[ask for the design before the reports]'
+            '1:word:(convert)'
+            '*:WORKBOOK:_files'
+        ) ;;
+    template)
+        specifications=(
+            '-h[show this help message and exit]'
+            '--help[show this help message and exit]'
+            '1:word:(template)'
+            '2:KIND:(refinery concentrator utility)'
+            '*:FILE:_files'
+        ) ;;
+    from-spreadsheet)
+        specifications=(
+            '-h[show this help message and exit]'
+            '--help[show this help message and exit]'
+            '--decimal=[the decimal mark of both files]:DECIMAL:(point comma)'
+            '--date=[how days are written, such as %d.%m.%Y; without it 2024-06-30]:FORM:'
+            '--limits[errors are limits that hold 95 times in 100\: half of each is taken]'
+            '--missing=[a text that stands for a missing reading]:TEXT:'
+            '--skip=[a column of READINGS to leave out]:HEAD:'
+            '--before=[rows of a session to put in front\: tanks, batch streams, critical values]:ROWS:_files'
+            '1:word:(from-spreadsheet)'
+            '2:TAGS:_files'
+            '*:READINGS:_files'
+        ) ;;
+    tables)
+        specifications=(
+            '-h[show this help message and exit]'
+            '--help[show this help message and exit]'
+            '1:word:(tables)'
+            '2:WHAT:(flows classes count suspects imbalance)'
+            '*:OUTPUT:_files'
+        ) ;;
+    draw)
+        specifications=(
+            '-h[show this help message and exit]'
+            '--help[show this help message and exit]'
+            '--period=[the period to draw]:NAME:'
+            '--round=[the round to draw, 0 for the one before any meter was taken]:N:'
+            '--mark=[the stream whose cut or cycle is marked]:STREAM:'
+            '--dot[write the text for Graphviz in place of SVG]'
+            '1:word:(draw)'
+            '*:OUTPUT:_files'
+        ) ;;
+    chart)
+        specifications=(
+            '-h[show this help message and exit]'
+            '--help[show this help message and exit]'
+            '--most=[show the N meters that are adjusted most; 12 without it]:N:'
+            '1:word:(chart)'
+            '*:OUTPUT:_files'
+        ) ;;
+    page)
+        specifications=(
+            '-h[show this help message and exit]'
+            '--help[show this help message and exit]'
+            '--title=[the heading of the page]:TEXT:'
+            '--session=[the session\: its refused rows come in sentences, with what lint warns of]:SESSION:_files'
+            '1:word:(page)'
+            '*:OUTPUT:_files'
+        ) ;;
+    fleet)
+        specifications=(
+            '-h[show this help message and exit]'
+            '--help[show this help message and exit]'
+            '--out=[the folder of the outputs]:OUT:_files -/'
+            '--engine=[]:ENGINE:(parallel dask)'
+            '--jobs=[N sessions at once; as many as there are processors without it]:N:'
+            '--scheduler=[the scheduler of a dask cluster]:ADDRESS:'
+            '--program=[the program; without it that of PLANTBAL, of the path, or of this checkout]:PATH:_files'
+            '--lint[say on standard error what lint warns of, a line a site]'
+            '1:word:(fleet)'
+            '*:FOLDER:_files -/'
+        ) ;;
+    critical)
+        specifications=(
+            '-h[show this help message and exit]'
+            '--help[show this help message and exit]'
+            '--nodal=[how many nodes are tested]:N:'
+            '--measure=[how many measured streams are]:N:'
+            '1:word:(critical)'
+            '2:LEVEL:'
+            '*:DOF:'
+        ) ;;
+    from-scipy)
+        specifications=(
+            '-h[show this help message and exit]'
+            '--help[show this help message and exit]'
+            '--period=[the period; without it the first one]:NAME:'
+            '--change=[say a flow that is this many grams higher]:STREAM GRAMS:'
+            '--without-least[leave the two columns of least bounds out]'
+            '1:word:(from-scipy)'
+            '*:REPORT:_files'
+        ) ;;
+    schema)
+        specifications=(
+            '-h[show this help message and exit]'
+            '--help[show this help message and exit]'
+            '1:word:(schema)'
+        ) ;;
+    *)
+        specifications=(
+            '-h[show this help message and exit]'
+            '--help[show this help message and exit]'
+            '--version[write the version and end]'
+            "1:word:((run\:'run a session, and say what has to be looked at' lint\:'say what of a session is accepted and looks wrong' explain\:'say of each refused row what is wrong with it' check\:'check a report, of CSV or of JSON lines' report\:'turn a report into CSV, SQLite or a workbook' solve\:'reconcile by scipy what sweeps don'\''t come near' convert\:'a session from a plant'\''s workbook' template\:'an empty workbook for convert' from-spreadsheet\:'a session from daily readings and tags' tables\:'tables of flows, classes, suspects, imbalances' draw\:'draw a report or a design' chart\:'chart the periods of a session' page\:'one page for a browser' fleet\:'run a folder of sessions' critical\:'critical values as rows of a session' from-scipy\:'another program'\''s figures in the form of a report' schema\:'the rows of sessions and outputs as data'))"
+        ) ;;
+    esac
+    _arguments -s : $specifications
+}
+
+_plantbal_desk "$@"

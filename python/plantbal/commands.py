@@ -1,0 +1,267 @@
+"""Runs, checks, solutions and conversions as subcommands: what a shell wants of the package's calls."""
+
+from __future__ import annotations
+
+import argparse
+import sys
+from pathlib import Path
+from types import SimpleNamespace
+
+from plantbal.faults import Fault, ProgramFault, read_bytes
+from plantbal.files import write_text
+from plantbal.output import Output, read_report
+from plantbal.program import STATUSES, check, run
+from plantbal.progress import Progress
+from plantbal.records import read_records
+from plantbal.report import Block
+
+OUTPUT_HELP = """
+The report goes to standard output, or to the file of --out by its ending: .csv, .sqlite or .xlsx. The
+file is written whole or not at all. Why a report isn't to be booked without a look (refused rows, no
+report, not converged, a global test that rejects) is said on standard error, and the status is 1.
+"""
+RUN_HELP = """
+On standard error: how many rows are refused and the first five with their lines, in sentences; of each
+period whether it has a report, whether this has converged, and what its global test says; where the
+output is. A long run shows on a terminal how far it is. The status is 2 to 6 if that is the program's.
+"""
+FIRST = 5
+
+
+def say(options: argparse.Namespace, output: Output) -> int:
+    """Say why an output isn't ok, and return the status."""
+    for line in output.why:
+        print(f"{options.prog}: {line}", file=sys.stderr)
+    return 0 if output.ok else 1
+
+
+def write(output: Output, path: str) -> None:
+    """Write an output by the ending of a file's name."""
+    ending = Path(path).suffix.lower()
+    if path == "-" or ending == ".csv":
+        output.to_csv(path)
+    elif ending in (".sqlite", ".db"):
+        output.to_sqlite(path)
+    elif ending == ".xlsx":
+        output.to_xlsx(path)
+    else:
+        raise Fault(f"{path} ends with {ending!r}", text=path, remedy="say .csv, .sqlite or .xlsx")
+
+
+def _add_session(parser: argparse.ArgumentParser) -> None:
+    parser.add_argument("session", metavar="SESSION", nargs="?", default="-")
+    parser.add_argument("--out", metavar="FILE", default="-", help="a .csv, .sqlite or .xlsx file")
+    parser.add_argument("--gap", metavar="N", type=int, default=10, help="10 without it")
+    parser.add_argument("--sweeps", metavar="N", type=int, default=5000, help="5,000 without it")
+    parser.add_argument("--program", metavar="PATH", help="the program")
+
+
+def _add_run(parser: argparse.ArgumentParser) -> None:
+    _add_session(parser)
+    parser.add_argument("--no-tests", action="store_true", help="make no tests")
+    parser.add_argument(
+        "--eliminate", metavar="N", type=int, default=0, help="at most N rounds of elimination"
+    )
+
+
+def _run(options: argparse.Namespace) -> int:
+    _say_reading(options.session)
+    source, data = read_bytes(options.session)
+    try:
+        with Progress(options.prog, data) as progress:
+            output = run(
+                data,
+                tests=not options.no_tests,
+                eliminate=options.eliminate,
+                gap=options.gap,
+                sweeps=options.sweeps,
+                program=options.program,
+                watch=progress.watch(),
+            )
+    except ProgramFault as fault:
+        print(f"{options.prog}: {source}: {fault}", file=sys.stderr)
+        return fault.status if fault.status in STATUSES else 1
+    write(output, options.out)
+    status = say(options, output)
+    say_rows(options, source, data, output)
+    for line in periods_of(data, output):
+        print(f"{options.prog}: {line}", file=sys.stderr)
+    if options.out != "-":
+        print(f"{options.prog}: the output is in {options.out}", file=sys.stderr)
+    return status
+
+
+def say_rows(options: argparse.Namespace, source: str, data: bytes, output: Output) -> None:
+    """Say what is wrong with the file, and with the first refused rows."""
+    if output.ok or not any(row["row"] == "refused" for row in output.rows):
+        if output.blocks_in_order:
+            return
+    from plantbal.explain import explain_bytes
+
+    found = explain_bytes(source, data)
+    for told in [*found.whole, *found.rows[:FIRST]]:
+        print(told, file=sys.stderr)
+    more = len(found.rows) - FIRST
+    if more > 0:
+        what = "row is" if more == 1 else "rows are"
+        named = "" if source == "standard input" else f" {source}"
+        hint = f"plantbal-desk explain{named} says why"
+        print(f"{options.prog}: {more} more {what} refused: {hint}", file=sys.stderr)
+
+
+def periods_of(data: bytes, output: Output) -> list[str]:
+    """Return a line on each period: its last report, or that it has none.
+
+    Parameters
+    ----------
+    data : bytes
+        The session.
+    output : Output
+        Its output.
+    """
+    last = {block.period: block for block in output.blocks_in_order}
+    over = {row["period"]: row["stream"] for row in output.rows if row["row"] == "over"}
+    refused = {row["at"] for row in output.rows if row["row"] == "refused"}
+    accepted = [
+        record.fields[1]
+        for record in read_records(data)
+        if record.fields[0] == "period" and str(record.number) not in refused
+    ]
+    lines = []
+    for name in dict.fromkeys([*accepted, *last]):
+        if name in last:
+            lines.append(f"{name}: {_state(last[name])}")
+        elif name in over:
+            lines.append(f"{name}: no report: the total of {over[name]} is beyond the limits")
+        else:
+            lines.append(f"{name}: no report was asked for; the row report,{name} asks for it")
+    return lines
+
+
+def _state(block: Block) -> str:
+    """Return what a period's last report says as a whole."""
+    said = f"a report, {block.solved['state']}" if block.solved else "a report that is cut off"
+    if block.taken:
+        said += f" after {', '.join(block.taken)} was taken out"
+    if block.whole:
+        said += {
+            "accept": ", accepted by the global test",
+            "reject": ", rejected by the global test",
+            "undecided": ", the global test is undecided",
+            "nocritical": ", no global test: there is no critical value for its degrees of freedom",
+            "notest": ", no global test: there is nothing to test",
+        }[block.whole["verdict"]]
+    return said
+
+
+def _say_reading(path: str) -> None:
+    if path == "-" and sys.stdin.isatty():
+        print("reading standard input, up to Ctrl-D", file=sys.stderr)
+
+
+def _solve(options: argparse.Namespace) -> int:
+    from plantbal.solver import solve
+
+    _say_reading(options.session)
+    output = solve(options.session, gap=options.gap, sweeps=options.sweeps, program=options.program)
+    write(output, options.out)
+    return say(options, output)
+
+
+def _add_check(parser: argparse.ArgumentParser) -> None:
+    parser.add_argument("report", metavar="REPORT", nargs="?", default="-")
+    parser.add_argument("--program", metavar="PATH", help="the program")
+
+
+def _check(options: argparse.Namespace) -> int:
+    _say_reading(options.report)
+    verdicts = check(options.report, program=options.program)
+    for row in verdicts.itertuples():
+        if row.verdict == "yes":
+            print(f"yes: {row.period}, round {row.round}")
+        elif row.verdict == "no":
+            where = f" at {row.name}" if row.name else ""
+            numbers = f" (stated {row.stated}, found {row.found})" if row.name else ""
+            print(f"no: {row.period}, round {row.round}: {row.word}{where}{numbers}: {row.about}")
+        else:
+            print(f"unreadable: row {row.at}: {row.word}: it {row.about}")
+    return 0 if (verdicts["verdict"] == "yes").all() else 1
+
+
+def _add_report(parser: argparse.ArgumentParser) -> None:
+    parser.add_argument("report", metavar="REPORT", nargs="?", default="-")
+    parser.add_argument("--out", metavar="FILE", default="-", help="a .csv, .sqlite or .xlsx file")
+
+
+def _report(options: argparse.Namespace) -> int:
+    _say_reading(options.report)
+    write(read_report(options.report), options.out)
+    return 0
+
+
+def _add_schema(parser: argparse.ArgumentParser) -> None:
+    del parser
+
+
+def _schema(options: argparse.Namespace) -> int:
+    del options
+    text = Path(__file__).with_name("schema.json").read_text(encoding="utf-8")
+    write_text("-", text)
+    return 0
+
+
+RUN = SimpleNamespace(
+    __doc__="Runs a session by plantbal and says what has to be looked at before it is booked.",
+    HELP=f"""
+SESSION is a file; without it standard input is read.{OUTPUT_HELP}{RUN_HELP}
+examples:
+  plantbal-desk run day.csv --out day.xlsx
+""",
+    add_arguments=_add_run,
+    run=_run,
+)
+SOLVE = SimpleNamespace(
+    __doc__="Reconciles a session by scipy, and hands out what plantbal's check says yes to.",
+    HELP=f"""
+It serves plants on which sweeps don't come near, such as long lines of units with equal meters. SESSION
+is a file; without it standard input is read.{OUTPUT_HELP}
+examples:
+  plantbal-desk solve line.csv --out line.csv
+""",
+    add_arguments=_add_session,
+    run=_solve,
+)
+CHECK = SimpleNamespace(
+    __doc__="Checks a report, of CSV or of JSON lines, and says in a sentence what is wrong.",
+    HELP="""
+REPORT is a file; without it standard input is read. The status is 0 where each block gets a yes, else 1;
+a file without a block is a fault.
+
+examples:
+  plantbal-desk check report.jsonl
+""",
+    add_arguments=_add_check,
+    run=_check,
+)
+REPORT = SimpleNamespace(
+    __doc__="Turns a report into CSV, a database of SQLite, or a workbook with one table a sheet.",
+    HELP="""
+REPORT is what plantbal wrote, as CSV or as JSON lines; without it standard input is read. JSON lines
+become CSV again, so that a check takes them.
+
+examples:
+  plantbal-desk report day.jsonl | plantbal check
+  plantbal-desk report day.csv --out day.xlsx
+""",
+    add_arguments=_add_report,
+    run=_report,
+)
+SCHEMA = SimpleNamespace(
+    __doc__="Writes the rows of sessions and outputs as data: kinds, columns, ranges, words, codes.",
+    HELP="""
+examples:
+  plantbal-desk schema | jq '.session[] | .kind'
+""",
+    add_arguments=_add_schema,
+    run=_schema,
+)

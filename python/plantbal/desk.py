@@ -1,0 +1,189 @@
+"""The command `plantbal-desk`: what stands around the program, as subcommands."""
+
+from __future__ import annotations
+
+import argparse
+import importlib
+import os
+import sys
+from collections.abc import Sequence
+from dataclasses import dataclass
+from typing import NoReturn, Protocol, cast
+
+from plantbal.faults import Fault
+
+
+class Handler(Protocol):
+    """What does the work of a subcommand: a module, or a part of one."""
+
+    HELP: str
+
+    def add_arguments(self, parser: argparse.ArgumentParser) -> None:
+        """Add the words of the command."""
+
+    def run(self, options: argparse.Namespace) -> int:
+        """Do the work, and return the status."""
+
+
+@dataclass(frozen=True)
+class Command:
+    """A subcommand: its word, where it is, and one line on it.
+
+    Attributes
+    ----------
+    word : str
+        Its word.
+    home : str
+        Its module, or a part of a module after a colon.
+    about : str
+        One line on it.
+    takes_words : bool
+        Whether words after a lone ``--`` are another program's.
+    """
+
+    word: str
+    home: str
+    about: str
+    takes_words: bool = False
+
+    def handler(self) -> Handler:
+        """Return what does its work."""
+        module, _, part = self.home.partition(":")
+        found = importlib.import_module(f"plantbal.{module}")
+        return cast(Handler, getattr(found, part) if part else found)
+
+
+COMMANDS: tuple[Command, ...] = (
+    Command("run", "commands:RUN", "run a session, and say what has to be looked at"),
+    Command("lint", "lint", "say what of a session is accepted and looks wrong"),
+    Command("explain", "explain", "say of each refused row what is wrong with it"),
+    Command("check", "commands:CHECK", "check a report, of CSV or of JSON lines"),
+    Command("report", "commands:REPORT", "turn a report into CSV, SQLite or a workbook"),
+    Command("solve", "commands:SOLVE", "reconcile by scipy what sweeps don't come near"),
+    Command("convert", "conversion", "a session from a plant's workbook"),
+    Command("template", "template", "an empty workbook for convert"),
+    Command("from-spreadsheet", "spreadsheet", "a session from daily readings and tags"),
+    Command("tables", "tables", "tables of flows, classes, suspects, imbalances"),
+    Command("draw", "picture", "draw a report or a design"),
+    Command("chart", "chart", "chart the periods of a session"),
+    Command("page", "page", "one page for a browser"),
+    Command("fleet", "fleet", "run a folder of sessions", takes_words=True),
+    Command("critical", "critical", "critical values as rows of a session"),
+    Command("from-scipy", "foreign", "another program's figures in the form of a report"),
+    Command("schema", "commands:SCHEMA", "the rows of sessions and outputs as data"),
+)
+
+EPILOG = """
+Statuses: 0 done, 1 the input or a tool is at fault, or a check found something; 2 the words are none
+of its own.
+
+examples:
+  plantbal-desk run day.csv --out day.xlsx
+  plantbal run --tests < month.csv | plantbal-desk page --title May > may.html
+  plantbal-desk SUBCOMMAND --help
+"""
+
+
+class Version(argparse.Action):
+    """Writes the version, which is read only where it is asked for."""
+
+    def __init__(self, option_strings: Sequence[str], dest: str, **_: object) -> None:
+        super().__init__(option_strings, dest, nargs=0, help="write the version and end")
+
+    def __call__(self, parser: argparse.ArgumentParser, *_: object) -> NoReturn:
+        import plantbal
+
+        print(f"plantbal-desk {plantbal.__version__}")
+        parser.exit()
+
+
+def parser_of(command: Command, prog: str) -> argparse.ArgumentParser:
+    """Return the parser of a subcommand that is called by itself."""
+    handler = command.handler()
+    parser = argparse.ArgumentParser(
+        prog=prog,
+        description=handler.__doc__,
+        epilog=handler.HELP,
+        formatter_class=argparse.RawDescriptionHelpFormatter,
+    )
+    handler.add_arguments(parser)
+    parser.set_defaults(run=handler.run, prog=prog, takes_words=command.takes_words)
+    return parser
+
+
+def desk_parser() -> argparse.ArgumentParser:
+    """Return the parser of the whole command, with all subcommands."""
+    parser = argparse.ArgumentParser(
+        prog="plantbal-desk",
+        description=__doc__,
+        epilog=EPILOG,
+        formatter_class=argparse.RawDescriptionHelpFormatter,
+    )
+    parser.add_argument("--version", action=Version)
+    words = parser.add_subparsers(metavar="SUBCOMMAND", required=True)
+    for command in COMMANDS:
+        handler = command.handler()
+        inner = words.add_parser(
+            command.word,
+            help=command.about,
+            description=handler.__doc__,
+            epilog=handler.HELP,
+            formatter_class=argparse.RawDescriptionHelpFormatter,
+        )
+        handler.add_arguments(inner)
+        inner.set_defaults(run=handler.run, prog=f"plantbal-desk {command.word}")
+    return parser
+
+
+def _options(parser: argparse.ArgumentParser, words: Sequence[str]) -> argparse.Namespace:
+    """Read the words; a command that says so gets those after a lone `--` as they are."""
+    takes = parser.get_default("takes_words")
+    if takes is None:
+        takes = any(
+            command.takes_words for command in COMMANDS if [command.word] == list(words[:1])
+        )
+    if not takes or "--" not in words:
+        return parser.parse_args(words)
+    place = list(words).index("--")
+    options = parser.parse_args(words[:place])
+    options.words = list(words[place + 1 :])
+    return options
+
+
+def call(parser: argparse.ArgumentParser, words: Sequence[str]) -> int:
+    """Run a command by its words, and return its status."""
+    options = _options(parser, words)
+    try:
+        status: int = options.run(options)
+        sys.stdout.flush()
+        return status
+    except Fault as fault:
+        print(f"{options.prog}: {fault}", file=sys.stderr)
+        return 1
+    except BrokenPipeError:
+        # The reader has gone: nothing more can be written, not even at the end of the process.
+        os.dup2(os.open(os.devnull, os.O_WRONLY), sys.stdout.fileno())
+        return 1
+    except KeyboardInterrupt:
+        print(f"{options.prog}: stopped", file=sys.stderr)
+        return 130
+
+
+def script(word: str) -> NoReturn:
+    """Run a subcommand as a command of its own: the thin files in examples/ call it."""
+    command = next(command for command in COMMANDS if command.word == word)
+    prog = os.path.basename(sys.argv[0])
+    sys.exit(call(parser_of(command, prog), sys.argv[1:]))
+
+
+def main() -> NoReturn:
+    """Run `plantbal-desk` with the words of this process."""
+    words = sys.argv[1:]
+    for command in COMMANDS:
+        if words[:1] == [command.word]:  # the others needn't be loaded
+            sys.exit(call(parser_of(command, f"plantbal-desk {command.word}"), words[1:]))
+    sys.exit(call(desk_parser(), words))
+
+
+if __name__ == "__main__":
+    main()

@@ -1,0 +1,278 @@
+"""Tables in memory as rows of a session."""
+
+from __future__ import annotations
+
+import datetime
+from collections.abc import Callable, Iterable
+from typing import TYPE_CHECKING, Any
+
+from plantbal.amounts import day_text, decimal_of, grams_of, variance_of, whole_of
+from plantbal.faults import Fault, InputFault, Place
+from plantbal.memory import uncollected
+from plantbal.session import ENV
+
+if TYPE_CHECKING:
+    import pandas
+
+    from plantbal.session import Session
+
+Convert = Callable[[Any], str]
+
+
+class Table:
+    """A table, of which columns are taken as texts.
+
+    Parameters
+    ----------
+    name : str
+        What it is called in what is said.
+    frame : DataFrame
+        The table.
+    """
+
+    def __init__(self, name: str, frame: pandas.DataFrame) -> None:
+        if not hasattr(frame, "columns"):
+            raise InputFault(
+                f"{name} is of type {type(frame).__name__}", remedy="give a pandas.DataFrame"
+            )
+        self.name, self.frame = name, frame
+
+    def place(self, number: int, head: str = "") -> Place:
+        """Return the place of a row, counted from 0."""
+        return Place(file=self.name, row=str(self.frame.index[number]), head=head)
+
+    def has(self, *heads: str) -> str | None:
+        """Return which of these columns is there, or None."""
+        found = [head for head in heads if head in self.frame.columns]
+        if len(found) > 1:
+            raise InputFault(
+                f"the columns {' and '.join(found)} are there",
+                place=Place(file=self.name),
+                remedy="give one of them",
+            )
+        return found[0] if found else None
+
+    def need(self, *heads: str) -> str:
+        """Return which of these columns is there."""
+        head = self.has(*heads)
+        if head is None:
+            there = ", ".join(map(str, self.frame.columns))
+            raise InputFault(
+                f"there is no column {' or '.join(heads)}",
+                place=Place(file=self.name),
+                remedy=f"the columns are {there}",
+            )
+        return head
+
+    def texts(self, head: str, convert: Convert, exact_integers: bool = False) -> list[str]:
+        """Return the texts of a column, each value converted once.
+
+        Parameters
+        ----------
+        head : str
+            The column.
+        convert : callable
+            Gives the text of a value, or raises a `Fault`.
+        exact_integers : bool
+            Whether a column of integers has its digits as texts.
+        """
+        import pandas
+
+        series = self.frame[head]
+        if pandas.api.types.is_float_dtype(series.dtype):
+            raise InputFault(
+                f"column {head} holds floats, which aren't exact",
+                place=self.place(0, head) if len(series) else Place(file=self.name, head=head),
+                text=str(series.iloc[0]) if len(series) else "",
+                remedy="read it with dtype=str, or make whole grams or Decimals of it",
+            )
+        missing = series.isna().to_numpy()
+        if missing.any():
+            number = int(missing.argmax())
+            raise InputFault(
+                f"column {head} has no value",
+                place=self.place(number, head),
+                remedy="leave the row out",
+            )
+        values: list[Any] = series.tolist()
+        if pandas.api.types.is_integer_dtype(series.dtype) and exact_integers:
+            return list(map(str, values))
+        kinds = set(map(type, values))
+        if kinds <= {str} or kinds <= {datetime.date}:
+            known: dict[Any, str] = {}
+            for number, value in enumerate(values):
+                if value not in known:
+                    known[value] = self._text(convert, number, head, value)
+            return list(map(known.__getitem__, values))
+        try:
+            return [convert(value) for value in values]
+        except Fault:
+            return [self._text(convert, number, head, v) for number, v in enumerate(values)]
+
+    def _text(self, convert: Convert, number: int, head: str, value: Any) -> str:
+        """Return the text of a value, or say where it stands."""
+        try:
+            return convert(value)
+        except Fault as fault:
+            place = self.place(number, head)
+            raise InputFault(
+                fault.what, place=place, text=fault.text, remedy=fault.remedy
+            ) from fault
+
+    def names(self, *heads: str) -> list[str]:
+        """Return a column of names."""
+        return self.texts(self.need(*heads), str)
+
+    def wholes(self, head: str) -> list[str]:
+        """Return a column of whole numbers."""
+        return self.texts(self.need(head), lambda value: whole_of(value, head), True)
+
+    def days(self, *heads: str) -> list[str]:
+        """Return a column of days."""
+        import numpy
+        import pandas
+
+        head = self.need(*heads)
+        series = self.frame[head]
+        if series.dtype == "datetime64[ns]" and not series.isna().any():
+            moments = series.to_numpy()
+            days, places = numpy.unique(moments, return_inverse=True)
+            if (days == days.astype("datetime64[D]")).all():
+                texts = numpy.array([day_text(day) for day in pandas.DatetimeIndex(days)], object)
+                return list(texts[places])
+        return self.texts(head, lambda value: day_text(value, head))
+
+    def amounts(self) -> list[str]:
+        """Return the amounts, in grams."""
+        head = self.need("grams", "tonnes")
+        if head == "grams":
+            return self.wholes(head)
+        return self.texts(head, lambda value: str(grams_of(value, head)))
+
+    def variances(self) -> list[str]:
+        """Return the variances, in squared grams."""
+        head = self.need("variance", "deviation_grams", "deviation_tonnes")
+        return self.texts(head, lambda value: variance_of(**{head: value}), head == "variance")
+
+    def ids(self, places: list[str], days: list[str]) -> list[str]:
+        """Return the ids: those of the column, or made of the stream or tank and the day."""
+        if self.has("id"):
+            return self.names("id")
+        return [f"{place}_{day}" for place, day in zip(places, days)]
+
+
+def _take(session: Session, table: Table, kind: str, *columns: list[str]) -> None:
+    for number, fields in enumerate(zip(*columns)):
+        session.row(kind, *fields, place=table.place(number))
+
+
+def _take_streams(session: Session, table: Table) -> None:
+    kinds = table.names("kind") if table.has("kind") else ["metered"] * len(table.frame)
+    head = table.need("variance", "deviation_grams", "deviation_tonnes")
+    # A plain stream has no variance, so its field may be missing.
+    frame = table.frame.copy(deep=False)
+    plain = [kind == "plain" for kind in kinds]
+    column = frame[head].astype(object)
+    column[plain] = 0
+    frame[head] = column
+    bases = Table(table.name, frame).variances()
+    _take(
+        session,
+        table,
+        "stream",
+        table.names("name", "stream"),
+        table.names("from", "from_"),
+        table.names("to"),
+        kinds,
+        bases,
+    )
+
+
+def _take_critical(session: Session, table: Table) -> None:
+    tests = table.names("test")
+    head = table.need("thousandths", "value")
+    if head == "thousandths":
+        values = table.wholes(head)
+    else:
+        values = table.texts(head, lambda value: _thousandths(value, head))
+    dofs: list[Any] = table.frame["dof"].tolist() if table.has("dof") else [None] * len(tests)
+    for number, (test, dof, value) in enumerate(zip(tests, dofs, values)):
+        # A column with missing values is one of floats: whole ones are taken.
+        freedom = [str(int(dof))] if test == "global" and dof is not None and dof == dof else []
+        session.row("critical", test, *freedom, value, place=table.place(number))
+
+
+def _thousandths(value: Any, head: str) -> str:
+    exact = decimal_of(value, head) * 1000
+    if exact != int(exact):
+        raise Fault(f"{head} is {value}", text=str(value), remedy="at most three decimals")
+    return str(int(exact))
+
+
+@uncollected()
+def fill(
+    session: Session,
+    *,
+    units: Iterable[str] | pandas.DataFrame | None,
+    tanks: pandas.DataFrame | None,
+    straps: pandas.DataFrame | None,
+    streams: pandas.DataFrame | None,
+    periods: pandas.DataFrame | None,
+    critical: pandas.DataFrame | None,
+    readings: pandas.DataFrame | None,
+    transfers: pandas.DataFrame | None,
+    dips: pandas.DataFrame | None,
+) -> None:
+    """Take the rows of tables into a session, in the order in which they may stand.
+
+    Parameters
+    ----------
+    session : Session
+        The session.
+    units, tanks, straps, streams, periods, critical, readings, transfers, dips
+        As in `plantbal.Session.from_frames`.
+    """
+    tank_table = None if tanks is None else Table("tanks", tanks)
+    stream_table = None if streams is None else Table("streams", streams)
+    tank_names = tank_table.names("name", "tank") if tank_table else []
+    if units is None:
+        ends: list[str] = []
+        if stream_table:
+            for one, other in zip(stream_table.names("from", "from_"), stream_table.names("to")):
+                ends += [one, other]
+        known = {ENV, *tank_names}
+        names = [name for name in dict.fromkeys(ends) if name not in known]
+    elif hasattr(units, "columns"):
+        names = Table("units", units).names("name", "unit")
+    else:
+        names = list(units)
+    for number, name in enumerate(names):
+        session.row("unit", name, place=Place(file="units", row=str(number)))
+    if tank_table:
+        _take(session, tank_table, "tank", tank_names, tank_table.variances())
+    if straps is not None:
+        table = Table("straps", straps)
+        _take(session, table, "strap", table.names("tank"), table.wholes("mm"), table.wholes("ml"))
+    if stream_table:
+        _take_streams(session, stream_table)
+    if critical is not None:
+        _take_critical(session, Table("critical", critical))
+    if periods is not None:
+        table = Table("periods", periods)
+        days = table.days("first"), table.days("last")
+        _take(session, table, "period", table.names("name", "period"), *days)
+    if readings is not None:
+        table = Table("readings", readings)
+        of, on = table.names("stream"), table.days("day", "date")
+        columns = table.ids(of, on), of, on, table.amounts(), table.variances()
+        session.take_readings(columns, table.place)
+    if transfers is not None:
+        table = Table("transfers", transfers)
+        of, first, last = table.names("stream"), table.days("first"), table.days("last")
+        ids = table.ids(of, first)
+        _take(session, table, "transfer", ids, of, first, last, table.amounts(), table.variances())
+    if dips is not None:
+        table = Table("dips", dips)
+        of, on = table.names("tank"), table.days("day", "date")
+        level = table.wholes("mm"), table.wholes("density")
+        _take(session, table, "dip", table.ids(of, on), of, on, *level, table.variances())

@@ -1,0 +1,259 @@
+"""A session as lint sees it: what was accepted, with the line of each row, and what each report saw."""
+
+from __future__ import annotations
+
+import datetime
+from bisect import bisect_right
+from collections.abc import Iterator
+from dataclasses import dataclass, field
+from functools import cached_property, lru_cache
+
+from plantbal.faults import Place, Refusal
+from plantbal.records import read_records, without_empty_end
+from plantbal.session import ENV, Period, Session
+from plantbal.topology import Arc
+
+
+@lru_cache(maxsize=10_000)
+def day_number(text: str) -> int:
+    """Return the number of a day that was accepted."""
+    return datetime.date.fromisoformat(text).toordinal()
+
+
+def day_text(day: int) -> str:
+    """Return a day of a number as a session writes it."""
+    return datetime.date.fromordinal(day).isoformat()
+
+
+@dataclass(frozen=True, slots=True)
+class Stream:
+    """A declared stream, or a tank's gain (`kind` is ``tank``)."""
+
+    arc: Arc
+    kind: str
+    base: int
+    line: int
+
+
+@dataclass(slots=True)
+class Fact:
+    """A reading, a transfer or a dip as it stands after all edits.
+
+    `line` is that of the row that gave its values, `changed` that of the last row that touched it.
+    """
+
+    kind: str
+    id: str
+    of: str
+    first: int
+    last: int
+    line: int
+    variance: int
+    grams: int = 0
+    mm: int = 0
+    density: int = 0
+    struck: bool = False
+    changed: int = 0
+
+
+@dataclass(frozen=True, slots=True)
+class Reported:
+    """What the last report row of a period saw.
+
+    Attributes
+    ----------
+    period : Period
+        The period.
+    line : int
+        The line of the report row.
+    refused : int
+        How many rows were refused before it.
+    missing : dict of str to list of int
+        The days without a reading of each meter that lacks one.
+    undipped : dict of str to list of int
+        The days without a dip of each tank that lacks one.
+    """
+
+    period: Period
+    line: int
+    refused: int
+    missing: dict[str, list[int]]
+    undipped: dict[str, list[int]]
+
+
+@dataclass
+class Book:
+    """A session's accepted rows.
+
+    Parameters
+    ----------
+    source : str
+        What the session is called.
+    data : bytes
+        Its bytes.
+    """
+
+    source: str
+    data: bytes
+    session: Session = field(default_factory=lambda: Session(strict=False))
+    rows: int = 0
+    lines: dict[str, int] = field(default_factory=dict)
+    streams: dict[str, Stream] = field(default_factory=dict)
+    tables: dict[str, list[tuple[int, int]]] = field(default_factory=dict)
+    periods: dict[str, Period] = field(default_factory=dict)
+    critical: set[tuple[str, int]] = field(default_factory=set)
+    facts: dict[str, Fact] = field(default_factory=dict)
+    reported: dict[str, Reported] = field(default_factory=dict)
+    asked: set[str] = field(default_factory=set)
+    _read: dict[int, set[str]] = field(default_factory=dict)
+    _dipped: dict[int, set[str]] = field(default_factory=dict)
+
+    def __post_init__(self) -> None:
+        for record in read_records(self.data):
+            self.rows += 1
+            place = Place(file=self.source, line=record.line, record=record.number)
+            fields = without_empty_end(record.fields)
+            if self.session.row(*fields, place=place) and fields:
+                self._take(list(fields), record.line)
+
+    # ---- rows
+
+    def _take(self, row: list[str], line: int) -> None:
+        kind = row[0]
+        if kind == "late":
+            row = row[1:]
+            kind = row[0]
+        if kind in ("reading", "transfer", "dip"):
+            self._take_fact(row, line)
+        elif kind in ("amend", "strike"):
+            self._take_edit(row, line)
+        elif kind in ("unit", "tank"):
+            self.lines[row[1]] = line
+            if kind == "tank":
+                self.tables[row[1]] = []
+                self.streams[row[1]] = Stream(Arc(row[1], row[1], ENV), "tank", int(row[2]), line)
+        elif kind == "strap":
+            self.tables[row[1]].append((int(row[2]), int(row[3])))
+        elif kind == "stream":
+            self.lines[row[1]] = line
+            self.streams[row[1]] = Stream(Arc(*row[1:4]), row[4], int(row[5]), line)
+        elif kind == "period":
+            self.periods[row[1]] = Period(row[1], day_number(row[2]), day_number(row[3]))
+        elif kind == "critical":
+            self.critical.add((row[1], int(row[2]) if row[1] == "global" else 0))
+        elif kind == "report":
+            self._take_report(row[1], line)
+        if kind in ("report", "design", "history"):
+            self.asked.add(kind)
+
+    def _take_fact(self, row: list[str], line: int) -> None:
+        kind, identity, of = row[:3]
+        first = last = day_number(row[3])
+        if kind == "transfer":
+            last = day_number(row[4])
+        fact = Fact(kind, identity, of, first, last, line, int(row[-1]), changed=line)
+        if kind == "dip":
+            fact.mm, fact.density = int(row[4]), int(row[5])
+        else:
+            fact.grams = int(row[-2])
+        self.facts[identity] = fact
+        self._days_of(fact).setdefault(first, set()).add(of)
+
+    def _days_of(self, fact: Fact) -> dict[int, set[str]]:
+        if fact.kind == "transfer":
+            return {}
+        return self._dipped if fact.kind == "dip" else self._read
+
+    def _take_edit(self, row: list[str], line: int) -> None:
+        fact = self.facts[row[1]]
+        fact.changed = line
+        if row[0] == "strike":
+            fact.struck = True
+            self._days_of(fact).get(fact.first, set()).discard(fact.of)
+            return
+        fact.line, fact.variance = line, int(row[-2])
+        if fact.kind == "dip":
+            fact.mm, fact.density = int(row[2]), int(row[3])
+        else:
+            fact.grams = int(row[2])
+
+    def _take_report(self, name: str, line: int) -> None:
+        period = self.periods[name]
+        metered = {name for name, stream in self.streams.items() if stream.kind == "metered"}
+        missing: dict[str, list[int]] = {}
+        for day in range(period.first, period.last + 1):
+            for stream in metered - self._read.get(day, set()):
+                missing.setdefault(stream, []).append(day)
+        undipped: dict[str, list[int]] = {}
+        for day in (period.first - 1, period.last):
+            for tank in self.tables.keys() - self._dipped.get(day, set()):
+                undipped.setdefault(tank, []).append(day)
+        refused = len(self.session.refused)
+        self.reported[name] = Reported(
+            period, line, refused, self._ordered(missing), self._ordered(undipped)
+        )
+
+    def _ordered(self, days: dict[str, list[int]]) -> dict[str, list[int]]:
+        """Return streams in the order in which they are declared."""
+        return {name: days[name] for name in self.streams if name in days}
+
+    # ---- what follows
+
+    @property
+    def refused(self) -> list[Refusal]:
+        """The refused rows."""
+        return self.session.refused
+
+    @property
+    def nodes(self) -> dict[str, str]:
+        """The units and tanks, and ``env``."""
+        return {ENV: ENV, **self.session.nodes}
+
+    @property
+    def arcs(self) -> list[Arc]:
+        """The streams, and the gains of the tanks."""
+        return [stream.arc for stream in self.streams.values()]
+
+    def measured(self, reported: Reported | None = None) -> set[str]:
+        """Return what is measured by design, or in a period as its report saw it."""
+        found = {name for name, stream in self.streams.items() if stream.kind != "plain"}
+        if reported is not None:
+            found -= reported.missing.keys() | reported.undipped.keys()
+        return found
+
+    def live(self) -> Iterator[Fact]:
+        """Give the facts that aren't struck."""
+        return (fact for fact in self.facts.values() if not fact.struck)
+
+    def content(self, fact: Fact) -> int:
+        """Return what a tank holds at the level of a dip, in grams."""
+        table = self.tables[fact.of]
+        place = bisect_right(table, fact.mm, key=lambda point: point[0])
+        if place == len(table):
+            volume = table[-1][1]
+        else:
+            (low, below), (high, above) = table[place - 1], table[place]
+            volume = below + (fact.mm - low) * (above - below) // (high - low)
+        return volume * fact.density // 1_000_000
+
+    def periods_of(self, fact: Fact) -> list[Period]:
+        """Return the periods that a fact counts in; a dip closes one and opens the next."""
+        if fact.kind == "dip":
+            day = fact.first
+            near = self.periods_within(day, day + 1)
+            return [each for each in near if each.last == day or each.first == day + 1]
+        return self.periods_within(fact.first, fact.last)
+
+    def periods_within(self, first: int, last: int) -> list[Period]:
+        """Return the periods that have a day from the first to the last, in order."""
+        ordered = self._ordered_periods
+        place = bisect_right(ordered, first - 1, key=lambda period: period.last)
+        found = []
+        while place < len(ordered) and ordered[place].first <= last:
+            found.append(ordered[place])
+            place += 1
+        return found
+
+    @cached_property
+    def _ordered_periods(self) -> list[Period]:
+        return sorted(self.periods.values(), key=lambda period: period.first)

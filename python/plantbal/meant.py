@@ -1,0 +1,128 @@
+"""What was probably meant by a number or a day that the program doesn't take."""
+
+from __future__ import annotations
+
+import calendar
+import datetime
+import re
+from decimal import Decimal, InvalidOperation
+
+Scale = tuple[str, int, str]
+_SPACES = "  \t'"
+
+
+def _exact(text: str) -> Decimal | None:
+    """Return the number that a text writes with a point and an exponent, or None."""
+    if not re.fullmatch(r"[-+]?[0-9]{1,40}(\.[0-9]{1,40})?([eE][-+]?[0-9]{1,3})?", text):
+        return None
+    try:
+        return Decimal(text)
+    except InvalidOperation:
+        return None
+
+
+def whole_meant(text: str) -> tuple[int, str] | None:
+    """Return the whole number that a text means, and what is odd about its form.
+
+    Parameters
+    ----------
+    text : str
+        A field that is no number in digits alone.
+
+    Returns
+    -------
+    tuple or None
+        The number, and a clause such as ``without the exponent``; None if it means no whole number.
+    """
+    plain = text.strip(_SPACES)
+    odd = "without the space" if plain != text else "in digits alone"
+    grouped = re.fullmatch(r"[-+]?[0-9]{1,3}([ ,.'\u00a0])[0-9]{3}(\1[0-9]{3})*(\.0*)?", plain)
+    if grouped and (grouped.group(1) != "." or plain.count(".") > 1):
+        plain = plain.replace(grouped.group(1), "")
+        odd = "without anything between the thousands"
+    elif plain.startswith("+"):
+        odd = "without the sign"
+    elif re.search("[eE]", plain):
+        odd = "if the spreadsheet that wrote an exponent lost no digit"
+    elif "." in plain:
+        odd = "without the point"
+    elif re.fullmatch(r"-?0[0-9]+", plain):
+        odd = "without the zero in front"
+    exact = _exact(plain)
+    if exact is None or abs(exact) > 10**40 or exact != int(exact):
+        return None
+    return int(exact), odd
+
+
+def number_meant(text: str, low: int, high: int, scale: Scale | None = None) -> str:
+    """Return what was probably meant by a text that is no whole number of a range, or nothing.
+
+    Parameters
+    ----------
+    text : str
+        The field.
+    low, high : int
+        The range, both ends included.
+    scale : tuple, optional
+        A greater unit, how many of the number's own it has, and what these are called: a number with
+        decimals is probably of the greater one.
+    """
+    found = whole_meant(text)
+    if found is not None:
+        number, odd = found
+        if low <= number <= high:
+            return "" if str(number) == text else f"write {number}, {odd}"
+        return ""
+    plain = text.strip(_SPACES)
+    if re.fullmatch(r"[-+]?([0-9]+|[0-9]{1,3}(\.[0-9]{3})+),[0-9]+", plain):
+        plain = plain.replace(".", "").replace(",", ".")
+    exact = _exact(plain)
+    if exact is not None and scale is not None:
+        greater, count, own = scale
+        many = exact * count
+        if many == int(many) and low <= many <= high:
+            return f"if {text.strip()} is in {greater}, write {int(many)}, in {own}"
+    if re.fullmatch(r"[0-9]{4}-[0-9]{2}-[0-9]{2}", plain):
+        return "a day stands there: are the fields in their order?"
+    if re.fullmatch(r"-?[0-9][0-9.,]* ?(kg|t|g|mm|cm|m3|m|l|ml)", plain):
+        return "take the unit of measure out"
+    return ""
+
+
+def _day(year: int, month: int, day: int) -> str:
+    """Return a day as a session writes it, or nothing if the calendar hasn't it."""
+    try:
+        return datetime.date(year, month, day).isoformat()
+    except ValueError:
+        return ""
+
+
+def day_meant(text: str) -> str:
+    """Return what was probably meant by a text that is no day, or nothing."""
+    plain = text.strip()
+    timed = re.fullmatch(r"(.{8,10})[T ][0-9]{1,2}:[0-9]{2}(:[0-9]{2})?.*", plain)
+    if timed:
+        inner = timed.group(1)
+        found = inner if re.fullmatch(r"[0-9]{4}-[0-9]{2}-[0-9]{2}", inner) else ""
+        return f"write {found}, without the time" if found else day_meant(inner)
+    parts = re.fullmatch(r"([0-9]{1,4})[-./ ]([0-9]{1,2})[-./ ]([0-9]{1,4})", plain)
+    if parts:
+        one, two, three = (int(part) for part in parts.groups())
+        if len(parts.group(1)) == 4:
+            found = _day(one, two, three)
+            if found:
+                return f"write {found}" if found != text else ""
+            if 1 <= two <= 12:
+                count = calendar.monthrange(one, two)[1] if one else 0
+                return f"{calendar.month_name[two]} {one} has {count} days" if count else ""
+            return f"write {_day(one, three, two)}" if _day(one, three, two) else ""
+        year = three + (2000 if len(parts.group(3)) == 2 else 0)
+        either = [day for day in (_day(year, two, one), _day(year, one, two)) if day]
+        return f"write {' or '.join(dict.fromkeys(either))}" if either else ""
+    if re.fullmatch(r"(19|20|21)[0-9]{6}", plain):
+        found = _day(int(plain[:4]), int(plain[4:6]), int(plain[6:]))
+        return f"write {found}" if found else ""
+    if re.fullmatch(r"[1-7][0-9]{4}", plain):
+        day = datetime.date(1899, 12, 30) + datetime.timedelta(days=int(plain))
+        return f"write {day.isoformat()}, if this is a spreadsheet's number of a day"
+    return ""

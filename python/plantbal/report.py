@@ -1,0 +1,221 @@
+"""Rows that the program writes, from its CSV or its JSON lines, and the blocks that they make."""
+
+from __future__ import annotations
+
+import csv
+import io
+import json
+import sys
+from collections.abc import Iterable
+from dataclasses import dataclass, field
+from pathlib import Path
+
+from plantbal.faults import InputFault, Place, read_text
+from plantbal.memory import uncollected
+from plantbal.schema import Row, schema
+
+# A row by its columns; `row` has its kind. A stream of an older report lacks its least bounds.
+Values = dict[str, str]
+
+
+def _row_of(source: str, line: int, fields: list[str]) -> Values:
+    """Return a row by its fields."""
+    kind, values = fields[0], fields[1:]
+    row = schema().output.get(kind)
+    if row is None:
+        raise InputFault(
+            f"plantbal writes no row of the kind {kind!r}",
+            place=Place(file=source, line=line, column=1),
+            text=kind,
+            remedy=_instead(kind),
+        )
+    names: tuple[str, ...] = row.names
+    if len(values) != len(names):
+        if row.without and len(values) == len(row.older):
+            names = row.older
+        else:
+            raise InputFault(
+                f"a {kind} row has {len(names) + 1} columns, this one has {len(values) + 1}",
+                place=Place(file=source, line=line),
+                text=",".join(fields)[:200],
+            )
+    made = dict(zip(names, values))
+    made["row"] = kind
+    return made
+
+
+def _instead(kind: str) -> str:
+    """Return what a row of another kind may be."""
+    if any(row.kind == kind for row in schema().session):
+        return "this is a session: run it first"
+    if ";" in kind or "\t" in kind:
+        return "save it with commas between fields"
+    return ""
+
+
+def _row_of_json(source: str, line: int, text: str) -> Values:
+    """Return a row by its JSON object."""
+    place = Place(file=source, line=line)
+    try:
+        found = json.loads(text)
+    except ValueError as error:
+        column = getattr(error, "colno", 1)
+        place = Place(file=source, line=line, column=column)
+        raise InputFault(f"no JSON object: {error}", place=place, text=text[:200]) from error
+    kind = found.get("row") if isinstance(found, dict) else None
+    row = schema().output.get(kind) if isinstance(kind, str) else None
+    if row is None:
+        raise InputFault(f'no row of plantbal: its "row" is {kind!r}', place=place, text=text[:200])
+    keys = sorted(found)
+    if keys != sorted([*row.names, "row"]) and not (
+        row.without and keys == sorted([*row.older, "row"])
+    ):
+        wanted = ", ".join([*row.names, "row"])
+        raise InputFault(f"the keys of the row {kind} are {wanted}", place=place, text=text[:200])
+    if not all(isinstance(value, str) for value in found.values()):
+        raise InputFault("a value is no text", place=place, text=text[:200])
+    values: Values = found
+    return values
+
+
+@uncollected()
+def parse_rows(source: str, text: str) -> list[Values]:
+    """Return the rows of an output: CSV, or JSON lines where it begins with a brace.
+
+    Parameters
+    ----------
+    source : str
+        What the output is called in what is said.
+    text : str
+        The output.
+
+    Raises
+    ------
+    InputFault
+        Where a row is none of the program's.
+    """
+    if text.startswith("{"):
+        lines = enumerate(text.splitlines(), 1)
+        return [_row_of_json(source, number, line) for number, line in lines if line]
+    csv.field_size_limit(sys.maxsize)
+    reader = csv.reader(io.StringIO(text, newline=""))
+    keys = {kind: ("row", *row.names) for kind, row in schema().output.items()}
+    found: list[Values] = []
+    for fields in reader:
+        if fields:
+            names = keys.get(fields[0], ())
+            if len(names) == len(fields):
+                found.append(dict(zip(names, fields)))
+            else:
+                found.append(_row_of(source, reader.line_num, fields))
+    return found
+
+
+def read_rows(path: str | Path) -> list[Values]:
+    """Return the rows of a file, or of standard input where the path is ``-``."""
+    return parse_rows(*read_text(path))
+
+
+def fields_of(values: Values) -> list[str]:
+    """Return the fields of a row as the program writes it in CSV."""
+    row: Row = schema().output[values["row"]]
+    names = row.names if len(values) == len(row.names) + 1 else row.older
+    return [values["row"], *(values[name] for name in names)]
+
+
+def csv_of(rows: Iterable[Values]) -> str:
+    """Return rows as the program writes them in CSV."""
+    out = io.StringIO()
+    csv.writer(out, lineterminator="\n").writerows(map(fields_of, rows))
+    return out.getvalue()
+
+
+@dataclass
+class Block:
+    """One block of rows: a round of a period's report.
+
+    Attributes
+    ----------
+    number : int
+        Its number in the output, counted from 0.
+    head : dict
+        Its ``report`` row.
+    taken : list of str
+        The streams that were taken before it.
+    nodes, streams, nodal, measure : list of dict
+        Its rows of these kinds.
+    solved, whole : dict or None
+        Its ``solved`` and its ``global`` row.
+    ended : bool
+        Whether its ``end`` row is there.
+    """
+
+    number: int
+    head: Values
+    taken: list[str] = field(default_factory=list)
+    nodes: list[Values] = field(default_factory=list)
+    streams: list[Values] = field(default_factory=list)
+    nodal: list[Values] = field(default_factory=list)
+    measure: list[Values] = field(default_factory=list)
+    solved: Values | None = None
+    whole: Values | None = None
+    ended: bool = False
+
+    @property
+    def period(self) -> str:
+        """The period."""
+        return self.head["period"]
+
+    @property
+    def round(self) -> int:
+        """The round: how many streams were taken before."""
+        return int(self.head["round"])
+
+    @property
+    def title(self) -> str:
+        """The period, and the round where it isn't the first."""
+        return f"{self.period}, round {self.round}" if self.round else self.period
+
+    def suspects(self) -> list[str]:
+        """Return the streams whose measurement test rejects, the greatest statistic first."""
+        rejected = [row for row in self.measure if row["verdict"] == "reject"]
+        return [row["stream"] for row in sorted(rejected, key=lambda row: -int(row["low"]))]
+
+
+def blocks_of(rows: Iterable[Values]) -> list[Block]:
+    """Return the blocks of the rows in order."""
+    found: list[Block] = []
+    block: Block | None = None
+    taken: list[str] = []
+    for row in rows:
+        kind = row["row"]
+        if kind == "report":
+            if row["round"] == "0":
+                taken = []
+            block = Block(len(found), row, list(taken))
+            found.append(block)
+        elif kind == "taken":
+            taken.append(row["stream"])
+        elif block is None:
+            continue
+        elif kind == "node":
+            block.nodes.append(row)
+        elif kind == "stream":
+            block.streams.append(row)
+        elif kind == "nodal":
+            block.nodal.append(row)
+        elif kind == "measure":
+            block.measure.append(row)
+        elif kind == "solved":
+            block.solved = row
+        elif kind == "global":
+            block.whole = row
+        elif kind == "end":
+            block.ended, block = True, None
+    return found
+
+
+def designs_of(rows: list[Values]) -> list[list[Values]]:
+    """Return the streams of each design in order."""
+    places = [place for place, row in enumerate(rows) if row["row"] == "design"]
+    return [rows[place + 1 : place + 1 + int(rows[place]["streams"])] for place in places]

@@ -1,0 +1,1232 @@
+"""Sessions: rows that are accepted or refused by the rules of the program.
+
+A `Session` refuses what the program would refuse, with the same code, so that whatever it writes is
+accepted row by row.
+"""
+
+from __future__ import annotations
+
+import csv
+import datetime
+import difflib
+import io
+import re
+from bisect import bisect_left, bisect_right, insort
+from collections.abc import Callable, Iterable, Iterator, Sequence
+from dataclasses import dataclass
+from functools import lru_cache
+from itertools import repeat
+from pathlib import Path
+from typing import TYPE_CHECKING, NoReturn
+
+from plantbal.amounts import Day, Tonnes, day_text, decimal_of, grams_of, variance_of, whole_of
+from plantbal.faults import Fault, Place, Refusal, read_bytes
+from plantbal.files import write_text
+from plantbal.meant import day_meant, number_meant
+from plantbal.records import read_records, without_empty_end
+from plantbal.schema import Column, Row, schema
+
+if TYPE_CHECKING:
+    import pandas
+
+LIMITS = schema().limits
+_NAME = re.compile(rf"[A-Za-z0-9_.-]{{1,{LIMITS['most_name']}}}")
+_REASON = re.compile(rf"[ -~]{{1,{LIMITS['most_reason']}}}")
+_WHOLE = re.compile(r"0|-?[1-9][0-9]*")
+_DATE = re.compile(r"[0-9]{4}-[0-9]{2}-[0-9]{2}")
+ENV = "env"
+
+
+@dataclass(slots=True)
+class Period:
+    """A period of booking; days are numbers of `datetime.date.toordinal`."""
+
+    name: str
+    first: int
+    last: int
+    closed: bool = False
+
+
+@dataclass(slots=True)
+class _Fact:
+    """A stored reading, transfer or dip."""
+
+    kind: str
+    place: str
+    first: int
+    last: int
+    struck: bool = False
+
+
+@dataclass(slots=True)
+class _Judged:
+    """A record that is accepted: its kind and its values, and what stores it."""
+
+    fields: tuple[str, ...]
+    store: Callable[[], None] | None = None
+
+
+@lru_cache(maxsize=100_000)
+def _day_number(text: str) -> int | None:
+    """Return the number of a day that is written as the program reads it, or None."""
+    if not _DATE.fullmatch(text):
+        return None
+    year, month, day = int(text[:4]), int(text[5:7]), int(text[8:])
+    if not LIMITS["first_year"] <= year <= LIMITS["last_year"]:
+        return None
+    try:
+        return datetime.date(year, month, day).toordinal()
+    except ValueError:
+        return None
+
+
+def day_of_number(number: int) -> datetime.date:
+    """Return the day of a number."""
+    return datetime.date.fromordinal(number)
+
+
+def whole_number(text: str, low: int | None, high: int | None) -> int | None:
+    """Return the number that a field writes, or None where it writes none of the range."""
+    if len(text) > 60 or not _WHOLE.fullmatch(text):
+        return None
+    number = int(text)
+    if (low is not None and number < low) or (high is not None and number > high):
+        return None
+    return number
+
+
+def _bad(column: Column, text: str) -> int:
+    """Return the code of a field that its column doesn't take, or 0."""
+    if column.type == "name":
+        return 0 if _NAME.fullmatch(text) else 3
+    if column.type == "reason":
+        return 0 if _REASON.fullmatch(text) else 3
+    if column.type == "number":
+        return 4 if whole_number(text, column.low, column.high) is None else 0
+    if column.type == "date":
+        return 5 if _day_number(text) is None else 0
+    return 0
+
+
+def _rows_by_kind() -> dict[str, list[Row]]:
+    found: dict[str, list[Row]] = {}
+    for row in schema().session:
+        found.setdefault(row.kind, []).append(row)
+    return found
+
+
+_ROWS = _rows_by_kind()
+
+
+def rows_of_kind(kind: str) -> list[Row]:
+    """Return the rows of a kind, or none if there is no such kind."""
+    return _ROWS.get(kind, [])
+
+
+def kind_near(text: str) -> str:
+    """Return the kind of row that a text is, but for its spelling, or nothing."""
+    return text if text in _ROWS else _nearest(text.strip(), sorted(_ROWS))
+
+
+def field_fits(column: Column, text: str) -> bool:
+    """Say whether a field is of the form of its column."""
+    if column.type == "word":
+        return text in column.words
+    return _bad(column, text) == 0
+
+
+def _nearest(name: str, names: Iterable[str]) -> str:
+    """Return which of some names is nearly a name, or nothing."""
+    near = difflib.get_close_matches(name, list(names), n=1, cutoff=0.7)
+    if not near:
+        near = [each for each in names if each.lower() == name.lower()][:1]
+    return near[0] if near else ""
+
+
+def _near(name: str, names: Iterable[str]) -> str:
+    """Return `did you mean ..` for a name that is nearly one of these, or nothing."""
+    near = _nearest(name, names)
+    return f"did you mean {near}?" if near else ""
+
+
+# A unit that people think in, how many of the column's own it has, and what these are called.
+_SCALES = {
+    "grams": ("tonnes", 1_000_000, "grams"),
+    "value": ("whole units", 1000, "thousandths"),
+    "density": ("tonnes in a cubic metre", 1_000_000, "grams in a cubic metre"),
+    "mm": ("metres", 1000, "millimetres"),
+    "ml": ("cubic metres", 1_000_000, "millilitres"),
+}
+
+
+def _number_remedy(column: Column, text: str) -> str:
+    """Return what to do about a field that is no whole number of its column's range."""
+    low, high = column.low or 0, column.high or 0
+    if low == high:
+        return f"write {low}: a plain stream has no variance"
+    meant = number_meant(text, low, high, _SCALES.get(column.name))
+    if meant.startswith("write "):
+        return meant
+    if not text and column.name == "grams":
+        meant = "if there is no figure, leave the row out"
+    range_ = f"a whole number in digits alone, {low:,} to {high:,}"
+    return f"{range_}; {meant}" if meant else range_
+
+
+class Session:
+    """Rows of a session, each accepted or refused by the rules of the program.
+
+    Parameters
+    ----------
+    strict : bool
+        Whether a refused row raises `Refusal`. Otherwise it is left out and kept in `refused`.
+
+    Attributes
+    ----------
+    refused : list of Refusal
+        The rows that were refused, of a session that isn't strict.
+
+    Examples
+    --------
+    >>> session = Session()
+    >>> session.unit("U")
+    >>> session.stream("FEED", "env", "U", deviation_tonnes="0.5")
+    >>> session.stream("PRODUCT", "U", "env", deviation_tonnes="0.5")
+    >>> session.period("may", "2024-05-01", "2024-05-01")
+    >>> session.reading("f1", "FEED", "2024-05-01", tonnes="102.5", deviation_tonnes="1")
+    >>> session.reading("p1", "PRODUCT", "2024-05-01", grams=100_000_000, variance=10**12)
+    >>> session.report("may")
+    >>> print(session.to_csv().splitlines()[4])
+    reading,f1,FEED,2024-05-01,102500000,1000000000000
+    """
+
+    def __init__(self, *, strict: bool = True) -> None:
+        self.strict = strict
+        self.refused: list[Refusal] = []
+        self._rows: list[tuple[str, ...]] = []
+        self._nodes: dict[str, str] = {}
+        self._streams: dict[str, str] = {}
+        self._tables: dict[str, list[tuple[int, int]]] = {}
+        self._periods: dict[str, Period] = {}
+        self._ordered: list[tuple[int, int, str]] = []
+        self._closed: list[tuple[int, int, str]] = []
+        self._critical: set[tuple[str, int]] = set()
+        self._facts: dict[str, _Fact] = {}
+        self._days: set[tuple[str, int]] = set()
+
+    # ---- what is there
+
+    def __len__(self) -> int:
+        """Return how many rows were accepted."""
+        return len(self._rows)
+
+    def __iter__(self) -> Iterator[tuple[str, ...]]:
+        """Give the accepted rows in order, as their fields."""
+        return iter(self._rows)
+
+    def __repr__(self) -> str:
+        return (
+            f"<Session of {len(self._rows)} rows: {len(self._nodes)} units and tanks, "
+            f"{len(self._streams)} streams, {len(self._periods)} periods, {len(self._facts)} facts>"
+        )
+
+    @property
+    def periods(self) -> tuple[Period, ...]:
+        """The periods in the order in which they were declared."""
+        return tuple(self._periods.values())
+
+    @property
+    def streams(self) -> dict[str, str]:
+        """The kind of each declared stream: ``metered``, ``batch`` or ``plain``."""
+        return dict(self._streams)
+
+    @property
+    def nodes(self) -> dict[str, str]:
+        """What each declared node is: ``unit`` or ``tank``."""
+        return dict(self._nodes)
+
+    def to_csv(self, path: str | Path | None = None) -> str:
+        """Return the session as the program reads it, and write it to a file where one is named.
+
+        Parameters
+        ----------
+        path : str or Path, optional
+            A file, which is written whole or not at all; ``-`` is standard output.
+        """
+        out = io.StringIO()
+        csv.writer(out, lineterminator="\n").writerows(self._rows)
+        text = out.getvalue()
+        if path is not None:
+            write_text(path, text)
+        return text
+
+    # ---- rows as their fields
+
+    @classmethod
+    def read(cls, path: str | Path, *, strict: bool = False) -> Session:
+        """Return the session of a file; ``-`` is standard input.
+
+        Parameters
+        ----------
+        path : str or Path
+            A file as the program reads it.
+        strict : bool
+            Whether the first refused row raises `Refusal`. Otherwise refused rows are left out and kept
+            in `refused`, each with its file, line and record.
+        """
+        source, data = read_bytes(path)
+        session = cls(strict=strict)
+        for record in read_records(data):
+            place = Place(file=source, line=record.line, record=record.number)
+            session.row(*record.fields, place=place)
+        return session
+
+    def row(self, *fields: str, place: Place | None = None) -> bool:
+        """Take a row as its fields, of which the first is its kind.
+
+        Parameters
+        ----------
+        *fields : str
+            The fields as the program reads them. Empty ones at the end are dropped.
+        place : Place, optional
+            Where the row stands, for what is said of it.
+
+        Returns
+        -------
+        bool
+            Whether it was accepted.
+
+        Raises
+        ------
+        Refusal
+            Where the program would refuse it, and the session is strict.
+        """
+        try:
+            judged = self.judge(fields)
+        except Refusal as refusal:
+            refusal.place = place or refusal.place
+            if self.strict:
+                raise
+            self.refused.append(refusal)
+            return False
+        if judged.fields:
+            if judged.store is not None:
+                judged.store()
+            self._rows.append(judged.fields)
+        return True
+
+    def judge(self, fields: Sequence[str]) -> _Judged:
+        """Judge a record by the accepted rows, without taking it.
+
+        Raises
+        ------
+        Refusal
+            Where the program would refuse it: the lowest code that holds.
+        """
+        record = without_empty_end(tuple(fields))
+        if not record:
+            return _Judged(())
+        row = self._kind(record)
+        if len(record) != len(row.columns) + 1:
+            self._refuse(2, record, f"it has {len(record)} fields", remedy=f"write {row.pattern}")
+        self._judge_fields(row, record)
+        values = dict(zip(row.names, record[1:]))
+        kind, late = row.kind, row.kind == "late"
+        if late:
+            kind = row.variant
+        judge = getattr(self, f"_judge_{kind}")
+        store: Callable[[], None] | None = (
+            judge(record, values, late) if kind in _FACTS else judge(record, values)
+        )
+        return _Judged(record, store)
+
+    def _kind(self, record: tuple[str, ...]) -> Row:
+        """Return the row of a record's kind, or refuse it with 1 or 2."""
+        rows = _ROWS.get(record[0])
+        if rows is None:
+            words = sorted(_ROWS)
+            remedy = _near(record[0], words) or f"a row begins with one of {', '.join(words)}"
+            self._refuse(
+                1, record, f"there is no kind of row {record[0]!r}", "kind", record[0], remedy
+            )
+        if len(rows) == 1:
+            return rows[0]
+        place = next((i for i, c in enumerate(rows[0].columns, 1) if c.type == "word"), None)
+        if place is None:  # the number of fields says which
+            for row in rows:
+                if len(record) == len(row.columns) + 1:
+                    return row
+            patterns = " or ".join(row.pattern for row in rows)
+            self._refuse(2, record, f"it has {len(record)} fields", remedy=f"write {patterns}")
+        if len(record) <= place:
+            self._refuse(
+                2, record, f"it has {len(record)} fields", remedy=f"write {rows[0].pattern}"
+            )
+        for row in rows:
+            if record[place] == row.variant:
+                return row
+        words = [row.variant for row in rows]
+        remedy = _near(record[place], words) or f"write {', '.join(words[:-1])} or {words[-1]}"
+        name = rows[0].columns[place - 1].name
+        self._refuse(
+            1, record, f"field {place + 1} is {record[place]!r}", name, record[place], remedy
+        )
+
+    def _judge_fields(self, row: Row, record: tuple[str, ...]) -> None:
+        """Refuse a record whose fields aren't of their forms: names first, then numbers, then dates."""
+        worst = 0
+        for column, text in zip(row.columns, record[1:]):
+            code = _bad(column, text)
+            if code and (not worst or code < worst):
+                worst, at, said = code, column, text
+        if not worst:
+            return
+        label = at.label if at.label != "0" else "BASEVAR"
+        what = f"{label} is {said!r}" if said else f"{label} is empty"
+        if at.type == "reason":
+            remedy = f"1 to {LIMITS['most_reason']} plain characters, from the space to ~"
+            if len(said) > LIMITS["most_reason"]:
+                remedy += f", and has {len(said)}"
+            elif said:
+                remedy += ", without umlauts, accents and line ends"
+        elif at.type == "name":
+            remedy = f"1 to {LIMITS['most_name']} letters, digits, `_`, `-` or `.`"
+            plain = re.sub(r"[^A-Za-z0-9_.-]+", "_", said.strip())
+            if not said.isascii():
+                remedy += ", without umlauts and accents"
+            elif len(said) > LIMITS["most_name"]:
+                remedy += f", and has {len(said)} characters"
+            elif plain != said and _NAME.fullmatch(plain) and plain.strip("_"):
+                remedy += f", such as {plain}"
+        elif at.type == "date":
+            first, last = LIMITS["first_year"], LIMITS["last_year"]
+            remedy = f"a day of the calendar, of the years {first} to {last}, such as 2024-03-01"
+            meant = day_meant(said)
+            if meant.startswith("write "):
+                remedy = meant
+            elif meant:
+                remedy += f"; {meant}"
+        else:
+            remedy = _number_remedy(at, said)
+        self._refuse(worst, record, what, at.name, said, remedy)
+
+    def _refuse(
+        self,
+        code: int,
+        record: tuple[str, ...],
+        what: str,
+        column: str = "",
+        text: str = "",
+        remedy: str = "",
+    ) -> NoReturn:
+        word = schema().refusals[code].word
+        count = 3 if record[0] == "late" else 2
+        head = " ".join(field for field in record[:count] if field).strip()
+        raise Refusal(
+            f"{head}: {what} (refused {code}, {word})",
+            code=code,
+            word=word,
+            column=column,
+            row=record,
+            head=head,
+            said=what,
+            text=text,
+            remedy=remedy or schema().refusals[code].remedy.rstrip("."),
+        )
+
+    # ---- the plant
+
+    def _judge_name(self, record: tuple[str, ...], name: str) -> None:
+        """Refuse a name that is taken."""
+        what = "the world outside" if name == ENV else None
+        if name in self._nodes:
+            what = f"a {self._nodes[name]}"
+        elif name in self._streams:
+            what = f"a {self._streams[name]} stream"
+        if what is not None:
+            said = f"{name} is {what} already" if name != ENV else f"{name} is {what}"
+            self._refuse(
+                7, record, said, "name", name, "choose another name, or leave this row out"
+            )
+
+    def _judge_sealed(self, record: tuple[str, ...]) -> None:
+        """Refuse a part of the plant once a period is closed."""
+        if self._closed:
+            self._refuse(
+                10,
+                record,
+                f"period {self._closed[0][2]} is closed, and the plant can't change any more",
+                remedy="declare the plant before the first close",
+            )
+
+    def _judge_room(self, record: tuple[str, ...], nodes: bool, arcs: bool) -> None:
+        """Refuse a unit, tank or stream beyond the limits."""
+        if nodes and len(self._nodes) >= LIMITS["most_units_and_tanks"]:
+            self._refuse(13, record, f"{len(self._nodes):,} units and tanks are there")
+        if arcs and len(self._streams) + len(self._tables) >= LIMITS["most_streams"]:
+            count = len(self._streams) + len(self._tables)
+            self._refuse(13, record, f"{count:,} streams and tanks are there")
+
+    def _judge_unit(self, record: tuple[str, ...], values: dict[str, str]) -> Callable[[], None]:
+        name = values["name"]
+        self._judge_name(record, name)
+        self._judge_sealed(record)
+        self._judge_room(record, True, False)
+        return lambda: self._nodes.update({name: "unit"})
+
+    def _judge_tank(self, record: tuple[str, ...], values: dict[str, str]) -> Callable[[], None]:
+        name = values["name"]
+        self._judge_name(record, name)
+        self._judge_sealed(record)
+        self._judge_room(record, True, True)
+
+        def store() -> None:
+            self._nodes[name] = "tank"
+            self._tables[name] = []
+
+        return store
+
+    def _judge_strap(self, record: tuple[str, ...], values: dict[str, str]) -> Callable[[], None]:
+        tank, mm, ml = values["tank"], int(values["mm"]), int(values["ml"])
+        table = self._table(record, tank)
+        if table and not (table[-1][0] < mm and table[-1][1] <= ml):
+            column, least = ("mm", table[-1][0]) if mm <= table[-1][0] else ("ml", table[-1][1])
+            self._refuse(
+                8,
+                record,
+                f"{column.upper()} is {values[column]}, and the table's last point has {least}",
+                column,
+                values[column],
+                "write the table from bottom to top",
+            )
+        self._judge_sealed(record)
+        if len(table) >= LIMITS["most_points"]:
+            self._refuse(13, record, f"the table of {tank} has {len(table):,} points")
+        return lambda: table.append((mm, ml))
+
+    def _table(self, record: tuple[str, ...], tank: str) -> list[tuple[int, int]]:
+        """Return the table of a tank, or refuse a record that names none."""
+        if tank not in self._tables:
+            what = (
+                f"{tank} is no tank"
+                if tank in self._nodes or tank in self._streams
+                else (f"there is no tank {tank}")
+            )
+            other = "name a tank" if what.startswith(f"{tank} is") else "declare it before"
+            remedy = _near(tank, self._tables) or other
+            self._refuse(6, record, what, "tank", tank, remedy)
+        return self._tables[tank]
+
+    def _judge_stream(self, record: tuple[str, ...], values: dict[str, str]) -> Callable[[], None]:
+        name, kind = values["name"], record[4]
+        for end in ("from", "to"):
+            if values[end] != ENV and values[end] not in self._nodes:
+                what = f"there is no unit or tank {values[end]}"
+                if values[end] in self._streams:
+                    what = f"{values[end]} is a stream, and no unit or tank"
+                other = (
+                    "name a unit or tank" if values[end] in self._streams else "declare it before"
+                )
+                remedy = _near(values[end], [ENV, *self._nodes]) or other
+                self._refuse(6, record, what, end, values[end], remedy)
+        self._judge_name(record, name)
+        if values["from"] == values["to"]:
+            what = f"it leads from {values['from']} to itself"
+            self._refuse(9, record, what, "to", values["to"], "give it two different ends")
+        self._judge_sealed(record)
+        self._judge_room(record, False, True)
+        return lambda: self._streams.update({name: kind})
+
+    def _judge_critical(
+        self, record: tuple[str, ...], values: dict[str, str]
+    ) -> Callable[[], None]:
+        test = record[1]
+        key = (test, int(values.get("dof", "0")))
+        if key in self._critical:
+            degrees = "1 degree" if key[1] == 1 else f"{key[1]} degrees"
+            of = f" for {degrees} of freedom" if test == "global" else ""
+            tests = {"global": "the global test has", "nodal": "nodal tests have"}
+            have = tests.get(test, "measurement tests have")
+            what = f"{have} a critical value{of} already"
+            self._refuse(7, record, what, remedy="leave one of the two out")
+        return lambda: self._critical.add(key)
+
+    # ---- periods
+
+    def _judge_period(self, record: tuple[str, ...], values: dict[str, str]) -> Callable[[], None]:
+        name = values["name"]
+        first, last = _number(values["first"]), _number(values["last"])
+        if name in self._periods:
+            remedy = "choose another name, or leave this row out"
+            self._refuse(7, record, f"period {name} is there already", "name", name, remedy)
+        if last < first:
+            remedy = "exchange the days"
+            self._refuse(
+                8, record, "its first day is after its last", "first", values["first"], remedy
+            )
+        place = bisect_right(self._ordered, (last, 10**9, ""))
+        if place and self._ordered[place - 1][1] >= first:
+            other = self._ordered[place - 1][2]
+            what = f"it shares a day with period {other}"
+            remedy = "no day may be in two periods: cut one of them"
+            self._refuse(9, record, what, "first", values["first"], remedy)
+        if last - first >= LIMITS["most_days_of_period"]:
+            what = f"it has {last - first + 1} days, and at most {LIMITS['most_days_of_period']} may be"
+            self._refuse(12, record, what, "last", values["last"], "split it")
+        if len(self._periods) >= LIMITS["most_periods"]:
+            self._refuse(13, record, f"{len(self._periods):,} periods are there")
+
+        def store() -> None:
+            self._periods[name] = Period(name, first, last)
+            insort(self._ordered, (first, last, name))
+
+        return store
+
+    def _period(self, record: tuple[str, ...], name: str) -> Period:
+        """Return the period of a name, or refuse a record that names none."""
+        if name not in self._periods:
+            remedy = _near(name, self._periods) or "declare it before"
+            self._refuse(6, record, f"there is no period {name}", "period", name, remedy)
+        return self._periods[name]
+
+    def _judge_close(self, record: tuple[str, ...], values: dict[str, str]) -> Callable[[], None]:
+        period = self._period(record, values["period"])
+        if period.closed:
+            what = f"period {period.name} is closed already"
+            self._refuse(11, record, what, "period", period.name, "leave one of the two out")
+
+        def store() -> None:
+            period.closed = True
+            insort(self._closed, (period.first, period.last, period.name))
+
+        return store
+
+    def _judge_design(self, record: tuple[str, ...], values: dict[str, str]) -> None:
+        return None
+
+    def _judge_report(self, record: tuple[str, ...], values: dict[str, str]) -> None:
+        self._period(record, values["period"])
+
+    def _judge_history(self, record: tuple[str, ...], values: dict[str, str]) -> None:
+        self._period(record, values["period"])
+
+    # ---- facts
+
+    def _touched(self, first: int, last: int) -> str | None:
+        """Return the name of a closed period that has a day from the first to the last, or None."""
+        # Periods share no day, so the last one that begins by the last day is the one to ask.
+        place = bisect_right(self._closed, (last, 10**9, ""))
+        if place and self._closed[place - 1][1] >= first:
+            return self._closed[place - 1][2]
+        return None
+
+    def _touched_by_dip(self, day: int) -> str | None:
+        """Return the name of a closed period that ends on a day or begins on the next, or None."""
+        place = bisect_left(self._closed, (day + 1, 0, ""))
+        if place < len(self._closed) and self._closed[place][0] == day + 1:
+            return self._closed[place][2]
+        if place and self._closed[place - 1][1] == day:
+            return self._closed[place - 1][2]
+        return None
+
+    def _judge_fact(
+        self, record: tuple[str, ...], fact: _Fact, identity: str, day: str, closed: str | None
+    ) -> None:
+        """Refuse a fact whose id or day is taken, or that touches a closed period."""
+        if identity in self._facts:
+            kept = self._facts[identity]
+            state = "struck " if kept.struck else ""
+            what = f"the id {identity} is that of a {state}{kept.kind} of {kept.place}"
+            self._refuse(7, record, what, "id", identity, "choose another id, or amend the fact")
+        if fact.kind != "transfer" and (fact.place, fact.first) in self._days:
+            what = f"{fact.place} has a {fact.kind} of {day} already"
+            self._refuse(
+                7, record, what, "day", day, "leave one of the two out, or amend the first"
+            )
+        if fact.last < fact.first:
+            what = "its first day is after its last"
+            self._refuse(8, record, what, "first", day, "exchange the days")
+        kind = self._streams.get(fact.place)
+        wanted = {"reading": "metered", "transfer": "batch"}.get(fact.kind)
+        if wanted is not None and kind != wanted:
+            has = {
+                "metered": "readings",
+                "batch": "transfers",
+                "plain": "neither readings nor transfers",
+            }[kind or ""]
+            what = f"{fact.place} is a {kind} stream"
+            self._refuse(9, record, what, "stream", fact.place, f"a {kind} stream has {has}")
+        if closed is not None:
+            what = f"it touches period {closed}, which is closed"
+            self._refuse(11, record, what, remedy="write `late,` before the row")
+
+    def _judge_stream_of(self, record: tuple[str, ...], stream: str) -> None:
+        """Refuse a fact of a stream that isn't declared."""
+        if stream not in self._streams:
+            what = f"there is no stream {stream}"
+            if stream in self._nodes:
+                what = f"{stream} is a {self._nodes[stream]}, and no stream"
+            other = "name a stream" if stream in self._nodes else "declare it before"
+            remedy = _near(stream, self._streams) or other
+            self._refuse(6, record, what, "stream", stream, remedy)
+
+    def _judge_full(self, record: tuple[str, ...]) -> None:
+        if len(self._facts) >= LIMITS["most_facts"]:
+            what = f"{len(self._facts):,} readings, transfers and dips are there"
+            self._refuse(
+                13, record, what, remedy="begin another session, with the plant's rows again"
+            )
+
+    def _keep(self, identity: str, fact: _Fact) -> Callable[[], None]:
+        def store() -> None:
+            self._facts[identity] = fact
+            if fact.kind != "transfer":
+                self._days.add((fact.place, fact.first))
+
+        return store
+
+    def _judge_reading(
+        self, record: tuple[str, ...], values: dict[str, str], late: bool
+    ) -> Callable[[], None]:
+        stream, day = values["stream"], _number(values["day"])
+        self._judge_stream_of(record, stream)
+        fact = _Fact("reading", stream, day, day)
+        closed = None if late else self._touched(day, day)
+        self._judge_fact(record, fact, values["id"], values["day"], closed)
+        self._judge_full(record)
+        return self._keep(values["id"], fact)
+
+    def _judge_transfer(
+        self, record: tuple[str, ...], values: dict[str, str], late: bool
+    ) -> Callable[[], None]:
+        stream, first, last = values["stream"], _number(values["first"]), _number(values["last"])
+        self._judge_stream_of(record, stream)
+        fact = _Fact("transfer", stream, first, last)
+        closed = None if late else self._touched(first, last)
+        self._judge_fact(record, fact, values["id"], values["first"], closed)
+        if last - first >= LIMITS["most_days_of_transfer"]:
+            most = LIMITS["most_days_of_transfer"]
+            what = f"it has {last - first + 1} days, and at most {most} may be"
+            self._refuse(12, record, what, "last", values["last"], "split it")
+        self._judge_full(record)
+        return self._keep(values["id"], fact)
+
+    def _judge_dip(
+        self, record: tuple[str, ...], values: dict[str, str], late: bool
+    ) -> Callable[[], None]:
+        tank, day = values["tank"], _number(values["day"])
+        self._table(record, tank)
+        fact = _Fact("dip", tank, day, day)
+        closed = None if late else self._touched_by_dip(day)
+        self._judge_fact(record, fact, values["id"], values["day"], closed)
+        self._judge_level(record, tank, int(values["mm"]))
+        self._judge_full(record)
+        return self._keep(values["id"], fact)
+
+    def _judge_level(self, record: tuple[str, ...], tank: str, mm: int) -> None:
+        """Refuse a level outside the table of its tank."""
+        table = self._tables[tank]
+        if not table:
+            what = f"the table of {tank} has no point"
+            self._refuse(12, record, what, "mm", str(mm), "write its strap rows before this row")
+        if not table[0][0] <= mm <= table[-1][0]:
+            what = f"MM is {mm}, and the table of {tank} goes from {table[0][0]} to {table[-1][0]}"
+            self._refuse(
+                12, record, what, "mm", str(mm), "look for a digit too many, or add points"
+            )
+
+    def _live(self, record: tuple[str, ...], identity: str) -> _Fact:
+        """Return the fact of an id, or refuse a record that names none, or a struck one."""
+        fact = self._facts.get(identity)
+        if fact is None:
+            remedy = _near(identity, self._facts) if len(self._facts) < 5000 else ""
+            remedy = remedy or "mend the id, or book the fact in a row before this one"
+            self._refuse(6, record, f"there is no fact {identity}", "id", identity, remedy)
+        if fact.struck:
+            self._refuse(6, record, f"{identity} was struck", "id", identity, "book it anew")
+        return fact
+
+    def _judge_amend(self, record: tuple[str, ...], values: dict[str, str]) -> None:
+        fact = self._live(record, values["id"])
+        if (fact.kind == "dip") != ("mm" in values):
+            has = "a level, a density" if fact.kind == "dip" else "an amount"
+            what = f"{values['id']} is a {fact.kind}"
+            self._refuse(9, record, what, "id", values["id"], f"give it {has} and a variance")
+        if fact.kind == "dip":
+            self._judge_level(record, fact.place, int(values["mm"]))
+
+    def _judge_strike(self, record: tuple[str, ...], values: dict[str, str]) -> Callable[[], None]:
+        fact = self._live(record, values["id"])
+
+        def store() -> None:
+            fact.struck = True
+            self._days.discard((fact.place, fact.first))
+
+        return store
+
+    # ---- rows by their meaning
+
+    def unit(self, name: str) -> None:
+        """Declare a unit, or any node of the plant.
+
+        Parameters
+        ----------
+        name : str
+            Its name: 1 to 32 letters, digits, ``_``, ``-`` or ``.``.
+
+        Raises
+        ------
+        Refusal
+            Where the program would refuse the row. So it is of each method below.
+        """
+        self.row("unit", name)
+
+    def tank(
+        self,
+        name: str,
+        *,
+        variance: int | None = None,
+        deviation_grams: Tonnes | None = None,
+        deviation_tonnes: Tonnes | None = None,
+    ) -> None:
+        """Declare a tank.
+
+        Parameters
+        ----------
+        name : str
+            Its name.
+        variance : int, optional
+            The variance that its content's change has in every period, in squared grams. Or:
+        deviation_grams, deviation_tonnes : Decimal, int or str, optional
+            The standard deviation of it.
+        """
+        self.row("tank", name, _variance(variance, deviation_grams, deviation_tonnes))
+
+    def strap(self, tank: str, mm: int, ml: int) -> None:
+        """Add a point to a tank's strapping table.
+
+        Parameters
+        ----------
+        tank : str
+            The tank.
+        mm : int
+            The level in millimetres, above those before.
+        ml : int
+            How much it holds at this level, in millilitres.
+        """
+        self.row("strap", tank, whole_of(mm, "MM"), whole_of(ml, "ML"))
+
+    def stream(
+        self,
+        name: str,
+        from_: str,
+        to: str,
+        kind: str = "metered",
+        *,
+        variance: int | None = None,
+        deviation_grams: Tonnes | None = None,
+        deviation_tonnes: Tonnes | None = None,
+    ) -> None:
+        """Declare a stream.
+
+        Parameters
+        ----------
+        name : str
+            Its name.
+        from_, to : str
+            Its ends: units or tanks, or ``env``, the world outside.
+        kind : {'metered', 'batch', 'plain'}
+            Whether it has a meter that is read daily, flows in batches, or isn't measured.
+        variance : int, optional
+            The variance that it has in every period beside those of its facts, in squared grams. Or:
+        deviation_grams, deviation_tonnes : Decimal, int or str, optional
+            The standard deviation of it. A plain stream has none of them.
+        """
+        if kind == "plain" and variance is deviation_grams is deviation_tonnes is None:
+            base = "0"
+        else:
+            base = _variance(variance, deviation_grams, deviation_tonnes)
+        self.row("stream", name, from_, to, kind, base)
+
+    def period(self, name: str, first: Day, last: Day) -> None:
+        """Declare a period of booking, from its first to its last day.
+
+        Parameters
+        ----------
+        name : str
+            Its name.
+        first, last : datetime.date or str
+            Its days, both counted.
+        """
+        self.row("period", name, day_text(first, "FIRST"), day_text(last, "LAST"))
+
+    def critical(
+        self,
+        test: str,
+        *,
+        dof: int | None = None,
+        thousandths: int | None = None,
+        value: Tonnes | None = None,
+    ) -> None:
+        """Declare a critical value.
+
+        Parameters
+        ----------
+        test : {'global', 'nodal', 'measure'}
+            The test that it is of.
+        dof : int, optional
+            The degrees of freedom; of the global test.
+        thousandths : int, optional
+            The value in thousandths. Or:
+        value : Decimal, int or str, optional
+            The value itself, with at most three decimals.
+        """
+        if (thousandths is None) == (value is None):
+            raise Fault("a critical value wants thousandths, or value, and not both")
+        if value is not None:
+            exact = decimal_of(value, "VALUE") * 1000
+            if exact != int(exact):
+                raise Fault(f"VALUE is {value}", text=str(value), remedy="at most three decimals")
+            thousandths = int(exact)
+        assert thousandths is not None
+        freedom = [] if dof is None else [whole_of(dof, "DOF")]
+        self.row("critical", test, *freedom, whole_of(thousandths, "VALUE"))
+
+    def reading(
+        self,
+        id: str,
+        stream: str,
+        day: Day,
+        *,
+        grams: int | None = None,
+        tonnes: Tonnes | None = None,
+        variance: int | None = None,
+        deviation_grams: Tonnes | None = None,
+        deviation_tonnes: Tonnes | None = None,
+        late: bool = False,
+    ) -> None:
+        """Book what a meter counted on a day.
+
+        Parameters
+        ----------
+        id : str
+            The id of the fact, by which it can be amended or struck.
+        stream : str
+            A metered stream.
+        day : datetime.date or str
+            The day.
+        grams : int, optional
+            The amount in whole grams. Or:
+        tonnes : Decimal, int or str, optional
+            The amount in tonnes, with at most six decimals.
+        variance : int, optional
+            The variance of this reading in squared grams. Or:
+        deviation_grams, deviation_tonnes : Decimal, int or str, optional
+            The standard deviation of it.
+        late : bool
+            Whether it may touch a closed period.
+        """
+        row = ("reading", id, stream, day_text(day), _amount(grams, tonnes))
+        self._fact(row, _variance(variance, deviation_grams, deviation_tonnes), late)
+
+    def transfer(
+        self,
+        id: str,
+        stream: str,
+        first: Day,
+        last: Day,
+        *,
+        grams: int | None = None,
+        tonnes: Tonnes | None = None,
+        variance: int | None = None,
+        deviation_grams: Tonnes | None = None,
+        deviation_tonnes: Tonnes | None = None,
+        late: bool = False,
+    ) -> None:
+        """Book a batch, which is spread evenly over its days.
+
+        Parameters
+        ----------
+        id : str
+            The id of the fact.
+        stream : str
+            A batch stream.
+        first, last : datetime.date or str
+            Its days, both counted.
+        grams, tonnes, variance, deviation_grams, deviation_tonnes, late
+            As in `reading`.
+        """
+        days = day_text(first, "FIRST"), day_text(last, "LAST")
+        row = ("transfer", id, stream, *days, _amount(grams, tonnes))
+        self._fact(row, _variance(variance, deviation_grams, deviation_tonnes), late)
+
+    def dip(
+        self,
+        id: str,
+        tank: str,
+        day: Day,
+        mm: int,
+        density: int,
+        *,
+        variance: int | None = None,
+        deviation_grams: Tonnes | None = None,
+        deviation_tonnes: Tonnes | None = None,
+        late: bool = False,
+    ) -> None:
+        """Book the level of a tank at the end of a day.
+
+        Parameters
+        ----------
+        id : str
+            The id of the fact.
+        tank : str
+            The tank.
+        day : datetime.date or str
+            The day.
+        mm : int
+            The level in millimetres.
+        density : int
+            The density of what is in it, in grams per cubic metre (water: 1,000,000).
+        variance, deviation_grams, deviation_tonnes, late
+            As in `reading`.
+        """
+        level = whole_of(mm, "MM"), whole_of(density, "DENSITY")
+        row = ("dip", id, tank, day_text(day), *level)
+        self._fact(row, _variance(variance, deviation_grams, deviation_tonnes), late)
+
+    def _fact(self, row: tuple[str, ...], variance: str, late: bool) -> None:
+        self.row(*(("late",) if late else ()), *row, variance)
+
+    def amend(
+        self,
+        id: str,
+        reason: str,
+        *,
+        grams: int | None = None,
+        tonnes: Tonnes | None = None,
+        mm: int | None = None,
+        density: int | None = None,
+        variance: int | None = None,
+        deviation_grams: Tonnes | None = None,
+        deviation_tonnes: Tonnes | None = None,
+    ) -> None:
+        """Give a fact other values.
+
+        Parameters
+        ----------
+        id : str
+            The fact.
+        reason : str
+            Why, in 1 to 80 plain characters.
+        grams, tonnes : optional
+            The amount of a reading or transfer.
+        mm, density : int, optional
+            The level and the density of a dip.
+        variance, deviation_grams, deviation_tonnes : optional
+            As in `reading`.
+        """
+        var = _variance(variance, deviation_grams, deviation_tonnes)
+        if mm is None and density is None:
+            self.row("amend", id, _amount(grams, tonnes), var, reason)
+            return
+        if mm is None or density is None or grams is not None or tonnes is not None:
+            raise Fault(
+                "an amendment of a dip wants mm and density, that of another fact an amount"
+            )
+        self.row("amend", id, whole_of(mm, "MM"), whole_of(density, "DENSITY"), var, reason)
+
+    def strike(self, id: str, reason: str) -> None:
+        """Take a fact out.
+
+        Parameters
+        ----------
+        id : str
+            The fact.
+        reason : str
+            Why, in 1 to 80 plain characters.
+        """
+        self.row("strike", id, reason)
+
+    def close(self, period: str) -> None:
+        """Close a period: facts that touch it come late from then on."""
+        self.row("close", period)
+
+    def design(self) -> None:
+        """Ask for the classes of all streams declared so far."""
+        self.row("design")
+
+    def report(self, period: str) -> None:
+        """Ask for the report of a period."""
+        self.row("report", period)
+
+    def history(self, period: str) -> None:
+        """Ask for the edits that touch a period."""
+        self.row("history", period)
+
+    # ---- frames
+
+    @classmethod
+    def from_frames(
+        cls,
+        *,
+        units: Iterable[str] | pandas.DataFrame | None = None,
+        tanks: pandas.DataFrame | None = None,
+        straps: pandas.DataFrame | None = None,
+        streams: pandas.DataFrame | None = None,
+        periods: pandas.DataFrame | None = None,
+        critical: pandas.DataFrame | None = None,
+        readings: pandas.DataFrame | None = None,
+        transfers: pandas.DataFrame | None = None,
+        dips: pandas.DataFrame | None = None,
+        reports: bool | Iterable[str] = True,
+        design: bool = False,
+        strict: bool = True,
+    ) -> Session:
+        """Return the session of tables.
+
+        Each table has a row for a row of the session, and the columns that the method of the kind has
+        parameters: ``grams`` or ``tonnes``; ``variance``, ``deviation_grams`` or ``deviation_tonnes``;
+        ``from`` and ``to``; ``day`` or ``date``. A column ``id`` may lack: then facts are called
+        STREAM_DAY. Amounts are whole numbers, Decimals or texts; floats are refused.
+
+        Parameters
+        ----------
+        units : iterable of str or DataFrame, optional
+            The units, or a table with a column ``name``. Without them they are the ends of the streams
+            that are neither tanks nor ``env``.
+        tanks, straps, streams, periods, critical, readings, transfers, dips : DataFrame, optional
+            The other rows.
+        reports : bool or iterable of str
+            Whether each period is reported, or the periods that are.
+        design : bool
+            Whether the design of the plant is asked for.
+        strict : bool
+            Whether the first refused row raises `Refusal`; otherwise they are kept in `refused`.
+
+        Raises
+        ------
+        Refusal
+            Where the program would refuse a row; `place` has the table and the row.
+        Fault
+            Where a table lacks a column, or an amount isn't exact.
+        """
+        from plantbal.frames import fill
+
+        session = cls(strict=strict)
+        fill(
+            session,
+            units=units,
+            tanks=tanks,
+            straps=straps,
+            streams=streams,
+            periods=periods,
+            critical=critical,
+            readings=readings,
+            transfers=transfers,
+            dips=dips,
+        )
+        if design:
+            session.design()
+        wanted = [period.name for period in session.periods] if reports is True else reports
+        for name in wanted or ():
+            session.report(name)
+        return session
+
+    def take_readings(self, columns: Readings, place: Callable[[int], Place]) -> None:
+        """Take many readings, as columns of texts as the program reads them.
+
+        Parameters
+        ----------
+        columns : tuple of list of str
+            The ids, streams, days, grams and variances.
+        place : callable
+            The place of the row of a number, counted from 0, for what is said of it.
+        """
+        if self._take_all(columns):
+            return
+        for number, fields in enumerate(zip(*columns)):
+            self.row("reading", *fields, place=place(number))
+
+    def _take_all(self, columns: Readings) -> bool:
+        """Take readings at once, if none of them would be refused, and say whether they were taken."""
+        ids, streams, days, grams, variances = columns
+        numbers: dict[str, int] = {}
+        for day in set(days):
+            number = _day_number(day)
+            if number is None or self._touched(number, number) is not None:
+                return False
+            numbers[day] = number
+        on = list(map(numbers.__getitem__, days))
+        pairs = set(zip(streams, on))
+        row = schema().row("reading")
+        accepted = (
+            len(self._facts) + len(ids) <= LIMITS["most_facts"]
+            and all(self._streams.get(stream) == "metered" for stream in set(streams))
+            and _all_names("\n".join(ids))
+            and len(set(ids)) == len(ids)
+            and self._facts.keys().isdisjoint(ids)
+            and len(pairs) == len(ids)
+            and self._days.isdisjoint(pairs)
+            and _all_within(grams, row.column("grams"))
+            and _all_within(variances, row.column("variance"))
+        )
+        if accepted:
+            facts = map(_Fact, repeat("reading"), streams, on, on)
+            self._facts.update(zip(ids, facts))
+            self._days |= pairs
+            self._rows.extend(zip(repeat("reading"), *columns))
+        return accepted
+
+
+Readings = tuple[list[str], list[str], list[str], list[str], list[str]]
+_NAMES = re.compile(rf"(?:{_NAME.pattern}(?:\n|\Z))*+")
+_WHOLES = re.compile(r"(?:(?:0|-?[1-9][0-9]{0,59})(?:\n|\Z))*+")
+
+
+def _all_names(lines: str) -> bool:
+    """Say whether each line is a name."""
+    return _NAMES.fullmatch(lines) is not None
+
+
+def _all_within(texts: list[str], column: Column) -> bool:
+    """Say whether each text is a whole number of a column's range."""
+    if not texts:
+        return True
+    if not _WHOLES.fullmatch("\n".join(texts)):
+        return False
+    numbers = list(map(int, texts))
+    assert column.low is not None and column.high is not None
+    return column.low <= min(numbers) and max(numbers) <= column.high
+
+
+_FACTS = ("reading", "transfer", "dip")
+
+
+def _number(day: str) -> int:
+    """Return the number of a day that was judged."""
+    number = _day_number(day)
+    assert number is not None
+    return number
+
+
+def _variance(
+    variance: int | None, deviation_grams: Tonnes | None, deviation_tonnes: Tonnes | None
+) -> str:
+    return variance_of(
+        variance=variance, deviation_grams=deviation_grams, deviation_tonnes=deviation_tonnes
+    )
+
+
+def _amount(grams: int | None, tonnes: Tonnes | None) -> str:
+    """Return an amount in grams, of which exactly one is given."""
+    if (grams is None) == (tonnes is None):
+        raise Fault("an amount wants grams, or tonnes, and not both")
+    if grams is not None:
+        return whole_of(grams, "GRAMS")
+    assert tonnes is not None
+    return str(grams_of(tonnes))
+
+
+def period_days(period: Period) -> tuple[datetime.date, datetime.date]:
+    """Return the first and the last day of a period."""
+    return day_of_number(period.first), day_of_number(period.last)

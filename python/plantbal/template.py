@@ -1,0 +1,203 @@
+"""Writes an empty workbook for `plantbal-desk convert`, with lists to choose from."""
+
+from __future__ import annotations
+
+import argparse
+from dataclasses import dataclass
+from pathlib import Path
+from typing import Any
+
+from plantbal.cells import GRAMS, VOLUMES
+from plantbal.conversion import SHEETS
+from plantbal.faults import Fault, ToolMissing
+from plantbal.files import replacing
+
+HELP = """
+KIND is the plant:
+  refinery      tanks with tables and dips, tickets of batches, daily readings
+  concentrator  daily readings, estimates, tickets
+  utility       daily readings and estimates of steam, gas and water, in tonnes or by a density
+
+FILE is an xlsx file. Its sheets have their heads, a note at each head, lists to choose from, and no
+row. The sheet `about` says what each sheet is for; `convert` passes it over.
+
+examples:
+  plantbal-desk template refinery plant.xlsx
+"""
+_LAST = 2000  # the last row that has a list
+
+KINDS: dict[str, tuple[str, ...]] = {
+    "refinery": (
+        "units",
+        "tanks",
+        "straps",
+        "streams",
+        "readings",
+        "dips",
+        "tickets",
+        "estimates",
+        "critical",
+        "periods",
+    ),
+    "concentrator": ("units", "streams", "readings", "estimates", "tickets", "critical", "periods"),
+    "utility": ("units", "streams", "readings", "estimates", "critical", "periods"),
+}
+# What each sheet is for, and what each column holds.
+ABOUT = {
+    "units": "the units of the plant; without a row they are the ends of the streams",
+    "tanks": "the tanks, with the error of their gauges",
+    "straps": "the strapping tables, from the bottom of each tank to its top",
+    "streams": "the streams, from one unit or tank to another; env is the world outside",
+    "readings": "the days down, and a column a tag of the sheet streams, with the tag over it",
+    "dips": "the levels of the tanks at the end of a day, that of the day before a period too",
+    "tickets": "the batches of ships, trains and trucks",
+    "estimates": "a figure with a wide error for a day whose reading lacks",
+    "critical": "critical values of the tests; plantbal-desk critical gives them",
+    "periods": "the periods; without a row each calendar month with a reading is one",
+}
+_HEADS = {
+    "name": "1 to 32 letters, digits, _, - or .",
+    "tag": "the meter's tag, which stands over its column of readings; empty for none",
+    "stream": "the stream's name: 1 to 32 letters, digits, _, - or .",
+    "from": "a unit, a tank, or env",
+    "to": "a unit, a tank, or env",
+    "kind": "metered: read daily; batch: booked by tickets; plain: not measured",
+    "unit": "of the figures: t without it; volumes want a density",
+    "density": "in kg/m3, or with its unit: 0.862 t/m3",
+    "error": "the standard deviation: 1.5 %, 0.2 t, or 1.5 % or 0.2 t; of a gauge 3 mm",
+    "base": "the standard deviation that it has in every period beside: 0.5 t",
+    "tank": "the tank's name",
+    "level": "in mm, or with its unit: 14.62 m",
+    "volume": "what the tank holds at this level",
+    "day": "the day",
+    "id": "the ticket's number, each once",
+    "first": "the first day",
+    "last": "the last day, counted too; the first without it",
+    "amount": "in the unit beside it",
+    "test": "global, nodal or measure",
+    "value": "the critical value, such as 3.841",
+    "dof": "the degrees of freedom, of the global test",
+}
+
+
+@dataclass(frozen=True)
+class Choice:
+    """What may stand in a column: a list, or cells of another sheet.
+
+    Attributes
+    ----------
+    formula : str
+        The list or the cells, as a spreadsheet has them.
+    """
+
+    formula: str
+
+
+def choices(kind: str) -> dict[tuple[str, str], Choice]:
+    """Return what may stand in columns of the sheets of a kind of plant."""
+    masses, volumes = ",".join(GRAMS), ",".join(VOLUMES)
+    units = Choice(f'"{masses},{volumes}"')
+    streams = Choice(f"streams!$B$2:$B${_LAST}")
+    found = {
+        ("streams", "kind"): Choice('"metered,batch,plain"'),
+        ("streams", "unit"): units,
+        ("straps", "unit"): Choice(f'"{volumes}"'),
+        ("tickets", "unit"): units,
+        ("estimates", "unit"): units,
+        ("estimates", "tag"): Choice(f"streams!$A$2:$A${_LAST}"),
+        ("estimates", "stream"): streams,
+        ("tickets", "stream"): streams,
+        ("critical", "test"): Choice('"global,nodal,measure"'),
+    }
+    tanks = Choice(f"tanks!$A$2:$A${_LAST}")
+    found |= {(sheet, "tank"): tanks for sheet in ("straps", "dips")}
+    return {key: choice for key, choice in found.items() if key[0] in KINDS[kind]}
+
+
+def heads(sheet: str) -> tuple[str, ...]:
+    """Return the heads of a sheet in the order in which they are written."""
+    if sheet == "readings":
+        return ("day",)
+    needed, others = SHEETS[sheet]
+    order = {
+        "streams": "tag stream from to kind unit density error base",
+        "tickets": "id stream first last amount unit density error",
+        "estimates": "tag stream day amount unit density error",
+        "critical": "test dof value",
+    }
+    return tuple(order[sheet].split()) if sheet in order else (*needed, *others)
+
+
+def template(kind: str, path: str | Path) -> None:
+    """Write an empty workbook.
+
+    Parameters
+    ----------
+    kind : {'refinery', 'concentrator', 'utility'}
+        The kind of plant.
+    path : str or Path
+        An xlsx file, which is written whole or not at all.
+    """
+    if kind not in KINDS:
+        raise Fault(f"there is no template {kind!r}", remedy=f"say {', '.join(KINDS)}")
+    if Path(path).suffix.lower() != ".xlsx":
+        raise Fault(f"{path} doesn't end with .xlsx", remedy="say a name such as plant.xlsx")
+    try:
+        import openpyxl
+    except ImportError as error:
+        raise ToolMissing("openpyxl", "python3-openpyxl") from error
+    book = openpyxl.Workbook()
+    about = book.active
+    about.title = "about"
+    about.append(["sheet", "what it is for"])
+    lists = choices(kind)
+    for name in KINDS[kind]:
+        about.append([name, ABOUT[name]])
+        _write_sheet(book.create_sheet(name), name, lists)
+    _head(about, ("sheet", "what it is for"))
+    about.column_dimensions["B"].width = 100
+    with replacing(path) as made:
+        book.save(made)
+
+
+def _head(sheet: Any, names: tuple[str, ...]) -> None:
+    from openpyxl.styles import Font
+
+    for column in range(1, len(names) + 1):
+        sheet.cell(1, column).font = Font(bold=True)
+        sheet.column_dimensions[sheet.cell(1, column).column_letter].width = 16
+    sheet.freeze_panes = "A2"
+
+
+def _write_sheet(sheet: Any, name: str, lists: dict[tuple[str, str], Choice]) -> None:
+    """Write the heads of a sheet, with notes and lists."""
+    from openpyxl.comments import Comment
+    from openpyxl.worksheet.datavalidation import DataValidation
+
+    names = heads(name)
+    sheet.append(list(names))
+    _head(sheet, names)
+    for column, head in enumerate(names, 1):
+        cell = sheet.cell(1, column)
+        cell.comment = Comment(_HEADS[head], "plantbal")
+        letter = cell.column_letter
+        if head in ("day", "first", "last"):
+            sheet.column_dimensions[letter].number_format = "yyyy-mm-dd"
+        choice = lists.get((name, head))
+        if choice is not None:
+            rule = DataValidation("list", formula1=choice.formula, allow_blank=True)
+            rule.error = _HEADS[head]
+            rule.add(f"{letter}2:{letter}{_LAST}")
+            sheet.add_data_validation(rule)
+
+
+def add_arguments(parser: argparse.ArgumentParser) -> None:
+    """Add the words of the command."""
+    parser.add_argument("kind", metavar="KIND", choices=list(KINDS), help="the kind of plant")
+    parser.add_argument("out", metavar="FILE", help="an xlsx file")
+
+
+def run(options: argparse.Namespace) -> int:
+    """Write the workbook."""
+    template(options.kind, options.out)
+    return 0

@@ -1,0 +1,71 @@
+"""What the tests share: the top of the repository, the built program, and its words."""
+
+from __future__ import annotations
+
+import io
+from collections.abc import Callable
+from dataclasses import dataclass
+from pathlib import Path
+
+import pytest
+
+from plantbal import desk
+from plantbal.faults import Fault
+from plantbal.program import find_program
+
+TOP = Path(__file__).resolve().parents[2]
+
+
+@pytest.fixture(name="program", scope="session")
+def fixture_program() -> Path:
+    """The built program: without it these tests fail, and aren't skipped."""
+    try:
+        return find_program()
+    except Fault as fault:
+        pytest.fail(str(fault))
+
+
+def words_of(session: Path) -> list[str]:
+    """The words that a shipped session is run with."""
+    path = session.with_name(session.stem + ".words")
+    return path.read_text(encoding="utf-8").split() if path.exists() else ["run"]
+
+
+@dataclass
+class Said:
+    """What a command said: its status, standard output, and standard error."""
+
+    status: int
+    out: str
+    err: str
+
+
+Desk = Callable[..., Said]
+
+
+@pytest.fixture(name="say")
+def fixture_say(capfdbinary: pytest.CaptureFixture[bytes], monkeypatch: pytest.MonkeyPatch) -> Desk:
+    """Calls a subcommand of the desk in this process, with a text as standard input."""
+
+    def say(*words: object, text: str | bytes = "") -> Said:
+        data = text.encode() if isinstance(text, str) else text
+        monkeypatch.setattr("sys.stdin", io.TextIOWrapper(io.BytesIO(data)))
+        capfdbinary.readouterr()
+        try:
+            status = desk.call(desk.desk_parser(), [str(word) for word in words])
+        except SystemExit as ended:
+            status = int(ended.code or 0)
+        out, err = capfdbinary.readouterr()
+        return Said(status, out.decode(), err.decode())
+
+    return say
+
+
+def example(name: str) -> Path:
+    """A file of the examples."""
+    return TOP / "examples" / name
+
+
+def text_of(path: Path) -> str:
+    """The text of a file, its line ends as they are."""
+    return path.read_bytes().decode("utf-8")

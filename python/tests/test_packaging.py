@@ -1,0 +1,207 @@
+"""What is made from other files is fresh, and completions complete."""
+
+from __future__ import annotations
+
+import ast
+import re
+import shutil
+import subprocess
+import sys
+from pathlib import Path
+
+import pytest
+
+TOP = Path(__file__).resolve().parents[2]
+COMPLETIONS = TOP / "packaging" / "completions"
+
+
+def needed(tool: str) -> str:
+    """Return the path of a tool, or skip the test where it isn't installed."""
+    path = shutil.which(tool)
+    if path is None:
+        pytest.skip(f"there is no {tool}")
+    return path
+
+
+def said_by_bash(command: str, *typed: str) -> list[str]:
+    """Return what bash offers for the last of the typed words."""
+    name = "_" + command.replace("-", "_")
+    script = f"""
+        . {COMPLETIONS / command}.bash
+        COMP_WORDS=("$@") COMP_CWORD=$(($# - 1))
+        {name}
+        printf '%s\\n' "${{COMPREPLY[@]}}"
+    """
+    done = subprocess.run(
+        ["bash", "-c", script, "bash", command, *typed],
+        stdout=subprocess.PIPE,
+        check=True,
+        text=True,
+    )
+    return sorted(done.stdout.split())
+
+
+def test_derived_files_are_fresh() -> None:
+    done = subprocess.run(
+        [sys.executable, TOP / "packaging" / "derived", "check"],
+        stderr=subprocess.PIPE,
+        text=True,
+    )
+    assert (done.returncode, done.stderr) == (0, "")
+
+
+BASH_CASES = [
+    (["c"], ["check"]),
+    (["run", "--t"], ["--tests"]),
+    (["run", "--"], ["--eliminate", "--format", "--gap", "--sweeps", "--tests"]),
+    (["make", "--"], ["--gap", "--number", "--streams", "--summary", "--sweeps"]),
+    (["check", ""], []),
+    (["run", "--format", ""], ["csv", "json"]),
+    (["run", "--format", "=", "j"], ["json"]),
+    (["run", "--format", "="], ["csv", "json"]),
+    (["run", "--gap", ""], []),
+    (["--tests", "r"], ["run"]),
+]
+
+
+@pytest.mark.parametrize(("typed", "wanted"), BASH_CASES, ids=lambda case: " ".join(case))
+def test_bash_completes_plantbal(typed: list[str], wanted: list[str]) -> None:
+    assert said_by_bash("plantbal", *typed) == wanted
+
+
+def test_bash_completes_plantbal_desk() -> None:
+    assert said_by_bash("plantbal-desk", "--ver") == ["--version"]
+    assert said_by_bash("plantbal-desk", "fl") == ["fleet"]
+    assert said_by_bash("plantbal-desk", "fleet", "--engine", "") == ["dask", "parallel"]
+    assert said_by_bash("plantbal-desk", "fleet", "--j") == ["--jobs"]
+    assert "flows" in said_by_bash("plantbal-desk", "tables", "fl")
+    assert "/etc/hostname" in said_by_bash("plantbal-desk", "run", "/etc/host")
+
+
+@pytest.mark.parametrize("command", ["plantbal", "plantbal-desk"])
+def test_completions_are_read_by_their_shells(command: str) -> None:
+    subprocess.run(["bash", "-n", COMPLETIONS / f"{command}.bash"], check=True)
+    if shutil.which("zsh"):
+        subprocess.run(["zsh", "-n", COMPLETIONS / f"{command}.zsh"], check=True)
+    if shutil.which("fish"):
+        subprocess.run(["fish", "-n", COMPLETIONS / f"{command}.fish"], check=True)
+
+
+@pytest.mark.parametrize(
+    ("typed", "wanted"),
+    [
+        ("plantbal c", {"check"}),
+        ("plantbal run --t", {"--tests"}),
+        ("plantbal run --format ", {"csv", "json"}),
+        ("plantbal make --s", {"--streams", "--summary", "--sweeps"}),
+        ("plantbal-desk --ver", {"--version"}),
+        ("plantbal-desk fl", {"fleet"}),
+        ("plantbal-desk fleet --engine d", {"dask"}),
+        ("plantbal-desk tables cl", {"classes"}),
+    ],
+)
+def test_fish_completes(typed: str, wanted: set[str]) -> None:
+    script = f"source {COMPLETIONS}/{typed.split()[0]}.fish; complete -C '{typed}'"
+    done = subprocess.run(
+        [needed("fish"), "--no-config", "-c", script],
+        stdout=subprocess.PIPE,
+        check=True,
+        text=True,
+    )
+    assert {line.split("\t")[0] for line in done.stdout.splitlines()} == wanted
+
+
+@pytest.mark.parametrize(
+    "page", ["plantbal.1", "plantbal-desk.1", "plantbal-session.5", "plantbal-report.5"]
+)
+def test_pages_have_no_fault(page: str) -> None:
+    done = subprocess.run(
+        [needed("mandoc"), "-T", "lint", "-W", "warning", TOP / "docs" / page],
+        stdout=subprocess.PIPE,
+        text=True,
+    )
+    assert done.stdout == ""
+
+
+PACKAGES = {
+    "babel": "python3-babel",
+    "cloudpickle": "python3-distributed",
+    "dask": "python3-distributed",
+    "distributed": "python3-distributed",
+    "graphviz": "python3-graphviz",
+    "jinja2": "python3-jinja2",
+    "markupsafe": "python3-jinja2",
+    "matplotlib": "python3-matplotlib",
+    "networkx": "python3-networkx",
+    "numpy": "python3-pandas",
+    "openpyxl": "python3-openpyxl",
+    "pandas": "python3-pandas",
+    "scipy": "python3-scipy",
+    "tqdm": "python3-tqdm",
+}
+
+
+def imported(path: Path) -> set[str]:
+    """Return the modules of others that a file imports."""
+    found: set[str] = set()
+    for node in ast.walk(ast.parse(path.read_text(encoding="utf-8"))):
+        if isinstance(node, ast.Import):
+            found |= {alias.name.split(".")[0] for alias in node.names}
+        elif isinstance(node, ast.ImportFrom) and node.module and not node.level:
+            found.add(node.module.split(".")[0])
+    return found - set(sys.stdlib_module_names) - {"plantbal"}
+
+
+def test_each_import_has_its_package() -> None:
+    control = (TOP / "packaging" / "python3-plantbal.control").read_text(encoding="utf-8")
+    named = set(re.findall(r"python3-[a-z0-9]+", control))
+    for path in sorted((TOP / "python" / "plantbal").rglob("*.py")):
+        for module in sorted(imported(path)):
+            assert PACKAGES.get(module) in named, f"{path.name} imports {module}"
+
+
+def test_each_conformance_file_is_in_the_document() -> None:
+    table = (
+        (TOP / "docs" / "FORMAT.md").read_text(encoding="utf-8").split("## Conformance files")[1]
+    )
+    named = {
+        name
+        for line in table.splitlines()
+        if line.startswith("| `")
+        for name in re.findall(r"`([a-z0-9_]+)`", line.split("|")[1])
+    }
+    folder = TOP / "examples" / "conformance"
+    files = {path.stem for path in folder.glob("*.in")}
+    assert named == files
+
+
+def test_the_change_log_has_a_debian_form() -> None:
+    done = subprocess.run(
+        [TOP / "packaging" / "debian_changelog", "plantbal", "A B <a@b.example>"],
+        stdout=subprocess.PIPE,
+        check=True,
+        text=True,
+    )
+    version = (TOP / "VERSION").read_text(encoding="ascii").strip()
+    assert done.stdout.startswith(f"plantbal ({version}) unstable; urgency=medium\n\n  * ")
+    assert re.search(
+        r"\n -- A B <a@b\.example>  \w{3}, \d{2} \w{3} \d{4} 00:00:00 \+0000\n", done.stdout
+    )
+
+
+def test_an_installed_package_tells_its_version(tmp_path: Path) -> None:
+    subprocess.run([TOP / "packaging" / "install_library", tmp_path], check=True)
+    script = (
+        "import plantbal, importlib.metadata as metadata;"
+        "print(plantbal.__version__, metadata.version('plantbal'))"
+    )
+    done = subprocess.run(
+        [sys.executable, "-c", script],
+        cwd=tmp_path,
+        env={"PYTHONPATH": str(tmp_path), "PATH": "/usr/bin:/bin"},
+        stdout=subprocess.PIPE,
+        check=True,
+        text=True,
+    )
+    version = (TOP / "VERSION").read_text(encoding="ascii").strip()
+    assert done.stdout.split() == [version, version]
