@@ -1,0 +1,242 @@
+"""An account as HTML, by the templates of the package."""
+
+from __future__ import annotations
+
+import re
+from collections.abc import Iterable, Sequence
+from functools import lru_cache
+from math import log10, sqrt
+from typing import TYPE_CHECKING, Any
+
+from plantbal.amounts import tonnes_text
+from plantbal.faults import ToolMissing
+from plantbal.lintbook import Fact, day_text
+from plantbal.page.drawing import KINDS, Draftsman
+from plantbal.page.head import Origin, days_text, head_of
+from plantbal.page.ledger import Ledger
+from plantbal.page.spark import spark
+from plantbal.page.statement import Account, Line, Round, Statement, Worth
+from plantbal.page.verdict import thousandths
+from plantbal.report import Values
+
+if TYPE_CHECKING:
+    from jinja2 import Environment
+
+    from plantbal.explain import Told
+
+# Of long lists so many are shown.
+MOST = 100
+
+
+def tonnes(grams: int | None) -> str:
+    """Return grams as tonnes; nothing if there are none."""
+    return "" if grams is None else tonnes_text(grams)
+
+
+def signed(grams: int | None) -> str:
+    """Return grams as tonnes with their sign."""
+    text = tonnes(grams)
+    return f"+{text}" if grams is not None and grams > 0 else text
+
+
+def decimal(number: float | None, places: int, plus: bool = False) -> str:
+    """Return a number with so many decimals."""
+    if number is None:
+        return ""
+    text = f"{number:{'+' if plus else ''},.{places}f}"
+    return text[1:] if float(text.replace(",", "")) == 0 and text[0] in "+-" else text
+
+
+def plus_minus(worth: Worth | None) -> str:
+    """Return a standard deviation in tonnes, by three digits that say something."""
+    if worth is None:
+        return ""
+    size = worth.deviation / 1e6
+    places = 3 if size < 1e-9 else min(3, max(0, 2 - int(log10(size) // 1)))
+    return f"± {size:,.{places}f}"
+
+
+def end_of(pair: tuple[int, int] | None, which: int) -> str:
+    """Return an end of bounds in tonnes, rounded outward."""
+    return "" if pair is None else tonnes_text(pair[which], toward=("down", "up")[which])
+
+
+def soft(name: str) -> Any:
+    """Return a name that may be broken after its marks."""
+    from markupsafe import Markup
+
+    return Markup(re.sub("([-_.])(?=.)", r"\1<wbr>", str(Markup.escape(name))))
+
+
+def sign_of(line: Line) -> str:
+    """Return the sign of a stream: of its class, or that it is suspect or taken out."""
+    return {"suspect": "!", "taken": "×"}.get(line.mark) or KINDS[line.class_].sign
+
+
+def fact_text(fact: Fact | None, ledger: Ledger | None) -> str:
+    """Return the values of a fact."""
+    if fact is None:
+        return ""
+    deviation = f" ± {tonnes_text(round(sqrt(fact.variance)))} t"
+    if fact.kind != "dip":
+        return f"{tonnes_text(fact.grams)} t{deviation}"
+    level = f"{fact.mm:,} mm at {fact.density / 1e6:.3f} t/m³"
+    return f"{level}{deviation}" + (f" ({tonnes(ledger.content(fact))} t)" if ledger else "")
+
+
+def fact_days(fact: Fact) -> str:
+    """Return the days of a fact."""
+    return days_text((day_text(fact.first), day_text(fact.last)))
+
+
+def marked(told: Told) -> Any:
+    """Return the row of a refusal with the field at fault marked."""
+    from markupsafe import Markup, escape
+
+    if told.mark is None:
+        return escape(told.row)
+    begin, count = told.mark
+    front, middle, rest = told.row[:begin], told.row[begin : begin + count], told.row[begin + count :]
+    return escape(front) + Markup("<mark>") + escape(middle or "␣") + Markup("</mark>") + escape(rest)
+
+
+def lines_text(under: Sequence[Told]) -> str:
+    """Return the lines of rows that follow from another."""
+    numbers = [str(told.line) for told in under[:12]]
+    more = f" and {len(under) - 12} more" if len(under) > 12 else ""
+    return ", ".join(numbers) + more
+
+
+def marks(lines: Iterable[Line]) -> dict[str, Any]:
+    """Return what a legend has to explain."""
+    some = list(lines)
+    return {
+        "classes": {line.class_ for line in some},
+        "suspect": any(line.mark == "suspect" for line in some),
+        "taken": any(line.mark == "taken" for line in some),
+    }
+
+
+def statistic(statement: Statement) -> str:
+    """Return the statistic of a period's report."""
+    last = statement.report.last
+    return thousandths(last.block.solved["low"]) if last and last.block.solved else ""
+
+
+def critical(statement: Statement) -> str:
+    """Return the critical value of a period's global test."""
+    last = statement.report.last
+    return thousandths(last.block.whole["critical"]) if last and last.block.whole else ""
+
+
+def checked(row: Values) -> str:
+    """Return what a row of a check says, as a sentence."""
+    from plantbal.schema import schema
+
+    if row["row"] == "yes":
+        return f"{row['period']}, round {row['round']}: yes, the report follows from its own numbers."
+    codes = schema().tests if row["row"] == "no" else schema().unreadable
+    code = codes.get(int(row["code"]))
+    about = code.about.rstrip(".") if code else ""
+    if row["row"] == "unreadable":
+        return f"Row {row['at']} can't be read: it {about}."
+    numbers = f", where {row['stated']} is stated and {row['found']} follows" if row["name"] else ""
+    at = f" at {row['name']}" if row["name"] else ""
+    return f"{row['period']}, round {row['round']}: no, it fails the test {row['word']}{at}{numbers}: {about}."
+
+
+def by_name(found: Round | None) -> dict[str, Line]:
+    """Return the streams of a round by their names."""
+    return {line.name: line for line in found.lines} if found else {}
+
+
+@lru_cache(maxsize=1)
+def environment() -> Environment:
+    """Return the templates with their filters."""
+    try:
+        from jinja2 import Environment, PackageLoader, StrictUndefined
+    except ImportError as error:
+        raise ToolMissing("jinja2", "python3-jinja2") from error
+    made = Environment(
+        loader=PackageLoader("plantbal.page"),
+        autoescape=True,
+        undefined=StrictUndefined,
+        trim_blocks=True,
+        lstrip_blocks=True,
+    )
+    made.filters.update(
+        t=tonnes,
+        signed=signed,
+        dec=decimal,
+        pm=plus_minus,
+        end=end_of,
+        sign=sign_of,
+        soft=soft,
+        kind_sign=lambda name: KINDS[name].sign,
+        f=lambda number: f"{number:.1f}",
+        fact=fact_text,
+        days=fact_days,
+        from_to=days_text,
+        marked=marked,
+        lines=lines_text,
+        marks=marks,
+        statistic=statistic,
+        critical=critical,
+        checked=checked,
+        by_name=by_name,
+        spark=spark,
+    )
+    return made
+
+
+def render(
+    account: Account,
+    told: Sequence[Told] = (),
+    *,
+    title: str = "",
+    origin: Origin = Origin(),
+    seconds: float = 10,
+) -> str:
+    """Return the page of an account.
+
+    Parameters
+    ----------
+    account : Account
+        What it shows.
+    told : sequence of Told
+        The refused rows in sentences.
+    title : str
+        Its heading.
+    origin : Origin
+        Where it comes from.
+    seconds : float
+        How long the layout of its drawings may take; 0 is none.
+    """
+    rounds = [each.report.last.lines for each in account.statements if each.report.last]
+    draftsman = Draftsman([*rounds, *account.designs], seconds)
+    drawings = {
+        each.number: draftsman.draw(each.report.last.lines if each.report.last else [])
+        for each in account.statements
+    }
+    designs = account.designs[-1:] if not account.statements else []
+    return environment().get_template("page.html.j2").render(
+        title=title or default_title(account, origin),
+        head=head_of(account, origin),
+        told=told,
+        refused=account.refused,
+        statements=account.statements,
+        drawings=drawings,
+        designs=[(lines, draftsman.draw(lines)) for lines in designs],
+        findings=account.findings,
+        checks=account.checks,
+        ledger=account.ledger,
+        kinds=KINDS,
+        most=MOST,
+        has_worth=any(line.worth for lines in rounds for line in lines),
+    )
+
+
+def default_title(account: Account, origin: Origin) -> str:
+    """Return the heading of a page that nobody gave one."""
+    period = account.statements[-1].period if len(account.statements) == 1 else ""
+    return " ".join(part for part in (origin.plant, period) if part) or "plantbal"
