@@ -74,7 +74,7 @@ def period_text(account: Account) -> str:
     if known:
         said += f", {min(first for first, _ in known)} to {max(last for _, last in known)}"
     if any(each.state for each in some):
-        said += f"; {closed} closed"
+        said += f"; {closed or 'none'} closed"
     return said
 
 
@@ -84,12 +84,12 @@ def size_text(account: Account) -> str:
     lines = last.lines if last is not None else (account.designs[-1] if account.designs else [])
     tanks = [line for line in lines if line.is_tank]
     nodes = {end for line in lines for end in (line.from_, line.to)} - {"env"}
-    said = [
-        count_of(len(nodes) - len(tanks), "unit", "units"),
-        count_of(len(tanks), "tank", "tanks"),
-        count_of(len(lines) - len(tanks), "stream", "streams"),
-    ]
-    return ", ".join(said) if lines else ""
+    counts = (
+        (len(nodes) - len(tanks), "unit", "units"),
+        (len(tanks), "tank", "tanks"),
+        (len(lines) - len(tanks), "stream", "streams"),
+    )
+    return ", ".join(count_of(*each) for each in counts if each[0])
 
 
 def head_of(account: Account, origin: Origin) -> list[tuple[str, str, str]]:

@@ -40,7 +40,10 @@ def spark(statement: Statement) -> Any:
         reach = max(-MOST, min(MOST, size)) * scale
         paths[kind] += f"M{place * step:.1f},{middle:g}v{-reach:.1f}"
     two = f"M0,{middle - FAR * scale:.1f}H{WIDTH:g}M0,{middle + FAR * scale:.1f}H{WIDTH:g}"
-    drawn = "".join(f'<path class="{kind}" d="{path}"/>' for kind, path in paths.items() if path)
+    wide = f'style="stroke-width:{min(8, 0.7 * step):.1f}"'
+    drawn = "".join(
+        f'<path class="{kind}" {wide} d="{path}"/>' for kind, path in paths.items() if path
+    )
     return Markup(
         f'<svg class="spark" viewBox="0 0 {WIDTH:g} {HEIGHT:g}" role="img" aria-label="{label}">'
         f'<title>{label}</title><path class="two" d="{two}"/><path class="axis" '

@@ -9,7 +9,7 @@ from math import sqrt
 from typing import TYPE_CHECKING
 
 from plantbal.page.ledger import Asked, Change, Dips, Ledger
-from plantbal.page.verdict import Verdict, verdict_of
+from plantbal.page.verdict import Lost, Verdict, verdict_of
 from plantbal.report import Block, Values, blocks_of, designs_of
 
 if TYPE_CHECKING:
@@ -314,7 +314,7 @@ def tanks_of(lines: Iterable[Line], dips: Mapping[str, Dips]) -> list[Tank]:
 
 
 def round_of(
-    block: Block, asked: Asked | None, worth: Mapping[str, Worth], refused: int, stop: str = ""
+    block: Block, asked: Asked | None, worth: Mapping[str, Worth], lost: Lost, stop: str = ""
 ) -> Round:
     """Return a round.
 
@@ -326,22 +326,22 @@ def round_of(
         The row of the session that asked for it.
     worth : mapping
         How good its flows are, by the streams.
-    refused : int
-        How many rows were refused before it that may lack in it.
+    lost : Lost
+        How many rows were refused before it.
     stop : str
         Why the elimination ended after it.
     """
     statistics = {row["stream"]: row["low"] for row in block.measure}
     # A test of one meter counts under a global test that rejects, and if no row lacks in the plant.
     rejected = block.whole is not None and block.whole["verdict"] == "reject"
-    suspects = block.suspects() if rejected and not refused else []
+    suspects = block.suspects() if rejected and not lost.lacking else []
     marks = {name: "suspect" for name in suspects} | {name: "taken" for name in block.taken}
     lines = [
         line_of(row, statistics.get(row["name"], ""), marks.get(row["name"], ""), worth.get(row["name"]))
         for row in block.streams
     ]
     dips = asked.dips if asked is not None else {}
-    said = verdict_of(block, refused, suspects, lines, stop)
+    said = verdict_of(block, lost, suspects, lines, stop)
     return Round(block, lines, tanks_of(lines, dips), said)
 
 
@@ -352,7 +352,7 @@ class _Gathered:
     period: str
     blocks: list[Block]
     over: str
-    refused: int
+    lost: Lost
     stop: str = ""
 
 
@@ -360,17 +360,16 @@ def _gather(rows: list[Values]) -> list[_Gathered]:
     """Return the reports of an output in order."""
     blocks = iter(blocks_of(rows))
     found: list[_Gathered] = []
-    refused = 0
+    lost = Lost()
     for row in rows:
-        # Duplicates and facts after a close are there otherwise, or come late: no stream lacks by them.
-        if row["row"] == "refused" and row["word"] not in ("duplicate", "closed"):
-            refused += 1
+        if row["row"] == "refused":
+            lost = lost.plus(row["word"])
         elif row["row"] == "over":
-            found.append(_Gathered(row["period"], [], row["stream"], refused))
+            found.append(_Gathered(row["period"], [], row["stream"], lost))
         elif row["row"] == "report":
             block = next(blocks)
             if row["round"] == "0" or not found:
-                found.append(_Gathered(row["period"], [], "", refused))
+                found.append(_Gathered(row["period"], [], "", lost))
             found[-1].blocks.append(block)
         elif row["row"] == "stop" and found:
             found[-1].stop = row["reason"]
@@ -442,7 +441,7 @@ def account_of(
         for block in some.blocks:
             stop = some.stop if block is some.blocks[-1] else ""
             good = by_block.get(block.number, {})
-            rounds.append(round_of(block, asked, good, some.refused, stop))
+            rounds.append(round_of(block, asked, good, some.lost, stop))
         report = Report(some.period, rounds, some.over, asked)
         by_period.setdefault(some.period, []).append(report)
     wanted = [each for each in findings if each.severity != "note"]

@@ -56,6 +56,43 @@ class Verdict:
         return replace(self, reasons=[*self.reasons, *more])
 
 
+@dataclass(frozen=True, slots=True)
+class Lost:
+    """The rows that were refused before a report.
+
+    Attributes
+    ----------
+    lacking : int
+        How many may lack in it.
+    passed : int
+        How many are there already, or touch a closed period: nothing of the plant lacks by them.
+    """
+
+    lacking: int = 0
+    passed: int = 0
+
+    def plus(self, word: str) -> Lost:
+        """Return it with one more refused row."""
+        if word in ("duplicate", "closed"):
+            return replace(self, passed=self.passed + 1)
+        return replace(self, lacking=self.lacking + 1)
+
+    @property
+    def reasons(self) -> list[str]:
+        """The same in sentences."""
+        said = []
+        if self.lacking:
+            rows = count_of(self.lacking, "row was refused", "rows were refused")
+            it = "it" if self.lacking == 1 else "them"
+            said.append(
+                f"{rows} before this report, which was made without {it}: mend {it} first."
+            )
+        if self.passed:
+            rows = count_of(self.passed, "row was refused", "rows were refused")
+            said.append(f"{rows} as being there already, or as touching a closed period.")
+        return said
+
+
 def thousandths(text: str) -> str:
     """Return thousandths as a decimal number."""
     return f"{int(text) / 1000:,.3f}" if text else ""
@@ -75,7 +112,7 @@ def count_of(number: int, one: str, many: str) -> str:
 
 
 def verdict_of(
-    block: Block, refused: int, suspects: Sequence[str], lines: Sequence[Line], stop: str = ""
+    block: Block, lost: Lost, suspects: Sequence[str], lines: Sequence[Line], stop: str = ""
 ) -> Verdict:
     """Return what is said of a round.
 
@@ -83,8 +120,8 @@ def verdict_of(
     ----------
     block : Block
         The round.
-    refused : int
-        How many rows were refused before it that may lack in it.
+    lost : Lost
+        The rows that were refused before it.
     suspects : sequence of str
         The streams whose test rejects, if that counts.
     lines : sequence of Line
@@ -94,11 +131,8 @@ def verdict_of(
     """
     if not block.ended or block.solved is None:
         return Verdict("bad", "The report is cut off", ["Its last rows lack: run the session again."])
-    level, headline = _headline(block, refused, suspects)
-    reasons = []
-    if refused:
-        rows = count_of(refused, "row was refused", "rows were refused")
-        reasons.append(f"{rows} before this report, which was made without them: mend them first.")
+    level, headline = _headline(block, lost.lacking, suspects)
+    reasons = lost.reasons
     if block.solved["state"] != "converged":
         reasons.append(
             f"The arithmetic didn't converge in {block.solved['k']} sweeps: the bounds are wider than "
@@ -110,7 +144,7 @@ def verdict_of(
         reasons.append(f"The meter of {names_of(block.taken)} {were} taken out{ended}.")
     reasons.append(_tests(block))
     if block.whole is not None and block.whole["verdict"] == "reject":
-        reasons.append(_suspects(block, refused, suspects))
+        reasons.append(_suspects(block, lost.lacking, suspects))
     reasons += _of_lines(lines)
     return Verdict(level, headline, reasons)
 
@@ -129,14 +163,14 @@ def _of_lines(lines: Sequence[Line]) -> list[str]:
     return said
 
 
-def _headline(block: Block, refused: int, suspects: Sequence[str]) -> tuple[str, str]:
+def _headline(block: Block, lacking: int, suspects: Sequence[str]) -> tuple[str, str]:
     """Return the level and the headline of a round that isn't cut off."""
     assert block.solved is not None
     verdict = block.whole["verdict"] if block.whole else ""
     if block.solved["state"] != "converged":
         return "bad", "Not converged: not to be booked"
-    if refused:
-        return "bad", f"{count_of(refused, 'row', 'rows')} refused: not to be booked"
+    if lacking:
+        return "bad", f"{count_of(lacking, 'row', 'rows')} refused: not to be booked"
     if verdict == "reject":
         return "look", f"Look at {suspects[0]}" if suspects else "Rejected: look at the meters"
     if verdict == "accept" and block.taken:
@@ -173,9 +207,9 @@ def _tests(block: Block) -> str:
     }[block.whole["verdict"]]
 
 
-def _suspects(block: Block, refused: int, suspects: Sequence[str]) -> str:
+def _suspects(block: Block, lacking: int, suspects: Sequence[str]) -> str:
     """Return which meters a test that rejects points at."""
-    if refused:
+    if lacking:
         return "Which meter is off can't be said while rows of the plant lack."
     if not suspects:
         return "No single meter explains it: several may be off, or a stream or a ticket may lack."

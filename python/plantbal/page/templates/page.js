@@ -14,7 +14,7 @@ function streamsOf(section) {
     const [from, to] = way ? way.textContent.split(' → ') : [name, 'env'];
     const word = row.querySelector('td.class span:last-of-type');
     section.streams.set(name, {
-      name, from, to, row, kind: word.className, mark: row.className.split(' ').find(each => /^(suspect|taken)$/.test(each)) || '',
+      name, from, to, row, kind: word.className, mark: (row.className.match(/of-(suspect|taken)/) || ['', ''])[1],
       figure: text(row.querySelector(way ? 'td.booked' : 'td.gain, td.booked')),
     });
   }
@@ -138,9 +138,9 @@ function drawNear(section, figure, name) {
   const arcs = found.filter(stream => stream.name !== stream.from);
   const tanks = new Set([...all.values()].filter(stream => stream.name === stream.from).map(stream => stream.name));
   const column = columnsOf(chosen, arcs), {byColumn, rank} = orderOf(column, arcs);
-  const width = 270, height = 64, least = Math.min(...column.values());
+  const least = Math.min(...column.values());
   const rows = Math.max(...[...byColumn.values()].map(nodes => nodes.length), arcs.length > 8 ? 4 : 2);
-  const columns = byColumn.size;
+  const columns = byColumn.size, width = Math.max(190, Math.min(280, 1000 / columns)), height = 46;
   const place = node => [(column.get(node) - least) * width + 190, (rank.get(node) + rows / 2) * height + 20];
   const svg = figure.querySelector('svg.plant'), prefix = figure.dataset.prefix;
   svg.replaceChildren();
@@ -166,11 +166,11 @@ function drawNear(section, figure, name) {
     const path = `M${a} C${[a[0] + bend, a[1]]} ${[z[0] - bend, z[1]]} ${z}`;
     const back = z[0] - a[0] >= 0 && bend > 0 ? 1 : -1, head = Math.max(4, size * .55 + 2.5);
     const tip = z[0] === a[0] ? `${z} ${[z[0] - head, z[1] - back * 9]} ${[z[0] + head, z[1] - back * 9]}` : `${z} ${[z[0] - back * 10, z[1] - head]} ${[z[0] - back * 10, z[1] + head]}`;
-    const near = [stream.from, stream.to].some(end => end !== 'env' && (end === chosen.from || end === chosen.to));
+    const ends = end => end !== 'env' && (end === chosen.from || end === chosen.to), near = ends(stream.from) || ends(stream.to);
     group.append(make('title', {}, `${stream.name}, ${stream.kind}: ${stream.from} to ${stream.to}${stream.figure ? ', ' + stream.figure + ' t' : ''}`),
       make('path', {class: 'hit', d: path}), make('path', {class: 'line', d: path}), make('polygon', {points: tip}));
     if (!many || near) {
-      const t = isIn ? .25 : isOut ? .75 : .5, mix = (p, q, r, s) => (1 - t) ** 3 * p + 3 * (1 - t) ** 2 * t * q + 3 * (1 - t) * t * t * r + t ** 3 * s;
+      const t = isIn ? .25 : isOut ? .75 : stream === chosen ? .5 : ends(stream.from) && !ends(stream.to) ? .66 : ends(stream.to) && !ends(stream.from) ? .34 : .5, mix = (p, q, r, s) => (1 - t) ** 3 * p + 3 * (1 - t) ** 2 * t * q + 3 * (1 - t) * t * t * r + t ** 3 * s;
       const [x, y] = [mix(a[0], a[0] + bend, z[0] - bend, z[0]), mix(a[1], a[1], z[1], z[1])];
       group.append(make('text', {x, y: y - 2}, `${SIGNS[stream.kind] || ''} ${stream.name}`), make('text', {class: 'figure', x, y: y + 9}, stream.figure && `${stream.figure} t`));
     }
