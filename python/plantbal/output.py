@@ -314,6 +314,16 @@ class Output:
         return _frame("stop", self._of_kind("stop"), {})
 
     @cached_property
+    def uncertainty(self) -> pandas.DataFrame:
+        """The standard deviation of each measured or observable stream, in grams, of each block.
+
+        `plantbal.uncertainty.uncertainty_of` has its columns.
+        """
+        from plantbal.uncertainty import uncertainty_of
+
+        return uncertainty_of(self)
+
+    @cached_property
     def classes(self) -> pandas.DataFrame:
         """The streams of designs; `design` is the number of the design, counted from 0."""
         rows: list[Values] = []
