@@ -3,6 +3,7 @@
 from __future__ import annotations
 
 import json
+import sqlite3
 import time
 from fractions import Fraction
 from pathlib import Path
@@ -306,6 +307,26 @@ def test_faulty(old: str, new: str, said: str) -> None:
     assert old in text
     with pytest.raises(InputFault, match=said):
         uncertainty_of(parse_report(text.replace(old, new)))
+
+
+def test_beside_each_flow(say: Desk, tmp_path: Path) -> None:
+    """It stands in the table of flows, and in the workbook and the database."""
+    lines = say("tables", "flows", CONCENTRATOR).out.splitlines()
+    assert lines[0].startswith("stream,2024-04,2024-04 ±,2024-05,2024-05 ±,")
+    filtered = next(line for line in lines if line.startswith("FILTERED"))
+    assert filtered.split(",")[3:5] == ["10429.265808", "953.323464"]
+    assert "SLOP,,\n" in say("tables", "flows", example("refinery_day.out.csv")).out
+    output = read_report(CONCENTRATOR)
+    output.to_xlsx(tmp_path / "o.xlsx")
+    sheets = pandas.read_excel(tmp_path / "o.xlsx", sheet_name=["tonnes", "uncertainty"])
+    tonnes = sheets["tonnes"].set_index(["period", "name"])
+    assert tonnes.loc[("2024-05", "FILTERED"), "sd"] == pytest.approx(953.323464)
+    assert list(tonnes.columns).index("sd") == list(tonnes.columns).index("flow") + 1
+    assert tuple(sheets["uncertainty"].columns) == COLUMNS
+    output.to_sqlite(tmp_path / "o.sqlite")
+    with sqlite3.connect(tmp_path / "o.sqlite") as base:
+        query = "select round(sd / 1e6) from uncertainty where period = '2024-05' and name = ?"
+        assert base.execute(query, ["FILTERED"]).fetchall() == [(953.0,)]
 
 
 def test_command(say: Desk) -> None:
