@@ -57,6 +57,9 @@ _plantbal_desk() {
         draw:--round) :; return ;;
         draw:--mark) :; return ;;
         chart:--most) :; return ;;
+        chart:--stream) :; return ;;
+        chart:--session) _plantbal_files -f; return ;;
+        chart:--out) _plantbal_files -f; return ;;
         page:--title) :; return ;;
         page:--session) _plantbal_files -f; return ;;
         fleet:--out) _plantbal_files -d; return ;;
@@ -149,7 +152,7 @@ _plantbal_desk() {
             _plantbal_files -f
             return
         fi
-        _plantbal_words '-h --help --most' ;;
+        _plantbal_words '-h --help --most --stream --session --out' ;;
     page)
         if [[ $here != -* ]]; then
             _plantbal_files -f

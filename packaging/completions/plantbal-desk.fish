@@ -84,6 +84,9 @@ complete -c plantbal-desk -n '__fish_seen_subcommand_from draw' -l dot -d 'write
 complete -c plantbal-desk -n '__fish_seen_subcommand_from draw' -F
 complete -c plantbal-desk -n '__fish_seen_subcommand_from chart' -s h -l help -d 'show this help message and exit'
 complete -c plantbal-desk -n '__fish_seen_subcommand_from chart' -l most -x -d 'show the N meters that are adjusted most; 12 without it'
+complete -c plantbal-desk -n '__fish_seen_subcommand_from chart' -l stream -x -d 'show this stream, measured or observable; may be given more than once'
+complete -c plantbal-desk -n '__fish_seen_subcommand_from chart' -l session -r -F -d 'the session, which has the days of the periods'
+complete -c plantbal-desk -n '__fish_seen_subcommand_from chart' -l out -r -F -d 'a .svg, .png or .pdf file'
 complete -c plantbal-desk -n '__fish_seen_subcommand_from chart' -F
 complete -c plantbal-desk -n '__fish_seen_subcommand_from page' -s h -l help -d 'show this help message and exit'
 complete -c plantbal-desk -n '__fish_seen_subcommand_from page' -l title -x -d 'the heading of the page'

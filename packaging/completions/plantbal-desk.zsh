@@ -134,6 +134,9 @@ _plantbal_desk() {
             '-h[show this help message and exit]'
             '--help[show this help message and exit]'
             '--most=[show the N meters that are adjusted most; 12 without it]:N:'
+            '--stream=[show this stream, measured or observable; may be given more than once]:NAME:'
+            '--session=[the session, which has the days of the periods]:SESSION:_files'
+            '--out=[a .svg, .png or .pdf file]:FILE:_files'
             '1:word:(chart)'
             '*:OUTPUT:_files'
         ) ;;

@@ -8,6 +8,7 @@ from __future__ import annotations
 
 import argparse
 import sys
+from collections.abc import Iterable
 from typing import TYPE_CHECKING, Any
 
 from plantbal.amounts import tonnes_text
@@ -55,13 +56,13 @@ _NAN = float("nan")
 _CHECK = "plantbal-desk check says more"
 
 
-def uncertainty_of(found: Output | Block) -> pandas.DataFrame:
+def uncertainty_of(found: Output | Block | Iterable[Block]) -> pandas.DataFrame:
     """Return how good the flows of an output, or of one round of a report, are.
 
     Parameters
     ----------
-    found : Output or Block
-        The output, or a block of it. A block that is cut off has no rows.
+    found : Output, Block or iterable of Block
+        The output, or blocks of it. A block that is cut off has no rows.
 
     Returns
     -------
@@ -93,7 +94,9 @@ def uncertainty_of(found: Output | Block) -> pandas.DataFrame:
         import scipy  # noqa: F401
     except ImportError as error:
         raise ToolMissing("scipy", "python3-scipy") from error
-    blocks = [found] if isinstance(found, Block) else found.blocks_in_order
+    if isinstance(found, Output):
+        found = found.blocks_in_order
+    blocks = [found] if isinstance(found, Block) else found
     rows = [row for block in blocks if block.ended for row in _rows_of(block)]
     table = pandas.DataFrame(rows, columns=list(COLUMNS))
     kinds = {name: int if name in ("block", "round") else float for name in COLUMNS}
