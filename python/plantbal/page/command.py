@@ -3,20 +3,19 @@
 from __future__ import annotations
 
 import argparse
-import importlib
 import sys
-from collections.abc import Sequence
-from dataclasses import dataclass, field
+from dataclasses import dataclass
 from pathlib import Path
 from typing import TYPE_CHECKING
 
-from plantbal.faults import InputFault, Place, read_bytes
+from plantbal.faults import Fault, InputFault, Place, read_bytes, read_text
 from plantbal.files import write_text
+from plantbal.page.account import account_of
 from plantbal.page.head import Origin
 from plantbal.page.ledger import Ledger
 from plantbal.page.render import render
-from plantbal.page.statement import Account, Refused, Worth, account_of
-from plantbal.report import Values, parse_rows
+from plantbal.page.statement import Prepared, Refused, Worth
+from plantbal.report import Values, blocks_of, parse_rows
 from plantbal.schema import schema
 
 if TYPE_CHECKING:
@@ -24,24 +23,27 @@ if TYPE_CHECKING:
     from plantbal.output import Output
 
 HELP = """
-OUTPUT is what plantbal wrote, as JSON lines or as CSV; without it standard input is read. The page goes
-to standard output, or to the file of --out. If --session names the session, the page has the days of
-periods, whether they are open, the opening and closing of tanks, edits with before and after, refused
-rows in sentences, and what lint warns of. With --run the file is the session itself, and it is run first,
-with its tests; then standard error and the status say what they say of plantbal-desk run.
+OUTPUT is what plantbal wrote, as JSON lines or as CSV; without it standard input is read. The
+page goes to standard output, or to the file of --out. If --session names the session, the page
+has the days of periods, whether they are open, the opening and closing of tanks, edits with
+before and after, refused rows in sentences, and what lint warns of. With --run the file is the
+session itself, and it is run first, with its tests; then standard error and the status say what
+they say of plantbal-desk run.
 
-Each period has a verdict in words, its tanks and streams with measured value, adjustment and what is
-booked, and a drawing. Choose a row or an arrow: its cut or cycle is marked. Above 60 streams what lies
-within two steps of the chosen stream is drawn. If Graphviz needs longer than --seconds, the page comes
-without drawings and says so.
+Each period has a verdict in words, its tanks and streams with measured value, adjustment and what
+is booked, and a drawing. Choose a row or an arrow: its cut or cycle is marked. Above 60 streams
+what lies within two steps of the chosen stream is drawn. If Graphviz needs longer than --seconds,
+the page comes without drawings and says so.
 
---xlsx writes the tables as a workbook, --pdf the page on A4 by chromium. If one of them is named, the
-page itself is written only where --out says.
+--xlsx writes the tables as a workbook, --pdf the page on A4 by chromium. If one of them is named,
+the page itself is written only where --out says.
 
 examples:
   plantbal run --tests < may.csv | plantbal-desk page --title May --session may.csv > may.html
   plantbal-desk page may.csv --run --out may.html --pdf may.pdf --xlsx may.xlsx
 """
+# A meter with a smaller share of a variance isn't named.
+LEAST_SHARE = 0.005
 
 
 @dataclass(frozen=True)
@@ -63,22 +65,32 @@ class Source:
     session: tuple[str, bytes] | None = None
 
 
-@dataclass(frozen=True)
-class Prepared:
-    """An account, and its refused rows in sentences."""
+def worth_of(rows: list[Values]) -> tuple[dict[tuple[int, str], Worth], str]:
+    """Return how good the flows of each period's last round are, or why that isn't known.
 
-    account: Account
-    told: Sequence[Told] = field(default_factory=list)
+    Returns
+    -------
+    tuple of dict and str
+        The worth by the number of the block and the name of the stream; and why there is none,
+        empty if there is.
+    """
+    from plantbal.uncertainty import uncertainty_of
 
-
-def worth_of(rows: list[Values]) -> dict[tuple[int, str], Worth]:
-    """Return how good each flow is, by the number of its block and its name."""
+    last = {block.period: block for block in blocks_of(rows)}
     try:
-        found = importlib.import_module("plantbal.uncertainty")
-    except ImportError:
-        return {}
-    del found, rows
-    return {}
+        table = uncertainty_of(last.values())
+    except Fault as fault:
+        return {}, str(fault)
+    found = {}
+    for row in table.itertuples():
+        gain = None if row.gain != row.gain else float(row.gain)
+        meters = [(row.first, row.first_share), (row.second, row.second_share)]
+        meters.append((row.third, row.third_share))
+        named = ", ".join(
+            f"{name} {100 * share:.0f} %" for name, share in meters if name and share >= LEAST_SHARE
+        )
+        found[row.block, row.name] = Worth(float(row.sd), gain, named)
+    return found, ""
 
 
 def refused_of(rows: list[Values]) -> list[Refused]:
@@ -99,9 +111,11 @@ def prepare(source: Source) -> Prepared:
     InputFault
         Where the output is that of another session.
     """
-    refused, worth = refused_of(source.rows), worth_of(source.rows)
+    refused = refused_of(source.rows)
+    worth, why = worth_of(source.rows)
     if source.session is None:
-        return Prepared(account_of(source.rows, refused=refused, worth=worth))
+        account = account_of(source.rows, refused=refused, worth=worth)
+        return Prepared(account, why_no_worth=why)
     from plantbal.explain import explain_bytes, same_refusals
     from plantbal.lintrules import SEVERITIES, find
 
@@ -120,7 +134,7 @@ def prepare(source: Source) -> Prepared:
     account = account_of(
         source.rows, ledger=ledger, refused=refused, findings=findings, worth=worth
     )
-    return Prepared(account, told)
+    return Prepared(account, told, why)
 
 
 def page(
@@ -147,7 +161,7 @@ def page(
         How long the layout of drawings may take.
     """
     prepared = prepare(Source(rows, "output", session))
-    return render(prepared.account, prepared.told, title=title, origin=origin, seconds=seconds)
+    return render(prepared, title=title, origin=origin, seconds=seconds)
 
 
 def add_arguments(parser: argparse.ArgumentParser) -> None:
@@ -172,8 +186,6 @@ def add_arguments(parser: argparse.ArgumentParser) -> None:
 def _source(options: argparse.Namespace) -> tuple[Source, Output | None, Path | None]:
     """Return what the page is made of, the output if it was run, and the program."""
     if not options.runs:
-        from plantbal.faults import read_text
-
         name, text = read_text(options.output)
         session = None if options.session is None else read_bytes(options.session)
         return Source(parse_rows(name, text), name, session), None, None
@@ -197,13 +209,7 @@ def run(options: argparse.Namespace) -> int:
         plant = Path(source.session[0]).stem
     origin = Origin(plant, source.session[0] if source.session else "", program)
     if options.out or options.pdf or not options.xlsx:
-        text = render(
-            prepared.account,
-            prepared.told,
-            title=options.title,
-            origin=origin,
-            seconds=options.seconds,
-        )
+        text = render(prepared, title=options.title, origin=origin, seconds=options.seconds)
         if options.out or not options.pdf:
             write_text(options.out or "-", text)
         if options.pdf:

@@ -31,7 +31,9 @@ KINDS: dict[str, Kind] = {
     "redundant": Kind("●", "", "measured, and checked by the other meters"),
     "nonredundant": Kind("○", "9 4", "measured, and checked by nothing"),
     "observable": Kind("△", "5 3", "not measured, and determined by the meters"),
-    "unobservable": Kind("?", "1.5 3.5", "not measured, and determined by nothing: no figure to book"),
+    "unobservable": Kind(
+        "?", "1.5 3.5", "not measured, and determined by nothing: no figure to book"
+    ),
 }
 
 
@@ -93,7 +95,7 @@ def arcs_of(lines: Iterable[Line]) -> list[Arc]:
 
 
 def to_look_at(lines: Sequence[Line]) -> str:
-    """Return the stream that wants a look most: the first suspect, or that of the greatest adjustment."""
+    """Return which stream wants a look most: a suspect, or that of the greatest adjustment."""
     for line in lines:
         if line.mark:
             return line.name

@@ -97,14 +97,18 @@ def head_of(account: Account, origin: Origin) -> list[tuple[str, str, str]]:
     plant = ": ".join(part for part in (origin.plant, size_text(account)) if part)
     found = [("Plant", plant, "")]
     if account.statements:
-        found.append(("Period" if len(account.statements) == 1 else "Periods", period_text(account), ""))
+        found.append(
+            ("Period" if len(account.statements) == 1 else "Periods", period_text(account), "")
+        )
     ledger = account.ledger
     if ledger is not None:
         found.append(("Session", f"{ledger.source}, {count_of(ledger.rows, 'row', 'rows')}", ""))
         found.append(("SHA-256 of the session", ledger.digest, "hash"))
     else:
         lacks = "days, the opening and closing of tanks, what edits changed"
-        found.append(("Session", f"not named: {lacks} and the text of refused rows need --session", ""))
+        found.append(
+            ("Session", f"not named: {lacks} and the text of refused rows need --session", "")
+        )
     found.append(("Program", program_text(origin.program), ""))
     found.append(("Page", f"plantbal-desk {plantbal.__version__}", ""))
     return [(term, text, kind) for term, text, kind in found if text]

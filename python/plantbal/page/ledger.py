@@ -1,4 +1,4 @@
-"""What a session says beside its reports: days, tanks' contents, and its edits with before and after."""
+"""What a session says beside its reports: days, tanks' contents, edits with before and after."""
 
 from __future__ import annotations
 
@@ -14,7 +14,7 @@ from plantbal.session import Period
 
 @dataclass(frozen=True, slots=True)
 class Dips:
-    """What a tank held at the beginning and at the end of a period, in grams; None without a dip."""
+    """What a tank held at the beginning and the end of a period, in grams; None without a dip."""
 
     opening: int | None
     closing: int | None
@@ -168,7 +168,13 @@ class Ledger(Book):
             return change
         names = tuple(period.name for period in self.periods_of(fact))
         return Change(
-            change.record, change.line, change.word, change.before, change.after, change.reason, names
+            change.record,
+            change.line,
+            change.word,
+            change.before,
+            change.after,
+            change.reason,
+            names,
         )
 
     def _take_fact(self, row: list[str], line: int) -> None:

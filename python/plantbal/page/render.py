@@ -15,7 +15,7 @@ from plantbal.page.drawing import KINDS, Draftsman
 from plantbal.page.head import Origin, days_text, head_of
 from plantbal.page.ledger import Ledger
 from plantbal.page.spark import spark
-from plantbal.page.statement import Account, Line, Round, Statement, Worth
+from plantbal.page.statement import Account, Line, Prepared, Round, Statement, Worth
 from plantbal.page.verdict import thousandths
 from plantbal.report import Values
 
@@ -26,6 +26,10 @@ if TYPE_CHECKING:
 
 # Of long lists so many are shown.
 MOST = 100
+# Grams: an amount of so many has nine digits of tonnes.
+HUGE = 10**14
+# A name isn't wider than so many letters.
+LONGEST = 14
 
 
 def tonnes(grams: int | None) -> str:
@@ -53,7 +57,7 @@ def plus_minus(worth: Worth | None) -> str:
         return ""
     size = worth.deviation / 1e6
     places = 3 if size < 1e-9 else min(3, max(0, 2 - int(log10(size) // 1)))
-    return f"± {size:,.{places}f}"
+    return f"{size:,.{places}f}"
 
 
 def end_of(pair: tuple[int, int] | None, which: int) -> str:
@@ -62,10 +66,29 @@ def end_of(pair: tuple[int, int] | None, which: int) -> str:
 
 
 def soft(name: str) -> Any:
-    """Return a name that may be broken after its marks."""
+    """Return a name that may be broken after its marks, and where it is long without one."""
+    from markupsafe import Markup, escape
+
+    pieces = re.findall(rf"[^-_.]{{1,{LONGEST}}}[-_.]*|[-_.]+", name)
+    return Markup("<wbr>").join(escape(piece) for piece in pieces)
+
+
+def day_spans(days: tuple[str, str] | None) -> Any:
+    """Return the days of a period, none of them broken."""
     from markupsafe import Markup
 
-    return Markup(re.sub("([-_.])(?=.)", r"\1<wbr>", str(Markup.escape(name))))
+    if days is None:
+        return ""
+    each = Markup('<span class="day">{}</span>')
+    return Markup("<span>{}</span>").format(
+        Markup(" to ").join(each.format(day) for day in dict.fromkeys(days))
+    )
+
+
+def is_huge(lines: Iterable[Line]) -> bool:
+    """Say whether some amount has so many digits that its column is wide."""
+    amounts = [amount for line in lines for amount in (line.value, line.flow) if amount is not None]
+    return any(abs(amount) >= HUGE for amount in amounts)
 
 
 def sign_of(line: Line) -> str:
@@ -96,8 +119,14 @@ def marked(told: Told) -> Any:
     if told.mark is None:
         return escape(told.row)
     begin, count = told.mark
-    front, middle, rest = told.row[:begin], told.row[begin : begin + count], told.row[begin + count :]
-    return escape(front) + Markup("<mark>") + escape(middle or "␣") + Markup("</mark>") + escape(rest)
+    front, middle, rest = (
+        told.row[:begin],
+        told.row[begin : begin + count],
+        told.row[begin + count :],
+    )
+    return (
+        escape(front) + Markup("<mark>") + escape(middle or "␣") + Markup("</mark>") + escape(rest)
+    )
 
 
 def lines_text(under: Sequence[Told]) -> str:
@@ -134,7 +163,9 @@ def checked(row: Values) -> str:
     from plantbal.schema import schema
 
     if row["row"] == "yes":
-        return f"{row['period']}, round {row['round']}: yes, the report follows from its own numbers."
+        return (
+            f"{row['period']}, round {row['round']}: yes, the report follows from its own numbers."
+        )
     codes = schema().tests if row["row"] == "no" else schema().unreadable
     code = codes.get(int(row["code"]))
     about = code.about.rstrip(".") if code else ""
@@ -142,7 +173,8 @@ def checked(row: Values) -> str:
         return f"Row {row['at']} can't be read: it {about}."
     numbers = f", where {row['stated']} is stated and {row['found']} follows" if row["name"] else ""
     at = f" at {row['name']}" if row["name"] else ""
-    return f"{row['period']}, round {row['round']}: no, it fails the test {row['word']}{at}{numbers}: {about}."
+    which = f"{row['period']}, round {row['round']}"
+    return f"{which}: no, it fails the test {row['word']}{at}{numbers}: {about}."
 
 
 def by_name(found: Round | None) -> dict[str, Line]:
@@ -172,11 +204,13 @@ def environment() -> Environment:
         end=end_of,
         sign=sign_of,
         soft=soft,
+        day_spans=day_spans,
         kind_sign=lambda name: KINDS[name].sign,
         f=lambda number: f"{number:.1f}",
         fact=fact_text,
         days=fact_days,
         from_to=days_text,
+        is_huge=is_huge,
         marked=marked,
         lines=lines_text,
         marks=marks,
@@ -190,8 +224,7 @@ def environment() -> Environment:
 
 
 def render(
-    account: Account,
-    told: Sequence[Told] = (),
+    prepared: Prepared,
     *,
     title: str = "",
     origin: Origin = Origin(),
@@ -201,10 +234,8 @@ def render(
 
     Parameters
     ----------
-    account : Account
+    prepared : Prepared
         What it shows.
-    told : sequence of Told
-        The refused rows in sentences.
     title : str
         Its heading.
     origin : Origin
@@ -212,6 +243,7 @@ def render(
     seconds : float
         How long the layout of its drawings may take; 0 is none.
     """
+    account = prepared.account
     rounds = [each.report.last.lines for each in account.statements if each.report.last]
     draftsman = Draftsman([*rounds, *account.designs], seconds)
     drawings = {
@@ -219,20 +251,25 @@ def render(
         for each in account.statements
     }
     designs = account.designs[-1:] if not account.statements else []
-    return environment().get_template("page.html.j2").render(
-        title=title or default_title(account, origin),
-        head=head_of(account, origin),
-        told=told,
-        refused=account.refused,
-        statements=account.statements,
-        drawings=drawings,
-        designs=[(lines, draftsman.draw(lines)) for lines in designs],
-        findings=account.findings,
-        checks=account.checks,
-        ledger=account.ledger,
-        kinds=KINDS,
-        most=MOST,
-        has_worth=any(line.worth for lines in rounds for line in lines),
+    return (
+        environment()
+        .get_template("page.html.j2")
+        .render(
+            title=title or default_title(account, origin),
+            head=head_of(account, origin),
+            told=prepared.told,
+            why_no_worth=prepared.why_no_worth,
+            refused=account.refused,
+            statements=account.statements,
+            drawings=drawings,
+            designs=[(lines, draftsman.draw(lines)) for lines in designs],
+            findings=account.findings,
+            checks=account.checks,
+            ledger=account.ledger,
+            kinds=KINDS,
+            most=MOST,
+            has_worth=any(line.worth for lines in rounds for line in lines),
+        )
     )
 
 

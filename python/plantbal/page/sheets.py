@@ -199,7 +199,9 @@ def _fill(sheet: Any, heads: Row, rows: list[Row]) -> None:
     for cell in sheet[1]:
         cell.font = Font(bold=True)
         cell.alignment = Alignment(wrap_text=True, vertical="bottom")
-    formats = [FORMATS.get(str(head), TONNES if str(head).endswith(", t") else "") for head in heads]
+    formats = [
+        FORMATS.get(str(head), TONNES if str(head).endswith(", t") else "") for head in heads
+    ]
     for number, row in enumerate(rows, 2):
         for place, (value, shown) in enumerate(zip(row, formats), 1):
             if value is None or value == "":

@@ -17,8 +17,8 @@ MOST_BARS = 75
 def spark(statement: Statement) -> Any:
     """Return the adjustments of a period's meters in standard deviations as a small SVG.
 
-    Each meter is a bar, up or down, in the order of the report; beyond two it is red. Of more than 75
-    meters those that were adjusted most are shown.
+    Each meter is a bar, up or down, in the order of the report; beyond two it is red. Of more than
+    75 meters those that were adjusted most are shown.
     """
     from markupsafe import Markup, escape
 

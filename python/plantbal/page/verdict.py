@@ -52,7 +52,9 @@ class Verdict:
         if not more:
             return self
         if self.level in ("good", "plain"):
-            return Verdict("look", f"{self.headline}, with something to look at", [*self.reasons, *more])
+            return Verdict(
+                "look", f"{self.headline}, with something to look at", [*self.reasons, *more]
+            )
         return replace(self, reasons=[*self.reasons, *more])
 
 
@@ -84,9 +86,7 @@ class Lost:
         if self.lacking:
             rows = count_of(self.lacking, "row was refused", "rows were refused")
             it = "it" if self.lacking == 1 else "them"
-            said.append(
-                f"{rows} before this report, which was made without {it}: mend {it} first."
-            )
+            said.append(f"{rows} before this report, which was made without {it}: mend {it} first.")
         if self.passed:
             rows = count_of(self.passed, "row was refused", "rows were refused")
             said.append(f"{rows} as being there already, or as touching a closed period.")
@@ -130,13 +130,15 @@ def verdict_of(
         Why the elimination ended after it.
     """
     if not block.ended or block.solved is None:
-        return Verdict("bad", "The report is cut off", ["Its last rows lack: run the session again."])
+        return Verdict(
+            "bad", "The report is cut off", ["Its last rows lack: run the session again."]
+        )
     level, headline = _headline(block, lost.lacking, suspects)
     reasons = lost.reasons
     if block.solved["state"] != "converged":
         reasons.append(
-            f"The arithmetic didn't converge in {block.solved['k']} sweeps: the bounds are wider than "
-            "asked for. Allow more sweeps, or use plantbal-desk solve."
+            f"The arithmetic didn't converge in {block.solved['k']} sweeps: the bounds are wider "
+            "than asked for. Allow more sweeps, or use plantbal-desk solve."
         )
     if block.taken:
         ended = f": {STOPS[stop]}" if stop in STOPS else ""
@@ -155,7 +157,9 @@ def _of_lines(lines: Sequence[Line]) -> list[str]:
     moved = {line.name: line.deviations for line in lines if line.deviations}
     if moved:
         name = max(moved, key=lambda each: abs(moved[each] or 0))
-        said.append(f"The greatest adjustment is that of {name}: {moved[name]:+,.2f} standard deviations.")
+        said.append(
+            f"The greatest adjustment is that of {name}: {moved[name]:+,.2f} standard deviations."
+        )
     without = [line.name for line in lines if line.flow is None]
     if without:
         have, them = ("has", "it") if len(without) == 1 else ("have", "them")
@@ -191,18 +195,19 @@ def _tests(block: Block) -> str:
     degrees = count_of(int(solved["dof"]), "degree", "degrees")
     if block.whole is None:
         return (
-            f"No tests were made (run with --tests). The statistic is {between} at {degrees} of freedom; "
-            f"with true variances it is {solved['dof']} on the average."
+            f"No tests were made (run with --tests). The statistic is {between} at {degrees} of "
+            f"freedom; with true variances it is {solved['dof']} on the average."
         )
     critical = thousandths(block.whole["critical"])
     return {
-        "accept": f"The meters fit together: the statistic is {between} at {degrees} of freedom, and up "
-        f"to {critical} is accepted.",
+        "accept": f"The meters fit together: the statistic is {between} at {degrees} of freedom, "
+        f"and up to {critical} is accepted.",
         "reject": f"No balanced flows fit these meters: the statistic is {between} at {degrees} of "
         f"freedom, and up to {critical} is accepted.",
-        "undecided": f"The statistic is {between}, and {critical} lies between: ask for a smaller gap.",
-        "nocritical": f"There is no critical value for {degrees} of freedom, so nothing is accepted or "
-        f"rejected. The statistic is {between}.",
+        "undecided": f"The statistic is {between}, and {critical} lies between: ask for a smaller "
+        "gap.",
+        "nocritical": f"There is no critical value for {degrees} of freedom, so nothing is accepted "
+        f"or rejected. The statistic is {between}.",
         "notest": "No meter is checked by another: there is nothing to test.",
     }[block.whole["verdict"]]
 

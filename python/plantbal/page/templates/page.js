@@ -140,14 +140,15 @@ function drawNear(section, figure, name) {
   const column = columnsOf(chosen, arcs), {byColumn, rank} = orderOf(column, arcs);
   const least = Math.min(...column.values());
   const rows = Math.max(...[...byColumn.values()].map(nodes => nodes.length), arcs.length > 8 ? 4 : 2);
-  const columns = byColumn.size, width = Math.max(190, Math.min(280, 1000 / columns)), height = 46;
+  const columns = byColumn.size, width = Math.max(210, Math.min(300, 1180 / columns)), height = 46;
   const place = node => [(column.get(node) - least) * width + 190, (rank.get(node) + rows / 2) * height + 20];
   const svg = figure.querySelector('svg.plant'), prefix = figure.dataset.prefix;
   svg.replaceChildren();
   svg.setAttribute('viewBox', `0 0 ${(columns - 1) * width + 380} ${rows * height + 40}`);
   svg.style.maxWidth = `${1.2 * ((columns - 1) * width + 380)}px`;
-  const outer = new Map();
+  const outer = new Map(), pairs = new Map(), labels = [];
   const many = arcs.length > 25;
+  arcs.sort((one, other) => (other === chosen) - (one === chosen));
   const shapes = arcs.map(stream => {
     const isOut = stream.to === 'env', isIn = stream.from === 'env';
     let a, z;
@@ -158,7 +159,9 @@ function drawNear(section, figure, name) {
       [a, z] = isIn ? [[x - 165, far], [x - 46, y]] : [[x + 46, y], [x + 165, far]];
     } else {
       const [x0, y0] = place(stream.from), [x1, y1] = place(stream.to), along = x1 > x0 ? 46 : x1 < x0 ? -46 : 0;
-      [a, z] = [[x0 + along, y0 + (along ? 0 : y1 > y0 ? 13 : -13)], [x1 - along, y1 - (along ? 0 : y1 > y0 ? 13 : -13)]];
+      const pair = [stream.from, stream.to].sort().join(' '), count = pairs.get(pair) || 0, off = (count % 2 ? -1 : 1) * Math.ceil(count / 2) * 9;
+      pairs.set(pair, count + 1);
+      [a, z] = [[x0 + along, y0 + (along ? off : y1 > y0 ? 13 : -13)], [x1 - along, y1 + (along ? off : y1 > y0 ? -13 : 13)]];
     }
     const bend = (z[0] - a[0]) / 2 || 40;
     const kind = (stream.mark || stream.kind), size = stream.figure ? THINNEST + (WIDEST - THINNEST) * Math.min(1, tonnesOf(stream.figure) / (widest || 1)) : THINNEST;
@@ -169,9 +172,14 @@ function drawNear(section, figure, name) {
     const ends = end => end !== 'env' && (end === chosen.from || end === chosen.to), near = ends(stream.from) || ends(stream.to);
     group.append(make('title', {}, `${stream.name}, ${stream.kind}: ${stream.from} to ${stream.to}${stream.figure ? ', ' + stream.figure + ' t' : ''}`),
       make('path', {class: 'hit', d: path}), make('path', {class: 'line', d: path}), make('polygon', {points: tip}));
-    if (!many || near) {
-      const t = isIn ? .25 : isOut ? .75 : stream === chosen ? .5 : ends(stream.from) && !ends(stream.to) ? .66 : ends(stream.to) && !ends(stream.from) ? .34 : .5, mix = (p, q, r, s) => (1 - t) ** 3 * p + 3 * (1 - t) ** 2 * t * q + 3 * (1 - t) * t * t * r + t ** 3 * s;
-      const [x, y] = [mix(a[0], a[0] + bend, z[0] - bend, z[0]), mix(a[1], a[1], z[1], z[1])];
+    const spot = t => [0, 1].map(k => (1 - t) ** 3 * a[k] + 3 * (1 - t) ** 2 * t * (k ? a[1] : a[0] + bend) + 3 * (1 - t) * t * t * (k ? z[1] : z[0] - bend) + t ** 3 * z[k]);
+    const half = 3.1 * Math.max(stream.name.length + 2, stream.figure.length + 2);
+    const free = ([x, y]) => labels.every(other => Math.abs(other.x - x) > other.half + half || Math.abs(other.y - y) > 21);
+    const first = isIn ? .25 : isOut ? .75 : stream === chosen ? .5 : ends(stream.from) && !ends(stream.to) ? .66 : ends(stream.to) && !ends(stream.from) ? .34 : .5;
+    const where = [first, .5, .35, .65, .25, .75].map(spot).find(free) || (stream === chosen && spot(.5));
+    if (where && (!many || near)) {
+      const [x, y] = where;
+      labels.push({x, y, half});
       group.append(make('text', {x, y: y - 2}, `${SIGNS[stream.kind] || ''} ${stream.name}`), make('text', {class: 'figure', x, y: y + 9}, stream.figure && `${stream.figure} t`));
     }
     return [size, group];
