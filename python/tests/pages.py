@@ -158,7 +158,7 @@ def paper_shot(page: str, folder: Path) -> Image.Image:
     """Return the picture of the first page of A4 that a page is printed on."""
     printed = folder / "page.pdf"
     print_pdf(page, printed)
-    words = ["pdftoppm", "-r", "75", "-f", "1", "-l", "1", "-png", "-singlefile"]
+    words = ["pdftoppm", "-r", "110", "-f", "1", "-l", "1", "-png", "-singlefile"]
     subprocess.run([*words, printed, folder / "paper"], check=True)
     return Image.open(folder / "paper.png").convert("RGB")
 

@@ -188,7 +188,7 @@ def test_looks(name: str, tmp_path: Path) -> None:
     kept = PICTURES / f"{name}.png"
     if os.environ.get("PLANTBAL_PICTURES") == "write":
         PICTURES.mkdir(exist_ok=True)
-        small = kept_form(picture).quantize(32, dither=Image.Dither.NONE)
+        small = kept_form(picture).quantize(48, Image.Quantize.FASTOCTREE)
         small.save(kept, optimize=True)
     reference = Image.open(kept).convert("RGB")
     small = kept_form(picture)

@@ -66,9 +66,11 @@ def end_of(pair: tuple[int, int] | None, which: int) -> str:
 
 
 def soft(name: str) -> Any:
-    """Return a name that may be broken after its marks, and where it is long without one."""
+    """Return a name that, if it is long, may be broken after its marks or where it has none."""
     from markupsafe import Markup, escape
 
+    if len(name) <= LONGEST:
+        return escape(name)
     pieces = re.findall(rf"[^-_.]{{1,{LONGEST}}}[-_.]*|[-_.]+", name)
     return Markup("<wbr>").join(escape(piece) for piece in pieces)
 
