@@ -17,10 +17,10 @@ OUTPUT is what plantbal wrote, as CSV or as JSON lines; without it standard inpu
 report is drawn, or, where there is none, the last design. The picture goes to standard output as SVG.
 
 Units are boxes, tanks are cylinders with what they gained, `env` is left open. Colours of streams:
-redundant green, nonredundant orange, observable blue, unobservable grey and dotted, a suspect (its
-measurement test rejects, or it was taken) red. With --mark the certificate of a stream is shown: the
-parts of its cut or cycle are drawn thick, and the units of the cut's side are filled. A plant of 300
-streams takes a second or two, one of 2,000 some minutes.
+redundant green, nonredundant orange, observable blue, unobservable grey and dotted; red is a suspect
+(its measurement test rejects, and so does the global test), or what was taken. With --mark the
+certificate of a stream is shown: the parts of its cut or cycle are drawn thick, and the units of the
+cut's side are filled. A plant of 300 streams takes a second or two, one of 2,000 some minutes.
 
 examples:
   plantbal run < day.csv | plantbal-desk draw --mark KEROSENE > day.svg
@@ -171,7 +171,10 @@ class Picture:
 def picture_of(block: Block, prefix: str = "") -> Picture:
     """Return the picture of a round."""
     nodes = [node["name"] for node in block.nodes]
-    return Picture(block.title, block.streams, nodes, block.suspects() + block.taken, prefix)
+    # where the global test doesn't reject, that of one meter counts for nothing
+    rejected = block.whole is not None and block.whole["verdict"] == "reject"
+    suspects = block.suspects() if rejected else []
+    return Picture(block.title, block.streams, nodes, suspects + block.taken, prefix)
 
 
 def chosen(rows: list[Values], period: str | None, number: int | None) -> Picture:

@@ -11,12 +11,16 @@ from html.parser import HTMLParser
 from pathlib import Path
 from urllib.parse import unquote
 
-from PIL import Image, ImageChops, ImageStat
+from PIL import Image, ImageChops
 
 from plantbal.page.paper import in_browser, print_pdf
 
 VOID = {"meta", "br", "input", "wbr", "path", "polygon", "rect"}
 INLINE = {"wbr", "b", "small", "span", "mark", "a"}
+# One font for all pictures, so that they don't hang on which others are installed.
+FONT = '<style>body, svg text { font-family: "DejaVu Sans" !important }</style></head>'
+# Blocks whose colours are so far apart, of 255, differ.
+FAR = 16
 PAPER = 703  # the pixels of an A4 page between its margins
 
 
@@ -143,7 +147,7 @@ def on_paper(page: str) -> str:
 
 def shot(page: str, folder: Path, width: int, height: int) -> Image.Image:
     """Return the picture of a page in a browser of some width, without the white below it."""
-    (folder / "inner.html").write_text(page, encoding="utf-8")
+    (folder / "inner.html").write_text(page.replace("</head>", FONT), encoding="utf-8")
     outer, made = folder / "outer.html", folder / "shot.png"
     outer.write_text(
         "<!DOCTYPE html><body style='margin:0'><iframe src=inner.html "
@@ -157,7 +161,7 @@ def shot(page: str, folder: Path, width: int, height: int) -> Image.Image:
 def paper_shot(page: str, folder: Path) -> Image.Image:
     """Return the picture of the first page of A4 that a page is printed on."""
     printed = folder / "page.pdf"
-    print_pdf(page, printed)
+    print_pdf(page.replace("</head>", FONT), printed)
     words = ["pdftoppm", "-r", "110", "-f", "1", "-l", "1", "-png", "-singlefile"]
     subprocess.run([*words, printed, folder / "paper"], check=True)
     return Image.open(folder / "paper.png").convert("RGB")
@@ -177,7 +181,9 @@ def kept_form(picture: Image.Image) -> Image.Image:
 
 
 def difference(one: Image.Image, other: Image.Image) -> float:
-    """Return how far two pictures are apart, from 0 to 1: blurred, since fonts differ."""
+    """Return which part of two pictures differs: of blocks of 8 pixels, each taken as its mean."""
     size = (one.width // 8, one.height // 8)
     small = [picture.convert("RGB").resize(size, Image.Resampling.BOX) for picture in (one, other)]
-    return sum(ImageStat.Stat(ImageChops.difference(*small)).mean) / (3 * 255)
+    bands = ImageChops.difference(*small).split()
+    greatest = ImageChops.lighter(ImageChops.lighter(bands[0], bands[1]), bands[2])
+    return sum(greatest.histogram()[FAR:]) / (size[0] * size[1])

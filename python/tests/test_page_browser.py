@@ -17,6 +17,7 @@ from plantbal.page.command import page
 from plantbal.report import Values, parse_rows
 
 PICTURES = TOP / "python/tests/pictures"
+SHOWN = TOP / "docs/pictures/concentrator_page.png"
 REFINERY = ("refinery_day.out.csv", "refinery_day.csv")
 CONCENTRATOR = ("concentrator/tested.out.csv", "concentrator/session.csv")
 
@@ -172,8 +173,8 @@ LOOKS: dict[str, tuple[tuple[str, str], int]] = {
     "concentrator_1280": (CONCENTRATOR, 1280),
     "concentrator_a4": (CONCENTRATOR, 0),
 }
-# Fonts differ from machine to machine; a column that lacks or a drawing elsewhere is more than this.
-MOST_APART = 0.02
+# The part of a picture that may differ; a column that lacks is more than this.
+MOST_APART = 0.01
 
 
 @pytest.mark.parametrize("name", LOOKS)
@@ -188,14 +189,29 @@ def test_looks(name: str, tmp_path: Path) -> None:
     kept = PICTURES / f"{name}.png"
     if os.environ.get("PLANTBAL_PICTURES") == "write":
         PICTURES.mkdir(exist_ok=True)
-        small = kept_form(picture).quantize(48, Image.Quantize.FASTOCTREE)
+        small = kept_form(picture).quantize(96, Image.Quantize.FASTOCTREE)
         small.save(kept, optimize=True)
+        if name == "concentrator_1280":
+            SHOWN.write_bytes(kept.read_bytes())
     reference = Image.open(kept).convert("RGB")
     small = kept_form(picture)
     assert small.width == reference.width
-    assert abs(small.height - reference.height) <= 0.04 * reference.height
+    assert abs(small.height - reference.height) <= 0.02 * reference.height
     box = (0, 0, small.width, min(small.height, reference.height))
     assert difference(small.crop(box), reference.crop(box)) < MOST_APART
+
+
+def test_picture_of_the_guide() -> None:
+    assert SHOWN.read_bytes() == (PICTURES / "concentrator_1280.png").read_bytes()
+
+
+def test_a_column_that_lacks_shows(tmp_path: Path) -> None:
+    """The pictures are compared closely enough to see that a column isn't there."""
+    hidden = "<style>td.booked { visibility: hidden }</style></head>"
+    made = page_of(*REFINERY).replace("</head>", hidden)
+    small = kept_form(shot(made, tmp_path, 1280, 5000))
+    reference = Image.open(PICTURES / "refinery_1280.png").convert("RGB")
+    assert small.size == reference.size and difference(small, reference) > MOST_APART
 
 
 def test_pdf(say: Desk, tmp_path: Path) -> None:
