@@ -48,7 +48,7 @@ def cells(made: str, stream: str) -> list[str]:
     row = re.search(rf'<tr[^>]* data-stream="{stream}"[^>]*>(.*?)</tr>', made)
     assert row is not None, stream
     found = re.findall(r"<td[^>]*>(.*?)</td>", row[1])
-    return [re.sub(r"<[^>]*>", " ", re.sub("<wbr>", "", cell)).strip() for cell in found]
+    return [" ".join(re.sub(r"<[^>]*>", " ", cell.replace("<wbr>", "")).split()) for cell in found]
 
 
 @pytest.mark.parametrize("files", SAMPLES.values(), ids=list(SAMPLES))

@@ -70,7 +70,7 @@ def test_folded_period(tmp_path: Path) -> None:
 
 def test_sorting(tmp_path: Path) -> None:
     """A head sorts: adjustments by their size, names as words."""
-    click = "document.querySelectorAll('#p0 table.sortable th button')[{}].click()"
+    click = "document.querySelectorAll('#p0 table.sortable th')[{}].click()"
     names = (
         "[...document.querySelectorAll('table.streams tbody tr')].map(row => row.dataset.stream)"
     )

@@ -123,15 +123,19 @@ class Ledger(Book):
             if row["row"] == "over" or (row["row"] == "report" and row["round"] == "0")
         ]
         wanted = [asked.period for asked in self.reports]
-        if heads != wanted:
-            places = zip([*heads, None], [*wanted, None])
-            number = next((n for n, (one, other) in enumerate(places, 1) if one != other), 1)
-            raise InputFault(
-                f"this isn't the output of {self.source}: it has {len(heads)} reports, the session "
-                f"asks for {len(wanted)}, and report {number} is of another period",
-                place=Place(file=output),
-                remedy="run the session again",
-            )
+        if heads == wanted:
+            return
+        if len(heads) != len(wanted):
+            why = f"it has {len(heads)} reports, and the session asks for {len(wanted)}"
+        else:
+            pairs = enumerate(zip(heads, wanted), 1)
+            number, (found, asked) = next((n, pair) for n, pair in pairs if pair[0] != pair[1])
+            why = f"report {number} is of {found}, and the session asks for {asked} there"
+        raise InputFault(
+            f"this isn't the output of {self.source}: {why}",
+            place=Place(file=output),
+            remedy="run the session again",
+        )
 
     # ---- rows
 

@@ -26,6 +26,8 @@ if TYPE_CHECKING:
 
 # Of long lists so many are shown.
 MOST = 100
+# A longer certificate is broken anywhere.
+MOST_UNBROKEN = 60
 # Grams: an amount of so many has nine digits of tonnes.
 HUGE = 10**14
 # A name isn't wider than so many letters.
@@ -40,7 +42,7 @@ def tonnes(grams: int | None) -> str:
 def signed(grams: int | None) -> str:
     """Return grams as tonnes with their sign."""
     text = tonnes(grams)
-    return f"+{text}" if grams is not None and grams > 0 else text
+    return f"+{text}" if grams is not None and grams > 0 and text.strip("0.,") else text
 
 
 def decimal(number: float | None, places: int, plus: bool = False) -> str:
@@ -85,6 +87,16 @@ def day_spans(days: tuple[str, str] | None) -> Any:
     return Markup("<span>{}</span>").format(
         Markup(" to ").join(each.format(day) for day in dict.fromkeys(days))
     )
+
+
+def unbroken(parts: str) -> Any:
+    """Return the parts of a certificate, no sign parted from its name."""
+    from markupsafe import Markup, escape
+
+    some = parts.split(" ")
+    if len(some) > MOST_UNBROKEN:
+        return escape(parts)
+    return Markup(" ").join(Markup("<span>{}</span>").format(part) for part in some)
 
 
 def is_huge(lines: Iterable[Line]) -> bool:
@@ -213,6 +225,7 @@ def environment() -> Environment:
         days=fact_days,
         from_to=days_text,
         is_huge=is_huge,
+        unbroken=unbroken,
         marked=marked,
         lines=lines_text,
         marks=marks,

@@ -215,11 +215,11 @@ function sortBy(table, place) {
 }
 for (const table of document.querySelectorAll('table.sortable')) {
   [...table.tHead.rows[0].cells].forEach((head, place) => {
-    const button = document.createElement('button');
-    button.type = 'button';
-    button.append(...head.childNodes);
-    head.append(button);
-    button.addEventListener('click', () => sortBy(table, place));
+    // no element within the head: a browser doesn't print it again on each page
+    head.tabIndex = 0;
+    head.title = 'Sort';
+    head.addEventListener('click', () => sortBy(table, place));
+    head.addEventListener('keydown', event => { if (event.key === 'Enter') sortBy(table, place); });
   });
   if (table.tBodies[0].rows.length < 20) continue;
   const tools = document.createElement('p'), input = document.createElement('input');
