@@ -4,6 +4,7 @@ from __future__ import annotations
 
 import json
 import sqlite3
+import subprocess
 import time
 from fractions import Fraction
 from pathlib import Path
@@ -12,7 +13,7 @@ from typing import Any
 import numpy
 import pandas
 import pytest
-from conftest import Desk, example
+from conftest import TOP, Desk, example, text_of
 from hypothesis import HealthCheck, given, settings
 from hypothesis import strategies as st
 
@@ -327,6 +328,18 @@ def test_beside_each_flow(say: Desk, tmp_path: Path) -> None:
     with sqlite3.connect(tmp_path / "o.sqlite") as base:
         query = "select round(sd / 1e6) from uncertainty where period = '2024-05' and name = ?"
         assert base.execute(query, ["FILTERED"]).fetchall() == [(953.0,)]
+
+
+def test_guide(program: Path, tmp_path: Path) -> None:
+    """What the guide shows of it, and of an estimate for a missing day, is what comes."""
+    guide = text_of(TOP / "docs/GUIDE.md")
+    section = guide[guide.index("\n### How good a flow is\n") :].split("\n### ")[1]
+    assert "10,403.330   20.115" in section and "10,429.266  953.323" in section
+    page = tmp_path / "page.md"
+    page.write_text(section, encoding="utf-8")
+    words = [TOP / ".ci/typed", page, TOP / "examples", program]
+    done = subprocess.run(words, capture_output=True, text=True, check=True)
+    assert done.stdout == section
 
 
 def test_command(say: Desk) -> None:
