@@ -21,8 +21,8 @@ A row for each meter:
 
   left    the flow to book in tonnes, in a band of two of its standard deviations to each side,
           which holds 95 times in 100; and what the meter says, as circles
-  middle  flow less meter, in standard deviations of the meter. A meter that is adjusted the same
-          way in each period is worth a look
+  middle  flow less meter, in standard deviations of the meter, as bars, with the same band. A meter
+          that is adjusted the same way in each period is worth a look
   right   the sum of flow less meter since the first period, in tonnes: a drift goes away from 0
 
 Below: the statistic of the global test, and its critical value if the session has one and was run
@@ -107,10 +107,8 @@ class Chart:
 
     def _flow(self, axes: Any, line: Line) -> None:
         """Draw the flow of a meter in its band, and the meter."""
-        across, flow, deviation = self.trend.stairs(line.flow, line.sd)
-        band = axes.fill_between(
-            across, flow - 2 * deviation, flow + 2 * deviation, color=BAND, linewidth=0
-        )
+        across, flow = self.trend.stairs(line.flow)
+        band = self._band(axes, line.flow, line.sd)
         band.set_gid(f"band-{line.name}")
         axes.plot(across, flow, color=INK, linewidth=1.2, gid=f"meter-{line.name}")
         axes.plot(
@@ -134,11 +132,17 @@ class Chart:
             bbox={"facecolor": "white", "edgecolor": "none", "alpha": 0.8, "pad": 1.5},
         )
 
+    def _band(self, axes: Any, flow: Any, sd: Any) -> Any:
+        """Draw a band of two standard deviations to each side of a flow."""
+        across, low, high = self.trend.stairs(flow - 2 * sd, flow + 2 * sd)
+        return axes.fill_between(across, low, high, color=BAND, linewidth=0)
+
     def _adjustment(self, axes: Any, line: Line) -> None:
         """Draw flow less meter in standard deviations of the meter."""
         trend = self.trend
+        self._band(axes, (line.flow - line.value) / line.meter, line.sd / line.meter)
         widths = (trend.ends - trend.starts) * 0.86
-        bars = axes.bar(trend.middles, line.away, widths, color=INK)
+        bars = axes.bar(trend.middles, line.away, widths * 0.6, color=INK)
         for bar, name in zip(bars, trend.names):
             bar.set_gid(f"adjustment-{line.name}-{name}")
         axes.axhline(0, color="black", linewidth=0.8)

@@ -228,6 +228,8 @@ def test_time(powers: tuple[int, int], most: int) -> None:
     found = uncertainty_of(widest(powers))
     assert time.process_time() - start < most
     assert len(found) == 2000 and found["gain"].between(0, 1).all()
+    # What is left of variances is a projection on as many dimensions as the balances leave free.
+    assert ((1 - found["gain"]) ** 2).sum() == pytest.approx(1000, rel=1e-6)
 
 
 def test_simulated() -> None:
