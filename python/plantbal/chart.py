@@ -228,6 +228,7 @@ def _name_at(names: list[str]) -> Callable[[float, int], str]:
     """Return what writes the name of a period at its place."""
 
     def text(at: float, _: int) -> str:
+        """Return the name of the period there, or nothing between two."""
         place = round(at)
         return names[place] if abs(at - place) < 1e-6 and 0 <= place < len(names) else ""
 

@@ -203,6 +203,7 @@ def _lines_of(rounds: list[_Rounds]) -> dict[str, Line]:
     lines: dict[str, Line] = {}
 
     def line_of(name: str) -> Line:
+        """Return the line of a stream, an empty one the first time."""
         if name not in lines:
             lines[name] = Line(name, *numpy.full((6, len(rounds)), numpy.nan))
         return lines[name]
