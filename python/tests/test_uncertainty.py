@@ -3,8 +3,10 @@
 from __future__ import annotations
 
 import json
+import os
 import sqlite3
 import subprocess
+import sys
 import time
 from fractions import Fraction
 from pathlib import Path
@@ -353,10 +355,18 @@ def test_guide(program: Path, tmp_path: Path) -> None:
     guide = text_of(TOP / "docs/GUIDE.md")
     section = guide[guide.index("\n### How good a flow is\n") :].split("\n### ")[1]
     assert "10,403.330   20.115" in section and "10,429.266  953.323" in section
-    page = tmp_path / "page.md"
+    page, command = tmp_path / "page.md", tmp_path / "plantbal-desk"
     page.write_text(section, encoding="utf-8")
-    words = [TOP / ".ci/typed", page, TOP / "examples", program]
-    done = subprocess.run(words, capture_output=True, text=True, check=True)
+    command.write_text(f'#!/bin/sh\nexec "{sys.executable}" -m plantbal "$@"\n', encoding="ascii")
+    command.chmod(0o755)
+    path = f"{tmp_path}{os.pathsep}{os.environ['PATH']}"
+    done = subprocess.run(
+        [TOP / ".ci/typed", page, TOP / "examples", program],
+        env={**os.environ, "PATH": path, "PYTHONPATH": str(TOP / "python")},
+        capture_output=True,
+        text=True,
+        check=True,
+    )
     assert done.stdout == section
 
 
