@@ -40,6 +40,7 @@ examples:
 
 ENDINGS = ("svg", "png", "pdf")
 INK, BAND, REJECTED, PALE = "#0b3d6b", "#a9cbe8", "#b2182b", "#fbe3da"
+GREY, DARK = "#d3d6d9", "#5a6066"
 HATCHED = {"facecolor": PALE, "edgecolor": REJECTED, "hatch": "////"}
 HEADINGS = (
     "flow, t",
@@ -141,8 +142,8 @@ class Chart:
         """Draw flow less meter in standard deviations of the meter."""
         trend = self.trend
         self._band(axes, (line.flow - line.value) / line.meter, line.sd / line.meter)
-        widths = (trend.ends - trend.starts) * 0.86
-        bars = axes.bar(trend.middles, line.away, widths * 0.6, color=INK)
+        widths = (trend.ends - trend.starts) * 0.5
+        bars = axes.bar(trend.middles, line.away, widths, color=INK)
         for bar, name in zip(bars, trend.names):
             bar.set_gid(f"adjustment-{line.name}-{name}")
         axes.axhline(0, color="black", linewidth=0.8)
@@ -164,7 +165,7 @@ class Chart:
         """Draw the statistic as bars, with the critical values, and crosses where they reject."""
         trend = self.trend
         widths = (trend.ends - trend.starts) * 0.86
-        bars = axes.bar(trend.middles, trend.high, widths, color=BAND, edgecolor=INK)
+        bars = axes.bar(trend.middles, trend.high, widths, color=GREY, edgecolor=DARK)
         for bar, name in zip(bars, trend.names):
             bar.set_gid(f"statistic-{name}")
             bar.set_linewidth(0.6)
