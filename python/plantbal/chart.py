@@ -21,8 +21,8 @@ A row for each meter:
 
   left    the flow to book in tonnes, in a band of two of its standard deviations to each side,
           which holds 95 times in 100; and what the meter says, as circles
-  middle  flow less meter, in standard deviations of the meter. A meter that is adjusted the same
-          way in each period is worth a look
+  middle  flow less meter, in standard deviations of the meter, as bars, with the same band. A meter
+          that is adjusted the same way in each period is worth a look
   right   the sum of flow less meter since the first period, in tonnes: a drift goes away from 0
 
 Below: the statistic of the global test, and its critical value if the session has one and was run
@@ -40,6 +40,7 @@ examples:
 
 ENDINGS = ("svg", "png", "pdf")
 INK, BAND, REJECTED, PALE = "#0b3d6b", "#a9cbe8", "#b2182b", "#fbe3da"
+GREY, DARK = "#d3d6d9", "#5a6066"
 HATCHED = {"facecolor": PALE, "edgecolor": REJECTED, "hatch": "////"}
 HEADINGS = (
     "flow, t",
@@ -107,10 +108,8 @@ class Chart:
 
     def _flow(self, axes: Any, line: Line) -> None:
         """Draw the flow of a meter in its band, and the meter."""
-        across, flow, deviation = self.trend.stairs(line.flow, line.sd)
-        band = axes.fill_between(
-            across, flow - 2 * deviation, flow + 2 * deviation, color=BAND, linewidth=0
-        )
+        across, flow = self.trend.stairs(line.flow)
+        band = self._band(axes, line.flow, line.sd)
         band.set_gid(f"band-{line.name}")
         axes.plot(across, flow, color=INK, linewidth=1.2, gid=f"meter-{line.name}")
         axes.plot(
@@ -134,10 +133,16 @@ class Chart:
             bbox={"facecolor": "white", "edgecolor": "none", "alpha": 0.8, "pad": 1.5},
         )
 
+    def _band(self, axes: Any, flow: Any, sd: Any) -> Any:
+        """Draw a band of two standard deviations to each side of a flow."""
+        across, low, high = self.trend.stairs(flow - 2 * sd, flow + 2 * sd)
+        return axes.fill_between(across, low, high, color=BAND, linewidth=0)
+
     def _adjustment(self, axes: Any, line: Line) -> None:
         """Draw flow less meter in standard deviations of the meter."""
         trend = self.trend
-        widths = (trend.ends - trend.starts) * 0.86
+        self._band(axes, (line.flow - line.value) / line.meter, line.sd / line.meter)
+        widths = (trend.ends - trend.starts) * 0.5
         bars = axes.bar(trend.middles, line.away, widths, color=INK)
         for bar, name in zip(bars, trend.names):
             bar.set_gid(f"adjustment-{line.name}-{name}")
@@ -160,7 +165,7 @@ class Chart:
         """Draw the statistic as bars, with the critical values, and crosses where they reject."""
         trend = self.trend
         widths = (trend.ends - trend.starts) * 0.86
-        bars = axes.bar(trend.middles, trend.high, widths, color=BAND, edgecolor=INK)
+        bars = axes.bar(trend.middles, trend.high, widths, color=GREY, edgecolor=DARK)
         for bar, name in zip(bars, trend.names):
             bar.set_gid(f"statistic-{name}")
             bar.set_linewidth(0.6)
@@ -224,6 +229,7 @@ def _name_at(names: list[str]) -> Callable[[float, int], str]:
     """Return what writes the name of a period at its place."""
 
     def text(at: float, _: int) -> str:
+        """Return the name of the period there, or nothing between two."""
         place = round(at)
         return names[place] if abs(at - place) < 1e-6 and 0 <= place < len(names) else ""
 

@@ -27,8 +27,8 @@ class Line:
         The stream.
     flow, sd : array
         The flow to book, and its standard deviation.
-    value : array
-        What its meter says.
+    value, meter : array
+        What its meter says, and the standard deviation of that.
     away : array
         Flow less value before any meter was taken, in standard deviations of the value.
     sum : array
@@ -39,6 +39,7 @@ class Line:
     flow: Any
     sd: Any
     value: Any
+    meter: Any
     away: Any
     sum: Any
 
@@ -202,8 +203,9 @@ def _lines_of(rounds: list[_Rounds]) -> dict[str, Line]:
     lines: dict[str, Line] = {}
 
     def line_of(name: str) -> Line:
+        """Return the line of a stream, an empty one the first time."""
         if name not in lines:
-            lines[name] = Line(name, *numpy.full((5, len(rounds)), numpy.nan))
+            lines[name] = Line(name, *numpy.full((6, len(rounds)), numpy.nan))
         return lines[name]
 
     for place, found in enumerate(rounds):
@@ -223,10 +225,11 @@ def _lines_of(rounds: list[_Rounds]) -> dict[str, Line]:
 
 def _adjust(line: Line, place: int, stream: Values) -> None:
     """Set what a meter says, and how far its flow is from that."""
-    left = int(stream["flow"]) - int(stream["value"])
+    left = (int(stream["flow"]) - int(stream["value"])) / 1e6
     line.value[place] = int(stream["value"]) / 1e6
-    line.away[place] = left / int(stream["variance"]) ** 0.5
-    line.sum[place] = left / 1e6
+    line.meter[place] = int(stream["variance"]) ** 0.5 / 1e6
+    line.away[place] = left / line.meter[place]
+    line.sum[place] = left
 
 
 def _days_of(names: list[str], session: bytes) -> dict[str, Days]:

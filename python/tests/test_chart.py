@@ -45,6 +45,7 @@ def test_trend(concentrator: Trend) -> None:
     assert filtered.sd == pytest.approx([2.1909, 953.3235, 2.1909], abs=1e-4)
     assert filtered.value == pytest.approx([10224.48, numpy.nan, 10271.75], nan_ok=True)
     tails = concentrator.lines["TAILS"]
+    assert tails.meter == pytest.approx([955.328, 958.888, 968.715], abs=1e-3)
     assert tails.away == pytest.approx([0.850, 0.628, -4.097], abs=1e-3)
     assert tails.sum == pytest.approx([812.120745, 1414.354937, -2554.529175])
     assert numpy.isnan(concentrator.lines["OVERFLOW"].sum).all()

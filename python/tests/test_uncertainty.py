@@ -3,7 +3,10 @@
 from __future__ import annotations
 
 import json
+import os
 import sqlite3
+import subprocess
+import sys
 import time
 from fractions import Fraction
 from pathlib import Path
@@ -12,7 +15,7 @@ from typing import Any
 import numpy
 import pandas
 import pytest
-from conftest import Desk, example
+from conftest import TOP, Desk, example, text_of
 from hypothesis import HealthCheck, given, settings
 from hypothesis import strategies as st
 
@@ -227,15 +230,33 @@ def test_time(powers: tuple[int, int], most: int) -> None:
     found = uncertainty_of(widest(powers))
     assert time.process_time() - start < most
     assert len(found) == 2000 and found["gain"].between(0, 1).all()
+    # What is left of variances is a projection on as many dimensions as the balances leave free.
+    assert ((1 - found["gain"]) ** 2).sum() == pytest.approx(1000, rel=1e-6)
+
+
+def daily_variances(period: str) -> dict[str, list[int]]:
+    """Of each meter of the concentrator the variances of a month's days, the base one first."""
+    rows = [line.split(",") for line in text_of(example("concentrator/session.csv")).splitlines()]
+    found = {row[1]: [int(row[5])] for row in rows if row[0] == "stream" and row[4] == "metered"}
+    for row in rows:
+        if row[0] == "reading" and row[3].startswith(period):
+            found[row[2]].append(int(row[5]))
+    return found
 
 
 def test_simulated() -> None:
-    """10,000 simulated months of the concentrator vary as much as it says, to two digits."""
+    """10,000 simulated months of the concentrator vary as much as it says, to two digits.
+
+    Each day's reading has an error, and each month one of the meter's base; the least squares flows
+    of a month's sums are found by a dense solution.
+    """
     random = numpy.random.default_rng(20240501)
     for block in read_report(CONCENTRATOR).blocks_in_order:
         cycles = numpy.array(cycles_of(block), dtype=float)
         meters = [j for j, stream in enumerate(block.streams) if stream["value"]]
-        root = numpy.array([float(block.streams[j]["variance"]) ** 0.5 for j in meters])
+        daily = [daily_variances(block.period)[block.streams[j]["name"]] for j in meters]
+        assert [sum(days) for days in daily] == [int(block.streams[j]["variance"]) for j in meters]
+        root = numpy.sqrt([float(sum(days)) for days in daily])
         flows = numpy.array([float(stream["flow"]) for stream in block.streams])
 
         def solve(readings: Any) -> Any:
@@ -243,13 +264,13 @@ def test_simulated() -> None:
             matrix, right = cycles[meters] / root[:, None], readings / root[:, None]
             return cycles @ numpy.linalg.lstsq(matrix, right, rcond=None)[0]
 
-        # the estimator is the program's
+        # The estimator is the program's.
         own = solve(numpy.array([[float(block.streams[j]["value"])] for j in meters]))[:, 0]
         for stream, flow in zip(block.streams, own):
             assert int(stream["least_lo"]) - 1 <= flow <= int(stream["least_hi"]) + 1
 
-        noise = random.normal(size=(len(meters), 10_000)) * root[:, None]
-        months = solve(flows[meters][:, None] + noise)
+        errors = [numpy.sqrt(days) @ random.normal(size=(len(days), 10_000)) for days in daily]
+        months = solve(flows[meters][:, None] + numpy.array(errors))
         found = uncertainty_of(block)["sd"].to_numpy()
         # The standard error of a standard deviation of 10,000 months is 0.7 %, of a mean 1 %.
         assert months.std(axis=1, ddof=1) / found == pytest.approx(1, abs=0.02)
@@ -327,6 +348,26 @@ def test_beside_each_flow(say: Desk, tmp_path: Path) -> None:
     with sqlite3.connect(tmp_path / "o.sqlite") as base:
         query = "select round(sd / 1e6) from uncertainty where period = '2024-05' and name = ?"
         assert base.execute(query, ["FILTERED"]).fetchall() == [(953.0,)]
+
+
+def test_guide(program: Path, tmp_path: Path) -> None:
+    """What the guide shows of it, and of an estimate for a missing day, is what comes."""
+    guide = text_of(TOP / "docs/GUIDE.md")
+    section = guide[guide.index("\n### How good a flow is\n") :].split("\n### ")[1]
+    assert "10,403.330   20.115" in section and "10,429.266  953.323" in section
+    page, command = tmp_path / "page.md", tmp_path / "plantbal-desk"
+    page.write_text(section, encoding="utf-8")
+    command.write_text(f'#!/bin/sh\nexec "{sys.executable}" -m plantbal "$@"\n', encoding="ascii")
+    command.chmod(0o755)
+    path = f"{tmp_path}{os.pathsep}{os.environ['PATH']}"
+    done = subprocess.run(
+        [TOP / ".ci/typed", page, TOP / "examples", program],
+        env={**os.environ, "PATH": path, "PYTHONPATH": str(TOP / "python")},
+        capture_output=True,
+        text=True,
+        check=True,
+    )
+    assert done.stdout == section
 
 
 def test_command(say: Desk) -> None:
