@@ -51,7 +51,7 @@ def program_text(program: Path | None) -> str:
         return "not known: the page was made of a report that was there"
     digest = hashlib.sha256(read_bytes(program)[1]).hexdigest()
     version = version_of(program, digest)
-    return f"plantbal {version or 'of a version that nothing says'}, SHA-256 {digest}"
+    return f"plantbal {version or '(version not known)'}, SHA-256 {digest}"
 
 
 def days_text(days: tuple[str, str] | None) -> str:

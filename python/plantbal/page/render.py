@@ -26,8 +26,8 @@ if TYPE_CHECKING:
 
 # Of long lists so many are shown.
 MOST = 100
-# A longer certificate is broken anywhere.
-MOST_UNBROKEN = 60
+# Of a certificate so many letters are shown: in a large plant each may have thousands of members.
+MOST_LETTERS = 1_000
 # Grams: an amount of so many has nine digits of tonnes.
 HUGE = 10**14
 # A name isn't wider than so many letters.
@@ -89,14 +89,25 @@ def day_spans(days: tuple[str, str] | None) -> Any:
     )
 
 
-def unbroken(parts: str) -> Any:
-    """Return the parts of a certificate, no sign parted from its name."""
+def _some(text: str, kind: str) -> Any:
+    """Return the names of a list, no sign parted from its name, and how many more there are."""
     from markupsafe import Markup, escape
 
-    some = parts.split(" ")
-    if len(some) > MOST_UNBROKEN:
-        return escape(parts)
-    return Markup(" ").join(Markup("<span>{}</span>").format(part) for part in some)
+    shown = text
+    if len(text) > MOST_LETTERS:
+        shown = text[: text.rfind(" ", 0, MOST_LETTERS)] if " " in text[:MOST_LETTERS] else text
+    more = text.count(" ") - shown.count(" ")
+    names = str(escape(shown)).replace(" ", "</span> <span>")
+    rest = f" … and {more:,} more" if more else ""
+    return Markup(f'<span class="{kind}"><span>{names}</span></span>{rest}')
+
+
+def certificate(line: Line) -> Any:
+    """Return the certificate of a stream's class; of a long one the beginning."""
+    from markupsafe import Markup
+
+    side = Markup(" round {}").format(_some(line.side, "side")) if line.side else ""
+    return Markup("{}{}: {}").format(line.shape, side, _some(line.parts, "parts"))
 
 
 def is_huge(lines: Iterable[Line]) -> bool:
@@ -225,7 +236,8 @@ def environment() -> Environment:
         days=fact_days,
         from_to=days_text,
         is_huge=is_huge,
-        unbroken=unbroken,
+        certificate=certificate,
+        some=_some,
         marked=marked,
         lines=lines_text,
         marks=marks,
