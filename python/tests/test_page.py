@@ -10,10 +10,11 @@ from pathlib import Path
 
 import pytest
 from conftest import TOP, Desk, example, text_of
-from hypothesis import given
+from hypothesis import given, settings
 from hypothesis import strategies as some
 from pages import read
 
+from plantbal.faults import InputFault
 from plantbal.page.account import account_of
 from plantbal.page.command import page
 from plantbal.page.drawing import MOST, Draftsman, width_of
@@ -26,6 +27,8 @@ from plantbal.program import run
 from plantbal.report import Values, parse_rows
 from plantbal.topology import Arc
 
+# The machine may be busy.
+QUICK = settings(deadline=None, max_examples=60)
 SAMPLES = {
     "tanks": ("refinery_day.out.csv", "refinery_day.csv"),
     "without its session": ("refinery_day.out.csv", ""),
@@ -168,7 +171,7 @@ def test_edits() -> None:
     made = page_of(*SAMPLES["edits"])
     said = read(made).text
     for part in (
-        "mar31, 2024-03-31, closed",
+        "mar31 2024-03-31, closed",
         "23 amend dip s31 of SILO, 2024-03-31 6,580 mm at 1.250 t/m³ ± 1.581 t (3,290.000 t) "
         "6,560 mm at 1.250 t/m³ ± 1.581 t (3,280.000 t) gauge read to the wrong mark",
         "24 strike reading r31 of RECYCLE, 2024-03-31 48.000 t ± 0.316 t struck out wrong counter",
@@ -289,6 +292,24 @@ def test_a_total_beyond_the_limits() -> None:
     assert "No report" in said and "The total of FEED is beyond the limits" in said
 
 
+def test_a_history_alone() -> None:
+    """A period whose history was asked for and no report has its edits on the page."""
+    rows = "history,may,closed,1\nedit,20,close,,\n"
+    said = read(page(parse_rows("x", rows))).text
+    assert "may, closed" in said and "No report The row report,may asks for one." in said
+    assert "20 close" in said
+
+
+def test_nothing(say: Desk) -> None:
+    """A page of nothing says so, on standard error too, and the status is 1."""
+    found = say("page", text="refused,2,6,unknown\n")
+    assert (
+        found.status == 1
+        and found.err == "plantbal-desk page: standard input: there is no report\n"
+    )
+    assert "✗ No report Nothing was asked for" in read(found.out).text
+
+
 def test_what_a_check_said() -> None:
     rows = parse_rows(
         "x", "yes,d1,0\nno,d1,0,9,bounds,A,100999998,100999997\nunreadable,1,1,kind\n"
@@ -359,12 +380,56 @@ def test_cut_off() -> None:
     read(page(parse_rows("x", text)))
 
 
+STREAM = "stream,A,env,U,5,4,redundant,5,1,9,1,9,cut,U,+A"
+CANT = {
+    STREAM.replace(
+        "redundant,5", "redundant,x"
+    ): "flow of a stream row is 'x': it has to be a whole",
+    STREAM.replace("redundant", "red"): "class of a stream row is 'red': it has to be one of",
+    STREAM.replace("5,4", "5,"): "A has a value without a variance",
+    f"{STREAM}\n{STREAM}": "record 2: the stream A is there already",
+    "design,2,2\nclass,A,env,U,no,observable,cut,U,+A": "its last design is cut off",
+    "design,2,2\nrefused,1,1,kind": "record 2: the design before this row is cut off",
+}
+
+
+@pytest.mark.parametrize("rows", CANT)
+def test_what_cannot_be_shown(rows: str) -> None:
+    with pytest.raises(InputFault) as raised:
+        page(parse_rows("x", f"{rows}\n"))
+    assert CANT[rows] in str(raised.value)
+
+
+@QUICK
+@given(some.data())
+def test_a_page_or_a_fault(data: some.DataObject) -> None:
+    """Of a report with another field, or one row less or more, a page is made, or a fault is said."""
+    name = data.draw(some.sampled_from(["month_end", "heat_exchanger_suspect", "refinery_day"]))
+    rows = [line.split(",") for line in text_of(example(f"{name}.out.csv")).splitlines()]
+    fields = sorted({field for row in rows for field in row} | {"", "-1", "x", "9" * 40})
+    at = some.integers(0, len(rows) - 1)
+    for _ in range(data.draw(some.integers(1, 3))):
+        place, how = data.draw(at), data.draw(some.sampled_from(["change", "drop", "repeat"]))
+        if how == "change":
+            column = data.draw(some.integers(0, len(rows[place]) - 1))
+            rows[place][column] = data.draw(some.sampled_from(fields))
+        else:
+            rows[place : place + 1] = [] if how == "drop" else [rows[place], rows[place][:]]
+            at = some.integers(0, len(rows) - 1)
+    try:
+        made = page(parse_rows("x", "".join(",".join(row) + "\n" for row in rows)), seconds=0)
+    except InputFault:
+        return
+    read(made)
+
+
 def test_plus_minus() -> None:
     """Three digits that say something."""
     said = {953e6: "953", 20.4e6: "20.4", 2.187e6: "2.19", 1234.5e6: "1,234", 0.0: "0.000"}
     assert {size: plus_minus(Worth(size)) for size in said} == said
 
 
+@QUICK
 @given(some.text("abAB-_.", min_size=1, max_size=32))
 def test_a_name_may_be_broken(name: str) -> None:
     pieces = str(soft(name)).split("<wbr>")
@@ -423,6 +488,7 @@ def test_large_plants_are_drawn_near_a_stream() -> None:
     assert sorted(arrow.line.name for arrow in drawn.arrows) == "s10 s11 s12 s8 s9".split()
 
 
+@QUICK
 @given(some.lists(some.tuples(some.integers(0, 12), some.integers(0, 12)), min_size=1))
 def test_near(ends: list[tuple[int, int]]) -> None:
     """What is drawn near a stream touches it, or touches what touches it."""
@@ -535,7 +601,8 @@ def test_xlsx(say: Desk, tmp_path: Path) -> None:
     parts = [cell for cell in book["bounds"]["J"] if str(cell.value).startswith("+")]
     assert parts and all(cell.data_type == "s" for cell in parts)
     edits = list(book["edits"].iter_rows(values_only=True))
-    assert edits[3][5] == "6,580 mm at 1.250 t/m³ ± 1.581 t (3,290.000 t)"
+    (edit,) = [row for row in edits if row[1] == 23]
+    assert edit[5] == "6,580 mm at 1.250 t/m³ ± 1.581 t (3,290.000 t)"
 
 
 # ---- large plants

@@ -210,8 +210,10 @@ def account_of(
             rounds.append(round_of(block, asked, good, some.lost, stop))
         report = Report(some.period, rounds, some.over, asked)
         by_period.setdefault(some.period, []).append(report)
-    wanted = [each for each in findings if each.severity != "note"]
     edits, states = _edits_of(rows), _states_of(rows)
+    for period in states:
+        by_period.setdefault(period, [Report(period, [])])
+    wanted = [each for each in findings if each.severity != "note"]
     statements = [
         _statement(number, period, reports, edits, states, ledger, wanted)
         for number, (period, reports) in enumerate(by_period.items())
@@ -246,13 +248,15 @@ def _statement(
         state = "closed" if ledger.is_closed(period) else "open"
         changes = _with_changes(ledger, period)
     last = reports[-1].last
-    said = last.verdict if last is not None else verdict_of_over(reports[-1].over)
+    said = last.verdict if last is not None else _without_report(period, reports[-1].over)
     codes = ("missing-reading", "missing-dip", "after-report")
     more = [f"{each.text}." for each in findings if each.period == period and each.code in codes]
     return Statement(number, period, days, state, reports, changes, said.with_reasons(more))
 
 
-def verdict_of_over(stream: str) -> Verdict:
+def _without_report(period: str, over: str) -> Verdict:
     """Return what is said of a period without a report."""
-    what = f"The total of {stream} is beyond the limits: look for a digit too many in its facts."
-    return Verdict("bad", "No report", [what])
+    if over:
+        why = f"The total of {over} is beyond the limits: look for a digit too many in its facts."
+        return Verdict("bad", "No report", [why])
+    return Verdict("plain", "No report", [f"The row report,{period} asks for one."])

@@ -13,6 +13,7 @@ from plantbal.files import write_text
 from plantbal.page.account import account_of
 from plantbal.page.head import Origin
 from plantbal.page.ledger import Ledger
+from plantbal.page.reading import check_rows
 from plantbal.page.render import render
 from plantbal.page.statement import Prepared, Refused, Worth
 from plantbal.report import Values, blocks_of, parse_rows
@@ -96,11 +97,12 @@ def worth_of(rows: list[Values]) -> tuple[dict[tuple[int, str], Worth], str]:
 def refused_of(rows: list[Values]) -> list[Refused]:
     """Return the refused rows of an output."""
     codes = schema().refusals
-    return [
-        Refused(int(row["at"]), row["word"], codes[int(row["code"])].remedy)
-        for row in rows
-        if row["row"] == "refused"
-    ]
+    found = []
+    for row in rows:
+        if row["row"] == "refused":
+            code = codes.get(int(row["code"]))
+            found.append(Refused(int(row["at"]), row["word"], code.remedy if code else ""))
+    return found
 
 
 def prepare(source: Source) -> Prepared:
@@ -109,8 +111,9 @@ def prepare(source: Source) -> Prepared:
     Raises
     ------
     InputFault
-        Where the output is that of another session.
+        Where a row can't be shown, or the output is that of another session.
     """
+    check_rows(source.rows, source.name)
     refused = refused_of(source.rows)
     worth, why = worth_of(source.rows)
     if source.session is None:
@@ -220,8 +223,9 @@ def run(options: argparse.Namespace) -> int:
         from plantbal.page.sheets import write_workbook
 
         write_workbook(options.xlsx, prepared.account, prepared.told, origin)
-    if output is None or output.ok:
-        return 0
-    for line in output.why:
+    why = output.why if output is not None else []
+    if output is None and prepared.account.is_empty:
+        why = [f"{source.name}: there is no report"]
+    for line in why:
         print(f"{options.prog}: {line}", file=sys.stderr)
-    return 1
+    return 1 if why else 0

@@ -277,7 +277,7 @@ def render(
         each.number: draftsman.draw(each.report.last.lines if each.report.last else [])
         for each in account.statements
     }
-    designs = account.designs[-1:] if not account.statements else []
+    designs = account.designs[-1:] if not rounds else []
     return (
         environment()
         .get_template("page.html.j2")
@@ -292,6 +292,7 @@ def render(
             designs=[(lines, draftsman.draw(lines)) for lines in designs],
             findings=account.findings,
             checks=account.checks,
+            is_empty=account.is_empty,
             ledger=account.ledger,
             kinds=KINDS,
             most=MOST,

@@ -255,6 +255,11 @@ class Account:
     checks: list[Values] = field(default_factory=list)
     ledger: Ledger | None = None
 
+    @property
+    def is_empty(self) -> bool:
+        """Whether nothing was asked for: there is no period, no design, and no word of a check."""
+        return not (self.statements or self.designs or self.checks)
+
 
 @dataclass(frozen=True)
 class Prepared:
