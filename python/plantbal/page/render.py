@@ -24,8 +24,8 @@ if TYPE_CHECKING:
 
     from plantbal.explain import Told
 
-# Of long lists so many are shown.
-MOST = 100
+# Of long lists so many are shown, and so many without a click.
+MOST, FEW = 100, 5
 # Of a certificate so many letters are shown: in a large plant each may have thousands of members.
 MOST_LETTERS = 1_000
 # Grams: an amount of so many has nine digits of tonnes.
@@ -296,6 +296,7 @@ def render(
             ledger=account.ledger,
             kinds=KINDS,
             most=MOST,
+        few=FEW,
             has_worth=any(line.worth for lines in rounds for line in lines),
         )
     )
