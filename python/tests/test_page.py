@@ -310,16 +310,6 @@ def test_nothing(say: Desk) -> None:
     assert "✗ No report Nothing was asked for" in read(found.out).text
 
 
-def test_what_a_check_said() -> None:
-    rows = parse_rows(
-        "x", "yes,d1,0\nno,d1,0,9,bounds,A,100999998,100999997\nunreadable,1,1,kind\n"
-    )
-    said = read(page(rows)).text
-    assert "d1, round 0: yes, the report follows from its own numbers." in said
-    assert "d1, round 0: no, it fails the test bounds at A, where 100999998 is stated" in said
-    assert "Row 1 can't be read" in said
-
-
 HEAD = "report,d,0,3,3,10,5000\nnode,env,0\nnode,U,0\nnode,V,0\n"
 A = "stream,A,env,U,1000000,4000000,{},1000400,1,2,1,2,cut,U,+A -B\n"
 B = "stream,B,U,V,,,{},1000400,1,2,1,2,cut,U,+A -B\nstream,C,V,env,1000800,4000000,redundant,1000400,1,2,1,2,cut,V,+B -C\n"
@@ -382,6 +372,7 @@ def test_cut_off() -> None:
 
 STREAM = "stream,A,env,U,5,4,redundant,5,1,9,1,9,cut,U,+A"
 CANT = {
+    "no,d1,0,9,bounds,A,2,1": "this is what a check said: give the report that was checked",
     STREAM.replace(
         "redundant,5", "redundant,x"
     ): "flow of a stream row is 'x': it has to be a whole",

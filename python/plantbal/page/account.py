@@ -227,7 +227,6 @@ def account_of(
         designs=[[line_of(row) for row in design] for design in designs_of(rows)],
         refused=list(refused),
         findings=wanted,
-        checks=[row for row in rows if row["row"] in ("yes", "no", "unreadable")],
         ledger=ledger,
     )
 

@@ -8,7 +8,7 @@ from dataclasses import dataclass
 from pathlib import Path
 from typing import TYPE_CHECKING
 
-from plantbal.faults import Fault, InputFault, Place, read_bytes, read_text
+from plantbal.faults import Fault, InputFault, Place, read_bytes
 from plantbal.files import write_text
 from plantbal.page.account import account_of
 from plantbal.page.head import Origin
@@ -16,7 +16,7 @@ from plantbal.page.ledger import Ledger
 from plantbal.page.reading import check_rows
 from plantbal.page.render import render
 from plantbal.page.statement import Prepared, Refused, Worth
-from plantbal.report import Values, blocks_of, parse_rows
+from plantbal.report import Values, blocks_of, read_rows
 from plantbal.schema import schema
 
 if TYPE_CHECKING:
@@ -189,9 +189,10 @@ def add_arguments(parser: argparse.ArgumentParser) -> None:
 def _source(options: argparse.Namespace) -> tuple[Source, Output | None, Path | None]:
     """Return what the page is made of, the output if it was run, and the program."""
     if not options.runs:
-        name, text = read_text(options.output)
+        name = "standard input" if options.output == "-" else options.output
+        rows = read_rows(options.output)
         session = None if options.session is None else read_bytes(options.session)
-        return Source(parse_rows(name, text), name, session), None, None
+        return Source(rows, name, session), None, None
     if options.session is not None:
         place = Place(file=options.session)
         raise InputFault("--run takes the session as its file", place=place, remedy="say it once")

@@ -36,9 +36,15 @@ def check_rows(rows: Sequence[Values], source: str) -> None:
     Raises
     ------
     InputFault
-        Where a field isn't of its column, a stream stands twice in a report or has a value without a
-        variance, or a design is cut off.
+        Where the rows are a check's, a field isn't of its column, a stream stands twice in a report
+        or has a value without a variance, or a design is cut off.
     """
+    if any(row["row"] in ("yes", "no", "unreadable") for row in rows):
+        raise InputFault(
+            "this is what a check said",
+            place=Place(file=source),
+            remedy="give the report that was checked",
+        )
     streams: set[str] = set()
     classes = 0
     for number, row in enumerate(rows, 1):

@@ -4,7 +4,6 @@ from __future__ import annotations
 
 import re
 from collections.abc import Iterable, Sequence
-from functools import lru_cache
 from math import log10, sqrt
 from typing import TYPE_CHECKING, Any
 
@@ -17,7 +16,6 @@ from plantbal.page.ledger import Ledger
 from plantbal.page.spark import spark
 from plantbal.page.statement import Account, Line, Prepared, Round, Statement, Worth
 from plantbal.page.verdict import thousandths
-from plantbal.report import Values
 
 if TYPE_CHECKING:
     from jinja2 import Environment
@@ -183,31 +181,11 @@ def critical(statement: Statement) -> str:
     return thousandths(last.block.whole["critical"]) if last and last.block.whole else ""
 
 
-def checked(row: Values) -> str:
-    """Return what a row of a check says, as a sentence."""
-    from plantbal.schema import schema
-
-    if row["row"] == "yes":
-        return (
-            f"{row['period']}, round {row['round']}: yes, the report follows from its own numbers."
-        )
-    codes = schema().tests if row["row"] == "no" else schema().unreadable
-    code = codes.get(int(row["code"]))
-    about = code.about.rstrip(".") if code else ""
-    if row["row"] == "unreadable":
-        return f"Row {row['at']} can't be read: it {about}."
-    numbers = f", where {row['stated']} is stated and {row['found']} follows" if row["name"] else ""
-    at = f" at {row['name']}" if row["name"] else ""
-    which = f"{row['period']}, round {row['round']}"
-    return f"{which}: no, it fails the test {row['word']}{at}{numbers}: {about}."
-
-
 def by_name(found: Round | None) -> dict[str, Line]:
     """Return the streams of a round by their names."""
     return {line.name: line for line in found.lines} if found else {}
 
 
-@lru_cache(maxsize=1)
 def environment() -> Environment:
     """Return the templates with their filters."""
     try:
@@ -243,7 +221,6 @@ def environment() -> Environment:
         marks=marks,
         statistic=statistic,
         critical=critical,
-        checked=checked,
         by_name=by_name,
         spark=spark,
     )
@@ -291,12 +268,11 @@ def render(
             drawings=drawings,
             designs=[(lines, draftsman.draw(lines)) for lines in designs],
             findings=account.findings,
-            checks=account.checks,
             is_empty=account.is_empty,
             ledger=account.ledger,
             kinds=KINDS,
             most=MOST,
-        few=FEW,
+            few=FEW,
             has_worth=any(line.worth for lines in rounds for line in lines),
         )
     )

@@ -10,7 +10,7 @@ from typing import TYPE_CHECKING
 
 from plantbal.page.ledger import Asked, Change, Ledger
 from plantbal.page.verdict import Verdict
-from plantbal.report import Block, Values
+from plantbal.report import Block
 
 if TYPE_CHECKING:
     from plantbal.explain import Told
@@ -242,8 +242,6 @@ class Account:
         The refused rows.
     findings : sequence of Finding
         What lint warns of.
-    checks : list of dict
-        The rows of a check.
     ledger : Ledger or None
         The session.
     """
@@ -252,13 +250,12 @@ class Account:
     designs: list[list[Line]] = field(default_factory=list)
     refused: list[Refused] = field(default_factory=list)
     findings: Sequence[Finding] = ()
-    checks: list[Values] = field(default_factory=list)
     ledger: Ledger | None = None
 
     @property
     def is_empty(self) -> bool:
-        """Whether nothing was asked for: there is no period, no design, and no word of a check."""
-        return not (self.statements or self.designs or self.checks)
+        """Whether nothing was asked for: there is neither a period nor a design."""
+        return not (self.statements or self.designs)
 
 
 @dataclass(frozen=True)
