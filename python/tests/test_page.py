@@ -227,7 +227,7 @@ def test_index_of_periods() -> None:
     made = page_of(*SAMPLES["periods"])
     said = read(made).text
     assert "3 periods, 2024-04-01 to 2024-06-30; none closed" in said
-    assert "2024-05 2024-05-01 to 2024-05-31 open ! Accepted, with something to look at" in said
+    assert "2024-05 2024-05-01 to 2024-05-31 open ! Accepted, but FILTERED has no value" in said
     assert made.count('<svg class="spark"') == 3
     assert 'aria-label="the greatest is TAILS, -4.10"' in made
     assert "FILTERED has no value in 2024-05: no reading on 2024-05-17" in said
@@ -277,6 +277,14 @@ def test_older_reports(book: tuple[list[Values], bytes]) -> None:
     assert "Earlier report of p, 2 of 3:" in without and "Earlier report of p, 1 of 3:" in without
     # the row of a stream's kind that isn't right is refused before the last report alone
     assert "1 row refused: not to be booked" in said
+
+
+def test_a_fact_after_the_report(program: Path) -> None:
+    """What comes after the last report of its period isn't in it, and the verdict says so."""
+    data = MONTH.replace("report,p\nclose,p", "close,p").encode().lstrip()
+    data = data[: data.rindex(b"report,p")]
+    said = read(page(run(data, program=program).rows, session=("book.csv", data))).text
+    assert "Accepted, but facts come after the report" in said
 
 
 def test_other_session(book: tuple[list[Values], bytes]) -> None:

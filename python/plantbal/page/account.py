@@ -19,11 +19,16 @@ from plantbal.page.statement import (
     Tank,
     Worth,
 )
-from plantbal.page.verdict import Lost, Verdict, verdict_of
+from plantbal.page.verdict import Lost, Verdict, names_of, verdict_of
 from plantbal.report import Block, Values, blocks_of, designs_of
 
 if TYPE_CHECKING:
     from plantbal.lintrules import Finding
+
+
+# What lint finds that a verdict tells: a meter or a tank without a value, and facts too late.
+LATE = "after-report"
+TOLD = ("missing-reading", "missing-dip", LATE)
 
 
 def _pair(row: Values, low: str, high: str) -> tuple[int, int] | None:
@@ -248,9 +253,13 @@ def _statement(
         changes = _with_changes(ledger, period)
     last = reports[-1].last
     said = last.verdict if last is not None else _without_report(period, reports[-1].over)
-    codes = ("missing-reading", "missing-dip", "after-report")
-    more = [f"{each.text}." for each in findings if each.period == period and each.code in codes]
-    return Statement(number, period, days, state, reports, changes, said.with_reasons(more))
+    wanted = [each for each in findings if each.period == period and each.code in TOLD]
+    if wanted:
+        names = [each.name for each in wanted if each.code != LATE]
+        have = "has" if len(names) == 1 else "have"
+        what = f"{names_of(names, 2)} {have} no value" if names else "facts come after the report"
+        said = said.but(what, [f"{each.text}." for each in wanted])
+    return Statement(number, period, days, state, reports, changes, said)
 
 
 def _without_report(period: str, over: str) -> Verdict:

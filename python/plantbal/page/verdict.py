@@ -47,15 +47,12 @@ class Verdict:
         """The sign of its level."""
         return SIGNS[self.level]
 
-    def with_reasons(self, more: Sequence[str]) -> Verdict:
-        """Return it with further sentences; something to look at is no good verdict any more."""
-        if not more:
-            return self
-        if self.level in ("good", "plain"):
-            return Verdict(
-                "look", f"{self.headline}, with something to look at", [*self.reasons, *more]
-            )
-        return replace(self, reasons=[*self.reasons, *more])
+    def but(self, what: str, more: Sequence[str]) -> Verdict:
+        """Return it with something that wants a look: in a few words, and in sentences."""
+        if self.level not in ("good", "plain"):
+            return replace(self, reasons=[*self.reasons, *more])
+        joined = "but" if self.level == "good" else "and"
+        return Verdict("look", f"{self.headline}, {joined} {what}", [*self.reasons, *more])
 
 
 @dataclass(frozen=True, slots=True)
