@@ -64,6 +64,7 @@ def test_well_formed(files: tuple[str, str]) -> None:
     assert all(link.startswith("#p") for link in found.links)
     assert set(re.findall(r"https?://[^\"' ]*", made)) <= {"http://www.w3.org/2000/svg"}
     assert "url(" not in made and "@import" not in made
+    assert "default-src 'none'" in made
 
 
 def test_hostile_texts() -> None:
@@ -566,6 +567,10 @@ def test_run(say: Desk, program: Path, tmp_path: Path) -> None:
 
 
 WRONG = [
+    (
+        ["--eliminate", "2", example("refinery_day.out.csv")],
+        "--eliminate is of a run: say --run too",
+    ),
     ([example("refinery_day.csv")], "run it first"),
     (
         ["--run", "--session", example("refinery_day.csv"), example("refinery_day.csv")],

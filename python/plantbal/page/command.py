@@ -189,6 +189,9 @@ def add_arguments(parser: argparse.ArgumentParser) -> None:
 def _source(options: argparse.Namespace) -> tuple[Source, Output | None, Path | None]:
     """Return what the page is made of, the output if it was run, and the program."""
     if not options.runs:
+        if options.eliminate or options.program:
+            word = "--eliminate" if options.eliminate else "--program"
+            raise Fault(f"{word} is of a run", remedy="say --run too, and the session as the file")
         name = "standard input" if options.output == "-" else options.output
         rows = read_rows(options.output)
         session = None if options.session is None else read_bytes(options.session)
