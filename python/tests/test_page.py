@@ -495,7 +495,8 @@ def test_xlsx(say: Desk, tmp_path: Path) -> None:
     assert parts and all(cell.data_type == "s" for cell in parts)
     edits = list(book["edits"].iter_rows(values_only=True))
     (edit,) = [row for row in edits if row[1] == 23]
-    assert edit[5] == "6,580 mm at 1.250 t/m³ ± 1.581 t (3,290.000 t)"
+    assert edit[2:4] == (23, "amend")
+    assert edit[6] == "6,580 mm at 1.250 t/m³ ± 1.581 t (3,290.000 t)"
 
 
 # ---- large plants

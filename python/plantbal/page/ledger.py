@@ -58,20 +58,16 @@ class Asked:
 
     Attributes
     ----------
-    record, line : int
-        Its number as a record, and its line.
+    record : int
+        Its number as a record.
     period : str
         The period.
-    closed : bool
-        Whether the period was closed by then.
     dips : dict of str to Dips
         What each tank held by its dips.
     """
 
     record: int
-    line: int
     period: str
-    closed: bool
     dips: dict[str, Dips]
 
 
@@ -197,8 +193,7 @@ class Ledger(Book):
         super()._take_report(name, line)
         period = self.periods[name]
         dips = {tank: self._dips_of(tank, period) for tank in self.tables}
-        closed = self.is_closed(name)
-        self.reports.append(Asked(self.rows, line, name, closed, dips))
+        self.reports.append(Asked(self.rows, name, dips))
 
     def _dips_of(self, tank: str, period: Period) -> Dips:
         """Return what a tank held on the eve of a period and on its last day, by its dips."""

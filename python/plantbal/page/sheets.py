@@ -20,7 +20,7 @@ Cell = str | int | float | Decimal | None
 Row = Sequence[Cell]
 TONNES, PLAIN = "#,##0.000", "0.00"
 # How numbers are shown, by the heads of their columns.
-FORMATS = {"in %": PLAIN, "in sd": PLAIN}
+FORMATS = {"in %": PLAIN, "in sd": PLAIN, "gain over the meter": "0 %"}
 
 
 def _tonnes(grams: int | None) -> Decimal | None:
@@ -98,7 +98,7 @@ def bounds(account: Account) -> tuple[Row, list[Row]]:
     """Return the table of bounds, tests and certificates."""
     head = (
         *("period", "stream", "least from, t", "least to, t", "from, t", "to, t", "test"),
-        *("shape", "side", "parts"),
+        *("shape", "side", "parts", "gain over the meter", "± rests on"),
     )
     none = (None, None)
     rows: list[Row] = [
@@ -106,6 +106,7 @@ def bounds(account: Account) -> tuple[Row, list[Row]]:
             *(each.period, line.name, *map(_tonnes, line.least or none)),
             *map(_tonnes, line.bounds or none),
             *(line.statistic, line.shape, line.side, line.parts),
+            *((line.worth.gain, line.worth.contributors) if line.worth else none),
         )
         for each, last in _rounds(account.statements)
         for line in last.lines
@@ -117,7 +118,7 @@ def edits(account: Account) -> tuple[Row, list[Row]]:
     """Return the table of edits."""
     from plantbal.page.render import fact_text
 
-    head = ("period", "record", "edit", "fact", "of", "before", "after", "reason")
+    head = ("period", "record", "line", "edit", "fact", "of", "before", "after", "reason")
     rows: list[Row] = []
     for each in account.statements:
         for edit in each.edits:
@@ -125,10 +126,9 @@ def edits(account: Account) -> tuple[Row, list[Row]]:
             fact = change.fact if change else None
             before = fact_text(change.before if change else None, account.ledger)
             after = fact_text(change.after if change else None, account.ledger)
+            which = (edit.record, change.line if change else None, edit.word, edit.id)
             of = fact.of if fact else ""
-            rows.append(
-                (each.period, edit.record, edit.word, edit.id, of, before, after, edit.reason)
-            )
+            rows.append((each.period, *which, of, before, after, edit.reason))
     return head, rows
 
 
