@@ -47,6 +47,7 @@ def in_browser(page: Path, *words: str, seconds: float = SECONDS) -> bytes:
             "--headless",
             "--no-sandbox",
             "--disable-gpu",
+            "--disable-dev-shm-usage",
             "--hide-scrollbars",
             f"--user-data-dir={profile}",
             *words,
