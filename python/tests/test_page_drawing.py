@@ -11,6 +11,7 @@ from hypothesis import strategies as some
 from pages import read
 from test_page import QUICK, SAMPLES, cells, page_of
 
+from plantbal import picture
 from plantbal.page.command import page
 from plantbal.page.drawing import MOST, Draftsman, width_of
 from plantbal.page.layout import near
@@ -122,3 +123,9 @@ def test_contrast() -> None:
         if contrast(inks[ink], grounds[ground]) < 4.5
     }
     assert low == {}
+
+
+def test_contrast_of_drawings() -> None:
+    """So do the colours of `plantbal-desk draw`, on white and on the units of a marked side."""
+    for colour in [*picture.COLOURS.values(), picture.SUSPECT]:
+        assert min(contrast(colour, ground) for ground in ("#ffffff", "#fff0b0")) >= 4.5
