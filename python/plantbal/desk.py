@@ -68,7 +68,7 @@ COMMANDS: tuple[Command, ...] = (
     Command("draw", "picture", "draw a report or a design"),
     Command("chart", "chart", "chart the periods of a session"),
     Command("page", "page", "one page for a browser"),
-    Command("fleet", "fleet", "run a folder of sessions", takes_words=True),
+    Command("fleet", "fleet.command", "run a folder of sessions", takes_words=True),
     Command("critical", "critical", "critical values as rows of a session"),
     Command("from-scipy", "foreign", "another program's figures in the form of a report"),
     Command("schema", "commands:SCHEMA", "the rows of sessions and outputs as data"),

@@ -35,7 +35,7 @@ def replacing(path: str | Path) -> Iterator[Path]:
         )
     except OSError as error:
         raise InputFault(
-            error.strerror or "it can't be written", place=Place(file=str(path))
+            f"it can't be written: {error.strerror}", place=Place(file=str(path))
         ) from error
     os.close(handle)
     made = Path(name)
@@ -47,6 +47,9 @@ def replacing(path: str | Path) -> Iterator[Path]:
         with made.open("rb") as file:
             os.fsync(file.fileno())
         os.replace(made, target)
+    except OSError as error:  # the disk is full, or a folder has the name
+        said = f"it can't be written: {error.strerror or error}"
+        raise InputFault(said, place=Place(file=str(path))) from error
     finally:
         made.unlink(missing_ok=True)
 

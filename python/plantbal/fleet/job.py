@@ -1,0 +1,74 @@
+"""One session's run, here or on another machine.
+
+Nothing of the package is imported here: a machine of a cluster gets these calls as they are.
+"""
+
+from __future__ import annotations
+
+import os
+import signal
+import subprocess
+import tempfile
+from pathlib import Path
+
+WROTE, SAID, STATUS = "output", "stderr.txt", "status"
+# `sh -c JOB job SESSION PART PROGRAM WORD..` runs a session and leaves three files in the folder
+# PART; the status is there last. It ends with a fault if the program wasn't done.
+JOB = f"""
+session=$1 part=$2
+shift 2
+: >"$part/{STATUS}"
+begun=$(date +%s.%N)
+(exec "$@" <"$session" >"$part/{WROTE}") 2>"$part/{SAID}"
+status=$?
+echo "$status $begun $(date +%s.%N)" >"$part/{STATUS}"
+[ "$status" -le 1 ]
+"""
+
+
+def run_here(command: list[str], session: str, part: str, timeout: float | None) -> bool:
+    """Run a session into a folder that this machine sees, and return whether it ended in time.
+
+    Parameters
+    ----------
+    command : list of str
+        The program and its words.
+    session, part : str
+        The file of the session, and the folder.
+    timeout : float or None
+        The most seconds that it may take.
+    """
+    job = subprocess.Popen(
+        ["sh", "-c", JOB, "job", session, part, *command],
+        stdin=subprocess.DEVNULL,
+        start_new_session=True,
+    )
+    try:
+        job.wait(timeout)
+        return True
+    except subprocess.TimeoutExpired:
+        return False
+    finally:
+        if job.poll() is None:
+            os.killpg(job.pid, signal.SIGKILL)
+            job.wait()
+
+
+def run_sent(command: list[str], session: bytes, timeout: float | None) -> dict[str, bytes] | None:
+    """Run the bytes of a session, and return the files that it leaves; None if it took too long."""
+    with tempfile.TemporaryDirectory(prefix="plantbal-") as folder:
+        given = Path(folder, "session")
+        given.write_bytes(session)
+        part = Path(folder, "part")
+        part.mkdir()
+        if not run_here(command, str(given), str(part), timeout):
+            return None
+        return {path.name: path.read_bytes() for path in part.iterdir()}
+
+
+def failed(part: str) -> bool:
+    """Say whether the program wasn't done, by the files that a job left."""
+    try:
+        return int(Path(part, STATUS).read_text(encoding="ascii").split()[0]) > 1
+    except (OSError, ValueError, IndexError):
+        return True
