@@ -219,6 +219,32 @@ def test_tries_again(tmp_path: Path, say: Desk) -> None:
         assert row_of(found.out, "a")["state"] == "converged", found.err
 
 
+def test_cluster(
+    forty: tuple[Path, Path, list[object]], say: Desk, monkeypatch: pytest.MonkeyPatch
+) -> None:
+    """A machine of a cluster needs nothing of this package; one that sees no folder gets bytes."""
+    distributed = pytest.importorskip("distributed")
+    _, out, words = forty
+    plain = {name: value for name, value in os.environ.items() if name != "PYTHONPATH"}
+    with distributed.LocalCluster(
+        n_workers=0, processes=False, protocol="tcp", dashboard_address=None
+    ) as cluster:
+        monkeypatch.setattr("plantbal.fleet.by_dask._ANSWERS", 1)
+        words = ["fleet", "--scheduler", cluster.scheduler_address, *words]
+        assert "has no machine: start `dask-worker`" in say(*words).err
+        monkeypatch.setattr("plantbal.fleet.by_dask._ANSWERS", 30)
+        worker = ["dask-worker", "--no-nanny", "--no-dashboard", "--nthreads", "8"]
+        with subprocess.Popen(
+            [*worker, cluster.scheduler_address], cwd="/", env=plain, stderr=subprocess.DEVNULL
+        ) as machine:
+            shared, sent = say(*words), say(*words, "--again", "--send")
+            machine.kill()
+    assert (shared.status, sent.status) == (0, 0), shared.err + sent.err
+    assert len(rows_of(shared.out)) == len(rows_of(sent.out)) == 40
+    assert shared.err == sent.err
+    assert len(list(out.glob("*/latest/output.csv"))) == 40
+
+
 STUB = """#!/bin/sh
 read site
 echo "$site" >>{log}

@@ -46,7 +46,8 @@ def run(asked: Asked, jobs: Sequence[Job], done: Sequence[Job] = ()) -> Iterator
         raise ToolMissing("dask.distributed", "python3-distributed") from error
     # The machines of the cluster needn't have this package: the calls go there as they are.
     cloudpickle.register_pickle_by_value(calls)
-    logging.getLogger("distributed").setLevel(logging.ERROR)
+    for name in ("distributed", "asyncio"):  # what goes wrong is in the rows of the plants
+        logging.getLogger(name).setLevel(logging.CRITICAL)
     dask: Any = distributed  # it isn't typed
     with ExitStack() as open_things:
         client = open_things.enter_context(_client(dask, asked, open_things))
@@ -164,4 +165,4 @@ class _Cluster:
         if self._asked.send:
             for name, data in found.items():
                 (job.part / name).write_bytes(data)
-        return Ended(job.site)
+        return Ended(job.site, "" if (job.part / calls.STATUS).exists() else "lost")

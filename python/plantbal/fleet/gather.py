@@ -21,6 +21,7 @@ from plantbal.schema import schema
 WHY = {
     "timeout": "it was stopped by the time limit; --timeout gives it more seconds",
     "lost": "the machine that ran it has gone, or doesn't see its folder; --send sends the bytes",
+    "stopped": "it was stopped before it had ended",
     "nosession": "its session has gone",
 }
 _VERDICTS = {
@@ -85,7 +86,7 @@ def gather(night: Night, site: Site, run: Run, why: str = "") -> Plant:
         Why the program didn't end by itself; empty if it did.
     """
     if why or run.status is None:
-        return failed(site, why or "lost", WHY[why or "lost"], run)
+        return failed(site, why or "stopped", WHY[why or "stopped"], run)
     if run.status not in (0, 1):
         return failed(site, *_of_status(night.folder_of(site) / SAID, run.status), run)
     try:
