@@ -165,6 +165,11 @@ def call(parser: argparse.ArgumentParser, words: Sequence[str]) -> int:
         # The reader has gone: nothing more can be written, not even at the end of the process.
         os.dup2(os.open(os.devnull, os.O_WRONLY), sys.stdout.fileno())
         return 1
+    except OSError as error:  # a full disk, mostly: what reads and writes files has its own faults
+        os.dup2(os.open(os.devnull, os.O_WRONLY), sys.stdout.fileno())
+        said = f"{error.filename or 'standard output'}: {error.strerror or error}"
+        print(f"{options.prog}: {said}: make room, or write elsewhere", file=sys.stderr)
+        return 1
     except KeyboardInterrupt:
         print(f"{options.prog}: stopped", file=sys.stderr)
         return 130

@@ -2,8 +2,17 @@
 
 from __future__ import annotations
 
+import errno
 from dataclasses import dataclass
 from pathlib import Path
+
+# What to do about a file that can't be read, by the system's number of the fault.
+_UNREAD = {
+    errno.ENOENT: "mend its name, or make it",
+    errno.EISDIR: "name a file in this folder",
+    errno.ENOTDIR: "mend its name",
+    errno.EACCES: "ask for the right to read it",
+}
 
 
 @dataclass(frozen=True, kw_only=True)
@@ -180,9 +189,16 @@ def read_bytes(path: str | Path) -> tuple[str, bytes]:
     try:
         return str(path), Path(path).read_bytes()
     except OSError as error:
-        raise InputFault(
-            error.strerror or "it can't be read", place=Place(file=str(path))
-        ) from error
+        raise unread(path, error) from error
+
+
+def unread(path: str | Path, error: OSError) -> InputFault:
+    """Return the fault of a file that can't be read."""
+    return InputFault(
+        error.strerror or "it can't be read",
+        place=Place(file=str(path)),
+        remedy=_UNREAD.get(error.errno or 0, ""),
+    )
 
 
 def read_text(path: str | Path) -> tuple[str, str]:
@@ -194,8 +210,19 @@ def read_text(path: str | Path) -> tuple[str, str]:
         Where it can't be read, or is no UTF-8 text.
     """
     source, data = read_bytes(path)
+    return source, decoded(source, data)
+
+
+def decoded(source: str, data: bytes) -> str:
+    """Return bytes as text: UTF-8 without a byte order mark.
+
+    Raises
+    ------
+    InputFault
+        Where it is no UTF-8 text.
+    """
     try:
-        return source, data.decode("utf-8-sig")
+        return data.decode("utf-8-sig")
     except UnicodeDecodeError as error:
         if data.startswith((b"\xff\xfe", b"\xfe\xff")):
             raise InputFault(

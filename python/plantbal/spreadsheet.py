@@ -88,7 +88,9 @@ class Sheet:
         rows = [(reader.line_num, [cell.strip() for cell in row]) for row in reader]
         rows = [(line, row) for line, row in rows if any(row)]
         if not rows:
-            raise InputFault("there is no row", place=Place(file=path))
+            raise InputFault(
+                "there is no row", place=Place(file=path), remedy="write heads and rows into it"
+            )
         self.heads, self.rows = rows[0][1], rows[1:]
         while self.heads and not self.heads[-1]:
             self.heads.pop()
@@ -169,8 +171,11 @@ class TagSheet:
         self.places = {head.lower(): place for place, head in enumerate(self.sheet.heads)}
         for head in ("tag", "stream", "from", "to", "error"):
             if head not in self.places:
-                what = f"there is no column {head!r}"
-                raise InputFault(what, place=Place(file=self.sheet.path, line=1))
+                raise InputFault(
+                    f"there is no column {head!r}",
+                    place=Place(file=self.sheet.path, line=1),
+                    remedy="give the table of tags first, with the heads tag,stream,from,to,error",
+                )
 
     def tags(self) -> list[Tag]:
         """Return the rows, of which no two have one tag or one stream."""
@@ -262,8 +267,11 @@ class ReadingSheet:
             self.columns[head] = column
         for tag in self.tags:
             if tag not in self.columns:
-                what = f"there is no column for the tag {tag}"
-                raise InputFault(what, place=Place(file=self.sheet.path, line=1))
+                raise InputFault(
+                    f"there is no column for the tag {tag}",
+                    place=Place(file=self.sheet.path, line=1),
+                    remedy="give the daily readings second, with the tags as heads",
+                )
 
     def days(self) -> Days:
         """Return the days in order."""
