@@ -162,7 +162,7 @@ def check_mistake(mistake: Mistake, row: Row) -> None:
     rejected = mistake.verdict == "reject"
     assert (row["state"] == "none") == (mistake.verdict == "-"), row
     assert row["verdict"] == mistake.verdict.replace("-", ""), row
-    assert bool(row["suspects"]) == (rejected and mistake.suspects), row
+    assert bool(row["suspects"]) == (rejected and mistake.suspects and not mistake.refused), row
     assert (row["refused"] != "0") == bool(mistake.refused), row
     assert bool(row["first_refusal"]) == bool(mistake.refused), row
     assert mistake.lint <= set(re.findall("[a-z-]+", row["warnings"])), row
@@ -389,10 +389,27 @@ def test_folders_inside(tmp_path: Path, program: Path, say: Desk) -> None:
     assert (out / "north" / "a" / "latest" / "output.csv").exists()
 
 
+ODD = ["-n", "a {2} b", "it's", '"quoted"', "$HOME", "`id`", "Dürnkrut", "a;b", "50%", "x\\y", "#"]
+
+
+def test_odd_names(program: Path, tmp_path: Path, say: Desk) -> None:
+    """Names may have whatever a shell, a table or a page would take for its own."""
+    data = SITE.format(100_000_000).encode()
+    folder = folder_of(tmp_path / "the sessions", {f"{name}.csv": data for name in ODD})
+    out = tmp_path / "the nights"
+    found = say("fleet", "--program", program, "--out", out, folder)
+    assert found.status == 0, found.err
+    assert [row["site"] for row in rows_of(found.out)] == sorted(ODD)
+    subprocess.run(["sha256sum", "--quiet", "--check", "latest/SHA256SUMS"], cwd=out, check=True)
+    assert "&#34;quoted&#34;" in text_of(out / "index.html")
+
+
 NAMES = {
     "nights.csv": "the name nights is one of the nights' own: rename it",
     "latest.csv": "the name latest is one of the nights' own: rename it",
     "2026-11-29.csv": "the name 2026-11-29 is one of the nights' own: rename it",
+    "two\nlines.csv": "its name has other characters than letters, digits, signs and spaces",
+    os.fsdecode(b"\xff.csv"): "its name has other characters",
     "a.CSV": "it would be the same plant as a.CSV: rename one of them",
 }
 

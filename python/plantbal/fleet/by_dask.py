@@ -7,7 +7,7 @@ import os
 import sys
 import warnings
 from collections import Counter, deque
-from collections.abc import Iterator, Sequence
+from collections.abc import Callable, Iterator, Sequence
 from contextlib import ExitStack, nullcontext, suppress
 from typing import Any
 
@@ -44,17 +44,22 @@ def run(asked: Asked, jobs: Sequence[Job], done: Sequence[Job] = ()) -> Iterator
         import distributed
     except ImportError as error:
         raise ToolMissing("dask.distributed", "python3-distributed") from error
-    # The machines of the cluster needn't have this package: the calls go there as they are.
+    # The machines of a cluster needn't have this package: the calls go there as they are.
     cloudpickle.register_pickle_by_value(calls)
     for name in ("distributed", "asyncio"):  # what goes wrong is in the rows of the plants
         logging.getLogger(name).setLevel(logging.CRITICAL)
+    calls.go_on()
     dask: Any = distributed  # it isn't typed
     with ExitStack() as open_things:
         client = open_things.enter_context(_client(dask, asked, open_things))
         bar = open_things.enter_context(_bar(len(jobs) + len(done), len(done)))
-        for ended in _Cluster(client, dask.as_completed(), asked, jobs).ended():
-            bar.update()
-            yield ended
+        try:
+            for ended in _Cluster(client, dask.as_completed(), asked, jobs).ended():
+                bar.update()
+                yield ended
+        except BaseException:
+            calls.stop_all()
+            raise
 
 
 def _client(dask: Any, asked: Asked, open_things: ExitStack) -> Any:
@@ -76,6 +81,11 @@ def _client(dask: Any, asked: Asked, open_things: ExitStack) -> Any:
         client.close()
         raise Fault(f"{said} has no machine", remedy="start `dask-worker` on some") from error
     return client
+
+
+def _in_this_process(name: str, *given: Any) -> Any:
+    """Make a call of the module itself, and not of a copy: so that it can be stopped."""
+    return getattr(calls, name)(*given)
 
 
 class _NoBar:
@@ -146,13 +156,15 @@ class _Cluster:
     def _submit(self, job: Job) -> Any:
         """Hand in a job by its paths, or with its bytes, and return its future."""
         command, timeout = self._asked.command, self._asked.timeout
+        call: Callable[..., Any] = calls.run_here
+        given: list[object] = [command, str(job.session), str(job.part), timeout]
         if self._asked.send:
-            session = job.session.read_bytes()
-            with warnings.catch_warnings():
-                warnings.simplefilter("ignore")  # of large bytes: there are few at a time
-                return self._client.submit(calls.run_sent, command, session, timeout, pure=False)
-        where = str(job.session.absolute()), str(job.part.absolute())
-        return self._client.submit(calls.run_here, command, *where, timeout, pure=False)
+            call, given = calls.run_sent, [command, job.session.read_bytes(), timeout]
+        if self._asked.scheduler is None:
+            call, given = _in_this_process, [call.__name__, *given]
+        with warnings.catch_warnings():
+            warnings.simplefilter("ignore")  # of large bytes: there are few at a time
+            return self._client.submit(call, *given, pure=False)
 
     def _came(self, future: Any, job: Job) -> Ended:
         """Return how a job ended; files that come back are written."""

@@ -49,9 +49,9 @@ The table goes to standard output too, with a row for each period's last report:
 name of the program's status of 2 to 6, ended (another status), timeout, lost (by a machine of the
 cluster), nosession or nooutput (files that can't be read or written). `verdict` is that of the
 global test, which wants --tests or --eliminate N among WORDS; `suspects` are there only if it
-rejects, or if a stream was taken. `look` says why a person has to look: a row is refused, there is
-no report, it isn't converged, the global test rejects or can't be made. It is said on standard
-error too. The status is 1 if a person has to look at any plant, else 0.
+rejects and no row is refused, or if a stream was taken. `look` says why a person has to look: a
+row is refused, there is no report, it isn't converged, the global test rejects or can't be made.
+It is said on standard error too. The status is 1 if a person has to look at any plant, else 0.
 
 Words after a lone -- are given to plantbal; without them they are `run`:
 
@@ -147,7 +147,7 @@ class Fleet:
             found = None if again else self.night.done(site, asked)
             self.runs[site] = found or asked
             (todo if found is None else done).append(site)
-        return sorted(todo, key=lambda site: -site.path.stat().st_size), done
+        return sorted(todo, key=_size_of, reverse=True), done
 
     def begin(self, todo: list[Site]) -> list[Job]:
         """Make the folders of plants, and return the jobs of those that have one."""
@@ -193,6 +193,14 @@ class Fleet:
     def in_order(self) -> list[Plant]:
         """Return the plants by name, with the reasons in their rows."""
         return [self.plants[site.name] for site in self.sites]
+
+
+def _size_of(site: Site) -> int:
+    """Return how many bytes a session has; none if it has gone."""
+    try:
+        return site.path.stat().st_size
+    except OSError:
+        return 0
 
 
 def lint_plants(plants: list[Plant], chosen: list[Site]) -> None:

@@ -130,7 +130,7 @@ def _of_rows(site: Site, rows: list[Values]) -> Plant:
     over = {row["period"]: row["stream"] for row in rows if row["row"] == "over"}
     for period in dict.fromkeys([*blocks, *over]):
         if period in blocks:
-            row, said = _of_block(site, blocks[period], session)
+            row, said = _of_block(site, blocks[period], session, bool(refused))
         else:
             row = Row(site.name, period, state="over")
             said = [f"no report: the total of {over[period]} is beyond the limits"]
@@ -142,8 +142,13 @@ def _of_rows(site: Site, rows: list[Values]) -> Plant:
     return plant
 
 
-def _of_block(site: Site, block: Block, session: About) -> tuple[Row, list[str]]:
-    """Return the row of a period's last round, and why a person has to look at it."""
+def _of_block(
+    site: Site, block: Block, session: About, refused: bool
+) -> tuple[Row, list[str]]:
+    """Return the row of a period's last round, and why a person has to look at it.
+
+    If rows are refused, the report is that of another plant: its suspects aren't worth a look.
+    """
     if block.solved is None or not block.ended:
         return Row(site.name, block.period, state="unreadable"), ["its report is cut off"]
     solved, said, verdict = block.solved, list[str](), ""
@@ -155,7 +160,7 @@ def _of_block(site: Site, block: Block, session: About) -> tuple[Row, list[str]]
         said.append(f"{', '.join(block.taken)} was taken out, so that the rest fits")
     if block.whole:
         verdict, critical = block.whole["verdict"], block.whole["critical"]
-        if verdict == "reject":
+        if verdict == "reject" and not refused:
             suspects += [name for name in block.suspects() if name not in suspects]
         if verdict in _VERDICTS:
             said.append(_VERDICTS[verdict])

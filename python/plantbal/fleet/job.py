@@ -9,6 +9,7 @@ import os
 import signal
 import subprocess
 import tempfile
+from contextlib import suppress
 from pathlib import Path
 
 WROTE, SAID, STATUS = "output", "stderr.txt", "status"
@@ -24,6 +25,11 @@ status=$?
 echo "$status $begun $(date +%s.%N)" >"$part/{STATUS}"
 [ "$status" -le 1 ]
 """
+
+
+# The jobs that run in this process, and whether more may begin.
+_RUNNING: set[subprocess.Popen[bytes]] = set()
+_STOPPED: set[str] = set()
 
 
 def run_here(command: list[str], session: str, part: str, timeout: float | None) -> bool:
@@ -43,15 +49,36 @@ def run_here(command: list[str], session: str, part: str, timeout: float | None)
         stdin=subprocess.DEVNULL,
         start_new_session=True,
     )
+    _RUNNING.add(job)
     try:
-        job.wait(timeout)
-        return True
+        if not _STOPPED:
+            job.wait(timeout)
+        return not _STOPPED
     except subprocess.TimeoutExpired:
         return False
     finally:
-        if job.poll() is None:
+        _kill(job)
+        _RUNNING.discard(job)
+
+
+def _kill(job: subprocess.Popen[bytes]) -> None:
+    """Stop a job and all that it started."""
+    if job.poll() is None:
+        with suppress(ProcessLookupError):
             os.killpg(job.pid, signal.SIGKILL)
-            job.wait()
+        job.wait()
+
+
+def stop_all() -> None:
+    """Stop the jobs that run in this process, and let no other begin."""
+    _STOPPED.add("all")
+    for job in list(_RUNNING):
+        _kill(job)
+
+
+def go_on() -> None:
+    """Let jobs begin in this process."""
+    _STOPPED.clear()
 
 
 def run_sent(command: list[str], session: bytes, timeout: float | None) -> dict[str, bytes] | None:

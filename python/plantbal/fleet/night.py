@@ -150,7 +150,8 @@ class Night:
     def begin(self, site: Site) -> Path:
         """Make the empty folder in which the program runs for a plant."""
         part = self.part_of(site)
-        shutil.rmtree(part, ignore_errors=True)
+        for stopped in part.parent.glob(".*.part"):  # also of a night before
+            shutil.rmtree(stopped, ignore_errors=True)
         try:
             part.mkdir(parents=True)
         except OSError as error:

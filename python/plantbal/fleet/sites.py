@@ -118,6 +118,9 @@ def sites(folder: Path, *, recursive: bool = False, out: Path | None = None) -> 
             if part in RESERVED or NIGHT.fullmatch(part):
                 said = f"the name {part} is one of the nights' own"
                 raise InputFault(said, place=Place(file=str(path)), remedy="rename it")
+        if not name.isprintable():  # a line feed, or bytes that are no UTF-8
+            said = "its name has other characters than letters, digits, signs and spaces"
+            raise InputFault(said, place=Place(file=repr(str(path))), remedy="rename it")
         if name in found:
             said = f"it would be the same plant as {found[name].name}"
             raise InputFault(said, place=Place(file=str(path)), remedy="rename one of them")
