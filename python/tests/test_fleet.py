@@ -56,12 +56,11 @@ def folder_of(folder: Path, sessions: dict[str, bytes]) -> Path:
 
 @pytest.fixture(name="plants", scope="module")
 def fixture_plants(tmp_path_factory: pytest.TempPathFactory) -> Path:
-    """Twenty plants of one unit, the feed's meter k t high at plant k, and one a byte too long."""
+    """Twenty plants of one unit, the feed's meter k t high at plant k."""
     sessions = {f"site {k:02}.csv": SITE.format((100 + k) * 1_000_000) for k in range(1, 21)}
     sessions["site 07.csv"] += "unit,V W\n"
     sessions["site 11.csv"] = "unit,U\n"
     data = {name: text.encode() for name, text in sessions.items()}
-    data["site 21.csv"] = b"\n" * 67_108_865
     return folder_of(tmp_path_factory.mktemp("plants") / "sessions", data)
 
 
@@ -69,8 +68,6 @@ def wanted(k: int) -> tuple[str, ...]:
     """The statistic is (k t)^2 / (4 t^2), the sum of both variances, less what roundings leave."""
     if k == 11:
         return "", "none", "", "0", "0"
-    if k == 21:
-        return "", "TooLarge", "", "", "5"
     low = k * k * 250 - 1
     statistic = f"{low // 1000}.{low % 1000:03}"
     return "may", "converged", statistic, str(int(k == 7)), str(int(k == 7))
@@ -92,18 +89,27 @@ def test_engine(program: Path, plants: Path, tmp_path: Path, words: list[str]) -
     )
     columns = ("period", "state", "statistic", "refused", "status")
     found = {row["site"]: tuple(row[name] for name in columns) for row in rows_of(done.stdout)}
-    assert found == {f"site {k:02}": wanted(k) for k in range(1, 22)}, done.stderr
+    assert found == {f"site {k:02}": wanted(k) for k in range(1, 21)}, done.stderr
     said = done.stderr.splitlines()
     assert said[0].startswith("fleet: site 07: 1 row is refused: ") and "'V W'" in said[0]
     assert "it asks for nothing; add a row report,PERIOD" in said[1]
-    assert said[2].startswith("fleet: site 21: the program ended with status 5, TooLarge")
-    assert said[3:] == [f"fleet: 21 plants, of which 3 want a person: {out / 'index.html'}"]
+    assert said[2:] == [f"fleet: 20 plants, of which 2 want a person: {out / 'index.html'}"]
     assert done.returncode == 1
     kept = {path.relative_to(out / "site 01").as_posix() for path in out.glob("site 01/**/*")}
     files = {f"{NIGHT}/{name}" for name in ("output.csv", "stderr.txt", "run.json")}
     assert kept == {NIGHT, "latest"} | files
-    assert {path.name for path in out.glob("site 21/**/*")} == {NIGHT, "stderr.txt", "run.json"}
     assert not list(out.rglob("*.part"))
+
+
+def test_too_large(program: Path, tmp_path: Path, say: Desk) -> None:
+    """A session that is a byte too long has a row, and no output that looks like one."""
+    folder = folder_of(tmp_path / "sessions", {"a.csv": b"\n" * 67_108_865})
+    out = tmp_path / "out"
+    found = say("fleet", "--program", program, "--out", out, "--date", NIGHT, folder)
+    row = row_of(found.out, "a")
+    assert (found.status, row["state"], row["status"]) == (1, "TooLarge", "5")
+    assert "fleet: a: the program ended with status 5, TooLarge; " in found.err
+    assert {path.name for path in out.glob("a/**/*")} == {NIGHT, "stderr.txt", "run.json"}
 
 
 def test_what_is_kept(program: Path, tmp_path: Path, say: Desk) -> None:
@@ -225,6 +231,7 @@ def test_cluster(
     """A machine of a cluster needs nothing of this package; one that sees no folder gets bytes."""
     distributed = pytest.importorskip("distributed")
     _, out, words = forty
+    some_of(words, 10)
     plain = {name: value for name, value in os.environ.items() if name != "PYTHONPATH"}
     with distributed.LocalCluster(
         n_workers=0, processes=False, protocol="tcp", dashboard_address=None
@@ -240,9 +247,9 @@ def test_cluster(
             shared, sent = say(*words), say(*words, "--again", "--send")
             machine.kill()
     assert (shared.status, sent.status) == (0, 0), shared.err + sent.err
-    assert len(rows_of(shared.out)) == len(rows_of(sent.out)) == 40
+    assert len(rows_of(shared.out)) == len(rows_of(sent.out)) == 10
     assert shared.err == sent.err
-    assert len(list(out.glob("*/latest/output.csv"))) == 40
+    assert len(list(out.glob("*/latest/output.csv"))) == 10
 
 
 STUB = """#!/bin/sh
@@ -264,6 +271,14 @@ def fixture_forty(tmp_path: Path) -> tuple[Path, Path, list[object]]:
     out = tmp_path / "out"
     words = ["--program", program, "--jobs", 2, "--date", NIGHT, "--out", out, folder]
     return log, out, words
+
+
+def some_of(words: list[object], count: int) -> Path:
+    """The folder of the forty, of which only the first ones are left."""
+    folder = Path(str(words[-1]))
+    for path in sorted(folder.iterdir())[count:]:
+        path.unlink()
+    return folder
 
 
 def wait_for(what: Callable[[], bool]) -> None:
@@ -316,23 +331,23 @@ def test_stopped(
 def test_changed(forty: tuple[Path, Path, list[object]], say: Desk) -> None:
     """A session that is changed, comes or goes, and an output that is lost, count as such."""
     log, out, words = forty
-    folder = Path(str(words[-1]))
+    folder = some_of(words, 15)
     words = [*words, "--jobs", 8]
     assert say("fleet", *words).status == 0
     log.write_text("")
     (folder / "03.csv").write_text("03\n\n")
     (folder / "035.csv").write_text("035\n")
-    (folder / "20.csv").unlink()
+    (folder / "10.csv").unlink()
     (out / "11" / NIGHT / "output.csv").unlink()
     (out / "12" / NIGHT / "output.csv").write_text("hello")
-    assert len(rows_of(say("fleet", *words).out)) == 40
+    assert len(rows_of(say("fleet", *words).out)) == 15
     assert sorted(log.read_text().split()) == ["03", "035", "11", "12"]
     log.write_text("")
     say("fleet", "--again", *words)
-    assert len(log.read_text().split()) == 40
+    assert len(log.read_text().split()) == 15
     log.write_text("")
     say("fleet", *words, "--", "run", "--tests")
-    assert len(log.read_text().split()) == 40
+    assert len(log.read_text().split()) == 15
 
 
 def test_changed_meanwhile(tmp_path: Path, say: Desk) -> None:

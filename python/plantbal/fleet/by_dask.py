@@ -67,7 +67,7 @@ def _client(dask: Any, asked: Asked, open_things: ExitStack) -> Any:
     if asked.scheduler is None:
         count = asked.jobs or len(os.sched_getaffinity(0))
         here = dask.LocalCluster(
-            n_workers=1, threads_per_worker=count, processes=False, dashboard_address=None
+            n_workers=1, threads_per_worker=count, processes=False, dashboard_address=":0"
         )
         return dask.Client(open_things.enter_context(here))
     said = f"the scheduler {asked.scheduler}"

@@ -8,6 +8,7 @@ import signal
 import sys
 import threading
 from collections.abc import Callable, Iterator
+from concurrent.futures import ThreadPoolExecutor
 from contextlib import contextmanager
 from dataclasses import dataclass, field, replace
 from pathlib import Path
@@ -182,11 +183,17 @@ class Fleet:
         site_of = {site.name: site for site in self.sites}
         try:
             jobs = self.begin(todo)
-            for ended in engine(asked, jobs, [self.job(site) for site in done]):
-                self.came(site_of[ended.site], ended.why)
+            # Mostly these wait for the disk.
+            with ThreadPoolExecutor(8, "fleet") as pool:
+                taken = [
+                    pool.submit(self.came, site_of[ended.site], ended.why)
+                    for ended in engine(asked, jobs, [self.job(site) for site in done])
+                ]
         finally:
             for site in self.begun:
                 self.night.drop(site)
+        for each in taken:
+            each.result()
         for site in done:
             self.plants[site.name] = gather(self.night, site, self.runs[site])
 

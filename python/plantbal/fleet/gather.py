@@ -2,8 +2,9 @@
 
 from __future__ import annotations
 
-import re
+from collections.abc import Iterator
 from dataclasses import dataclass, replace
+from itertools import chain
 from pathlib import Path
 
 from plantbal.explain import Explanation, explain
@@ -28,7 +29,6 @@ _VERDICTS = {
     "reject": "the global test rejects",
     "undecided": "the global test is undecided; a smaller --gap among the words decides it",
 }
-_PLAIN = re.compile(rb"^(period|critical),([^\r\n]*)", re.MULTILINE)
 
 
 @dataclass(frozen=True, slots=True)
@@ -47,13 +47,24 @@ class About:
     has_critical: bool
 
 
+def _lines(data: bytes, begin: bytes) -> Iterator[tuple[str, ...]]:
+    """Give the fields of the lines that begin so."""
+    text = b"\n" + data
+    place = text.find(b"\n" + begin)
+    while place >= 0:
+        end = text.find(b"\n", place + 1)
+        line = text[place + 1 : end if end >= 0 else len(text)]
+        yield tuple(line.decode("latin-1").split(","))
+        place = text.find(b"\n" + begin, end) if end >= 0 else -1
+
+
 def about(data: bytes, refused: set[int]) -> About:
     """Return what a session says of its periods, without the refused rows."""
+    found: Iterator[tuple[str, ...]]
     if refused or b'"' in data or b"\r" in data:
         found = (r.fields for r in read_records(data) if r.number not in refused)
     else:  # each line is a row, and no other rows need be split
-        text = ([m[1], *m[2].split(b",")] for m in _PLAIN.finditer(data))
-        found = (tuple(part.decode("latin-1") for part in parts) for parts in text)
+        found = chain(_lines(data, b"period,"), _lines(data, b"critical,"))
     days, has_critical = dict[str, str](), False
     for fields in found:
         if fields[0] == "period" and len(fields) > 3:

@@ -12,17 +12,17 @@ import tempfile
 from contextlib import suppress
 from pathlib import Path
 
-WROTE, SAID, STATUS = "output", "stderr.txt", "status"
+WROTE, SAID, STATUS = "output", "stderr.txt", "run.json"
 # `sh -c JOB job SESSION PART PROGRAM WORD..` runs a session and leaves three files in the folder
-# PART; the status is there last. It ends with a fault if the program wasn't done.
+# PART. STATUS has the program's status, and later becomes the record of the run. The folder is as old
+# as the program's start, and STATUS as its end. The job ends with a fault if the program wasn't done.
 JOB = f"""
 session=$1 part=$2
 shift 2
 : >"$part/{STATUS}"
-begun=$(date +%s.%N)
 (exec "$@" <"$session" >"$part/{WROTE}") 2>"$part/{SAID}"
 status=$?
-echo "$status $begun $(date +%s.%N)" >"$part/{STATUS}"
+echo "$status" >"$part/{STATUS}"
 [ "$status" -le 1 ]
 """
 
@@ -90,12 +90,29 @@ def run_sent(command: list[str], session: bytes, timeout: float | None) -> dict[
         part.mkdir()
         if not run_here(command, str(given), str(part), timeout):
             return None
-        return {path.name: path.read_bytes() for path in part.iterdir()}
+        found = {path.name: path.read_bytes() for path in part.iterdir()}
+        found[STATUS] = " ".join(map(str, ended(str(part)))).encode("ascii")
+        return found
+
+
+def ended(part: str) -> tuple[int, float, float]:
+    """Return how a job ended by what it left: the status, when it began, and when it ended.
+
+    Raises
+    ------
+    OSError, ValueError
+        If it left no status.
+    """
+    status = Path(part, STATUS)
+    said = status.read_text(encoding="ascii").split()
+    if len(said) > 1:  # it was sent, and its files are newer
+        return int(said[0]), float(said[1]), float(said[2])
+    return int(said[0]), Path(part).stat().st_mtime, status.stat().st_mtime
 
 
 def failed(part: str) -> bool:
     """Say whether the program wasn't done, by the files that a job left."""
     try:
-        return int(Path(part, STATUS).read_text(encoding="ascii").split()[0]) > 1
+        return ended(part)[0] > 1
     except (OSError, ValueError, IndexError):
         return True

@@ -27,10 +27,8 @@ from dataclasses import asdict, dataclass, replace
 from pathlib import Path
 
 from plantbal.faults import Fault, InputFault, Place
-from plantbal.fleet.job import STATUS, WROTE
+from plantbal.fleet.job import STATUS, WROTE, ended
 from plantbal.fleet.sites import Site
-
-RUN = "run.json"
 
 
 @dataclass(frozen=True, slots=True)
@@ -141,7 +139,7 @@ class Night:
     def done(self, site: Site, asked: Run) -> Run | None:
         """Return the run that a plant's output is of, if it is whole and of what is asked."""
         try:
-            found = Run(**json.loads((self.folder_of(site) / RUN).read_bytes()))
+            found = Run(**json.loads((self.folder_of(site) / STATUS).read_bytes()))
             same = sha256_of(self.output_of(site)) == found.output_sha256
         except (OSError, ValueError, TypeError, InputFault):
             return None
@@ -173,31 +171,31 @@ class Night:
         """
         part = self.part_of(site)
         status, begun, seconds = status_of(part)
-        ended = replace(asked, status=status, begun=begun, seconds=seconds)
-        (part / STATUS).unlink(missing_ok=True)
+        run = replace(asked, status=status, begun=begun, seconds=seconds)
         if status in (0, 1):
             (part / WROTE).rename(part / self.output_name)
-            ended = replace(ended, output_sha256=sha256_of(part / self.output_name))
+            run = replace(run, output_sha256=sha256_of(part / self.output_name))
         else:
             (part / WROTE).unlink(missing_ok=True)
-        (part / RUN).write_text(json.dumps(asdict(ended), indent=1) + "\n", encoding="utf-8")
+        (part / STATUS).write_text(json.dumps(asdict(run), indent=1) + "\n", encoding="utf-8")
         for path in part.iterdir():
-            with path.open("rb") as file:
-                os.fsync(file.fileno())
+            if path.stat().st_size:
+                with path.open("rb") as file:
+                    os.fsync(file.fileno())
         put(part, self.folder_of(site))
         if status in (0, 1):
             newest = self.out / site.name / "latest"
             if not newest.exists() or os.readlink(newest) <= self.name:
                 link(newest, self.name)
-        return ended
+        return run
 
 
 def status_of(part: Path) -> tuple[int | None, float, float]:
     """Return how a job ended by what it left: the status, when it began, and how long it took."""
     try:
-        status, begun, ended = (part / STATUS).read_text(encoding="ascii").split()
-        return int(status), round(float(begun), 3), round(float(ended) - float(begun), 3)
-    except (OSError, ValueError):
+        status, begun, end = ended(str(part))
+        return status, round(begun, 3), round(end - begun, 3)
+    except (OSError, ValueError, IndexError):
         return None, 0.0, 0.0
 
 
@@ -231,8 +229,11 @@ def put(made: Path, folder: Path) -> None:
 def link(path: Path, target: str) -> None:
     """Make a link, in the place of one that is there."""
     made = path.with_name(f".{path.name}.new")
-    made.unlink(missing_ok=True)
-    made.symlink_to(target)
+    try:
+        made.symlink_to(target)
+    except FileExistsError:
+        made.unlink()
+        made.symlink_to(target)
     made.replace(path)
 
 
