@@ -168,6 +168,7 @@ INPUTS = [
         Input(("tables", what, "FILE"), OF_REPORTS)
         for what in ("flows", "classes", "count", "suspects", "imbalance")
     ),
+    Input(("uncertainty", "FILE"), OF_REPORTS),
     Input(("draw", "FILE"), OF_REPORTS),
     Input(("chart", "FILE"), OF_REPORTS),
     Input(("page", "FILE"), OF_PAGES),
@@ -207,6 +208,7 @@ OUTPUTS = [
     ("report", example("refinery_day.out.csv"), "--out", "OUT.csv"),
     ("report", example("refinery_day.out.csv"), "--out", "OUT.xlsx"),
     ("report", example("refinery_day.out.csv"), "--out", "OUT.sqlite"),
+    ("chart", example("refinery_day.out.csv"), "--out", "OUT.svg"),
     ("convert", example("refinery_workbook"), "--out", "OUT.csv"),
     ("template", "refinery", "OUT.xlsx"),
 ]
@@ -373,7 +375,6 @@ def test_names(program: Path, say: Desk, words: list[object], said: str) -> None
 # Those with mistakes in tests of their own.
 ELSEWHERE = {
     "fleet": "test_fleet.py",
-    "uncertainty": "test_uncertainty.py",
     "book": "test_book.py",
     "archive": "test_audit.py",
     "audit": "test_audit.py",
