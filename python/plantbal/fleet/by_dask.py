@@ -7,7 +7,7 @@ import os
 import sys
 import warnings
 from collections import Counter, deque
-from collections.abc import Callable, Iterator, Sequence
+from collections.abc import Callable, Generator, Iterator, Sequence
 from contextlib import ExitStack, nullcontext, suppress
 from typing import Any
 
@@ -18,7 +18,9 @@ from plantbal.fleet.engines import Asked, Ended, Job
 _ANSWERS = 20  # seconds that a scheduler has to answer in
 
 
-def run(asked: Asked, jobs: Sequence[Job], done: Sequence[Job] = ()) -> Iterator[Ended]:
+def run(
+    asked: Asked, jobs: Sequence[Job], done: Sequence[Job] = ()
+) -> Generator[Ended, None, None]:
     """Run jobs, and give each as it ends: another one is handed in as a place gets free.
 
     Parameters

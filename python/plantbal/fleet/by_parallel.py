@@ -8,7 +8,7 @@ import shlex
 import subprocess
 import sys
 import tempfile
-from collections.abc import Iterator, Sequence
+from collections.abc import Generator, Sequence
 from pathlib import Path
 
 from plantbal.faults import Fault, ToolMissing
@@ -19,7 +19,9 @@ HEADS = "Seq Host Starttime JobRuntime Send Receive Exitval Signal Command".spli
 _TROUBLE = 255  # parallel's own; up to 101 it is how many jobs failed
 
 
-def run(asked: Asked, jobs: Sequence[Job], done: Sequence[Job] = ()) -> Iterator[Ended]:
+def run(
+    asked: Asked, jobs: Sequence[Job], done: Sequence[Job] = ()
+) -> Generator[Ended, None, None]:
     """Run jobs, and give each as it ends; the failed ones come last.
 
     The log of jobs has the finished ones under their numbers of now, and `--resume-failed` passes

@@ -9,7 +9,7 @@ import sys
 import threading
 from collections.abc import Callable, Iterator
 from concurrent.futures import ThreadPoolExecutor
-from contextlib import contextmanager
+from contextlib import closing, contextmanager
 from dataclasses import dataclass, field, replace
 from pathlib import Path
 
@@ -171,9 +171,8 @@ class Fleet:
         else:
             try:
                 self.runs[site] = self.night.publish(site, self.runs[site])
-            except OSError as error:
-                said = f"its output can't be kept: {error.strerror}: {error.filename}"
-                self.plants[site.name] = failed(site, "nooutput", said)
+            except (OSError, InputFault) as error:
+                self.plants[site.name] = failed(site, "nooutput", f"its output is lost: {error}")
                 return
         self.plants[site.name] = gather(self.night, site, self.runs[site], why)
 
@@ -184,10 +183,12 @@ class Fleet:
         try:
             jobs = self.begin(todo)
             # Mostly these wait for the disk.
-            with ThreadPoolExecutor(8, "fleet") as pool:
+            with (
+                ThreadPoolExecutor(8, "fleet") as pool,
+                closing(engine(asked, jobs, [self.job(site) for site in done])) as every,
+            ):
                 taken = [
-                    pool.submit(self.came, site_of[ended.site], ended.why)
-                    for ended in engine(asked, jobs, [self.job(site) for site in done])
+                    pool.submit(self.came, site_of[ended.site], ended.why) for ended in every
                 ]
         finally:
             for site in self.begun:

@@ -2,7 +2,7 @@
 
 from __future__ import annotations
 
-from collections.abc import Iterator, Sequence
+from collections.abc import Generator, Sequence
 from dataclasses import dataclass
 from pathlib import Path
 from typing import Protocol
@@ -85,5 +85,5 @@ class Engine(Protocol):
 
     def __call__(
         self, asked: Asked, jobs: Sequence[Job], done: Sequence[Job] = ()
-    ) -> Iterator[Ended]:
+    ) -> Generator[Ended, None, None]:
         """Run the jobs."""
