@@ -3,6 +3,7 @@
 from __future__ import annotations
 
 import errno
+import sys
 from dataclasses import dataclass
 from pathlib import Path
 
@@ -112,7 +113,10 @@ class ToolMissing(Fault):
     """
 
     def __init__(self, tool: str, package: str) -> None:
-        super().__init__(f"there is no {tool}", remedy=f"install {package}")
+        remedy = f"install {package}"
+        if package.startswith("python3-") and not sys.executable.startswith("/usr/bin/"):
+            remedy += f", which is for /usr/bin/python3: this is {sys.executable}"
+        super().__init__(f"there is no {tool}", remedy=remedy)
         self.tool = tool
         self.package = package
 
@@ -182,8 +186,6 @@ def read_bytes(path: str | Path) -> tuple[str, bytes]:
     InputFault
         Where it can't be read.
     """
-    import sys
-
     if str(path) == "-":
         return "standard input", sys.stdin.buffer.read()
     try:

@@ -316,6 +316,16 @@ def test_missing_tool(
     assert "Traceback" not in found.err and not list(tmp_path.iterdir())
 
 
+def test_another_python(say: Desk, monkeypatch: pytest.MonkeyPatch) -> None:
+    """Debian's packages are for Debian's Python, and not for another one that comes first."""
+    monkeypatch.setitem(sys.modules, "pandas", None)
+    for own in (False, True):
+        monkeypatch.setattr(sys, "executable", "/usr/bin/python3" if own else "/opt/bin/python3")
+        found = say("tables", "flows", OUTPUT)
+        assert found.status == 1 and "install python3-pandas" in found.err
+        assert (", which is for /usr/bin/python3: this is /opt/bin/" in found.err) != own
+
+
 WORDS = [
     (["nope"], "invalid choice: 'nope'"),
     (["run", "--nope"], "unrecognized arguments: --nope"),
