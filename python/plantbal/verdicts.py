@@ -374,6 +374,7 @@ def explain_check(
     data: bytes,
     verdicts: str | Path | None = None,
     program: str | Path | None = None,
+    said: bytes | None = None,
 ) -> Explanation:
     """Return what a check finds wrong with a report.
 
@@ -387,6 +388,8 @@ def explain_check(
         What a check said of it. Without it the check is made here.
     program : str or Path, optional
         The program, if it isn't the one that `find_program` finds.
+    said : bytes, optional
+        The rows of the check, if they are there already.
 
     Raises
     ------
@@ -399,7 +402,9 @@ def explain_check(
             place=Place(file=source),
             remedy="make CSV of them: plantbal-desk report",
         )
-    if verdicts is None:
+    if said is not None:
+        name = f"the check of {source}"
+    elif verdicts is None:
         name, said = f"the check of {source}", call(["check"], data, program=program)[1]
     else:
         name, said = read_bytes(verdicts)

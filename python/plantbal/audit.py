@@ -1,0 +1,399 @@
+"""Says of a bundle, or of a report and its session, in sentences whether all of it holds together."""
+
+from __future__ import annotations
+
+import argparse
+import re
+import shlex
+from collections.abc import Iterator, Mapping
+from dataclasses import dataclass, field
+from itertools import zip_longest
+
+from plantbal import checker
+from plantbal.archive import bundle_files, words_of
+from plantbal.bundle import (
+    DIGESTS,
+    MANIFEST,
+    NAMES,
+    OUTPUT,
+    SESSION,
+    SUMMARY,
+    Manifest,
+    digest,
+    unpacked,
+)
+from plantbal.faults import Fault, InputFault, Place, ProgramFault, read_bytes
+from plantbal.held import Ledger, Pair, answers_of, refused_differ
+from plantbal.output import Output, parse_report
+from plantbal.program import call, find_program
+from plantbal.progress import Progress
+from plantbal.summary import blocks_named, said_of
+from plantbal.verdicts import explain_check
+
+HELP = """
+BUNDLE is what `plantbal-desk archive` wrote; or REPORT is an output of the program, as CSV or as JSON
+lines, and SESSION its session. In this order:
+
+  the digests of the files are compared, and each item of the manifest and each line of the summary is
+  made again from the session and the output
+  the program is run again with the same words, and its output is compared byte for byte
+  the report is checked by `plantbal check`, and by the checker in plain Python
+  the report is held against the session: its plant, the value and the variance of each stream, critical
+  values, refused rows, and which block is the last of its period
+
+Each sentence begins with `good:`, `note:` (a person may want to know it) or `wrong:` (it doesn't hold).
+Without a bundle the words are those that the report shows, or those of --words.
+
+With --no-program the program isn't run: then nothing needs to be built, and the checker in plain Python
+and the comparison with the session remain.
+
+The status is 1 if anything is wrong, with --strict also if there is a note, else 0.
+
+examples:
+  plantbal-desk audit plant_2024-04.zip
+  plantbal-desk audit april.out.csv april.csv
+"""
+_SHORT = 120
+
+
+@dataclass
+class Audit:
+    """What an audit says, sentence by sentence.
+
+    Attributes
+    ----------
+    said : list of (str, str)
+        ``good``, ``note`` or ``wrong``, and the sentence.
+    """
+
+    said: list[tuple[str, str]] = field(default_factory=list)
+
+    def add(self, kind: str, text: str) -> None:
+        """Say a sentence, and show it at once: an audit may take a while."""
+        self.said.append((kind, text))
+        print(f"{kind}: {text}", flush=True)
+
+    def count(self, kind: str) -> int:
+        """Return how many sentences of a kind there are."""
+        return sum(each == kind for each, _ in self.said)
+
+
+@dataclass(frozen=True)
+class Given:
+    """What is audited: how it is called, its session, its report, and the words of the run."""
+
+    source: str
+    report: str
+    session: str
+    output: bytes
+    data: bytes
+    words: list[str]
+    program: str = ""
+    sum: str = ""
+
+
+def differs_at(one: bytes, other: bytes) -> tuple[int, str, str]:
+    """Return the number of the first line in which two texts differ, and both lines as quoted."""
+    for number, pair in enumerate(zip_longest(one.split(b"\n"), other.split(b"\n")), 1):
+        if pair[0] != pair[1]:
+            return number, _shown(pair[0]), _shown(pair[1])
+    return 0, "nothing", "nothing"
+
+
+def _shown(line: bytes | None) -> str:
+    """Return a line as it is quoted."""
+    if not line:
+        return "nothing"
+    text = line.decode("utf-8", "backslashreplace").rstrip("\r")
+    return f"'{text}'" if len(text) <= _SHORT else f"'{text[:_SHORT]}..'"
+
+
+# ---- the words
+
+
+def words_read(text: str) -> list[str]:
+    """Return the words of a run.
+
+    Raises
+    ------
+    Fault
+        If they are no words of a run: nothing else is ever run.
+    """
+    words = shlex.split(text)
+    rest = " ".join(words[1:])
+    known = r"(--tests|--(gap|sweeps|eliminate) [0-9]{1,7})"
+    if words[:1] != ["run"] or not re.fullmatch(rf"({known}( |$))*", rest):
+        raise Fault(
+            f"the words {text!r} aren't those of a run",
+            text=text,
+            remedy="such as: run --gap 10 --sweeps 5000 --tests",
+        )
+    return words
+
+
+def words_shown(output: Output) -> list[str]:
+    """Return words of a run that give a report, as far as it shows them."""
+    blocks = output.blocks_in_order
+    if not blocks:
+        return ["run", "--tests"]
+    head = blocks[0].head
+    stops = [row for row in output.rows if row["row"] == "stop"]
+    # An elimination that ended by itself is the same with more rounds allowed.
+    spent = [int(row["rounds"]) for row in stops if row["reason"] == "spent"]
+    return words_of(
+        tests=blocks[0].whole is not None,
+        eliminate=(spent[0] if spent else 20) if stops else 0,
+        gap=int(head["gap"]),
+        sweeps=int(head["sweeps"]),
+    )
+
+
+# ---- a bundle
+
+
+def given_of_bundle(audit: Audit, path: str) -> Given:
+    """Audit a bundle's own files, and return what it is a bundle of."""
+    found = unpacked(path)
+    files = found.files
+    for what in found.wrong:
+        audit.add("wrong", f"{path}: {what}; archive doesn't write it so")
+    if found.note:
+        audit.add("note", f"{path}: {found.note}")
+    changed = set(_digest_faults(audit, path, files))
+    manifest = _manifest(audit, path, files)
+    if manifest is None:
+        words = words_shown(parse_report(files[OUTPUT].decode("utf-8", "replace"), f"{path}!{OUTPUT}"))
+        return Given(path, f"{path}!{OUTPUT}", f"{path}!{SESSION}", files[OUTPUT], files[SESSION], words)
+    same = _made_again(audit, path, files, manifest)
+    if not changed and same:
+        audit.add("good", f"{path}: the digests of its {len(NAMES) - 1} files hold, and manifest and "
+                  "summary are those of the session and the output")
+    return Given(
+        path,
+        f"{path}!{OUTPUT}",
+        f"{path}!{SESSION}",
+        files[OUTPUT],
+        files[SESSION],
+        words_read(manifest.words),
+        manifest.program.get("sha256", ""),
+        f"; its SHA-256 is {digest(read_bytes(path)[1])}",
+    )
+
+
+def _digest_faults(audit: Audit, path: str, files: Mapping[str, bytes]) -> Iterator[str]:
+    """Say which files have other digests than the bundle says, and give their names."""
+    stated = {}
+    for number, line in enumerate(files[DIGESTS].decode("ascii", "replace").split("\n"), 1):
+        sum_, _, name = line.partition("  ")
+        if line and (name not in NAMES or name in stated or not re.fullmatch("[0-9a-f]{64}", sum_)):
+            audit.add("wrong", f"{path}!{DIGESTS}: line {number}: {line[:_SHORT]!r} is no digest of "
+                      "a file of the bundle")
+            yield DIGESTS
+        elif line:
+            stated[name] = sum_, number
+    inner = files[MANIFEST].decode("utf-8", "replace")
+    for name in NAMES[:-1]:
+        found = digest(files[name])
+        sum_, number = stated.get(name, ("", 0))
+        if sum_ == found:
+            continue
+        if name != MANIFEST and found in inner:
+            what = f"line {number}: this isn't the digest of {name}, and the manifest has the right one"
+            audit.add("wrong", f"{path}!{DIGESTS}: {what}: a digest was changed")
+            yield DIGESTS
+        elif sum_:
+            what = f"its SHA-256 is {found}, and line {number} of {DIGESTS} says {sum_}"
+            audit.add("wrong", f"{path}!{name}: {what}: the file was changed, or the digest")
+            yield name
+        else:
+            audit.add("wrong", f"{path}!{DIGESTS}: the digest of {name} lacks")
+            yield DIGESTS
+
+
+def _manifest(audit: Audit, path: str, files: Mapping[str, bytes]) -> Manifest | None:
+    """Return the manifest, or say why it is none."""
+    try:
+        manifest = Manifest.read(files[MANIFEST])
+        words_read(manifest.words)
+    except Fault as fault:
+        said = str(fault).removeprefix(f"{MANIFEST}: ")
+        audit.add("wrong", f"{path}!{MANIFEST}: {said}; the words are taken from the report")
+        return None
+    return manifest
+
+
+def _made_again(
+    audit: Audit, path: str, files: Mapping[str, bytes], manifest: Manifest
+) -> bool:
+    """Make manifest and summary again from session and output; say where they differ."""
+    try:
+        again = bundle_files(files[SESSION], files[OUTPUT], manifest)
+    except KeyError:
+        what = f"the session has no period {manifest.period}"
+        audit.add("wrong", f"{path}!{MANIFEST}: {what}, which is said to be archived")
+        return False
+    except (Fault, ValueError) as fault:
+        audit.add("wrong", f"{path}!{OUTPUT}: {str(fault).removeprefix(OUTPUT + ': ')}")
+        return False
+    same = True
+    for name in (SUMMARY, MANIFEST):
+        if files[name] != again[name]:
+            line, stated, found = differs_at(files[name], again[name])
+            what = f"line {line}: {stated} stands there, and {found} follows from the other files"
+            audit.add("wrong", f"{path}!{name}: {what}")
+            same = False
+    return same
+
+
+# ---- a report and its session
+
+
+def run_again(audit: Audit, given: Given, program: str | None, prog: str) -> None:
+    """Run the program again, and compare what it writes."""
+    found = find_program(program)
+    own = digest(found.read_bytes())
+    if given.program and own != given.program:
+        what = f"the program that is run here has the SHA-256 {own}, and that of the manifest has"
+        audit.add("note", f"{given.source}: {what} {given.program}: it is another build or version")
+    try:
+        with Progress(prog, given.data) as progress:
+            written = call(given.words, given.data, program=found, watch=progress.watch())[1]
+    except ProgramFault as fault:
+        audit.add("wrong", f"{given.session}: {fault}")
+        return
+    if written == given.output:
+        what = f"plantbal {' '.join(given.words)} writes the same bytes of the session again"
+        audit.add("good", f"{given.report}: {what}")
+        return
+    line, stated, wanted = differs_at(given.output, written)
+    what = f"line {line}: {stated} stands there, and plantbal {' '.join(given.words)} writes {wanted}"
+    audit.add("wrong", f"{given.report}: {what}: the report or the session was changed")
+
+
+def check_twice(audit: Audit, given: Given, program: str | None, with_program: bool) -> list[str]:
+    """Check a report by the program and in plain Python, and return the verdict on each block."""
+    rows = list(checker.findings(given.output))
+    said = "".join(f"{','.join(row)}\n" for row in rows).encode("ascii")
+    if with_program:
+        other = call(["check"], given.output, program=program)[1]
+        if other != said:
+            line, mine, its = differs_at(said, other)
+            what = f"finding {line}: the checker in plain Python says {mine}, plantbal check {its}"
+            audit.add("wrong", f"{given.report}: {what}: one of the two is wrong; report it")
+    if not rows:
+        audit.add("wrong", f"{given.report}: there is no block to check: no report was asked for")
+    if any(row[0] != "yes" for row in rows):
+        for told in explain_check(given.report, given.output, said=said).rows:
+            audit.add("wrong", f"{told.headline}")
+    return [row[0] for row in rows]
+
+
+def hold(audit: Audit, given: Given, verdicts: list[str]) -> None:
+    """Hold a report against its session, and say of each block what holds."""
+    ledger = Ledger(given.session, given.data)
+    for each in refused_differ(given.output, ledger):
+        audit.add("wrong", _at(given, each.line, each.text))
+    seen, answers = ledger.seen, answers_of(given.output)
+    if len(seen) != len(answers):
+        what = f"the session asks for {len(seen)} reports, and the output has {len(answers)}"
+        audit.add("wrong", f"{given.report}: {what}")
+    faults: dict[int, int] = {}
+    for pair in map(Pair, seen, answers):
+        for each in pair.differ():
+            faults[id(pair.answer)] = faults.get(id(pair.answer), 0) + 1
+            audit.add("wrong", _at(given, each.line, each.text))
+        if pair.answer.over is not None:
+            stream = pair.answer.over.fields[-1]
+            what = f"period {pair.seen.period.name} has no report: the total of {stream} is beyond"
+            audit.add("note", f"{given.report}: {what} the limits")
+    try:
+        output = parse_report(given.output.decode("utf-8"), given.report)
+    except (InputFault, ValueError):
+        return  # the check has said why
+    owners = [(pair, n) for pair in map(Pair, seen, answers) for n in range(len(pair.answer.blocks))]
+    for number, (block, name, last) in enumerate(blocks_named(output)):
+        held = verdicts[number : number + 1] == ["yes"] and number < len(owners)
+        if not held or id(owners[number][0].answer) in faults:
+            continue
+        measured = sum(bool(row["value"]) for row in block.streams)
+        tests = len(block.nodal) + len(block.measure) + (block.whole is not None)
+        values = f"its {measured} values and variances"
+        values += f" and the critical values of its {tests} tests" if tests else ""
+        book = "this is the last report of the period" if last else "a later report of it follows"
+        what = f"flows balance, and both checks say yes; {values} are those of the session"
+        audit.add("good", f"{name}: {what}; {said_of(block)}; {book}")
+        if last and (block.whole or {}).get("verdict") == "reject":
+            audit.add("note", f"{name}: the global test rejects: some meter is wrong, or the plant")
+        if last and block.period not in ledger.closed:
+            audit.add("note", f"period {block.period} isn't closed: rows may still be added to it")
+    _refused(audit, given, ledger)
+
+
+def _at(given: Given, line: int, text: str) -> str:
+    """Return a sentence with its place in the report."""
+    return f"{given.report}: line {line}: {text}" if line else f"{given.report}: {text}"
+
+
+def _refused(audit: Audit, given: Given, ledger: Ledger) -> None:
+    """Say how many rows of the session are refused."""
+    if not ledger.refused:
+        audit.add("good", f"{given.session}: 0 rows refused")
+    for refusal in ledger.refused:
+        refusal.place = Place(file=given.session, line=refusal.place.line)
+        audit.add("note", f"{refusal}: the reports are made without this row")
+
+
+# ---- the command
+
+
+def add_arguments(parser: argparse.ArgumentParser) -> None:
+    """Add the words of the command."""
+    parser.add_argument("report", metavar="BUNDLE|REPORT")
+    parser.add_argument("session", metavar="SESSION", nargs="?")
+    parser.add_argument("--words", metavar="WORDS", help="the words of the run, as one word")
+    parser.add_argument("--no-program", action="store_true", help="don't run the program")
+    parser.add_argument("--strict", action="store_true", help="status 1 on notes too")
+    parser.add_argument("--program", metavar="PATH", help="the program")
+
+
+def given_of(audit: Audit, options: argparse.Namespace) -> Given:
+    """Return what is audited, by the words of the command."""
+    if options.session is None:
+        if not read_bytes(options.report)[1].startswith(b"PK"):
+            raise Fault(
+                f"{options.report} is no bundle",
+                text=options.report,
+                remedy="name its session too: plantbal-desk audit REPORT SESSION",
+            )
+        return given_of_bundle(audit, options.report)
+    report, output = read_bytes(options.report)
+    session, data = read_bytes(options.session)
+    parsed = None
+    if output.lstrip().startswith(b"{") or not options.words:
+        try:
+            parsed = parse_report(output.decode("utf-8"), report)
+        except UnicodeDecodeError as error:
+            raise InputFault("this is no UTF-8 text", place=Place(file=report)) from error
+    if parsed is not None and output.lstrip().startswith(b"{"):
+        output = parsed.to_csv().encode("utf-8")
+        report = f"{report} (as CSV)"
+    words = words_read(options.words) if options.words else words_shown(parsed or Output([]))
+    return Given(report, report, session, output, data, words)
+
+
+def run(options: argparse.Namespace) -> int:
+    """Audit, and return the status."""
+    audit = Audit()
+    if not options.no_program:
+        find_program(options.program)
+    given = given_of(audit, options)
+    if options.no_program:
+        audit.add("note", f"{given.report}: the program wasn't run: the report may be that of others")
+    else:
+        run_again(audit, given, options.program, options.prog)
+    verdicts = check_twice(audit, given, options.program, not options.no_program)
+    hold(audit, given, verdicts)
+    wrong, notes = audit.count("wrong"), audit.count("note")
+    end = f"{wrong} thing{'' if wrong == 1 else 's'} wrong" if wrong else "everything holds"
+    print(f"{given.source}: {end}, with {notes} note{'' if notes == 1 else 's'}{given.sum}")
+    return 1 if wrong or (options.strict and notes) else 0
