@@ -5,7 +5,7 @@ from __future__ import annotations
 import argparse
 import re
 import shlex
-from collections.abc import Iterator, Mapping
+from collections.abc import Collection, Iterator, Mapping
 from dataclasses import dataclass, field
 from itertools import zip_longest
 
@@ -22,7 +22,7 @@ from plantbal.bundle import (
     digest,
     unpacked,
 )
-from plantbal.faults import Fault, InputFault, Place, ProgramFault, read_bytes
+from plantbal.faults import Fault, InputFault, Place, ProgramFault, ToolMissing, read_bytes
 from plantbal.held import Ledger, Pair, answers_of, refused_differ
 from plantbal.output import Output, parse_report
 from plantbal.program import call, find_program
@@ -162,52 +162,83 @@ def given_of_bundle(audit: Audit, path: str) -> Given:
     changed = set(_digest_faults(audit, path, files))
     manifest = _manifest(audit, path, files)
     if manifest is None:
-        words = words_shown(parse_report(files[OUTPUT].decode("utf-8", "replace"), f"{path}!{OUTPUT}"))
-        return Given(path, f"{path}!{OUTPUT}", f"{path}!{SESSION}", files[OUTPUT], files[SESSION], words)
-    same = _made_again(audit, path, files, manifest)
-    if not changed and same:
-        audit.add("good", f"{path}: the digests of its {len(NAMES) - 1} files hold, and manifest and "
-                  "summary are those of the session and the output")
+        _manifest_digest(audit, path, files, True)
+        report = parse_report(files[OUTPUT].decode("utf-8", "replace"), f"{path}!{OUTPUT}")
+        return _given(path, files, words_shown(report))
+    other = _made_again(audit, path, files, manifest, changed)
+    same = _manifest_digest(audit, path, files, bool(other)) and not other
+    if same and not changed:
+        what = f"the digests of its {len(NAMES) - 1} files hold"
+        rest = "manifest and summary are those of the session and the output"
+        audit.add("good", f"{path}: {what}, and {rest}")
+    words = words_read(manifest.words)
+    return _given(path, files, words, manifest.program.get("sha256", ""))
+
+
+def _given(path: str, files: Mapping[str, bytes], words: list[str], program: str = "") -> Given:
+    """Return what a bundle has, as it is audited."""
     return Given(
         path,
         f"{path}!{OUTPUT}",
         f"{path}!{SESSION}",
         files[OUTPUT],
         files[SESSION],
-        words_read(manifest.words),
-        manifest.program.get("sha256", ""),
+        words,
+        program,
         f"; its SHA-256 is {digest(read_bytes(path)[1])}",
     )
 
 
+def _digests(files: Mapping[str, bytes]) -> dict[str, tuple[int, str]]:
+    """Return the line and the digest that a bundle has of each file."""
+    lines = files[DIGESTS].decode("ascii", "replace").split("\n")
+    found = {}
+    for number, line in enumerate(lines, 1):
+        said, _, name = line.partition("  ")
+        found[name] = number, said
+    return found
+
+
 def _digest_faults(audit: Audit, path: str, files: Mapping[str, bytes]) -> Iterator[str]:
-    """Say which files have other digests than the bundle says, and give their names."""
-    stated = {}
+    """Say of each file but the manifest whether its digest is another one, and give its name."""
+    stated = _digests(files)
     for number, line in enumerate(files[DIGESTS].decode("ascii", "replace").split("\n"), 1):
-        sum_, _, name = line.partition("  ")
-        if line and (name not in NAMES or name in stated or not re.fullmatch("[0-9a-f]{64}", sum_)):
-            audit.add("wrong", f"{path}!{DIGESTS}: line {number}: {line[:_SHORT]!r} is no digest of "
-                      "a file of the bundle")
+        if line and line.partition("  ")[2] not in NAMES[:-1]:
+            what = f"line {number}: {line[:_SHORT]!r} is no digest of a file of the bundle"
+            audit.add("wrong", f"{path}!{DIGESTS}: {what}")
             yield DIGESTS
-        elif line:
-            stated[name] = sum_, number
     inner = files[MANIFEST].decode("utf-8", "replace")
-    for name in NAMES[:-1]:
-        found = digest(files[name])
-        sum_, number = stated.get(name, ("", 0))
-        if sum_ == found:
+    for name in (SESSION, OUTPUT, SUMMARY):
+        found, (number, said) = digest(files[name]), stated.get(name, (0, ""))
+        if said == found:
             continue
-        if name != MANIFEST and found in inner:
-            what = f"line {number}: this isn't the digest of {name}, and the manifest has the right one"
-            audit.add("wrong", f"{path}!{DIGESTS}: {what}: a digest was changed")
+        if found in inner:
+            what = f"line {number}: this isn't" if number else "there is no line with"
+            rest = f"the digest of {name}, which stands in the manifest"
+            audit.add("wrong", f"{path}!{DIGESTS}: {what} {rest}: a digest was changed")
             yield DIGESTS
-        elif sum_:
-            what = f"its SHA-256 is {found}, and line {number} of {DIGESTS} says {sum_}"
-            audit.add("wrong", f"{path}!{name}: {what}: the file was changed, or the digest")
-            yield name
         else:
-            audit.add("wrong", f"{path}!{DIGESTS}: the digest of {name} lacks")
-            yield DIGESTS
+            what = f"its SHA-256 is {found}, and line {number} of {DIGESTS} says {said}"
+            audit.add("wrong", f"{path}!{name}: {what}: the file was changed")
+            yield name
+
+
+def _manifest_digest(
+    audit: Audit, path: str, files: Mapping[str, bytes], differs: bool
+) -> bool:
+    """Say whether the manifest's digest is another one; whether it differs from the rest says which."""
+    number, said = _digests(files).get(MANIFEST, (0, ""))
+    found = digest(files[MANIFEST])
+    if said == found:
+        return True
+    if differs:
+        what = f"its SHA-256 is {found}, and line {number} of {DIGESTS} says {said}"
+        audit.add("wrong", f"{path}!{MANIFEST}: {what}: the file was changed")
+    else:
+        what = f"line {number}: this isn't" if number else "there is no line with"
+        rest = f"the digest of {MANIFEST}, which agrees with all other files"
+        audit.add("wrong", f"{path}!{DIGESTS}: {what} {rest}: a digest was changed")
+    return False
 
 
 def _manifest(audit: Audit, path: str, files: Mapping[str, bytes]) -> Manifest | None:
@@ -223,26 +254,32 @@ def _manifest(audit: Audit, path: str, files: Mapping[str, bytes]) -> Manifest |
 
 
 def _made_again(
-    audit: Audit, path: str, files: Mapping[str, bytes], manifest: Manifest
-) -> bool:
-    """Make manifest and summary again from session and output; say where they differ."""
+    audit: Audit,
+    path: str,
+    files: Mapping[str, bytes],
+    manifest: Manifest,
+    changed: Collection[str],
+) -> list[str]:
+    """Make manifest and summary again from session and output, and return those that differ.
+
+    Where they differ since the session or the output was changed, this was said already.
+    """
     try:
         again = bundle_files(files[SESSION], files[OUTPUT], manifest)
     except KeyError:
         what = f"the session has no period {manifest.period}"
         audit.add("wrong", f"{path}!{MANIFEST}: {what}, which is said to be archived")
-        return False
+        return [MANIFEST]
     except (Fault, ValueError) as fault:
         audit.add("wrong", f"{path}!{OUTPUT}: {str(fault).removeprefix(OUTPUT + ': ')}")
-        return False
-    same = True
-    for name in (SUMMARY, MANIFEST):
-        if files[name] != again[name]:
+        return [OUTPUT]
+    differ = [name for name in (SUMMARY, MANIFEST) if files[name] != again[name]]
+    for name in differ:
+        if name in changed or not {SESSION, OUTPUT} & set(changed):
             line, stated, found = differs_at(files[name], again[name])
             what = f"line {line}: {stated} stands there, and {found} follows from the other files"
             audit.add("wrong", f"{path}!{name}: {what}")
-            same = False
-    return same
+    return differ
 
 
 # ---- a report and its session
@@ -288,7 +325,7 @@ def check_twice(audit: Audit, given: Given, program: str | None, with_program: b
     return [row[0] for row in rows]
 
 
-def hold(audit: Audit, given: Given, verdicts: list[str]) -> None:
+def hold(audit: Audit, given: Given, verdicts: list[str], checks: str) -> None:
     """Hold a report against its session, and say of each block what holds."""
     ledger = Ledger(given.session, given.data)
     for each in refused_differ(given.output, ledger):
@@ -320,7 +357,7 @@ def hold(audit: Audit, given: Given, verdicts: list[str]) -> None:
         values = f"its {measured} values and variances"
         values += f" and the critical values of its {tests} tests" if tests else ""
         book = "this is the last report of the period" if last else "a later report of it follows"
-        what = f"flows balance, and both checks say yes; {values} are those of the session"
+        what = f"flows balance, and {checks}; {values} are those of the session"
         audit.add("good", f"{name}: {what}; {said_of(block)}; {book}")
         if last and (block.whole or {}).get("verdict") == "reject":
             audit.add("note", f"{name}: the global test rejects: some meter is wrong, or the plant")
@@ -385,14 +422,23 @@ def run(options: argparse.Namespace) -> int:
     """Audit, and return the status."""
     audit = Audit()
     if not options.no_program:
-        find_program(options.program)
+        try:
+            find_program(options.program)
+        except ToolMissing as fault:
+            fault.remedy += "; or say --no-program"
+            raise
     given = given_of(audit, options)
+    usual = words_of(tests=False, eliminate=0, gap=10, sweeps=5000)
+    if not options.words and options.session and given.words[: len(usual)] != usual:
+        what = f"the report was asked for with {' '.join(given.words[1:])}, and {' '.join(usual[1:])}"
+        audit.add("note", f"{given.report}: {what} are usual: see whether this was meant")
     if options.no_program:
         audit.add("note", f"{given.report}: the program wasn't run: the report may be that of others")
     else:
         run_again(audit, given, options.program, options.prog)
     verdicts = check_twice(audit, given, options.program, not options.no_program)
-    hold(audit, given, verdicts)
+    checks = "the checker in plain Python says yes" if options.no_program else "both checks say yes"
+    hold(audit, given, verdicts, checks)
     wrong, notes = audit.count("wrong"), audit.count("note")
     end = f"{wrong} thing{'' if wrong == 1 else 's'} wrong" if wrong else "everything holds"
     print(f"{given.source}: {end}, with {notes} note{'' if notes == 1 else 's'}{given.sum}")

@@ -242,8 +242,9 @@ def block_differs(block: list[Record], seen: Seen, taken: list[str]) -> Iterator
     nodes = [record for record in block if record.fields[0] == "node"]
     streams = [record for record in block if record.fields[0] == "stream"]
     for record, name in zip(nodes, seen.nodes):
-        if record.fields[1] != name:
-            yield Differs(record.line, f"node {record.fields[1]} stands where the session has {name}")
+        said = columns_of(record).get("name", "")
+        if said != name:
+            yield Differs(record.line, f"node {said} stands where the session has {name}")
     if len(nodes) != len(seen.nodes):
         what = f"the block has {len(nodes)} nodes, and the session {len(seen.nodes)}"
         yield Differs(block[0].line, what)
@@ -273,6 +274,8 @@ def _stream_differs(
     ):
         found = None if taken else found
         stated = number_of(row.get(column, ""))
+        if column == "variance" and (row.get("value") == "") != (found is None):
+            continue  # the value said it
         if stated != found:
             why = "it was taken out" if taken else f"{measured.facts()} gives {grams(found)}"
             end = "" if taken or found is None else unit
