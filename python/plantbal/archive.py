@@ -1,4 +1,4 @@
-"""Puts a month into a bundle: its session, its output, a summary, and a manifest with their digests."""
+"""Puts a month into a bundle: its session, its output, a summary, a manifest and digests."""
 
 from __future__ import annotations
 
@@ -36,15 +36,15 @@ SESSION is a file; `-` is standard input. The program is run, and the bundle is 
   session.csv    the session, byte for byte
   output.csv     what the program writes of it
   summary.txt    what a person has to know, and the flows of the period in tonnes
-  manifest.json  the period, its days, the time, the words, the program's digest and version, and the
-                 digest of each file
+  manifest.json  the period, its days, the time, the words, the program's digest and version,
+                 and the digest of each file
   SHA256SUMS     the digests of all these, for `sha256sum --check`
 
-The same session, words, program and time give the same bytes. The time is that of --time, else that of
-the variable SOURCE_DATE_EPOCH, else now. A bundle that is there already isn't written over.
+The same session, words, program and time give the same bytes. The time is that of --time, else that
+of the variable SOURCE_DATE_EPOCH, else now. A bundle that is there already isn't written over.
 
-The status is 1 if a person has to look (a row is refused, no report, not converged, a global test that
-rejects), 2 to 6 as the program's. The bundle is written all the same, if there is a report.
+The status is 1 if a person has to look (a row is refused, a report isn't converged, a global test
+rejects), and 2 to 6 as the program's. The bundle is written all the same, if there is a report.
 
 examples:
   plantbal-desk archive plant.csv --period 2024-04
@@ -147,7 +147,7 @@ def period_of(output: Output, wanted: str | None) -> str:
 
 
 def bundle_files(session: bytes, output: bytes, stated: Manifest) -> dict[str, bytes]:
-    """Return the files of a bundle, of which plant, period, time, words, program and desk are stated."""
+    """Return the files of a bundle; plant, period, time, words, program and desk are stated."""
     ledger, report = Ledger(SESSION, session), parse_report(output.decode("utf-8"), OUTPUT)
     files = {SESSION: session, OUTPUT: output}
     said = {
@@ -171,7 +171,9 @@ def add_arguments(parser: argparse.ArgumentParser) -> None:
     parser.add_argument("--period", metavar="NAME", help="without it the one reported last")
     parser.add_argument("--plant", metavar="NAME", help="without it the name of the file")
     parser.add_argument("--out", metavar="FILE", help="without it PLANT_PERIOD.zip")
-    parser.add_argument("--time", metavar="TIME", help="such as 2024-05-02T06:00:00Z; now without it")
+    parser.add_argument(
+        "--time", metavar="TIME", help="such as 2024-05-02T06:00:00Z; now without it"
+    )
     parser.add_argument("--gap", metavar="N", type=int, default=10, help="10 without it")
     parser.add_argument("--sweeps", metavar="N", type=int, default=5000, help="5,000 without it")
     parser.add_argument("--no-tests", action="store_true", help="make no tests")

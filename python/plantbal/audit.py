@@ -1,13 +1,13 @@
-"""Says of a bundle, or of a report and its session, in sentences whether all of it holds together."""
+"""Says in sentences whether a bundle holds together, or a report and its session."""
 
 from __future__ import annotations
 
 import argparse
 import re
-import shlex
 from collections.abc import Collection, Iterator, Mapping
 from dataclasses import dataclass, field
 from itertools import zip_longest
+from os.path import commonprefix
 
 from plantbal import checker
 from plantbal.archive import bundle_files, words_of
@@ -23,29 +23,29 @@ from plantbal.bundle import (
     unpacked,
 )
 from plantbal.faults import Fault, InputFault, Place, ProgramFault, ToolMissing, read_bytes
-from plantbal.held import Ledger, Pair, answers_of, refused_differ
+from plantbal.held import Ledger, Pair, answers_of, number_of, refused_differ
 from plantbal.output import Output, parse_report
 from plantbal.program import call, find_program
 from plantbal.progress import Progress
+from plantbal.report import Block
 from plantbal.summary import blocks_named, said_of
 from plantbal.verdicts import explain_check
 
 HELP = """
-BUNDLE is what `plantbal-desk archive` wrote; or REPORT is an output of the program, as CSV or as JSON
-lines, and SESSION its session. In this order:
+BUNDLE is what `plantbal-desk archive` wrote; or REPORT is an output of the program, as CSV or as
+JSON lines, and SESSION its session. In this order:
 
-  the digests of the files are compared, and each item of the manifest and each line of the summary is
-  made again from the session and the output
+  the digests of the files are compared; manifest and summary are made again and compared
   the program is run again with the same words, and its output is compared byte for byte
   the report is checked by `plantbal check`, and by the checker in plain Python
-  the report is held against the session: its plant, the value and the variance of each stream, critical
-  values, refused rows, and which block is the last of its period
+  the report is held against the session: its plant, the value and the variance of each stream,
+  critical values, refused rows, and which block is the last of its period
 
-Each sentence begins with `good:`, `note:` (a person may want to know it) or `wrong:` (it doesn't hold).
-Without a bundle the words are those that the report shows, or those of --words.
+Each sentence begins with `good:`, `note:` (a person may want to know it) or `wrong:` (it doesn't
+hold). Without a bundle the words are those of --words, or else those that the report shows.
 
-With --no-program the program isn't run: then nothing needs to be built, and the checker in plain Python
-and the comparison with the session remain.
+With --no-program the program isn't run, so it needn't be there; the checker in plain Python and the
+comparison with the session remain.
 
 The status is 1 if anything is wrong, with --strict also if there is a note, else 0.
 
@@ -92,20 +92,38 @@ class Given:
     sum: str = ""
 
 
-def differs_at(one: bytes, other: bytes) -> tuple[int, str, str]:
-    """Return the number of the first line in which two texts differ, and both lines as quoted."""
+@dataclass(frozen=True, slots=True)
+class Difference:
+    """Where two texts differ first: the line, the character, and both texts about it."""
+
+    line: int
+    character: int
+    one: str
+    other: str
+
+    @property
+    def place(self) -> str:
+        """The place in words."""
+        return f"line {self.line}, character {self.character}"
+
+
+def differs_at(one: bytes, other: bytes) -> Difference:
+    """Return where two texts differ first."""
     for number, pair in enumerate(zip_longest(one.split(b"\n"), other.split(b"\n")), 1):
         if pair[0] != pair[1]:
-            return number, _shown(pair[0]), _shown(pair[1])
-    return 0, "nothing", "nothing"
+            lines = [(line or b"").decode("utf-8", "backslashreplace") for line in pair]
+            begin = len(commonprefix(lines))
+            return Difference(number, begin + 1, *(_shown(line, begin) for line in lines))
+    return Difference(0, 0, "", "")
 
 
-def _shown(line: bytes | None) -> str:
-    """Return a line as it is quoted."""
+def _shown(line: str, at: int) -> str:
+    """Return a line as it is quoted: a long one about a place."""
     if not line:
         return "nothing"
-    text = line.decode("utf-8", "backslashreplace").rstrip("\r")
-    return f"'{text}'" if len(text) <= _SHORT else f"'{text[:_SHORT]}..'"
+    begin = max(0, at - _SHORT // 2) if len(line) > _SHORT else 0
+    end = begin + _SHORT
+    return f"'{'..' if begin else ''}{line[begin:end]}{'..' if len(line) > end else ''}'"
 
 
 # ---- the words
@@ -119,7 +137,7 @@ def words_read(text: str) -> list[str]:
     Fault
         If they are no words of a run: nothing else is ever run.
     """
-    words = shlex.split(text)
+    words = text.split()
     rest = " ".join(words[1:])
     known = r"(--tests|--(gap|sweeps|eliminate) [0-9]{1,7})"
     if words[:1] != ["run"] or not re.fullmatch(rf"({known}( |$))*", rest):
@@ -139,12 +157,12 @@ def words_shown(output: Output) -> list[str]:
     head = blocks[0].head
     stops = [row for row in output.rows if row["row"] == "stop"]
     # An elimination that ended by itself is the same with more rounds allowed.
-    spent = [int(row["rounds"]) for row in stops if row["reason"] == "spent"]
+    spent = [number_of(row["rounds"]) for row in stops if row["reason"] == "spent"]
     return words_of(
         tests=blocks[0].whole is not None,
-        eliminate=(spent[0] if spent else 20) if stops else 0,
-        gap=int(head["gap"]),
-        sweeps=int(head["sweeps"]),
+        eliminate=((spent[0] if spent else 20) or 0) if stops else 0,
+        gap=number_of(head["gap"]) or 0,
+        sweeps=number_of(head["sweeps"]) or 0,
     )
 
 
@@ -223,10 +241,8 @@ def _digest_faults(audit: Audit, path: str, files: Mapping[str, bytes]) -> Itera
             yield name
 
 
-def _manifest_digest(
-    audit: Audit, path: str, files: Mapping[str, bytes], differs: bool
-) -> bool:
-    """Say whether the manifest's digest is another one; whether it differs from the rest says which."""
+def _manifest_digest(audit: Audit, path: str, files: Mapping[str, bytes], differs: bool) -> bool:
+    """Say whether the manifest's digest is another one, and return whether it isn't."""
     number, said = _digests(files).get(MANIFEST, (0, ""))
     found = digest(files[MANIFEST])
     if said == found:
@@ -276,9 +292,9 @@ def _made_again(
     differ = [name for name in (SUMMARY, MANIFEST) if files[name] != again[name]]
     for name in differ:
         if name in changed or not {SESSION, OUTPUT} & set(changed):
-            line, stated, found = differs_at(files[name], again[name])
-            what = f"line {line}: {stated} stands there, and {found} follows from the other files"
-            audit.add("wrong", f"{path}!{name}: {what}")
+            found = differs_at(files[name], again[name])
+            what = f"{found.one} stands there, and {found.other} follows from the other files"
+            audit.add("wrong", f"{path}!{name}: {found.place}: {what}")
     return differ
 
 
@@ -302,9 +318,12 @@ def run_again(audit: Audit, given: Given, program: str | None, prog: str) -> Non
         what = f"plantbal {' '.join(given.words)} writes the same bytes of the session again"
         audit.add("good", f"{given.report}: {what}")
         return
-    line, stated, wanted = differs_at(given.output, written)
-    what = f"line {line}: {stated} stands there, and plantbal {' '.join(given.words)} writes {wanted}"
-    audit.add("wrong", f"{given.report}: {what}: the report or the session was changed")
+    differs = differs_at(given.output, written)
+    what = (
+        f"{differs.one} stands there, and plantbal {' '.join(given.words)} writes {differs.other}"
+    )
+    rest = "the report or the session was changed, or the report was asked for with other words"
+    audit.add("wrong", f"{given.report}: {differs.place}: {what}: {rest}")
 
 
 def check_twice(audit: Audit, given: Given, program: str | None, with_program: bool) -> list[str]:
@@ -314,9 +333,9 @@ def check_twice(audit: Audit, given: Given, program: str | None, with_program: b
     if with_program:
         other = call(["check"], given.output, program=program)[1]
         if other != said:
-            line, mine, its = differs_at(said, other)
-            what = f"finding {line}: the checker in plain Python says {mine}, plantbal check {its}"
-            audit.add("wrong", f"{given.report}: {what}: one of the two is wrong; report it")
+            found = differs_at(said, other)
+            what = f"the checker in plain Python says {found.one}, and plantbal check {found.other}"
+            audit.add("wrong", f"{given.report}: finding {found.line}: {what}: one of the two errs")
     if not rows:
         audit.add("wrong", f"{given.report}: there is no block to check: no report was asked for")
     if any(row[0] != "yes" for row in rows):
@@ -330,40 +349,61 @@ def hold(audit: Audit, given: Given, verdicts: list[str], checks: str) -> None:
     ledger = Ledger(given.session, given.data)
     for each in refused_differ(given.output, ledger):
         audit.add("wrong", _at(given, each.line, each.text))
-    seen, answers = ledger.seen, answers_of(given.output)
-    if len(seen) != len(answers):
-        what = f"the session asks for {len(seen)} reports, and the output has {len(answers)}"
+    answers = answers_of(given.output)
+    if len(ledger.seen) != len(answers):
+        what = f"the session asks for {len(ledger.seen)} reports, and the output has {len(answers)}"
         audit.add("wrong", f"{given.report}: {what}")
-    faults: dict[int, int] = {}
-    for pair in map(Pair, seen, answers):
-        for each in pair.differ():
-            faults[id(pair.answer)] = faults.get(id(pair.answer), 0) + 1
-            audit.add("wrong", _at(given, each.line, each.text))
-        if pair.answer.over is not None:
-            stream = pair.answer.over.fields[-1]
-            what = f"period {pair.seen.period.name} has no report: the total of {stream} is beyond"
-            audit.add("note", f"{given.report}: {what} the limits")
+    held: list[bool] = []
+    for pair in map(Pair, ledger.seen, answers):
+        held += _pair_held(audit, given, pair)
     try:
         output = parse_report(given.output.decode("utf-8"), given.report)
     except (InputFault, ValueError):
         return  # the check has said why
-    owners = [(pair, n) for pair in map(Pair, seen, answers) for n in range(len(pair.answer.blocks))]
-    for number, (block, name, last) in enumerate(blocks_named(output)):
-        held = verdicts[number : number + 1] == ["yes"] and number < len(owners)
-        if not held or id(owners[number][0].answer) in faults:
-            continue
-        measured = sum(bool(row["value"]) for row in block.streams)
-        tests = len(block.nodal) + len(block.measure) + (block.whole is not None)
-        values = f"its {measured} values and variances"
-        values += f" and the critical values of its {tests} tests" if tests else ""
-        book = "this is the last report of the period" if last else "a later report of it follows"
-        what = f"flows balance, and {checks}; {values} are those of the session"
-        audit.add("good", f"{name}: {what}; {said_of(block)}; {book}")
-        if last and (block.whole or {}).get("verdict") == "reject":
-            audit.add("note", f"{name}: the global test rejects: some meter is wrong, or the plant")
-        if last and block.period not in ledger.closed:
-            audit.add("note", f"period {block.period} isn't closed: rows may still be added to it")
+    good = [one == "yes" and other for one, other in zip(verdicts, held)]
+    for holds, (block, name, last) in zip(good, blocks_named(output)):
+        if holds:
+            _block_holds(audit, ledger, block, Named(name, last, checks))
     _refused(audit, given, ledger)
+
+
+def _pair_held(audit: Audit, given: Given, pair: Pair) -> list[bool]:
+    """Hold an answer against what its `report` row saw; return of each block whether it holds."""
+    differ = list(pair.differ())
+    for each in differ:
+        audit.add("wrong", _at(given, each.line, each.text))
+    if pair.answer.over is not None:
+        stream = pair.answer.over.fields[-1]
+        what = f"period {pair.seen.period.name} has no report: the total of {stream} is beyond"
+        audit.add("note", f"{given.report}: {what} the limits")
+    return [not differ] * len(pair.answer.blocks)
+
+
+@dataclass(frozen=True, slots=True)
+class Named:
+    """How a block is called, whether it is its period's last, and what the checks say of it."""
+
+    name: str
+    last: bool
+    checks: str
+
+
+def _block_holds(audit: Audit, ledger: Ledger, block: Block, named: Named) -> None:
+    """Say of a block that it holds, and what is to be noted of it."""
+    measured = sum(bool(row["value"]) for row in block.streams)
+    tests = len(block.nodal) + len(block.measure) + (block.whole is not None)
+    values = f"its {measured} measured values and variances"
+    values += f" and the critical values of its {tests} tests" if tests else ""
+    book = "this is the last report of the period" if named.last else "a later report follows"
+    what = f"flows balance, and {named.checks}; {values} are those of the session"
+    audit.add("good", f"{named.name}: {what}; {said_of(block)}; {book}")
+    if not named.last:
+        return
+    if (block.whole or {}).get("verdict") == "reject":
+        what = "the global test rejects: the measurements don't fit together"
+        audit.add("note", f"{named.name}: {what}")
+    if block.period not in ledger.closed:
+        audit.add("note", f"period {block.period} isn't closed: rows may still be added to it")
 
 
 def _at(given: Given, line: int, text: str) -> str:
@@ -402,6 +442,9 @@ def given_of(audit: Audit, options: argparse.Namespace) -> Given:
                 text=options.report,
                 remedy="name its session too: plantbal-desk audit REPORT SESSION",
             )
+        if options.words:
+            remedy = "leave --words out: a bundle has its own"
+            raise Fault("--words is for a report and its session", remedy=remedy)
         return given_of_bundle(audit, options.report)
     report, output = read_bytes(options.report)
     session, data = read_bytes(options.session)
@@ -430,10 +473,14 @@ def run(options: argparse.Namespace) -> int:
     given = given_of(audit, options)
     usual = words_of(tests=False, eliminate=0, gap=10, sweeps=5000)
     if not options.words and options.session and given.words[: len(usual)] != usual:
-        what = f"the report was asked for with {' '.join(given.words[1:])}, and {' '.join(usual[1:])}"
+        what = (
+            f"the report was asked for with {' '.join(given.words[1:])}, and {' '.join(usual[1:])}"
+        )
         audit.add("note", f"{given.report}: {what} are usual: see whether this was meant")
     if options.no_program:
-        audit.add("note", f"{given.report}: the program wasn't run: the report may be that of others")
+        audit.add(
+            "note", f"{given.report}: the program wasn't run: the report may be that of others"
+        )
     else:
         run_again(audit, given, options.program, options.prog)
     verdicts = check_twice(audit, given, options.program, not options.no_program)

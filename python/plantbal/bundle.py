@@ -1,4 +1,4 @@
-"""The bundle of a month: a zip with the session, the output, a summary, a manifest and their digests."""
+"""The bundle of a month: a zip of session, output, summary, manifest and digests."""
 
 from __future__ import annotations
 
@@ -111,9 +111,7 @@ class Manifest:
             place = Place(file=MANIFEST, line=getattr(error, "lineno", None))
             raise InputFault(f"this isn't JSON: {error}", place=place) from error
         wanted: dict[str, type | tuple[type, type]] = {
-            **dict.fromkeys(
-                ("plant", "period", "first", "last", "made", "words", "desk"), str
-            ),
+            **dict.fromkeys(("plant", "period", "first", "last", "made", "words", "desk"), str),
             **dict.fromkeys(("archive", "refused"), int),
             **dict.fromkeys(("program", "files"), dict),
             "reports": list,

@@ -3,10 +3,10 @@
 
     python3 checker.py < report.csv
 
-It makes the tests that `plantbal check` makes, and writes the same rows: yes, no or unreadable. It is
-written from docs/GUIDE.md and docs/FORMAT.md, is a file by itself, and needs Python alone. Every number
-is a whole number or a fraction. The status is 0 if each block gets a yes, and 1 if one doesn't, if a row
-can't be read, or if there is no block.
+It makes the tests that `plantbal check` makes, and writes the same rows: yes, no or unreadable. It
+is written from docs/GUIDE.md and docs/FORMAT.md, is a file by itself, and needs Python alone. Every
+number is a whole number or a fraction. The status is 0 if each block gets a yes, and 1 if one
+doesn't, if a row can't be read, or if there is no block.
 """
 
 from __future__ import annotations
@@ -130,7 +130,8 @@ class Block:
     def dual_flows(self) -> list[int]:
         """The flow that the prices give each measured stream, in 2^-56 g; 0 for the others."""
         return [
-            0 if s.value is None else s.value * GRAM + s.variance * self.rise(s) for s in self.streams
+            0 if s.value is None else s.value * GRAM + s.variance * self.rise(s)
+            for s in self.streams
         ]
 
     def rise(self, stream: Stream) -> int:
@@ -151,7 +152,7 @@ class Block:
         return [(j, -own * sign) for j, sign in self.streams[place].parts if j != place]
 
     def half_width(self, members: list[Member]) -> int:
-        """Return how far the bounds of a sum reach: the gap times its standard deviation, rounded up."""
+        """Return how far the bounds of a sum reach: the gap times its standard deviation."""
         if not members:
             return 0
         root = scaled_root(sum(self.streams[j].variance for j, _ in members)) + 1
@@ -192,7 +193,7 @@ def scaled_root(variance: int) -> int:
 
 
 def test_class(block: Block) -> Found | None:
-    """The class is one of a measured stream iff it is one; bounds and least bounds are there or not."""
+    """The class is that of a measured stream iff there is a value, and bounds are there or not."""
     has_least = any(s.least for s in block.streams)
     for s in block.streams:
         bounds = s.kind != "unobservable"
@@ -378,7 +379,7 @@ def verdict(low: int, high: int | None, critical: int | None) -> str:
 
 
 def test_least(block: Block) -> Found | None:
-    """The least bounds reach half as far about the middle of the flow and of what the prices give."""
+    """The least bounds reach half as far about the middle of the flow and the dual flow."""
     for place, s in enumerate(block.streams):
         if s.least:
             members = block.sum_for(place)
@@ -512,7 +513,9 @@ def read_stream(
         fields = [*fields[:10], "", "", *fields[10:]]
     name, start, end = fields[1:4]
     named(name, start, end)
-    value, variance = option(fields[4], -MOST_VALUE, MOST_VALUE), option(fields[5], 1, MOST_VARIANCE)
+    value, variance = option(fields[4], -MOST_VALUE, MOST_VALUE), option(
+        fields[5], 1, MOST_VARIANCE
+    )
     flow = number(fields[7], -MOST_FLOW, MOST_FLOW)
     ends = [option(text, -MOST, MOST) for text in fields[8:12]]
     pair(value, variance)

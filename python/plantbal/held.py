@@ -44,7 +44,11 @@ class Measured:
         if not self.lines:
             return "no fact of the session"
         first, last = min(self.lines), max(self.lines)
-        where = f"line {first}" if first == last else f"{len(self.lines)} facts, lines {first} to {last}"
+        where = (
+            f"line {first}"
+            if first == last
+            else f"{len(self.lines)} facts, lines {first} to {last}"
+        )
         return f"the session ({where})"
 
 
@@ -139,7 +143,7 @@ class Ledger(Book):
 
 
 def share(total: int, fact: Fact, period: Period) -> int:
-    """Return the part of a fact's total that falls into a period: it is spread evenly over its days."""
+    """Return a period's part of a fact's total, which is spread evenly over the fact's days."""
     days = fact.last - fact.first + 1
     before = max(0, period.first - fact.first)
     upto = min(days, period.last - fact.first + 1)

@@ -1,4 +1,4 @@
-"""The plain summary in a bundle: what was archived, what a person has to know, and the flows in tonnes."""
+"""The summary in a bundle: what was archived, what to look at, and the flows in tonnes."""
 
 from __future__ import annotations
 

@@ -159,7 +159,7 @@ CHANGES = [
     (OUTPUT, b"refused,1,3,name", b"refused,1,4,number", "by the rules the code is 3"),
     (OUTPUT, b"refused,1,3,name", b"refused,2,3,name", "by the rules it isn't"),
     (OUTPUT, b"node,env,0\n", b"node,env,1\n", "fails test 4"),
-    (SUMMARY, b"2 rows refused", b"1 rows refused", "summary.txt: line 11: '1 rows refused.'"),
+    (SUMMARY, b"2 rows refused", b"1 rows refused", "summary.txt: line 11, character 1: '1 rows"),
     (SUMMARY, b"T06:00:00Z", b"T07:00:00Z", "summary.txt: line 2"),
     (MANIFEST, b'"refused": 2', b'"refused": 1', "manifest.json: line 20"),
     (MANIFEST, b"T06:00:00Z", b"T07:00:00Z", "manifest.json: its SHA-256"),
@@ -205,6 +205,21 @@ def test_digests_made_anew(say: Desk, month: Path, tmp_path: Path) -> None:
     assert "that of the session at 2 degrees of freedom is 5,991" in found.out
 
 
+@pytest.mark.parametrize("name", NAMES)
+def test_a_digit_at_many_places(say: Desk, month: Path, tmp_path: Path, name: str) -> None:
+    """Without the program, too, a digit is refused at each of many places."""
+    files = files_of(month)
+    places = [place for place, byte in enumerate(files[name]) if byte in b"0123456789"]
+    bundle = tmp_path / "changed.zip"
+    for place in places[:: max(1, len(places) // 25)]:
+        digit = b"1" if files[name][place : place + 1] == b"0" else b"0"
+        text = files[name][:place] + digit + files[name][place + 1 :]
+        bundle.write_bytes(packed({**files, name: text}))
+        said = say("audit", bundle, "--no-program")
+        assert said.status == 1
+        assert any(f"!{name}: " in line for line in sentences(said, "wrong")), (place, said.out)
+
+
 def place_of_digit(data: st.DataObject, text: bytes) -> tuple[int, int]:
     """The place of a digit, and another digit."""
     places = [place for place, byte in enumerate(text) if byte in b"0123456789"]
@@ -214,9 +229,7 @@ def place_of_digit(data: st.DataObject, text: bytes) -> tuple[int, int]:
 
 @QUICK
 @given(data=st.data())
-def test_a_digit_anywhere(
-    say: Desk, month: Path, tmp_path: Path, data: st.DataObject
-) -> None:
+def test_a_digit_anywhere(say: Desk, month: Path, tmp_path: Path, data: st.DataObject) -> None:
     files = files_of(month)
     name = data.draw(st.sampled_from(NAMES))
     place, digit = place_of_digit(data, files[name])
@@ -245,9 +258,7 @@ def test_a_byte_of_the_zip(say: Desk, month: Path, tmp_path: Path, data: st.Data
 
 @QUICK
 @given(data=st.data())
-def test_a_digit_of_a_report(
-    say: Desk, tmp_path: Path, program: Path, data: st.DataObject
-) -> None:
+def test_a_digit_of_a_report(say: Desk, tmp_path: Path, program: Path, data: st.DataObject) -> None:
     """Of a report and its session without a bundle, a digit of the report is refused."""
     output = example("two_meters.out.csv").read_bytes()
     place, digit = place_of_digit(data, output)
@@ -289,11 +300,17 @@ REPORTS: list[tuple[str, Edit, str]] = [
         lambda t: t.replace(b"64200000,1000000000000", b"64200000,1000000000001"),
         "the variance of F4 is 1,000,000,000,001 g2, and the session (line",
     ),
-    ("not taken", lambda t: t.replace(b"EXCHANGER,,,obs", b"EXCHANGER,1,1,obs"), "it was taken out"),
+    (
+        "not taken",
+        lambda t: t.replace(b"EXCHANGER,,,obs", b"EXCHANGER,1,1,obs"),
+        "it was taken out",
+    ),
 ]
 
 
-@pytest.mark.parametrize(("edit", "said"), [case[1:] for case in REPORTS], ids=[c[0] for c in REPORTS])
+@pytest.mark.parametrize(
+    ("edit", "said"), [case[1:] for case in REPORTS], ids=[c[0] for c in REPORTS]
+)
 def test_reports_that_are_not_the_session_s(
     say: Desk, tmp_path: Path, edit: Edit, said: str
 ) -> None:

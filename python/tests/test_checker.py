@@ -139,13 +139,15 @@ def test_bytes_changed_anywhere(program: Path, made: bytes, data: st.DataObject)
         place = data.draw(st.integers(0, len(report) - 1))
         many = data.draw(st.integers(0, 2))
         report[place : place + many] = data.draw(
-            st.sampled_from([b"", b",", b"\n", b"\r", b'"', b"+", b"-", b" ", b"x", b"\xff", b"0", b"\0"])
+            st.sampled_from(
+                [b"", b",", b"\n", b"\r", b'"', b"+", b"-", b" ", b"x", b"\xff", b"0", b"\0"]
+            )
         )
     assert call(["check"], bytes(report), program=program)[1] == rows_of(bytes(report))
 
 
 def alone(folder: Path, data: bytes) -> subprocess.CompletedProcess[bytes]:
-    """The checker as a file by itself, in a folder of its own, without anything that is installed."""
+    """The checker as a file by itself, in a folder of its own, with nothing installed."""
     script = folder / "checker.py"
     script.write_bytes(Path(checker.__file__).read_bytes())
     command = [sys.executable, "-I", "-S", str(script)]
