@@ -322,7 +322,7 @@ def run_again(audit: Audit, given: Given, program: str | None, prog: str) -> Non
     what = (
         f"{differs.one} stands there, and plantbal {' '.join(given.words)} writes {differs.other}"
     )
-    rest = "the report or the session was changed, or the report was asked for with other words"
+    rest = "the report, the session or the words are others"
     audit.add("wrong", f"{given.report}: {differs.place}: {what}: {rest}")
 
 
@@ -340,7 +340,7 @@ def check_twice(audit: Audit, given: Given, program: str | None, with_program: b
         audit.add("wrong", f"{given.report}: there is no block to check: no report was asked for")
     if any(row[0] != "yes" for row in rows):
         for told in explain_check(given.report, given.output, said=said).rows:
-            audit.add("wrong", f"{told.headline}")
+            audit.add("wrong", _at(given, told.line, told.sentence))
     return [row[0] for row in rows]
 
 

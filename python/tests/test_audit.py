@@ -7,7 +7,7 @@ from collections.abc import Callable
 from pathlib import Path
 
 import pytest
-from conftest import Desk, Said, example, words_of
+from conftest import TOP, Desk, Said, example, words_of
 from hypothesis import HealthCheck, given, settings
 from hypothesis import strategies as st
 
@@ -343,3 +343,19 @@ def test_what_is_no_bundle(say: Desk, month: Path, tmp_path: Path) -> None:
 def test_words_that_are_never_run(words: str) -> None:
     with pytest.raises(Fault, match="aren't those of a run"):
         words_read(words)
+
+
+def test_the_guide_shows_what_comes(say: Desk, tmp_path: Path) -> None:
+    guide = (TOP / "docs" / "GUIDE.md").read_text(encoding="utf-8")
+    bundle = tmp_path / "refinery_may1.zip"
+    words = ("--plant", "refinery", "--out", bundle, *TIME)
+    assert say("archive", example("refinery_day.csv"), *words).status == 0
+    files = files_of(bundle)
+    lines = say("audit", bundle).out.splitlines()
+    session = files[SESSION].replace(b"2741000000", b"2741000001")
+    bundle.write_bytes(packed({**files, SESSION: session}))
+    lines += [line for line in say("audit", bundle).out.splitlines() if "DIESEL" in line]
+    assert len(lines) == 7
+    for line in lines:
+        shown = line.replace(f"{tmp_path}/", "").partition("; its SHA-256 is ")[0]
+        assert f"    {shown}" in guide, shown
