@@ -164,6 +164,7 @@ def joined(count: int, streams: Sequence[Stream]) -> list[int]:
     label = list(range(count))
 
     def find(node: int) -> int:
+        """Return the least node known so far, and shorten the way to it."""
         while label[node] != node:
             label[node] = node = label[label[node]]
         return node
