@@ -153,7 +153,7 @@ def words_shown(output: Output) -> list[str]:
     """Return words of a run that give a report, as far as it shows them."""
     blocks = output.blocks_in_order
     if not blocks:
-        return ["run", "--tests"]
+        return words_of(tests=True, eliminate=0, gap=10, sweeps=5000)
     head = blocks[0].head
     stops = [row for row in output.rows if row["row"] == "stop"]
     # An elimination that ended by itself is the same with more rounds allowed.
@@ -336,7 +336,7 @@ def check_twice(audit: Audit, given: Given, program: str | None, with_program: b
             found = differs_at(said, other)
             what = f"the checker in plain Python says {found.one}, and plantbal check {found.other}"
             audit.add("wrong", f"{given.report}: finding {found.line}: {what}: one of the two errs")
-    if not rows:
+    if not rows and not any(answer.over for answer in answers_of(given.output)):
         audit.add("wrong", f"{given.report}: there is no block to check: no report was asked for")
     if any(row[0] != "yes" for row in rows):
         for told in explain_check(given.report, given.output, said=said).rows:
@@ -351,7 +351,9 @@ def hold(audit: Audit, given: Given, verdicts: list[str], checks: str) -> None:
         audit.add("wrong", _at(given, each.line, each.text))
     answers = answers_of(given.output)
     if len(ledger.seen) != len(answers):
-        what = f"the session asks for {len(ledger.seen)} reports, and the output has {len(answers)}"
+        count = len(ledger.seen)
+        asked = "1 report" if count == 1 else f"{count} reports"
+        what = f"the session asks for {asked}, and the output has {len(answers)}"
         audit.add("wrong", f"{given.report}: {what}")
     held: list[bool] = []
     for pair in map(Pair, ledger.seen, answers):

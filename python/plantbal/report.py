@@ -112,8 +112,22 @@ def parse_rows(source: str, text: str) -> list[Values]:
 
 
 def read_rows(path: str | Path) -> list[Values]:
-    """Return the rows of a file, or of standard input where the path is ``-``."""
-    return parse_rows(*read_text(path))
+    """Return the rows of a file, or of standard input where the path is ``-``.
+
+    Raises
+    ------
+    InputFault
+        If it can't be read, or is what a check said of a report.
+    """
+    source, text = read_text(path)
+    rows = parse_rows(source, text)
+    if rows and all(row["row"] in ("yes", "no", "unreadable") for row in rows):
+        raise InputFault(
+            "these are the rows of a check, not a report",
+            place=Place(file=source),
+            remedy="read the report itself; plantbal-desk explain REPORT says what a check finds",
+        )
+    return rows
 
 
 def fields_of(values: Values) -> list[str]:

@@ -15,7 +15,7 @@ from fractions import Fraction
 from plantbal.amounts import GRAMS_A_TONNE
 from plantbal.faults import InputFault, Place, read_text
 from plantbal.files import write_text
-from plantbal.lint import brief, lint_session
+from plantbal.lint import say_brief
 from plantbal.schema import schema
 
 HELP = """
@@ -438,9 +438,6 @@ def run(options: argparse.Namespace) -> int:
     out = io.StringIO()
     csv.writer(out, lineterminator="\n").writerows(rows)
     text = out.getvalue()
-    looks_wrong = brief(lint_session(text.encode()))
-    if looks_wrong:
-        said = f"lint of the session: {looks_wrong} (plantbal-desk lint SESSION says more)"
-        print(f"{options.prog}: {said}", file=sys.stderr)
+    say_brief(options.prog, text.encode())
     write_text("-", text)
     return 0

@@ -12,7 +12,17 @@ from hypothesis import HealthCheck, given, settings
 from hypothesis import strategies as st
 
 from plantbal.audit import words_read
-from plantbal.bundle import DIGESTS, MANIFEST, NAMES, OUTPUT, SESSION, SUMMARY, digests_text, packed
+from plantbal.bundle import (
+    DIGESTS,
+    MANIFEST,
+    NAMES,
+    OUTPUT,
+    SESSION,
+    SUMMARY,
+    digest,
+    digests_text,
+    packed,
+)
 from plantbal.faults import Fault
 from plantbal.held import Ledger, Pair, answers_of, refused_differ
 from plantbal.program import call
@@ -359,3 +369,74 @@ def test_the_guide_shows_what_comes(say: Desk, tmp_path: Path) -> None:
     for line in lines:
         shown = line.replace(f"{tmp_path}/", "").partition("; its SHA-256 is ")[0]
         assert f"    {shown}" in guide, shown
+
+
+# ---- what is noted, and what seldom comes
+
+
+def test_totals_beyond_the_limits(say: Desk, tmp_path: Path) -> None:
+    session, output = example("conformance/over.in"), example("conformance/over.out")
+    said = say("audit", output, session)
+    assert said.status == 0 and "the total of A is beyond the limits" in said.out
+    for old, new, told in (
+        (b",A\n", b",B\n", "the total of B is said to be beyond the limits, and that of A is"),
+        (b"over,d1", b"over,d2", "this is a report of d2, and the session asks for d1 here"),
+    ):
+        report = tmp_path / "report.csv"
+        report.write_bytes(output.read_bytes().replace(old, new))
+        said = say("audit", report, session, "--no-program")
+        assert said.status == 1 and told in said.out
+    said = say("audit", example("two_meters.out.csv"), session, "--no-program")
+    assert "there is a report, and by the session the total of A is beyond the limits" in said.out
+
+
+def test_another_program(say: Desk, tmp_path: Path, monkeypatch: pytest.MonkeyPatch) -> None:
+    monkeypatch.setattr("plantbal.archive.program_of", lambda path: {"sha256": "0" * 64})
+    bundle = tmp_path / "b.zip"
+    assert say("archive", example("two_meters.csv"), "--out", bundle, *TIME).status == 0
+    said = say("audit", bundle)
+    assert said.status == 0 and "it is another build or version" in said.out
+
+
+def test_checks_that_differ(say: Desk, monkeypatch: pytest.MonkeyPatch) -> None:
+    monkeypatch.setattr("plantbal.checker.findings", lambda data: [("yes", "d1", "1")])
+    said = say("audit", example("two_meters.out.csv"), example("two_meters.csv"))
+    assert said.status == 1
+    assert "the checker in plain Python says 'yes,d1,1', and plantbal check 'yes,d1,0'" in said.out
+
+
+def test_a_build_record_and_a_time(say: Desk, tmp_path: Path, program: Path) -> None:
+    """The manifest has version and commit of a record that is of this program."""
+    usr = tmp_path / "usr"
+    (usr / "bin").mkdir(parents=True)
+    (usr / "share" / "plantbal").mkdir(parents=True)
+    copy = usr / "bin" / "plantbal"
+    copy.write_bytes(program.read_bytes())
+    copy.chmod(0o755)
+    record = "version: 9.8.7\ncommit: abc of 2026-01-01\nsha256 of the program as installed: "
+    (usr / "share" / "plantbal" / "BUILD").write_text(record + digest(copy.read_bytes()) + "\n")
+    words = ("archive", example("two_meters.csv"), "--program", copy)
+    with pytest.MonkeyPatch.context() as patch:
+        patch.setenv("SOURCE_DATE_EPOCH", "86400")
+        assert say(*words, "--out", tmp_path / "b.zip").status == 0
+        patch.setenv("SOURCE_DATE_EPOCH", "noon")
+        assert "SOURCE_DATE_EPOCH is 'noon'" in say(*words, "--out", tmp_path / "c.zip").err
+    manifest = files_of(tmp_path / "b.zip")[MANIFEST].decode()
+    assert '"version": "9.8.7"' in manifest and '"commit": "commit abc of 2026' in manifest
+    assert '"made": "1970-01-02T00:00:00Z"' in manifest
+
+
+def test_other_words(say: Desk) -> None:
+    """A report that was asked for with other words holds, and they are noted."""
+    session = example("flotation_shift.csv")
+    report = example("flotation_shift.out.csv")
+    assert "--gap 20" not in say("audit", report, session).out
+    said = say("audit", report, session, "--words", "run --gap 20")
+    assert said.status == 1 and "plantbal run --gap 20 writes" in said.out
+    said = say("audit", report, session, "--words", "check")
+    assert said.status == 1 and "aren't those of a run" in said.err
+
+
+def test_words_with_a_bundle(say: Desk, month: Path) -> None:
+    said = say("audit", month, "--words", "run")
+    assert said.status == 1 and "a bundle has its own" in said.err
