@@ -594,7 +594,7 @@ class Session:
         if place and self._ordered[place - 1][1] >= first:
             other = self._ordered[place - 1][2]
             what = f"it shares a day with period {other}"
-            remedy = "no day may be in two periods: cut one of them"
+            remedy = "no day may be in two periods: end one before the other begins"
             self._refuse(9, record, what, "first", values["first"], remedy)
         if last - first >= LIMITS["most_days_of_period"]:
             what = f"it has {last - first + 1} days, and at most {LIMITS['most_days_of_period']} may be"

@@ -17,7 +17,7 @@ from plantbal.fleet import say_lint, sites
 from plantbal.lint import brief, lint_session, summary
 from plantbal.lintrules import RULES, SEVERITIES, near_pairs, one_letter_apart
 from plantbal.program import call
-from plantbal.report import Block, blocks_of, parse_rows, read_rows
+from plantbal.report import Block, blocks_of, parse_rows
 from plantbal.session import LIMITS
 from plantbal.topology import Arc, classes_of, degrees_of_freedom
 
@@ -371,7 +371,7 @@ def test_near_pairs(names: list[str]) -> None:
 def reports() -> Iterator[Block]:
     for path in sorted(TOP.glob("examples/**/*.out.csv")):
         if example("conformance") not in path.parents:
-            yield from blocks_of(read_rows(path))
+            yield from blocks_of(parse_rows(path.name, path.read_text(encoding="utf-8")))
 
 
 def test_classes_are_those_of_the_program() -> None:
