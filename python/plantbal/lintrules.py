@@ -277,7 +277,8 @@ def _missing_dips(book: Book) -> Iterator[Finding]:
         for name, days in reported.undipped.items():
             period = reported.period
             what = " and none ".join(
-                f"of {'its last day' if day == period.last else 'the day before'}, {day_text(day)}"
+                f"of {'the last day of' if day == period.last else 'the day before'} {period.name}, "
+                f"{day_text(day)}"
                 for day in days
             )
             text = f"tank {name} has no value in {period.name}: it has no dip {what}"
@@ -320,7 +321,7 @@ def _in_no_period(book: Book) -> Iterator[Finding]:
             (
                 fact,
                 f"{_called(fact)} is of {day_text(fact.first)}, neither the last day of a period "
-                "nor the eve of one, so it counts nowhere",
+                "nor the day before one, so it counts nowhere",
                 "it does no harm",
             )
             for fact in unused

@@ -115,12 +115,12 @@ CASES = [
     (
         "missing-dip",
         changed("dip,s0,SILO,2024-02-29,", "dip,s0,SILO,2024-03-01,"),
-        "tank SILO has no value in d1: it has no dip of the day before, 2024-02-29",
+        "tank SILO has no value in d1: it has no dip of the day before d1, 2024-02-29",
     ),
     (
         "missing-dip",
         changed("dip,s2,SILO,2024-03-02,", "dip,s2,SILO,2024-03-03,"),
-        "no dip of its last day, 2024-03-02",
+        "no dip of the last day of d1, 2024-03-02",
     ),
     (
         "no-period",
@@ -266,7 +266,7 @@ CASES = [
     (
         "unused-dip",
         changed("dip,s2", "dip,s1,SILO,2024-03-01,3000,1250000,100000000000000\ndip,s2"),
-        "dip s1 of SILO is of 2024-03-01, neither the last day of a period nor the eve of one",
+        "dip s1 of SILO is of 2024-03-01, neither the last day of a period nor the day before one",
     ),
     (
         "not-reported",
