@@ -28,6 +28,7 @@ from plantbal.lintbook import day_text
 from plantbal.output import Output, parse_report
 from plantbal.program import STATUSES, call, find_program
 from plantbal.progress import Progress
+from plantbal.runwords import words_of
 from plantbal.summary import summary_text
 
 HELP = """
@@ -64,14 +65,6 @@ def program_of(path: Path) -> dict[str, str]:
             found["version"] = said.get("version", "unknown")
             found["commit"] = f"commit {said.get('commit', 'unknown')}"
     return found
-
-
-def words_of(*, tests: bool, eliminate: int, gap: int, sweeps: int) -> list[str]:
-    """Return the words of a run."""
-    words = ["run", "--gap", str(gap), "--sweeps", str(sweeps)]
-    if eliminate:
-        words += ["--eliminate", str(eliminate)]
-    return [*words, "--tests"] if tests else words
 
 
 def time_of(text: str | None) -> str:

@@ -1,4 +1,4 @@
-"""What each test of a check asks of a block, in a sentence with the numbers and names of the block."""
+"""What each test of a check asks of a block, in a sentence with the block's numbers and names."""
 
 from __future__ import annotations
 
@@ -104,7 +104,8 @@ _ASKS = {
     5: "by its variance the prices at both ends may be {found} apart, and are {stated} apart",
     6: "{found} is the number of independent balances that test the measurements, and {stated} is "
     "written",
-    7: "{found} follows from the flows and the prices, and {stated} is written; all bounds rest on it",
+    7: "{found} follows from the flows and the prices, and {stated} is written; all bounds rest on "
+    "it",
 }
 
 
@@ -136,8 +137,8 @@ def _witness(block: ReportBlock, row: Values) -> str:
         if others:
             return f"the cycle goes through {some(others)} too, which {_has(others)} a value"
         return (
-            "the steps have to lead round from node to node, `+` along an arrow and `-` against it, "
-            "back to where they begin, and come to no node and no stream twice"
+            "the steps have to lead round from node to node, `+` along an arrow and `-` against "
+            "it, back to where they begin, and come to no node and no stream twice"
         )
     side = set(row["side"].split(" "))
     cut = [

@@ -3,14 +3,14 @@
 from __future__ import annotations
 
 import argparse
-import re
 from collections.abc import Collection, Iterator, Mapping
 from dataclasses import dataclass, field
 from itertools import zip_longest
 from os.path import commonprefix
 
 from plantbal import checker
-from plantbal.archive import bundle_files, words_of
+from plantbal.archive import bundle_files
+from plantbal.asks import some
 from plantbal.bundle import (
     DIGESTS,
     MANIFEST,
@@ -23,11 +23,12 @@ from plantbal.bundle import (
     unpacked,
 )
 from plantbal.faults import Fault, InputFault, Place, ProgramFault, ToolMissing, read_bytes
-from plantbal.held import Ledger, Pair, answers_of, number_of, refused_differ
+from plantbal.held import Ledger, Pair, answers_of, refused_differ
 from plantbal.output import Output, parse_report
 from plantbal.program import call, find_program
 from plantbal.progress import Progress
 from plantbal.report import Block
+from plantbal.runwords import words_of, words_read, words_shown
 from plantbal.summary import blocks_named, said_of
 from plantbal.verdicts import explain_check
 
@@ -124,46 +125,6 @@ def _shown(line: str, at: int) -> str:
     begin = max(0, at - _SHORT // 2) if len(line) > _SHORT else 0
     end = begin + _SHORT
     return f"'{'..' if begin else ''}{line[begin:end]}{'..' if len(line) > end else ''}'"
-
-
-# ---- the words
-
-
-def words_read(text: str) -> list[str]:
-    """Return the words of a run.
-
-    Raises
-    ------
-    Fault
-        If they are no words of a run: nothing else is ever run.
-    """
-    words = text.split()
-    rest = " ".join(words[1:])
-    known = r"(--tests|--(gap|sweeps|eliminate) [0-9]{1,7})"
-    if words[:1] != ["run"] or not re.fullmatch(rf"({known}( |$))*", rest):
-        raise Fault(
-            f"the words {text!r} aren't those of a run",
-            text=text,
-            remedy="such as: run --gap 10 --sweeps 5000 --tests",
-        )
-    return words
-
-
-def words_shown(output: Output) -> list[str]:
-    """Return words of a run that give a report, as far as it shows them."""
-    blocks = output.blocks_in_order
-    if not blocks:
-        return words_of(tests=True, eliminate=0, gap=10, sweeps=5000)
-    head = blocks[0].head
-    stops = [row for row in output.rows if row["row"] == "stop"]
-    # An elimination that ended by itself is the same with more rounds allowed.
-    spent = [number_of(row["rounds"]) for row in stops if row["reason"] == "spent"]
-    return words_of(
-        tests=blocks[0].whole is not None,
-        eliminate=((spent[0] if spent else 20) or 0) if stops else 0,
-        gap=number_of(head["gap"]) or 0,
-        sweeps=number_of(head["sweeps"]) or 0,
-    )
 
 
 # ---- a bundle
@@ -365,7 +326,8 @@ def hold(audit: Audit, given: Given, verdicts: list[str], checks: str) -> None:
     good = [one == "yes" and other for one, other in zip(verdicts, held)]
     for holds, (block, name, last) in zip(good, blocks_named(output)):
         if holds:
-            _block_holds(audit, ledger, block, Named(name, last, checks))
+            _block_holds(audit, block, Named(name, last, checks))
+    _open_periods(audit, ledger, output)
     _refused(audit, given, ledger)
 
 
@@ -390,7 +352,7 @@ class Named:
     checks: str
 
 
-def _block_holds(audit: Audit, ledger: Ledger, block: Block, named: Named) -> None:
+def _block_holds(audit: Audit, block: Block, named: Named) -> None:
     """Say of a block that it holds, and what is to be noted of it."""
     measured = sum(bool(row["value"]) for row in block.streams)
     tests = len(block.nodal) + len(block.measure) + (block.whole is not None)
@@ -399,13 +361,19 @@ def _block_holds(audit: Audit, ledger: Ledger, block: Block, named: Named) -> No
     book = "this is the last report of the period" if named.last else "a later report follows"
     what = f"flows balance, and {named.checks}; {values} are those of the session"
     audit.add("good", f"{named.name}: {what}; {said_of(block)}; {book}")
-    if not named.last:
-        return
-    if (block.whole or {}).get("verdict") == "reject":
+    if named.last and (block.whole or {}).get("verdict") == "reject":
         what = "the global test rejects: the measurements don't fit together"
         audit.add("note", f"{named.name}: {what}")
-    if block.period not in ledger.closed:
-        audit.add("note", f"period {block.period} isn't closed: rows may still be added to it")
+
+
+def _open_periods(audit: Audit, ledger: Ledger, output: Output) -> None:
+    """Note the reported periods that aren't closed."""
+    reported = dict.fromkeys(block.period for block in output.blocks_in_order)
+    still = [period for period in reported if period not in ledger.closed]
+    if len(still) == 1:
+        audit.add("note", f"period {still[0]} isn't closed: rows may still be added to it")
+    elif still:
+        audit.add("note", f"periods {some(still)} aren't closed: rows may still be added to them")
 
 
 def _at(given: Given, line: int, text: str) -> str:

@@ -97,6 +97,7 @@ class Ledger(Book):
     seen: list[Seen] = field(default_factory=list)
     closed: dict[str, int] = field(default_factory=dict)
     values: dict[tuple[str, int], int] = field(default_factory=dict)
+    _by_day: dict[tuple[bool, int], list[Fact]] = field(default_factory=dict)
 
     def _take(self, row: list[str], line: int) -> None:
         if row[0] == "critical":
@@ -109,14 +110,27 @@ class Ledger(Book):
         super()._take_report(name, line)
         period = self.periods[name]
         facts: dict[str, list[Fact]] = {stream: [] for stream in self.streams}
-        for fact in self.live():
-            if fact.first <= period.last and fact.last >= period.first - 1:
-                facts[fact.of].append(fact)
+        for fact in self._touching(period):
+            facts[fact.of].append(fact)
         streams = {
             stream: self._measured(each, period, facts[stream])
             for stream, each in self.streams.items()
         }
         self.seen.append(Seen(period, line, list(self.nodes), streams, dict(self.values)))
+
+    def _take_fact(self, row: list[str], line: int) -> None:
+        super()._take_fact(row, line)
+        fact = self.facts[row[1]]
+        self._by_day.setdefault((fact.kind == "transfer", fact.first), []).append(fact)
+
+    def _touching(self, period: Period) -> Iterator[Fact]:
+        """Give the live facts of a period's days and of the day before the first."""
+        longest = schema().limits["most_days_of_transfer"]
+        for transfer, first in ((False, period.first - 1), (True, period.first - longest)):
+            for day in range(first, period.last + 1):
+                for fact in self._by_day.get((transfer, day), ()):
+                    if not fact.struck and fact.last >= period.first - 1:
+                        yield fact
 
     def _measured(self, stream: Stream, period: Period, facts: list[Fact]) -> Measured:
         """Return what the facts of a stream give it in a period."""

@@ -13,7 +13,7 @@ from statistics import median_low
 
 from plantbal.amounts import tonnes_text
 from plantbal.faults import Place, Refusal
-from plantbal.lintbook import Book, Fact, Reported, day_number, day_text
+from plantbal.lintbook import Book, Fact, Reported, day_text
 from plantbal.schema import schema
 from plantbal.session import ENV, LIMITS
 from plantbal.topology import classes_of, degrees_of_freedom

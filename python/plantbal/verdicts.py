@@ -1,5 +1,4 @@
-"""Says of each `no` and each `unreadable` of a check which field of the report it is about, and what the test
-asks."""
+"""Says of each `no` and `unreadable` of a check which field it is about, and what the test asks."""
 
 from __future__ import annotations
 

@@ -2,6 +2,7 @@
 
 from __future__ import annotations
 
+import subprocess
 import zipfile
 from collections.abc import Callable
 from pathlib import Path
@@ -11,7 +12,6 @@ from conftest import TOP, Desk, Said, example, words_of
 from hypothesis import HealthCheck, given, settings
 from hypothesis import strategies as st
 
-from plantbal.audit import words_read
 from plantbal.bundle import (
     DIGESTS,
     MANIFEST,
@@ -26,6 +26,7 @@ from plantbal.bundle import (
 from plantbal.faults import Fault
 from plantbal.held import Ledger, Pair, answers_of, refused_differ
 from plantbal.program import call
+from plantbal.runwords import words_read
 
 QUICK = settings(max_examples=15, deadline=None, suppress_health_check=list(HealthCheck))
 TIME = ("--time", "2024-05-02T06:00:00Z")
@@ -78,6 +79,15 @@ def test_a_bundle_is_the_same_each_time(say: Desk, month: Path, tmp_path: Path) 
         assert say("archive", session, "--out", again, *TIME).status == 1
         assert again.read_bytes() == month.read_bytes()
     assert digests_text(files_of(month)) == files_of(month)[DIGESTS]
+
+
+def test_digests_by_other_tools(month: Path, tmp_path: Path) -> None:
+    """The digests hold by sha256sum, without plantbal."""
+    with zipfile.ZipFile(month) as zipped:
+        zipped.extractall(tmp_path)
+    command = ["sha256sum", "--check", "--strict", DIGESTS]
+    done = subprocess.run(command, cwd=tmp_path, capture_output=True, text=True, check=True)
+    assert done.stdout.count(": OK") == len(NAMES) - 1
 
 
 def test_a_bundle_is_not_written_over(say: Desk, tmp_path: Path) -> None:
