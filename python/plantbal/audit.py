@@ -20,6 +20,7 @@ from plantbal.bundle import (
     SUMMARY,
     Manifest,
     digest,
+    digests_text,
     unpacked,
 )
 from plantbal.faults import Fault, InputFault, Place, ProgramFault, ToolMissing, read_bytes
@@ -146,7 +147,11 @@ def given_of_bundle(audit: Audit, path: str) -> Given:
         return _given(path, files, words_shown(report))
     other = _made_again(audit, path, files, manifest, changed)
     same = _manifest_digest(audit, path, files, bool(other)) and not other
-    if same and not changed:
+    if same and not changed and files[DIGESTS] != digests_text(files):
+        there = differs_at(files[DIGESTS], digests_text(files))
+        what = f"{there.one} stands there, and {there.other} follows from the other files"
+        audit.add("wrong", f"{path}!{DIGESTS}: {there.place}: {what}")
+    elif same and not changed:
         what = f"the digests of its {len(NAMES) - 1} files hold"
         rest = "manifest and summary are those of the session and the output"
         audit.add("good", f"{path}: {what}, and {rest}")
@@ -320,14 +325,14 @@ def hold(audit: Audit, given: Given, verdicts: list[str], checks: str) -> None:
     for pair in map(Pair, ledger.seen, answers):
         held += _pair_held(audit, given, pair)
     try:
-        output = parse_report(given.output.decode("utf-8"), given.report)
+        blocks = blocks_named(parse_report(given.output.decode("utf-8"), given.report))
     except (InputFault, ValueError):
-        return  # the check has said why
+        blocks = []  # the check has said why
     good = [one == "yes" and other for one, other in zip(verdicts, held)]
-    for holds, (block, name, last) in zip(good, blocks_named(output)):
+    for holds, (block, name, last) in zip(good, blocks):
         if holds:
             _block_holds(audit, block, Named(name, last, checks))
-    _open_periods(audit, ledger, output)
+    _open_periods(audit, ledger, [block.period for block, _, _ in blocks])
     _refused(audit, given, ledger)
 
 
@@ -366,10 +371,9 @@ def _block_holds(audit: Audit, block: Block, named: Named) -> None:
         audit.add("note", f"{named.name}: {what}")
 
 
-def _open_periods(audit: Audit, ledger: Ledger, output: Output) -> None:
+def _open_periods(audit: Audit, ledger: Ledger, reported: list[str]) -> None:
     """Note the reported periods that aren't closed."""
-    reported = dict.fromkeys(block.period for block in output.blocks_in_order)
-    still = [period for period in reported if period not in ledger.closed]
+    still = [period for period in dict.fromkeys(reported) if period not in ledger.closed]
     if len(still) == 1:
         audit.add("note", f"period {still[0]} isn't closed: rows may still be added to it")
     elif still:

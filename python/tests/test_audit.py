@@ -191,6 +191,8 @@ CHANGES = [
     (MANIFEST, b"{", b"[", "this isn't JSON"),
     (DIGESTS, b"0", b"1", "SHA256SUMS"),
     (DIGESTS, b"  session.csv", b"  sesshin.csv", "is no digest of a file of the bundle"),
+    (DIGESTS, b"  session.csv\n", b"  session.csv", "SHA256SUMS: line"),
+    (DIGESTS, b"  output.csv\n", b"  output.csv\n\n", "SHA256SUMS: line 3, character 1"),
 ]
 
 
@@ -305,6 +307,23 @@ def test_other_bytes_in_a_report(say: Desk, tmp_path: Path, data: st.DataObject)
     session.write_bytes(texts[1])
     said = say("audit", report, session, "--no-program", "--words", "run")
     assert said.status in (0, 1) and (said.out or said.err)
+
+
+def test_twice_the_same_file_among_the_digests(say: Desk, month: Path, tmp_path: Path) -> None:
+    files = files_of(month)
+    files[DIGESTS] = b"0" * 64 + b"  session.csv\n" + files[DIGESTS]
+    bundle = tmp_path / "changed.zip"
+    bundle.write_bytes(packed(files))
+    said = say("audit", bundle, "--no-program")
+    assert said.status == 1 and "SHA256SUMS: line 1, character " in said.out
+
+
+def test_a_round_that_is_no_number(say: Desk, tmp_path: Path) -> None:
+    report = tmp_path / "report.csv"
+    text = example("two_meters.out.csv").read_bytes()
+    report.write_bytes(text.replace(b"report,d1,0,", b"report,d1,x,"))
+    said = say("audit", report, example("two_meters.csv"), "--no-program")
+    assert said.status == 1 and "ROUND is 'x'" in said.out
 
 
 Edit = Callable[[bytes], bytes]
