@@ -420,7 +420,7 @@ def _one_sided(book: Book) -> Iterator[Finding]:
         near = difflib.get_close_matches(unit, others, n=1, cutoff=0.8)
         remedy = "mend the end of a stream, or add one"
         if not into[unit] and not out_of[unit]:
-            remedy += "; or leave the unit out"
+            remedy = "mend the end of a stream, add one, or leave the unit out"
         if near:
             remedy = f"did you mean {near[0]}?"
         yield Finding("one-sided", text, remedy, _place(book, book.lines.get(unit)), unit)
