@@ -176,16 +176,24 @@ def _add_check(parser: argparse.ArgumentParser) -> None:
 def _check(options: argparse.Namespace) -> int:
     _say_reading(options.report)
     verdicts = check(options.report, program=options.program)
+    blocks = verdicts[verdicts["verdict"] != "unreadable"]
+    last = {row.period: row.Index for row in blocks.itertuples()}
     for row in verdicts.itertuples():
         if row.verdict == "yes":
-            print(f"yes: {row.period}, round {row.round}")
+            end = "" if last[row.period] == row.Index else "; a later block of this period follows"
+            print(f"yes: {row.period}, round {row.round}{end}")
         elif row.verdict == "no":
             where = f" at {row.name}" if row.name else ""
             numbers = f" (stated {row.stated}, found {row.found})" if row.name else ""
             print(f"no: {row.period}, round {row.round}: {row.word}{where}{numbers}: {row.about}")
         else:
             print(f"unreadable: row {row.at}: {row.word}: it {row.about}")
-    return 0 if (verdicts["verdict"] == "yes").all() else 1
+    if (verdicts["verdict"] == "yes").all():
+        return 0
+    named = "REPORT" if options.report == "-" else options.report
+    hint = f"plantbal-desk explain {named} shows the rows, and what is asked of them"
+    print(f"{options.prog}: {hint}", file=sys.stderr)
+    return 1
 
 
 def _add_report(parser: argparse.ArgumentParser) -> None:
