@@ -394,20 +394,13 @@ def test_least(block: Block) -> Found | None:
     return None
 
 
+# The tests in their order, by their words.
 TESTS: dict[str, Callable[[Block], Found | None]] = {
-    "class": test_class,
-    "witness": test_witness,
-    "balance": test_balance,
-    "price": test_price,
-    "box": test_box,
-    "dof": test_dof,
-    "gap": test_gap,
-    "state": test_state,
-    "bounds": test_bounds,
-    "statistic": test_statistic,
-    "nodal": test_nodal,
-    "verdict": test_verdict,
-    "least": test_least,
+    test.__name__.removeprefix("test_"): test
+    for test in (
+        *(test_class, test_witness, test_balance, test_price, test_box, test_dof, test_gap),
+        *(test_state, test_bounds, test_statistic, test_nodal, test_verdict, test_least),
+    )
 }
 
 
@@ -533,21 +526,9 @@ def read_stream(
     nodes = tuple(places[each] for each in sides)
     ask(all(one < other for one, other in zip(nodes, nodes[1:])), 8)
     ask(start != end, 9)
-    return Stream(
-        row=row,
-        name=name,
-        start=places[start],
-        end=places[end],
-        value=value,
-        variance=variance or 0,
-        kind=kind,
-        flow=flow,
-        bounds=bounds,
-        least=least,
-        shape=shape,
-        side=nodes,
-        said=[(each[1:], 1 if each[0] == "+" else -1) for each in steps],
-    )
+    said = [(each[1:], 1 if each[0] == "+" else -1) for each in steps]
+    first = (row, name, places[start], places[end], value, variance or 0)
+    return Stream(*first, kind, flow, bounds, least, shape, nodes, said)
 
 
 def read_solved(block: Block, fields: list[str]) -> None:
