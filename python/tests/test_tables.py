@@ -118,7 +118,7 @@ def test_status(program: Path, path: Path) -> None:
     assert text.decode() == text_of(path.with_name(path.stem + ".out.csv"))
 
 
-@pytest.mark.parametrize("words", [("tables", "flows"), ("chart",), ("draw",), ("page",)])
+@pytest.mark.parametrize("words", [("tables", "flows"), ("draw",), ("page",)])
 def test_rows_of_a_check(say: Desk, words: tuple[str, ...]) -> None:
     said = say(*words, text="yes,d1,0\nno,d2,0,6,dof,,1,2\n")
     assert said.status == 1 and not said.out
