@@ -19,6 +19,7 @@ SESSION, OUTPUT, SUMMARY = "session.csv", "output.csv", "summary.txt"
 MANIFEST, DIGESTS = "manifest.json", "SHA256SUMS"
 NAMES = (SESSION, OUTPUT, SUMMARY, MANIFEST, DIGESTS)
 VERSION = 1
+_PROGRAM = ("sha256", "version", "commit")
 _MOST_BYTES = 1 << 30
 _WHEN = (1980, 1, 1, 0, 0, 0)
 _BROKEN = (
@@ -68,7 +69,7 @@ class Manifest:
     words : str
         The words of the run.
     program : dict
-        The program's ``sha256``, ``version`` and ``commit``, as far as they are known.
+        The program's ``sha256``, ``version`` and ``commit``; what isn't known is said to be so.
     desk : str
         The version of the package that made it.
     reports : list of str
@@ -125,10 +126,15 @@ class Manifest:
             texts = inner.values() if isinstance(inner, dict) else inner if type_ is list else []
             if not isinstance(inner, type_) or not all(isinstance(text, str) for text in texts):
                 raise InputFault(f"its item {name!r} isn't of its form", place=place)
+        if set(found["program"]) != set(_PROGRAM):
+            remedy = f"it has {', '.join(_PROGRAM)}"
+            raise InputFault("its item 'program' isn't of its form", place=place, remedy=remedy)
         if found["archive"] != VERSION:
             what = f"it says that it is of version {found['archive']}"
             remedy = "if it wasn't changed, a newer plantbal-desk reads it"
             raise InputFault(what, place=place, remedy=remedy)
+        # In the order in which they are written, so that another order is a difference.
+        found["program"] = {name: found["program"][name] for name in _PROGRAM}
         return cls(**found)
 
 

@@ -236,6 +236,8 @@ def _unknown_in(row: Row, record: Record, seen: _Seen) -> str:
     """Return the column that names what the block hasn't, or nothing."""
     places = places_of(record)
     for column in row.columns:
+        if column.name not in places:
+            continue  # an older stream row has no least bounds
         said = record.fields[places[column.name]]
         if row.kind == "end" and seen.head is not None:
             if column.name in ("period", "round"):

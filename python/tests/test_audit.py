@@ -188,6 +188,7 @@ CHANGES = [
     (MANIFEST, b"run --gap", b"rum --gap", "aren't those of a run"),
     (MANIFEST, b'"period": "2024-06"', b'"period": "2024-07"', "the session has no period 2024-07"),
     (MANIFEST, b'"plant"', b'"plont"', "its items aren't those of a manifest"),
+    (MANIFEST, b'"commit":', b'"by": "me",\n    "commit":', "its item 'program' isn't of its form"),
     (MANIFEST, b"{", b"[", "this isn't JSON"),
     (DIGESTS, b"0", b"1", "SHA256SUMS"),
     (DIGESTS, b"  session.csv", b"  sesshin.csv", "is no digest of a file of the bundle"),
@@ -420,7 +421,8 @@ def test_totals_beyond_the_limits(say: Desk, tmp_path: Path) -> None:
 
 
 def test_another_program(say: Desk, tmp_path: Path, monkeypatch: pytest.MonkeyPatch) -> None:
-    monkeypatch.setattr("plantbal.archive.program_of", lambda path: {"sha256": "0" * 64})
+    other = {"sha256": "0" * 64, "version": "unknown", "commit": "commit unknown"}
+    monkeypatch.setattr("plantbal.archive.program_of", lambda path: other)
     bundle = tmp_path / "b.zip"
     assert say("archive", example("two_meters.csv"), "--out", bundle, *TIME).status == 0
     said = say("audit", bundle)

@@ -227,6 +227,15 @@ def test_other_ways(program: Path, old: str, new: str, said: str) -> None:
     assert said in told.sentence
 
 
+def test_an_older_row(program: Path) -> None:
+    """A stream row without least bounds that names no node of its block."""
+    data = example("conformance/check_13_columns.in").read_bytes()
+    old = data.replace(b",env,U,", b",env,UU,", 1)
+    assert old != data
+    told = explain_check("r.csv", old, None, program).rows
+    assert "TO is 'UU': no node row of the block has the name UU" in told[0].sentence
+
+
 def test_what_to_do() -> None:
     """A report that fails has a sentence on what to do about it."""
     found = explain_check("r.csv", GOOD.encode(), said=b"no,p,0,6,dof,,2,1\n")
