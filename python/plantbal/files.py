@@ -2,6 +2,7 @@
 
 from __future__ import annotations
 
+import errno
 import os
 import sys
 import tempfile
@@ -10,6 +11,26 @@ from contextlib import contextmanager
 from pathlib import Path
 
 from plantbal.faults import InputFault, Place
+
+
+# What to do about a file that can't be written, by the system's number of the fault.
+_UNWRITTEN = {
+    errno.ENOENT: "make its folder first",
+    errno.ENOTDIR: "mend its name",
+    errno.EISDIR: "name a file in this folder",
+    errno.EACCES: "ask for the right to write there, or write elsewhere",
+    errno.EROFS: "write elsewhere",
+    errno.ENOSPC: "make room, or write elsewhere",
+}
+
+
+def unwritten(path: str | Path, error: OSError) -> InputFault:
+    """Return the fault of a file that can't be written."""
+    return InputFault(
+        f"it can't be written: {error.strerror or error}",
+        place=Place(file=str(path)),
+        remedy=_UNWRITTEN.get(error.errno or 0, ""),
+    )
 
 
 @contextmanager
@@ -34,9 +55,7 @@ def replacing(path: str | Path) -> Iterator[Path]:
             dir=target.parent, prefix=f".{target.stem}.", suffix=target.suffix
         )
     except OSError as error:
-        raise InputFault(
-            error.strerror or "it can't be written", place=Place(file=str(path))
-        ) from error
+        raise unwritten(path, error) from error
     os.close(handle)
     made = Path(name)
     try:
@@ -47,6 +66,8 @@ def replacing(path: str | Path) -> Iterator[Path]:
         with made.open("rb") as file:
             os.fsync(file.fileno())
         os.replace(made, target)
+    except OSError as error:  # the disk is full, or a folder has the name
+        raise unwritten(path, error) from error
     finally:
         made.unlink(missing_ok=True)
 

@@ -56,7 +56,7 @@ def test_tables(program: Path, say: Desk, what: str) -> None:
 
 
 FAULTY = [
-    ("", "there is no report"),
+    ("", "it is empty: run a session that asks for a report"),
     ("unit,U\n", "standard input: line 1, column 1: plantbal writes no row of the kind 'unit'"),
     ('{"row":"end"}\n', "standard input: line 1: the keys of the row end are period, round, row"),
 ]
@@ -116,10 +116,3 @@ def test_status(program: Path, path: Path) -> None:
     status, text = call(words_of(path), path.read_bytes(), program=program)
     assert status == int(text_of(path.with_suffix(".status")))
     assert text.decode() == text_of(path.with_name(path.stem + ".out.csv"))
-
-
-@pytest.mark.parametrize("words", [("tables", "flows"), ("draw",), ("page",)])
-def test_rows_of_a_check(say: Desk, words: tuple[str, ...]) -> None:
-    said = say(*words, text="yes,d1,0\nno,d2,0,6,dof,,1,2\n")
-    assert said.status == 1 and not said.out
-    assert "these are the rows of a check, not a report: read the report itself" in said.err
