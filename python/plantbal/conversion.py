@@ -27,6 +27,7 @@ from plantbal.cells import (
     unit_of,
 )
 from plantbal.faults import Fault, InputFault, Place, Refusal
+from plantbal.lint import say_brief
 from plantbal.memory import uncollected
 from plantbal.schema import Column, schema
 from plantbal.session import ENV, Session, period_days
@@ -1099,6 +1100,7 @@ def run(options: argparse.Namespace) -> int:
         print(f"{options.prog}: {line}", file=sys.stderr)
     if found.ok:
         found.session.to_csv(options.out)
+        say_brief(options.prog, found.session)
         return 0
     for line in found.said():
         print(f"{options.prog}: {line}", file=sys.stderr)
