@@ -20,29 +20,26 @@ const REFINERY: &[u8] =
 const TWO_DAYS: &[u8] =
     b"unit,U\nstream,A,env,U,metered,1\nstream,B,U,env,metered,1\nperiod,d1,2024-03-01,2024-03-02\nreading,r1,A,2024-03-01,5,0\nreading,r2,A,2024-03-02,5,0\nreading,r3,B,2024-03-01,4,0\n";
 
-// Gives a book these rows, and says which it refuses.
-fn fill(alloc: Global, book: &mut Book, text: &[u8]) -> Result<Option<usize>, Fail> {
-    let rows = Rows::of(alloc, text)?;
-    Ok(first_refused(book, 0, &rows))
+// The graph of a period of a book that is given these rows, or without a period that of a design.
+fn graph_of(
+    alloc: Global,
+    book: &mut Book,
+    text: &[u8],
+    period: Option<u32>,
+) -> Result<Result<Graph, Assembly>, Fail> {
+    if let Some(place) = first_refused(book, 0, &Rows::of(alloc, text)?) {
+        return Err(place)?;
+    }
+    match period {
+        None => Ok(Ok(design(alloc, book)?)),
+        Some(period) if period < book.periods() => Ok(assemble(alloc, book, period)),
+        Some(_) => Err("no such period")?,
+    }
 }
 
-// A book of these rows, each of which it stores.
-fn book(alloc: Global, text: &[u8]) -> Result<Book, Fail> {
+fn graph(alloc: Global, text: &[u8], period: Option<u32>) -> Result<Result<Graph, Assembly>, Fail> {
     let mut book = Book::new(alloc);
-    match fill(alloc, &mut book, text)? {
-        None => Ok(book),
-        Some(place) => Err(place)?,
-    }
-}
-
-// The graph of a period of a book that accepts these rows.
-fn graph(alloc: Global, text: &[u8], period: u32) -> Result<Result<Graph, Assembly>, Fail> {
-    let book = book(alloc, text)?;
-    if period < book.periods() {
-        Ok(assemble(alloc, &book, period))
-    } else {
-        Err("no such period")?
-    }
+    graph_of(alloc, &mut book, text, period)
 }
 
 // What is measured of a stream of a graph.
@@ -56,26 +53,21 @@ fn meas(graph: &Graph, j: u32) -> Option<(i128, i128)> {
     }
 }
 
-// What a design of these rows measures of a stream.
-fn designed(alloc: Global, text: &[u8], j: u32) -> Result<Option<(i128, i128)>, Fail> {
-    let book = book(alloc, text)?;
-    let graph = design(alloc, &book)?;
-    Ok(meas(&graph, j))
-}
+type Measured = Result<Option<(i128, i128)>, Assembly>;
 
-// What a period measured of a stream, by these rows and some more.
+// What a period measured of a stream, by these rows and some more; without a period what a design measures.
 fn measured(
     alloc: Global,
     text: &[u8],
     more: &[u8],
-    period: u32,
+    period: Option<u32>,
     j: u32,
-) -> Result<Option<(i128, i128)>, Fail> {
+) -> Result<Measured, Fail> {
     let mut rows = Vec::from_slice(alloc, text)?;
     rows.extend_from_slice(more)?;
     match graph(alloc, &rows, period)? {
-        Ok(graph) => Ok(meas(&graph, j)),
-        Err(_) => Err("a stream is over the limits")?,
+        Ok(graph) => Ok(Ok(meas(&graph, j))),
+        Err(why) => Ok(Err(why)),
     }
 }
 
@@ -89,7 +81,8 @@ fn designs_measure_all_but_plain_streams(rt: HostRuntime) -> Result<(), Fail> {
         (2, None),
         (3, Some((0, 5))),
     ] {
-        assert!(rt; designed(rt.alloc(), text, j)? == want, "the stream {j}");
+        let found = measured(rt.alloc(), text, b"", None, j)?;
+        assert!(rt; found == Ok(want), "the stream {j}");
     }
     Ok(())
 }
@@ -103,10 +96,8 @@ fn periods_share_a_transfer(rt: HostRuntime) -> Result<(), Fail> {
         (3, 0, Some((0, 1))),
         (0, 1, None),
     ] {
-        assert!(rt;
-            measured(rt.alloc(), TRANSFER, b"", period, j)? == want,
-            "the stream {j} of the period {period}"
-        );
+        let found = measured(rt.alloc(), TRANSFER, b"", Some(period), j)?;
+        assert!(rt; found == Ok(want), "the stream {j} of the period {period}");
     }
     Ok(())
 }
@@ -122,10 +113,8 @@ fn measures_a_refinery_day(rt: HostRuntime) -> Result<(), Fail> {
         (3, None),
         (4, Some((2_583_475_000, 100_001_000_000))),
     ] {
-        assert!(rt;
-            measured(rt.alloc(), REFINERY, rising, 0, j)? == want,
-            "the stream {j}"
-        );
+        let found = measured(rt.alloc(), REFINERY, rising, Some(0), j)?;
+        assert!(rt; found == Ok(want), "the stream {j}");
     }
     Ok(())
 }
@@ -144,10 +133,8 @@ fn measures_a_tank_by_its_dips(rt: HostRuntime) -> Result<(), Fail> {
         (b"dip,p1,TK1,2024-04-30,0,850000,1\n", None),
     ];
     for (dips, want) in table {
-        assert!(rt;
-            measured(rt.alloc(), REFINERY, dips, 0, 0)? == want,
-            "the tank with the dips {dips:?}"
-        );
+        let found = measured(rt.alloc(), REFINERY, dips, Some(0), 0)?;
+        assert!(rt; found == Ok(want), "the tank with the dips {dips:?}");
     }
     Ok(())
 }
@@ -160,33 +147,28 @@ fn measures_a_stream_that_is_read_each_day(rt: HostRuntime) -> Result<(), Fail> 
         (b"reading,r4,B,2024-03-02,6,2\n", 1, Some((10, 3))),
     ];
     for (more, j, want) in table {
-        assert!(rt;
-            measured(rt.alloc(), TWO_DAYS, more, 0, j)? == want,
-            "the stream {j} with the rows {more:?}"
-        );
+        let found = measured(rt.alloc(), TWO_DAYS, more, Some(0), j)?;
+        assert!(rt; found == Ok(want), "the stream {j} with the rows {more:?}");
     }
     Ok(())
 }
 
-// The graph of a day on which a batch stream, the second one, has that many transfers of 10^13 grams.
-fn busy_day(alloc: Global, transfers: u32) -> Result<Result<Graph, Assembly>, Fail> {
-    let mut text = Vec::from_slice(
-        alloc,
-        b"unit,U\nstream,A,env,U,metered,1\nstream,T,U,env,batch,1\nperiod,d1,2024-03-01,2024-03-01\n",
-    )?;
+// The rows of that many transfers of 10^13 grams on a day.
+fn transfers_of_a_day(alloc: Global, transfers: u32) -> Result<Vec<u8>, Fail> {
+    let mut rows = Vec::new(alloc);
     for i in 0..transfers {
         let row = format!(in alloc; "transfer,t{i},T,2024-03-01,2024-03-01,10000000000000,0\n")?;
-        text.extend_from_slice(row.as_bytes())?;
+        rows.extend_from_slice(row.as_bytes())?;
     }
-    graph(alloc, &text, 0)
+    Ok(rows)
 }
 
-// What such a day measured of the batch stream.
-fn busy(alloc: Global, transfers: u32) -> Result<Result<Option<(i128, i128)>, Assembly>, Fail> {
-    match busy_day(alloc, transfers)? {
-        Ok(graph) => Ok(Ok(meas(&graph, 1))),
-        Err(why) => Ok(Err(why)),
-    }
+// What such a day measured of the stream of the transfers.
+fn busy(alloc: Global, transfers: u32) -> Result<Measured, Fail> {
+    let plant: &[u8] =
+        b"unit,U\nstream,A,env,U,metered,1\nstream,T,U,env,batch,1\nperiod,d1,2024-03-01,2024-03-01\n";
+    let rows = transfers_of_a_day(alloc, transfers)?;
+    measured(alloc, plant, &rows, Some(0), 1)
 }
 
 #[test]

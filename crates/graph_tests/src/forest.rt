@@ -101,12 +101,15 @@ fn assert_path(
     Ok(())
 }
 
-/// Of the same streams the plain one leads from unit to unit, and none leads from the environment to a unit.
-#[test]
-fn paths_by_a_plain_stream(rt: HostRuntime) -> Result<(), AllocError> {
-    let alloc = rt.alloc();
-    let g = graph_of(&rt, alloc, 3, &BESIDE)?;
-    let forest = Forest::of(alloc, &g)?;
+// The walks of a forest of three nodes that the plain one of the same streams makes.
+fn assert_plain_paths(
+    rt: &impl Abort,
+    alloc: Global,
+    g: &Graph,
+    forest: &Forest,
+) -> Result<(), AllocError>
+    requires { forest.now.graph ≡ g.now }
+{
     let there = Step {
         stream: 0,
         forward: true,
@@ -115,10 +118,18 @@ fn paths_by_a_plain_stream(rt: HostRuntime) -> Result<(), AllocError> {
         stream: 0,
         forward: false,
     };
-    assert_path(&rt, alloc, &forest, 1, 2, Some(&[there]))?;
-    assert_path(&rt, alloc, &forest, 2, 1, Some(&[back]))?;
-    assert_path(&rt, alloc, &forest, 0, 1, None)?;
-    Ok(())
+    assert!(rt; g.nodes() == 3, "three nodes");
+    assert_path(rt, alloc, forest, 1, 2, Some(&[there]))?;
+    assert_path(rt, alloc, forest, 2, 1, Some(&[back]))?;
+    assert_path(rt, alloc, forest, 0, 1, None)
+}
+
+/// Of the same streams the plain one leads from unit to unit, and none leads from the environment to a unit.
+#[test]
+fn paths_by_a_plain_stream(rt: HostRuntime) -> Result<(), AllocError> {
+    let g = graph_of(&rt, rt.alloc(), 3, &BESIDE)?;
+    let forest = Forest::of(rt.alloc(), &g)?;
+    assert_plain_paths(&rt, rt.alloc(), &g, &forest)
 }
 
 /// One stream into a unit and two out of it, all metered: the first is held, and one balance tests the meters.
@@ -192,17 +203,32 @@ fn assert_path_as_searched(
 }
 
 // The same between any two nodes.
-fn assert_as_searched(rt: &impl Abort, alloc: Global, g: &Graph) -> Result<(), AllocError> {
-    let near = Neighbours::of(alloc, g)?;
-    let forest = Forest::of(alloc, g)?;
-    let marks = marks_of(alloc, g, &forest)?;
-    assert_eq!(rt; marks.len(), g.len() as usize);
+fn assert_all_as_searched(
+    rt: &impl Abort,
+    alloc: Global,
+    g: &Graph,
+    near: &Neighbours,
+    forest: &Forest,
+    marks: &[bool],
+) -> Result<(), AllocError>
+    requires near { IsNeighbours g.now near.now }
+    requires marks { length marks.now ≡ length g.now.streams }
+    requires graph { forest.now.graph ≡ g.now }
+{
     for from in 0..g.nodes() {
         for to in 0..g.nodes() {
-            assert_path_as_searched(rt, alloc, g, &near, &forest, &marks, from, to)?;
+            assert_path_as_searched(rt, alloc, g, near, forest, marks, from, to)?;
         }
     }
     Ok(())
+}
+
+fn assert_as_searched(rt: &impl Abort, alloc: Global, g: &Graph) -> Result<(), AllocError> {
+    let forest = Forest::of(alloc, g)?;
+    let marks = marks_of(alloc, g, &forest)?;
+    assert!(rt; marks.len() == g.len() as usize, "a mark for each stream");
+    let near = Neighbours::of(alloc, g)?;
+    assert_all_as_searched(rt, alloc, g, &near, &forest, &marks)
 }
 
 /// Two trees, of which one has a branch of three streams and one of two from one node, and a unit alone.

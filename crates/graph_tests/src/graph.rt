@@ -169,18 +169,33 @@ fn two_items(alloc: Global) -> Result<List<u32>, AllocError> {
     Ok(list)
 }
 
+// The greatest item of a list, and the items of a copy that is given away.
+fn given_away(alloc: Global, list: &List<u32>) -> Result<(Option<u32>, Vec<u32>), AllocError> {
+    let copy = list.copy(alloc)?;
+    Ok((list.iter().copied().max(), copy.into_vec()))
+}
+
 #[test]
 fn gives_lists_away(rt: HostRuntime) -> Result<(), AllocError> {
     let list = two_items(rt.alloc())?;
-    assert!(rt; !list.is_empty() && list.len() == 2);
-    assert!(rt; list.iter().copied().max() == Some(7));
-    let copy = list.copy(rt.alloc())?;
-    assert_eq!(rt; copy.as_slice(), list.as_slice());
-    let items = copy.into_vec();
-    assert_eq!(rt; items.as_slice(), [5, 7].as_slice());
-    let none: List<u32> = List::new(rt.alloc());
-    assert!(rt; none.is_empty());
+    let (most, items) = given_away(rt.alloc(), &list)?;
+    assert_eq!(rt;
+        (list.len(), list.is_empty(), list.as_slice()),
+        (2, false, items.as_slice()),
+        "a list and its copy"
+    );
+    assert_eq!(rt;
+        (most, items.as_slice()),
+        (Some(7), [5, 7].as_slice()),
+        "the items"
+    );
     Ok(())
+}
+
+#[test]
+fn begins_lists(rt: HostRuntime) {
+    let none: List<u32> = List::new(rt.alloc());
+    assert!(rt; none.is_empty(), "a list without items");
 }
 
 #[test]
@@ -196,16 +211,19 @@ fn makes_boundaries(rt: HostRuntime) -> Result<(), AllocError> {
     Ok(())
 }
 
+/// A cut of the line with these members.
+fn cut(alloc: Global, members: &[Member]) -> Result<Classified, AllocError> {
+    let side = List::from_vec(Vec::from_slice(alloc, &[false, true, false])?);
+    let members = List::from_vec(Vec::from_slice(alloc, members)?);
+    Ok(Classified {
+        class: Class::Redundant,
+        witness: Witness::Cut { side, members },
+    })
+}
+
 /// The result of a stream that a cut shows.
 fn result(alloc: Global, members: &[Member]) -> Result<StreamResult, AllocError> {
-    let witness = Witness::Cut {
-        side: List::from_vec(Vec::from_slice(alloc, &[false, true, false])?),
-        members: List::from_vec(Vec::from_slice(alloc, members)?),
-    };
-    let classified = Classified {
-        class: Class::Redundant,
-        witness,
-    };
+    let classified = cut(alloc, members)?;
     Ok(StreamResult {
         classified: classified.copy(alloc)?,
         flow: 7,
@@ -214,12 +232,21 @@ fn result(alloc: Global, members: &[Member]) -> Result<StreamResult, AllocError>
     })
 }
 
-/// A result of that kind for each stream of the line.
-fn results(alloc: Global, member: Member) -> Result<List<StreamResult>, AllocError> {
-    let mut streams = List::new(alloc);
+fn add_results(
+    alloc: Global,
+    streams: &mut List<StreamResult>,
+    member: Member,
+) -> Result<(), AllocError> {
     for _stream in 0..3 {
         streams.push(result(alloc, &[member])?)?;
     }
+    Ok(())
+}
+
+/// A result of that kind for each stream of the line.
+fn results(alloc: Global, member: Member) -> Result<List<StreamResult>, AllocError> {
+    let mut streams = List::new(alloc);
+    add_results(alloc, &mut streams, member)?;
     Ok(streams)
 }
 
@@ -304,12 +331,22 @@ fn tests_the_form_of_a_stage(rt: HostRuntime) -> Result<(), AllocError> {
     Ok(())
 }
 
-/// That many stages of the line.
-fn stages_of(rt: &impl Abort, alloc: Global, count: u32) -> Result<List<Stage>, AllocError> {
-    let mut stages = List::new(alloc);
+fn add_stages(
+    rt: &impl Abort,
+    alloc: Global,
+    stages: &mut List<Stage>,
+    count: u32,
+) -> Result<(), AllocError> {
     for _stage in 0..count {
         stages.push(stage(rt, alloc, member(2, 1), &PRICES, Solved::Converged(1))?)?;
     }
+    Ok(())
+}
+
+/// That many stages of the line.
+fn stages_of(rt: &impl Abort, alloc: Global, count: u32) -> Result<List<Stage>, AllocError> {
+    let mut stages = List::new(alloc);
+    add_stages(rt, alloc, &mut stages, count)?;
     Ok(stages)
 }
 

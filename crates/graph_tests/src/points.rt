@@ -54,15 +54,43 @@ fn assert_stream_as_searched(
 }
 
 // The same of each stream.
+fn assert_streams_as_searched(
+    rt: &impl Abort,
+    alloc: Global,
+    g: &Graph,
+    near: &Neighbours,
+    points: &Points,
+    cuts: &Cuts,
+) -> Result<(), AllocError>
+    requires near { IsNeighbours g.now near.now }
+    requires points { ArePoints g.now (points_of points.now) }
+    requires cuts { AreCuts g.now (points_of points.now) cuts.now }
+{
+    for j in 0..g.len() {
+        assert_stream_as_searched(rt, alloc, g, near, points, cuts, j)?;
+    }
+    Ok(())
+}
+
+fn assert_cuts_as_searched(
+    rt: &impl Abort,
+    alloc: Global,
+    g: &Graph,
+    near: &Neighbours,
+    points: &Points,
+) -> Result<(), AllocError>
+    requires near { IsNeighbours g.now near.now }
+    requires points { ArePoints g.now (points_of points.now) }
+{
+    let cuts = Cuts::of(alloc, g, points)?;
+    assert_streams_as_searched(rt, alloc, g, near, points, &cuts)
+}
+
 fn assert_as_searched(rt: &impl Abort, alloc: Global, g: &Graph) -> Result<(), AllocError> {
     let near = Neighbours::of(alloc, g)?;
     let forest = Forest::of(alloc, g)?;
     let points = Points::of(alloc, g, &near, &forest)?;
-    let cuts = Cuts::of(alloc, g, &points)?;
-    for j in 0..g.len() {
-        assert_stream_as_searched(rt, alloc, g, &near, &points, &cuts, j)?;
-    }
-    Ok(())
+    assert_cuts_as_searched(rt, alloc, g, &near, &points)
 }
 
 /// A tree with a stream from a leaf up, two parallel streams, meters, and a tree that the environment isn't in.
@@ -92,30 +120,40 @@ fn as_searched(rt: HostRuntime) -> Result<(), AllocError> {
     assert_as_searched(&rt, alloc, &g)
 }
 
-/// A line of 1,000 plain streams from the environment: each is a bridge, and what it cuts off is the units after it.
-#[test]
-fn line_of_plain_streams(rt: HostRuntime) -> Result<(), AllocError> {
-    let alloc = rt.alloc();
+// A line of 1,000 plain streams from the environment.
+fn line(rt: &impl Abort, alloc: Global) -> Result<Graph, AllocError> {
     let mut g = Graph::new(alloc, 1_001);
     for n in 0..1_000 {
         let s = stream(n, n + 1, None);
-        assert!(rt; g.fits(&s));
+        assert!(rt; g.fits(&s), "{s:?}");
         g.push(s)?;
     }
-    assert_as_searched(&rt, alloc, &g)
+    Ok(g)
 }
 
-/// 120 streams between 40 nodes, every fourth one plain: some of the meters lead from tree to tree, others stay within one.
+/// Each stream of a line is a bridge, and what it cuts off is the units after it.
 #[test]
-fn meters_between_trees(rt: HostRuntime) -> Result<(), AllocError> {
-    let alloc = rt.alloc();
+fn line_of_plain_streams(rt: HostRuntime) -> Result<(), AllocError> {
+    let g = line(&rt, rt.alloc())?;
+    assert_as_searched(&rt, rt.alloc(), &g)
+}
+
+// 120 streams between 40 nodes, every fourth one plain.
+fn trees(rt: &impl Abort, alloc: Global) -> Result<Graph, AllocError> {
     let mut g = Graph::new(alloc, 40);
     for n in 0..120 {
         let from = n * 7 % 40;
         let to = (from + 1 + n % 39) % 40;
         let s = stream(from, to, if n % 4 == 0 { None } else { METER });
-        assert!(rt; g.fits(&s));
+        assert!(rt; g.fits(&s), "{s:?}");
         g.push(s)?;
     }
-    assert_as_searched(&rt, alloc, &g)
+    Ok(g)
+}
+
+/// Some of the meters lead from tree to tree, others stay within one.
+#[test]
+fn meters_between_trees(rt: HostRuntime) -> Result<(), AllocError> {
+    let g = trees(&rt, rt.alloc())?;
+    assert_as_searched(&rt, rt.alloc(), &g)
 }

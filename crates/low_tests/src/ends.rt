@@ -1,59 +1,72 @@
 // What no clause says: that calls succeed with ample memory, and what readers and writers of std
 // do through their adapters.
 use pb_io::*;
-use std::alloc::Global;
+use std::alloc::{AllocError, Global};
 use std::io;
 use std::io::{Read, Write};
-use std::process::Abort;
 use std::test::Fail;
 
-// Of the numbers of calls that fail, 0 names none.
+// Whether these bytes are what is read of them by takes of at most that many, of which one fails; 0 names none.
+fn reads_whole(
+    alloc: Global,
+    bytes: &[u8],
+    most: usize,
+    failing: u32,
+    limit: u16,
+) -> Result<Result<bool, ReadEnd>, AllocError> {
+    let failing = vec![in alloc; failing]?;
+    let mut source = MemSource::new(Vec::from_slice(alloc, bytes)?, most.max(1), failing);
+    match read_all(alloc, &mut source, usize::from(limit)) {
+        Ok(all) => Ok(Ok(all.as_slice() == bytes)),
+        Err(end) => Ok(Err(end)),
+    }
+}
+
 #[test]
 fn reads_to_the_end(rt: HostRuntime) -> Result<(), Fail> {
-    let cases: [(&str, usize, u32, usize, Result<&str, ReadEnd>); 6] = [
-        ("", 1, 0, 0, Ok("")),
-        ("unit,U\n", 1, 0, 7, Ok("unit,U\n")),
-        ("unit,U\n", 3, 0, 100, Ok("unit,U\n")),
-        ("unit,U\n", 100, 0, 6, Err(ReadEnd::TooLarge)),
-        ("unit,U\n", 2, 3, 7, Err(ReadEnd::Fault)),
-        ("unit,U\n", 7, 2, 7, Err(ReadEnd::Fault)),
+    let cases: [(&[u8], usize, u32, u16, Result<bool, ReadEnd>); 6] = [
+        (b"", 1, 0, 0, Ok(true)),
+        (b"unit,U\n", 1, 0, 7, Ok(true)),
+        (b"unit,U\n", 3, 0, 100, Ok(true)),
+        (b"unit,U\n", 100, 0, 6, Err(ReadEnd::TooLarge)),
+        (b"unit,U\n", 2, 3, 7, Err(ReadEnd::Fault)),
+        (b"unit,U\n", 7, 2, 7, Err(ReadEnd::Fault)),
     ];
     for (bytes, most, failing, limit, want) in cases {
-        assert!(rt; most > 0 && limit < 1000);
-        let bytes = Vec::from_slice(rt.alloc(), bytes.as_bytes())?;
-        let mut source = MemSource::new(bytes, most, vec![in rt.alloc(); failing]?);
-        match (read_all(rt.alloc(), &mut source, limit), want) {
-            (Ok(all), Ok(want)) => {
-                assert_eq!(rt; all.as_slice(), want.as_bytes(), "at {most} and {failing}")
-            }
-            (Err(end), Err(want)) => assert_eq!(rt; end, want, "at {most} and {failing}"),
-            _ => assert!(rt; false, "at {most} and {failing}"),
-        }
+        let read = reads_whole(rt.alloc(), bytes, most, failing, limit)?;
+        assert_eq!(rt; read, want, "at {most} and {failing} up to {limit}");
     }
     Ok(())
 }
 
+// Whether a report is written whole by puts of at most that many bytes, of which one fails, and whether the sink then holds these bytes.
+fn writes_whole(
+    alloc: Global,
+    room: usize,
+    most: usize,
+    failing: u32,
+    held: &[u8],
+) -> Result<(bool, bool), AllocError> {
+    let failing = vec![in alloc; failing]?;
+    let mut sink = MemSink::new(alloc, room, most.max(1), failing)?;
+    let is_whole = write_all(&mut sink, b"report").is_ok();
+    Ok((is_whole, sink.bytes() == held))
+}
+
 #[test]
 fn writes_whole_or_a_prefix(rt: HostRuntime) -> Result<(), Fail> {
-    let cases: [(usize, usize, u32, &str); 5] = [
-        (6, 100, 0, "report"),
-        (6, 1, 0, "report"),
-        (6, 1, 3, "re"),
-        (4, 3, 0, "repo"),
-        (100, 100, 1, ""),
+    let cases: [(usize, usize, u32, &[u8], bool); 5] = [
+        (6, 100, 0, b"report", true),
+        (6, 1, 0, b"report", true),
+        (6, 1, 3, b"re", false),
+        (4, 3, 0, b"repo", false),
+        (100, 100, 1, b"", false),
     ];
-    for (room, most, failing, held) in cases {
-        assert!(rt; most > 0);
-        let mut sink = MemSink::new(rt.alloc(), room, most, vec![in rt.alloc(); failing]?)?;
-        let written = write_all(&mut sink, b"report");
+    for (room, most, failing, held, is_whole) in cases {
+        let written = writes_whole(rt.alloc(), room, most, failing, held)?;
         assert_eq!(rt;
-            written.is_ok(),
-            held == "report",
-            "at {room}, {most} and {failing}"
-        );
-        assert_eq!(rt;
-            sink.bytes(),
-            held.as_bytes(),
+            written,
+            (is_whole, true),
             "at {room}, {most} and {failing}"
         );
     }
@@ -80,21 +93,31 @@ impl Write for Broken {
     }
 }
 
+// Whether a reader's bytes are read whole.
+fn reads_std(alloc: Global, bytes: &[u8]) -> Result<bool, ReadEnd> {
+    let read = read_all(alloc, &mut StdSource::new(bytes), 100)?;
+    Ok(read.as_slice() == bytes)
+}
+
 #[test]
-fn adapts_readers_and_writers(rt: HostRuntime) -> Result<(), Fail> {
-    let mut source = StdSource::new(b"unit,U\n".as_slice());
-    let read = read_all(rt.alloc(), &mut source, 100)?;
-    assert_eq!(rt; read.as_slice(), b"unit,U\n".as_slice());
+fn adapts_readers(rt: HostRuntime) {
+    let broken = read_all(rt.alloc(), &mut StdSource::new(Broken), 100).err();
+    assert_eq!(rt; broken, Some(ReadEnd::Fault), "a reader that fails");
+    assert_eq!(rt; reads_std(rt.alloc(), b"unit,U\n"), Ok(true), "a slice");
+}
 
-    let mut written = Vec::new(rt.alloc());
-    write_all(&mut StdSink::new(&mut written), read.as_slice())?;
-    assert_eq!(rt; written.as_slice(), b"unit,U\n".as_slice());
+// Whether bytes are written whole to a writer.
+fn writes_std(alloc: Global, bytes: &[u8]) -> Result<bool, SinkFailed> {
+    let mut written = Vec::new(alloc);
+    write_all(&mut StdSink::new(&mut written), bytes)?;
+    Ok(written.as_slice() == bytes)
+}
 
-    let failed = read_all(rt.alloc(), &mut StdSource::new(Broken), 100);
-    assert_eq!(rt; failed.err(), Some(ReadEnd::Fault));
-    let failed = write_all(&mut StdSink::new(Broken), b"report");
-    assert_eq!(rt; failed, Err(SinkFailed));
-    Ok(())
+#[test]
+fn adapts_writers(rt: HostRuntime) {
+    let broken = write_all(&mut StdSink::new(Broken), b"report");
+    assert_eq!(rt; broken, Err(SinkFailed), "a writer that takes no byte");
+    assert_eq!(rt; writes_std(rt.alloc(), b"unit,U\n"), Ok(true), "a vector");
 }
 
 // A writer that takes one byte a call.
@@ -147,30 +170,43 @@ fn reader_that_fails_in_mid_stream_is_a_fault(rt: HostRuntime) -> Result<(), Fai
     Ok(())
 }
 
-// Takes five bytes, then the others, and asks on after the last.
-fn assert_sure(rt: &impl Abort, alloc: Global, source: &mut SureSource) -> Result<(), ReadEnd> {
+// Takes five bytes, then the others, and asks on after the last: how many come first and last, and whether all are these.
+fn taken(
+    alloc: Global,
+    source: &mut SureSource,
+    first: &[u8],
+    rest: &[u8],
+) -> Result<(usize, bool, usize), ReadEnd> {
     let mut few = [0_u8; 5];
-    assert_eq!(rt; source.take(&mut few), Ok(5));
-    assert_eq!(rt; &few, b"unit,");
-    let rest = read_all(alloc, source, 9)?;
-    assert_eq!(rt; rest.as_slice(), b"U\nunit,V\n".as_slice());
-    assert_eq!(rt; source.take(&mut few), Ok(0));
-    Ok(())
+    let begun = source.take(&mut few)?;
+    let are_first = few.as_slice() == first;
+    let are_rest = read_all(alloc, source, 9)?.as_slice() == rest;
+    Ok((begun, are_first && are_rest, source.take(&mut few)?))
 }
 
 #[test]
 fn sure_sources_never_fail(rt: HostRuntime) -> Result<(), Fail> {
     let bytes = Vec::from_slice(rt.alloc(), b"unit,U\nunit,V\n")?;
-    assert_sure(&rt, rt.alloc(), &mut SureSource::new(bytes))?;
+    let taken = taken(
+        rt.alloc(),
+        &mut SureSource::new(bytes),
+        b"unit,",
+        b"U\nunit,V\n",
+    )?;
+    assert_eq!(rt; taken, (5, true, 0), "the bytes of a source");
     Ok(())
 }
 
+// Writes nine bytes, none and six: how many the last call takes, and how many are taken in all.
+fn put_into(sink: &mut SureSink) -> Result<(usize, u64), SinkFailed> {
+    write_all(sink, b"U\nunit,V\n")?;
+    write_all(sink, b"")?;
+    let put = sink.put(b"report")?;
+    Ok((put, sink.taken()))
+}
+
 #[test]
-fn sure_sinks_never_fail(rt: HostRuntime) -> Result<(), Fail> {
-    let mut sink = SureSink::new();
-    write_all(&mut sink, b"U\nunit,V\n".as_slice())?;
-    write_all(&mut sink, b"".as_slice())?;
-    assert_eq!(rt; sink.put(b"report"), Ok(6));
-    assert_eq!(rt; sink.taken(), 15);
-    Ok(())
+fn sure_sinks_never_fail(rt: HostRuntime) {
+    let put = put_into(&mut SureSink::new());
+    assert_eq!(rt; put, Ok((6, 15)), "the bytes of a sink");
 }

@@ -29,51 +29,66 @@ fn reads_dates(rt: HostRuntime) -> Result<(), Fail> {
 
 #[test]
 fn reads_whole_numbers(rt: HostRuntime) {
-    let table: [(&[u8], Option<i128>); 10] = [
-        (b"0", Some(0)),
-        (b"-1", Some(-1)),
-        (b"100", Some(100)),
-        (b"101", None),
-        (b"007", None),
-        (b"-0", None),
-        (b"", None),
-        (b"-", None),
-        (b"+1", None),
-        (b"1 ", None),
+    let (least, most) = (i128::MIN, i128::MAX);
+    let table: [(&[u8], i128, i128, Option<i128>); 20] = [
+        (b"0", -100, 100, Some(0)),
+        (b"-1", -100, 100, Some(-1)),
+        (b"100", -100, 100, Some(100)),
+        (b"101", -100, 100, None),
+        (b"007", -100, 100, None),
+        (b"-0", -100, 100, None),
+        (b"", -100, 100, None),
+        (b"-", -100, 100, None),
+        (b"+1", -100, 100, None),
+        (b"1 ", -100, 100, None),
+        (b"123456789012345678", least, most, Some(123456789012345678)),
+        (
+            b"-123456789012345678",
+            least,
+            most,
+            Some(-123456789012345678),
+        ),
+        (
+            b"9999999999999999999",
+            least,
+            most,
+            Some(9999999999999999999),
+        ),
+        (
+            b"-9999999999999999999",
+            least,
+            most,
+            Some(-9999999999999999999),
+        ),
+        (
+            b"18446744073709551616",
+            least,
+            most,
+            Some(18446744073709551616),
+        ),
+        (
+            b"99999999999999999999",
+            least,
+            most,
+            Some(99999999999999999999),
+        ),
+        (b"1234567890123456x8", 0, most, None),
+        (b"01234567890123456789", 0, most, None),
+        (
+            b"-170141183460469231731687303715884105728",
+            least,
+            0,
+            Some(least),
+        ),
+        (b"-170141183460469231731687303715884105729", least, 0, None),
     ];
-    for (field, value) in table {
+    for (field, from, to, value) in table {
         assert_eq!(rt;
-            read_whole(field, -100, 100),
+            read_whole(field, from, to),
             value,
             "the number of {field:?}"
         );
     }
-    let long: [(&[u8], i128); 6] = [
-        (b"123456789012345678", 123456789012345678),
-        (b"-123456789012345678", -123456789012345678),
-        (b"9999999999999999999", 9999999999999999999),
-        (b"-9999999999999999999", -9999999999999999999),
-        (b"18446744073709551616", 18446744073709551616),
-        (b"99999999999999999999", 99999999999999999999),
-    ];
-    for (field, value) in long {
-        assert_eq!(rt;
-            read_whole(field, i128::MIN, i128::MAX),
-            Some(value),
-            "the number of {field:?}"
-        );
-    }
-    assert_eq!(rt; read_whole(b"1234567890123456x8", 0, i128::MAX), None);
-    assert_eq!(rt; read_whole(b"01234567890123456789", 0, i128::MAX), None);
-    let least = i128::MIN;
-    assert_eq!(rt;
-        read_whole(b"-170141183460469231731687303715884105728", least, 0),
-        Some(least)
-    );
-    assert_eq!(rt;
-        read_whole(b"-170141183460469231731687303715884105729", least, 0),
-        None
-    );
 }
 
 #[test]
@@ -91,9 +106,22 @@ fn writes_whole_numbers(rt: HostRuntime) -> Result<(), Fail> {
     Ok(())
 }
 
+// Whether a field is read as a name of its bytes, and equals none of others.
+fn is_name(field: &[u8]) -> bool {
+    match Name::read(field) {
+        Some(name) => {
+            name.bytes() == field
+                && Some(name) == Name::read(field)
+                && Some(name) != Name::read(b"b")
+        }
+        None => false,
+    }
+}
+
 #[test]
 fn reads_names(rt: HostRuntime) {
-    let table: [(&[u8], bool); 7] = [
+    let table: [(&[u8], bool); 8] = [
+        (b"a", true),
         (b"TK-1_a.9", true),
         (b"", false),
         (b"a b", false),
@@ -102,14 +130,9 @@ fn reads_names(rt: HostRuntime) {
         (b"abcdefghijklmnopqrstuvwxyz012345", true),
         (b"abcdefghijklmnopqrstuvwxyz0123456", false),
     ];
-    for (field, is_name) in table {
-        match Name::read(field) {
-            Some(name) => assert_eq!(rt; name.bytes(), field, "the name {name}"),
-            None => assert!(rt; !is_name, "no name in {field:?}"),
-        }
+    for (field, want) in table {
+        assert_eq!(rt; is_name(field), want, "the name {field:?}");
     }
-    assert!(rt; Name::read(b"a") == Name::read(b"a"));
-    assert!(rt; Name::read(b"a") != Name::read(b"b"));
 }
 
 #[test]
@@ -126,19 +149,28 @@ fn orders_and_prints_names(rt: HostRuntime) -> Result<(), Fail> {
     Ok(())
 }
 
+// The number of nodes, by three counts, whether the first one has this name, and whether there is no stream.
+fn counts(names: &Names, first: &Name) -> (usize, usize, usize, bool, bool) {
+    let nodes = &names.nodes;
+    let is_first = !nodes.is_empty() && nodes.at(0).bytes() == first.bytes();
+    (
+        nodes.len(),
+        nodes.as_slice().len(),
+        nodes.iter().count(),
+        is_first,
+        names.streams.is_empty(),
+    )
+}
+
 #[test]
 fn lists_names(rt: HostRuntime) -> Result<(), Fail> {
+    let env = Name::read(b"env").ok_or("env")?;
     let mut names = Names {
         nodes: NameList::new(rt.alloc()),
         streams: NameList::new(rt.alloc()),
     };
-    let env = Name::read(b"env").ok_or("env")?;
     names.nodes.push(env)?;
-    assert_eq!(rt; names.nodes.len(), 1);
-    assert_eq!(rt; names.nodes.at(0).bytes(), b"env".as_slice());
-    assert_eq!(rt; names.nodes.as_slice().len(), 1);
-    assert_eq!(rt; names.nodes.iter().count(), 1);
-    assert!(rt; names.streams.is_empty());
+    assert_eq!(rt; counts(&names, &env), (1, 1, 1, true, true), "a node");
     Ok(())
 }
 
@@ -150,19 +182,37 @@ fn assert_fields(rt: &impl Abort, row: &Row, fields: &[&[u8]]) {
     }
 }
 
+// The record at a place has these fields and that many of them filled.
+fn assert_record(rt: &impl Abort, rows: &Rows, place: usize, fields: &[&[u8]], filled: usize) {
+    assert!(rt; place < rows.len(), "the record {place}");
+    assert_fields(rt, rows.at(place), fields);
+    assert_eq!(rt;
+        rows.at(place).filled(),
+        filled,
+        "the filled fields of {fields:?}"
+    );
+}
+
+// Just these records, with what is filled of each.
+fn assert_records(rt: &impl Abort, rows: &Rows, records: &[(&[&[u8]], usize)]) {
+    assert_eq!(rt; rows.len(), records.len(), "the records");
+    for (place, (fields, filled)) in records.iter().enumerate() {
+        assert_record(rt, rows, place, fields, *filled);
+    }
+}
+
 #[test]
 fn reads_records(rt: HostRuntime) -> Result<(), Fail> {
     let rows = Rows::of(rt.alloc(), b"\xef\xbb\xbfunit,U,,\r\n\"a,\"\"b\"\n\n,\n")?;
-    let table: [(&[&[u8]], usize); 3] = [
-        (&[b"unit", b"U", b"", b""], 2),
-        (&[b"a,\"b"], 1),
-        (&[b"", b""], 0),
-    ];
-    assert_eq!(rt; rows.len(), 3);
-    for (row, (fields, filled)) in rows.iter().zip(table) {
-        assert_fields(&rt, row, fields);
-        assert_eq!(rt; row.filled(), filled, "the filled fields of {fields:?}");
-    }
+    assert_records(
+        &rt,
+        &rows,
+        &[
+            (&[b"unit", b"U", b"", b""], 2),
+            (&[b"a,\"b"], 1),
+            (&[b"", b""], 0),
+        ],
+    );
     Ok(())
 }
 
@@ -216,19 +266,32 @@ fn one_row(rt: &impl Abort, alloc: Global) -> Result<Rows, AllocError> {
     Ok(rows)
 }
 
+// A row of two fields, lent into room for three and written after a text.
+fn assert_row(rt: &impl Abort, row: &Row, text: &mut Vec<u8>) -> Result<(), AllocError> {
+    assert_fields(rt, row, &[b"unit", b"U"]);
+    let mut fields: [&[u8]; 3] = [b""; 3];
+    let lent = row.lend(&mut fields);
+    assert_eq!(rt; (lent, fields[1]), (2, b"U".as_slice()), "{row:?}");
+    row.write_to(text)
+}
+
+// The number of rows, each of which is this one and is written after a text.
+fn count_rows(rt: &impl Abort, rows: &Rows, text: &mut Vec<u8>) -> Result<usize, AllocError> {
+    for row in rows.iter() {
+        assert_row(rt, row, text)?;
+    }
+    Ok(rows.len())
+}
+
 #[test]
 fn makes_rows(rt: HostRuntime) -> Result<(), Fail> {
-    let rows = one_row(&rt, rt.alloc())?;
     let mut text = Vec::from_slice(rt.alloc(), b"tank,K\n")?;
-    assert_eq!(rt; rows.len(), 1);
-    assert_fields(&rt, rows.at(0), &[b"unit", b"U"]);
-    for row in rows.iter() {
-        let mut fields: [&[u8]; 3] = [b""; 3];
-        let lent = row.lend(&mut fields);
-        assert_eq!(rt; (lent, fields[1]), (2, b"U".as_slice()), "{row:?}");
-        row.write_to(&mut text)?;
-    }
-    assert_eq!(rt; text.as_slice(), b"tank,K\nunit,U\n".as_slice());
+    let count = count_rows(&rt, &one_row(&rt, rt.alloc())?, &mut text)?;
+    assert_eq!(rt;
+        (count, text.as_slice()),
+        (1, b"tank,K\nunit,U\n".as_slice()),
+        "a row after a text"
+    );
     Ok(())
 }
 
@@ -240,25 +303,38 @@ fn write_fields(writer: &mut RowWriter) -> Result<(), AllocError> {
     writer.field(b"")
 }
 
-#[test]
-fn writes_rows(rt: HostRuntime) -> Result<(), Fail> {
-    let mut writer = RowWriter::new(rt.alloc());
-    write_fields(&mut writer)?;
-    assert_eq!(rt; writer.bytes(), b"".as_slice());
+// Writes two rows, and says whether there is no byte before the first one's end.
+fn write_two_rows(writer: &mut RowWriter) -> Result<bool, AllocError> {
+    write_fields(writer)?;
+    let is_held = writer.bytes().is_empty();
     writer.end_row()?;
     writer.field(b"end")?;
     writer.end_row()?;
-    assert_eq!(rt;
-        writer.bytes(),
-        b"edit,9,\"typed, \"\"twice\"\"\",\nend\n".as_slice()
-    );
+    Ok(is_held)
+}
+
+#[test]
+fn writes_rows(rt: HostRuntime) -> Result<(), Fail> {
+    let mut writer = RowWriter::new(rt.alloc());
+    let is_held = write_two_rows(&mut writer)?;
+    let want: &[u8] = b"edit,9,\"typed, \"\"twice\"\"\",\nend\n";
+    assert_eq!(rt; (is_held, writer.bytes()), (true, want), "two rows");
     Ok(())
+}
+
+// Whether a field is read as a reason of its bytes.
+fn is_reason(field: &[u8]) -> bool {
+    match Reason::read(field) {
+        Some(reason) => reason.bytes() == field && reason == reason,
+        None => false,
+    }
 }
 
 #[test]
 fn reads_reasons(rt: HostRuntime) {
     let long = [b'x'; 81];
-    let table: [(&[u8], bool); 8] = [
+    let table: [(&[u8], bool); 9] = [
+        (b"late ticket", true),
         (b"misread dip, see ticket 7", true),
         (b" ", true),
         (b"~", true),
@@ -268,15 +344,8 @@ fn reads_reasons(rt: HostRuntime) {
         (b"tab\there", false),
         ("caf\u{e9}".as_bytes(), false),
     ];
-    for (field, is) in table {
-        assert_eq!(rt; Reason::read(field).is_some(), is, "the reason {field:?}");
-    }
-    match Reason::read(b"late ticket") {
-        Some(reason) => {
-            assert_eq!(rt; reason.bytes(), b"late ticket".as_slice());
-            assert!(rt; reason == reason);
-        }
-        None => assert!(rt; false, "no reason"),
+    for (field, want) in table {
+        assert_eq!(rt; is_reason(field), want, "the reason {field:?}");
     }
 }
 

@@ -62,20 +62,31 @@ fn full(rt: &impl Abort, alloc: Global) -> Result<Strap, Fail> {
     Ok(strap)
 }
 
+// The refusals of a full table, whose last point is at 1,999 and 7.
+fn assert_refused(rt: &impl Abort, strap: &mut Strap) {
+    let table: [(u16, u16, StrapRefused, bool); 3] = [
+        (1_999, 7, StrapRefused::NotRising, false),
+        (2_000, 6, StrapRefused::NotRising, false),
+        (2_000, 7, StrapRefused::Full, true),
+    ];
+    for (mm, ml, want, rises) in table {
+        let (mm, ml) = (i64::from(mm), i64::from(ml));
+        assert_eq!(rt;
+            (strap.rises(mm, ml), strap.push(mm, ml)),
+            (rises, Err(want)),
+            "{mm} {ml}"
+        );
+    }
+}
+
 #[test]
 fn refusals(rt: HostRuntime) -> Result<(), Fail> {
     let mut strap = full(&rt, rt.alloc())?;
-    assert_eq!(rt; strap.len(), 2_000);
-    assert!(rt; strap.rises(2_000, 7));
-    assert!(rt; !strap.rises(1_999, 7));
-    for (mm, ml, want) in [
-        (1_999, 7, StrapRefused::NotRising),
-        (2_000, 6, StrapRefused::NotRising),
-        (2_000, 7, StrapRefused::Full),
-    ] {
-        assert!(rt; 0 <= mm && mm <= 100_000 && 0 <= ml && ml <= 1_000_000_000_000);
-        assert_eq!(rt; strap.push(mm, ml), Err(want), "{mm} {ml}");
-    }
-    assert_eq!(rt; strap.volume(2_000), None);
+    assert_refused(&rt, &mut strap);
+    assert_eq!(rt;
+        (strap.len(), strap.volume(2_000)),
+        (2_000, None),
+        "a table of 2,000 points"
+    );
     Ok(())
 }

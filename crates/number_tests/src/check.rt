@@ -79,6 +79,14 @@ fn study_of(rt: &impl Abort, alloc: Global, streams: &[Stream]) -> Result<Study,
     study(alloc, &g, &options, &critical)
 }
 
+/// The last stage of a study.
+fn last_stage(rt: &impl Abort, study: Study) -> Stage {
+    let Some(stage) = study.stages.into_vec().pop() else {
+        panic!(rt; "no stage");
+    };
+    stage
+}
+
 /// The stage of a plant.
 fn stage_of(rt: &impl Abort, alloc: Global, plant: Plant) -> Result<Stage, AllocError> {
     let variance = 1_000_000_000_000;
@@ -93,10 +101,7 @@ fn stage_of(rt: &impl Abort, alloc: Global, plant: Plant) -> Result<Stage, Alloc
             study_of(rt, alloc, &[into, plain(1, 0), plain(1, 0)])?
         }
     };
-    let Some(stage) = study.stages.into_vec().pop() else {
-        panic!(rt; "no stage");
-    };
-    Ok(stage)
+    Ok(last_stage(rt, study))
 }
 
 /// A list of these items.
@@ -127,6 +132,18 @@ fn change_stream(
     Ok(())
 }
 
+/// Changes one thing of the result of one of these streams.
+fn change_listed(
+    rt: &impl Abort,
+    alloc: Global,
+    streams: &mut [StreamResult],
+    j: usize,
+    change: StreamChange,
+) -> Result<(), AllocError> {
+    assert!(rt; j < streams.len(), "stream {j}");
+    change_stream(alloc, &mut streams[j], change)
+}
+
 /// Changes one thing of the result of one stream of a stage.
 fn change_stream_at(
     rt: &impl Abort,
@@ -136,10 +153,9 @@ fn change_stream_at(
     change: StreamChange,
 ) -> Result<(), AllocError> {
     let mut streams = mem::replace(&mut stage.streams, List::new(alloc)).into_vec();
-    assert!(rt; j < streams.len(), "stream {j}");
-    change_stream(alloc, &mut streams[j], change)?;
+    let changed = change_listed(rt, alloc, &mut streams, j, change);
     stage.streams = List::from_vec(streams);
-    Ok(())
+    changed
 }
 
 /// Changes the price of a node.
@@ -193,10 +209,16 @@ fn change_all(
     Ok(())
 }
 
-/// The answer to a stage.
-fn judged(rt: &impl Abort, alloc: Global, stage: &Stage) -> Result<(), CheckFault> {
-    assert!(rt; stage.is_well_formed());
-    check(alloc, stage, 10, 5_000)
+/// The answer to a stage after these changes.
+fn answer_after(
+    rt: &impl Abort,
+    alloc: Global,
+    stage: &mut Stage,
+    changes: &[Change],
+) -> Result<Result<(), CheckFault>, AllocError> {
+    change_all(rt, alloc, stage, changes)?;
+    assert!(rt; stage.is_well_formed(), "the form of the stage");
+    Ok(check(alloc, stage, 10, 5_000))
 }
 
 /// The answer to the stage of a plant after these changes.
@@ -207,8 +229,7 @@ fn answer(
     changes: &[Change],
 ) -> Result<Result<(), CheckFault>, AllocError> {
     let mut stage = stage_of(rt, alloc, plant)?;
-    change_all(rt, alloc, &mut stage, changes)?;
-    Ok(judged(rt, alloc, &stage))
+    answer_after(rt, alloc, &mut stage, changes)
 }
 
 /// After these changes this is the first fault.

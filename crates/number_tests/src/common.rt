@@ -50,12 +50,25 @@ pub struct Numbers {
 }
 
 pub fn assert_numbers(rt: &impl Abort, found: Numbers, wanted: Numbers) {
-    assert_eq!(rt; found.solved, wanted.solved);
-    assert_eq!(rt; found.g, wanted.g);
-    assert_eq!(rt; found.h, wanted.h);
-    assert_eq!(rt; found.dof, wanted.dof);
-    assert_eq!(rt; found.low, wanted.low);
-    assert_eq!(rt; found.high, wanted.high);
+    assert_eq!(rt;
+        (
+            found.solved,
+            found.g,
+            found.h,
+            found.dof,
+            found.low,
+            found.high
+        ),
+        (
+            wanted.solved,
+            wanted.g,
+            wanted.h,
+            wanted.dof,
+            wanted.low,
+            wanted.high
+        ),
+        "how the sweeps ended, the gap, the degrees of freedom and the statistic"
+    );
 }
 
 /// Compares a count.

@@ -5,25 +5,32 @@ ghost use Rattle.pb_elim.specs.Criticals.{AreCritical};
 ghost use Rattle.pb_elim.specs.Options.{AreOptions};
 
 use crate::common::{
-    Numbers, assert_at, assert_bounds, assert_count, assert_numbers, graph_of, metered, plain,
-    within,
+    Numbers, assert_at, assert_bounds, assert_numbers, graph_of, metered, plain, within,
 };
 use pb_classify::classify;
 use pb_elim::{study, study_classed};
 use pb_graph::{
-    Bounds, Class, Classified, Critical, CriticalRow, Graph, List, Member, Options, Solved, Stage,
-    Step, Stop, Stream, StreamResult, Study, Taken, Verdict, Witness,
+    Bounds, Class, Critical, CriticalRow, Graph, List, Member, Options, Solved, Stage, Step, Stop,
+    Stream, StreamResult, Study, Taken, Verdict, Witness,
 };
 use std::alloc::{AllocError, Global};
 use std::process::Abort;
 
-/// What a study of one stage is to say. Of streams: the flow and its bounds, and the least bounds.
+/// What shows a class: a side with its members, or steps.
+#[derive(Clone, Copy)]
+enum Shown<'a> {
+    Cut(&'a [bool], &'a [Member]),
+    Cycle(&'a [Step]),
+}
+
+/// What a study of one stage is to say. Of streams: the flow and its bounds, the least bounds, and the class with what shows it.
 #[derive(Clone, Copy)]
 struct Answer<'a> {
     prices: &'a [i128],
     numbers: Numbers,
     flows: &'a [(usize, i128, Option<Bounds>)],
     least: &'a [(usize, Option<Bounds>)],
+    classes: &'a [(usize, Class, Shown<'a>)],
 }
 
 const fn member(stream: u32, sign: i8) -> Member {
@@ -67,11 +74,17 @@ fn study_of(
 
 /// The stage is of a graph of these streams, with a price for each node, and without tests.
 fn assert_plain(rt: &impl Abort, stage: &Stage, streams: &[Stream], prices: &[i128]) {
-    assert_count(rt, "nodes", stage.graph.nodes() as usize, prices.len());
-    assert_count(rt, "streams", stage.streams.len(), streams.len());
-    assert_eq!(rt; stage.graph.streams(), streams);
-    assert_eq!(rt; stage.prices.as_slice(), prices);
-    assert!(rt; stage.tests.is_none());
+    assert_eq!(rt;
+        (
+            stage.graph.nodes() as usize,
+            stage.streams.len(),
+            stage.tests.is_none()
+        ),
+        (prices.len(), streams.len(), true),
+        "nodes, streams and no tests"
+    );
+    assert_eq!(rt; stage.graph.streams(), streams, "the streams");
+    assert_eq!(rt; stage.prices.as_slice(), prices, "the prices");
 }
 
 /// The numbers of a stage.
@@ -107,33 +120,45 @@ fn assert_least(rt: &impl Abort, stage: &Stage, least: &[(usize, Option<Bounds>)
     }
 }
 
-/// The study has one stage, takes nothing and has no stop, and its stage is as the answer says.
-fn assert_study(rt: &impl Abort, s: &Study, streams: &[Stream], answer: &Answer) {
-    assert_eq!(rt; s.stages.len(), 1);
-    assert_count(rt, "taken", s.taken.len(), 0);
-    assert!(rt; s.stop.is_none());
-    let stage = s.stages.at(0);
+/// Whether a witness is the one that is wanted.
+fn is_shown(witness: &Witness, shown: Shown<'_>) -> bool {
+    match (witness, shown) {
+        (Witness::Cut { side, members }, Shown::Cut(wanted, listed)) => {
+            side.as_slice() == wanted && members.as_slice() == listed
+        }
+        (Witness::Cycle { steps }, Shown::Cycle(listed)) => steps.as_slice() == listed,
+        _ => false,
+    }
+}
+
+fn assert_classes(rt: &impl Abort, stage: &Stage, classes: &[(usize, Class, Shown<'_>)]) {
+    for &(j, class, shown) in classes {
+        let found = &stream_at(rt, stage, j).classified;
+        assert_eq!(rt;
+            (found.class, is_shown(&found.witness, shown)),
+            (class, true),
+            "class of stream {j}"
+        );
+    }
+}
+
+/// The stage is as the answer says.
+fn assert_stage(rt: &impl Abort, stage: &Stage, streams: &[Stream], answer: &Answer) {
     assert_plain(rt, stage, streams, answer.prices);
     assert_numbers(rt, numbers_of(stage), answer.numbers);
     assert_flows(rt, stage, answer.flows);
     assert_least(rt, stage, answer.least);
+    assert_classes(rt, stage, answer.classes);
 }
 
-/// The study of a graph of these streams at a gap, with up to 5,000 sweeps, which says what is wanted.
-fn checked_study(
-    rt: &impl Abort,
-    alloc: Global,
-    nodes: u32,
-    streams: &[Stream],
-    gap: u32,
-    answer: &Answer,
-) -> Result<Study, AllocError> {
-    let s = study_of(rt, alloc, nodes, streams, gap, 5_000)?;
-    assert_study(rt, &s, streams, answer);
-    Ok(s)
+/// The study has one stage, takes nothing and has no stop, and its stage is as the answer says.
+fn assert_study(rt: &impl Abort, s: &Study, streams: &[Stream], answer: &Answer) {
+    let is_alone = s.taken.is_empty() && s.stop.is_none();
+    assert!(rt; s.stages.len() == 1 && is_alone, "one stage alone");
+    assert_stage(rt, s.stages.at(0), streams, answer);
 }
 
-/// Compares the study of a graph of these streams with what is wanted.
+/// Compares the study of a graph of these streams at a gap, with up to 5,000 sweeps, with what is wanted.
 fn check_study(
     rt: &impl Abort,
     alloc: Global,
@@ -142,46 +167,9 @@ fn check_study(
     gap: u32,
     answer: &Answer,
 ) -> Result<(), AllocError> {
-    let _study = checked_study(rt, alloc, nodes, streams, gap, answer)?;
+    let s = study_of(rt, alloc, nodes, streams, gap, 5_000)?;
+    assert_study(rt, &s, streams, answer);
     Ok(())
-}
-
-/// The class of a stream in the first stage, with what shows it.
-fn class_at<'a>(rt: &impl Abort, s: &'a Study, stream: usize) -> &'a Classified {
-    assert!(rt; s.stages.len() > 0);
-    &stream_at(rt, s.stages.at(0), stream).classified
-}
-
-/// A stream is of this class, shown by a cut.
-fn assert_cut(
-    rt: &impl Abort,
-    s: &Study,
-    stream: usize,
-    class: Class,
-    side: &[bool],
-    members: &[Member],
-) {
-    let found = class_at(rt, s, stream);
-    assert_eq!(rt; found.class, class, "stream {stream}");
-    let Witness::Cut {
-        side: shown,
-        members: listed,
-    } = &found.witness
-    else {
-        panic!(rt; "stream {stream}: a cycle for a cut");
-    };
-    assert_eq!(rt; shown.as_slice(), side, "stream {stream}");
-    assert_eq!(rt; listed.as_slice(), members, "stream {stream}");
-}
-
-/// A stream is of this class, shown by a cycle.
-fn assert_cycle(rt: &impl Abort, s: &Study, stream: usize, class: Class, steps: &[Step]) {
-    let found = class_at(rt, s, stream);
-    assert_eq!(rt; found.class, class, "stream {stream}");
-    let Witness::Cycle { steps: listed } = &found.witness else {
-        panic!(rt; "stream {stream}: a cut for a cycle");
-    };
-    assert_eq!(rt; listed.as_slice(), steps, "stream {stream}");
 }
 
 /// A meter of what enters a unit and one of what leaves it, which disagree by two tonnes.
@@ -209,25 +197,20 @@ fn two_meters_disagree(rt: HostRuntime) -> Result<(), AllocError> {
             (0, within(100_999_998, 101_000_001)),
             (1, within(100_999_999, 101_000_002)),
         ],
+        classes: &[
+            (
+                0,
+                Class::Redundant,
+                Shown::Cut(&[true, false], &[member(0, -1), member(1, 1)]),
+            ),
+            (
+                1,
+                Class::Redundant,
+                Shown::Cut(&[false, true], &[member(0, 1), member(1, -1)]),
+            ),
+        ],
     };
-    let s = checked_study(&rt, rt.alloc(), 2, &streams, 10, &answer)?;
-    assert_cut(
-        &rt,
-        &s,
-        0,
-        Class::Redundant,
-        &[true, false],
-        &[member(0, -1), member(1, 1)],
-    );
-    assert_cut(
-        &rt,
-        &s,
-        1,
-        Class::Redundant,
-        &[false, true],
-        &[member(0, 1), member(1, -1)],
-    );
-    Ok(())
+    check_study(&rt, rt.alloc(), 2, &streams, 10, &answer)
 }
 
 /// The half gram between two meters goes up, and the gap can't be met, at 10 thousandths and at 999; at 1,000 it is met before the
@@ -247,6 +230,7 @@ fn half_a_gram(rt: HostRuntime) -> Result<(), AllocError> {
         },
         flows: &[(0, 1, within(-1, 2)), (1, 1, within(-1, 2))],
         least: &[(0, within(-1, 2))],
+        classes: &[],
     };
     let near = Answer {
         numbers: Numbers {
@@ -267,6 +251,7 @@ fn half_a_gram(rt: HostRuntime) -> Result<(), AllocError> {
         },
         flows: &[(0, 0, within(-1, 3)), (1, 0, within(-2, 2))],
         least: &[(0, within(-1, 2)), (1, within(-1, 1))],
+        classes: &[],
     };
     check_study(&rt, rt.alloc(), 2, &streams, 10, &fine)?;
     check_study(&rt, rt.alloc(), 2, &streams, 999, &near)?;
@@ -296,33 +281,25 @@ fn plain_between_meters(rt: HostRuntime) -> Result<(), AllocError> {
             (2, 101_000_000, within(100_999_998, 101_000_003)),
         ],
         least: &[(1, within(100_999_998, 101_000_001))],
+        classes: &[
+            (
+                0,
+                Class::Redundant,
+                Shown::Cut(&[true, false, false], &[member(0, -1), member(2, 1)]),
+            ),
+            (
+                1,
+                Class::Observable,
+                Shown::Cut(&[false, true, false], &[member(0, 1), member(1, -1)]),
+            ),
+            (
+                2,
+                Class::Redundant,
+                Shown::Cut(&[false, true, true], &[member(0, 1), member(2, -1)]),
+            ),
+        ],
     };
-    let s = checked_study(&rt, rt.alloc(), 3, &streams, 10, &answer)?;
-    assert_cut(
-        &rt,
-        &s,
-        0,
-        Class::Redundant,
-        &[true, false, false],
-        &[member(0, -1), member(2, 1)],
-    );
-    assert_cut(
-        &rt,
-        &s,
-        1,
-        Class::Observable,
-        &[false, true, false],
-        &[member(0, 1), member(1, -1)],
-    );
-    assert_cut(
-        &rt,
-        &s,
-        2,
-        Class::Redundant,
-        &[false, true, true],
-        &[member(0, 1), member(2, -1)],
-    );
-    Ok(())
+    check_study(&rt, rt.alloc(), 3, &streams, 10, &answer)
 }
 
 #[test]
@@ -340,24 +317,20 @@ fn meter_beside_plain_stream(rt: HostRuntime) -> Result<(), AllocError> {
         },
         flows: &[(0, -500, within(-500, -500)), (1, 500, within(500, 500))],
         least: &[(0, within(-500, -500))],
+        classes: &[
+            (
+                0,
+                Class::Observable,
+                Shown::Cut(&[false, true, false], &[member(0, -1), member(1, -1)]),
+            ),
+            (
+                1,
+                Class::Nonredundant,
+                Shown::Cycle(&[step(1, true), step(0, false)]),
+            ),
+        ],
     };
-    let s = checked_study(&rt, rt.alloc(), 3, &streams, 10, &answer)?;
-    assert_cut(
-        &rt,
-        &s,
-        0,
-        Class::Observable,
-        &[false, true, false],
-        &[member(0, -1), member(1, -1)],
-    );
-    assert_cycle(
-        &rt,
-        &s,
-        1,
-        Class::Nonredundant,
-        &[step(1, true), step(0, false)],
-    );
-    Ok(())
+    check_study(&rt, rt.alloc(), 3, &streams, 10, &answer)
 }
 
 /// Two units that no stream joins to the environment.
@@ -376,25 +349,20 @@ fn part_apart_from_env(rt: HostRuntime) -> Result<(), AllocError> {
         },
         flows: &[(0, 12, within(12, 12)), (1, 12, within(12, 12))],
         least: &[],
+        classes: &[
+            (
+                0,
+                Class::Redundant,
+                Shown::Cut(&[false, true, false], &[member(0, -1), member(1, 1)]),
+            ),
+            (
+                1,
+                Class::Redundant,
+                Shown::Cut(&[false, false, true], &[member(0, 1), member(1, -1)]),
+            ),
+        ],
     };
-    let s = checked_study(&rt, rt.alloc(), 3, &streams, 10, &answer)?;
-    assert_cut(
-        &rt,
-        &s,
-        0,
-        Class::Redundant,
-        &[false, true, false],
-        &[member(0, -1), member(1, 1)],
-    );
-    assert_cut(
-        &rt,
-        &s,
-        1,
-        Class::Redundant,
-        &[false, false, true],
-        &[member(0, 1), member(1, -1)],
-    );
-    Ok(())
+    check_study(&rt, rt.alloc(), 3, &streams, 10, &answer)
 }
 
 /// A crude unit and a tank: what the tank gains goes to the environment, its naphtha is not metered.
@@ -426,28 +394,29 @@ fn refinery_day(rt: HostRuntime) -> Result<(), AllocError> {
             (4, 2_583_475_000, within(2_583_475_000, 2_583_475_000)),
         ],
         least: &[],
+        classes: &[
+            (0, Class::Redundant, Shown::Cut(&[false, true, true], &out)),
+            (
+                1,
+                Class::Redundant,
+                Shown::Cut(
+                    &[true, false, false],
+                    &[member(0, 1), member(1, -1), member(2, 1), member(4, 1)],
+                ),
+            ),
+            (2, Class::Redundant, Shown::Cut(&[false, true, true], &out)),
+            (
+                3,
+                Class::Observable,
+                Shown::Cut(
+                    &[false, true, false],
+                    &[member(1, 1), member(2, -1), member(3, -1)],
+                ),
+            ),
+            (4, Class::Redundant, Shown::Cut(&[false, true, true], &out)),
+        ],
     };
-    let s = checked_study(&rt, rt.alloc(), 3, &streams, 10, &answer)?;
-    assert_cut(&rt, &s, 0, Class::Redundant, &[false, true, true], &out);
-    assert_cut(
-        &rt,
-        &s,
-        1,
-        Class::Redundant,
-        &[true, false, false],
-        &[member(0, 1), member(1, -1), member(2, 1), member(4, 1)],
-    );
-    assert_cut(&rt, &s, 2, Class::Redundant, &[false, true, true], &out);
-    assert_cut(
-        &rt,
-        &s,
-        3,
-        Class::Observable,
-        &[false, true, false],
-        &[member(1, 1), member(2, -1), member(3, -1)],
-    );
-    assert_cut(&rt, &s, 4, Class::Redundant, &[false, true, true], &out);
-    Ok(())
+    check_study(&rt, rt.alloc(), 3, &streams, 10, &answer)
 }
 
 /// What enters and what leaves are read as opposites: no high end.
@@ -469,6 +438,7 @@ fn contradiction(rt: HostRuntime) -> Result<(), AllocError> {
         },
         flows: &[(0, 0, within(0, 0)), (1, 0, within(0, 0))],
         least: &[(0, within(0, 0))],
+        classes: &[],
     };
     check_study(&rt, rt.alloc(), 2, &streams, 10, &answer)
 }
@@ -490,11 +460,12 @@ fn parallel_plain_streams(rt: HostRuntime) -> Result<(), AllocError> {
         },
         flows: &[(0, 0, None), (1, 0, None)],
         least: &[(0, None), (1, None)],
+        classes: &[
+            (0, Class::Unobservable, Shown::Cycle(&around)),
+            (1, Class::Unobservable, Shown::Cycle(&around)),
+        ],
     };
-    let s = checked_study(&rt, rt.alloc(), 3, &streams, 10, &answer)?;
-    assert_cycle(&rt, &s, 0, Class::Unobservable, &around);
-    assert_cycle(&rt, &s, 1, Class::Unobservable, &around);
-    Ok(())
+    check_study(&rt, rt.alloc(), 3, &streams, 10, &answer)
 }
 
 /// As many streams between the environment and one unit as a graph has, readings far apart, variances from the least to the greatest.
@@ -575,20 +546,15 @@ fn assert_rejects(rt: &impl Abort, stage: &Stage) {
     let Some(tests) = &stage.tests else {
         panic!(rt; "no tests");
     };
-    assert_eq!(rt; tests.global.verdict, Verdict::Reject);
-    assert_count(rt, "nodal tests", tests.nodal.len(), 2);
-    assert_count(rt, "tests of measurements", tests.measure.len(), 3);
+    assert_eq!(rt;
+        (tests.global.verdict, tests.nodal.len(), tests.measure.len()),
+        (Verdict::Reject, 2, 3),
+        "the global test, nodal tests and tests of measurements"
+    );
 }
 
-/// The study takes the last meter, and accepts what is left.
-fn assert_taken(rt: &impl Abort, s: &Study) {
-    let taken = Taken {
-        stream: 2,
-        low: 599_999,
-    };
-    assert_eq!(rt; s.taken.as_slice(), [taken].as_slice());
-    assert_eq!(rt; s.stop, Some(Stop::Accepted));
-    assert_eq!(rt; s.stages.len(), 2);
+/// The numbers of the stage with the meter, and of that without it.
+fn assert_both_stages(rt: &impl Abort, first: &Stage, second: &Stage) {
     let with = Numbers {
         solved: Solved::Converged(7),
         g: 3_841,
@@ -605,9 +571,24 @@ fn assert_taken(rt: &impl Abort, s: &Study) {
         low: 0,
         high: Some(0),
     };
-    assert_numbers(rt, numbers_of(s.stages.at(0)), with);
-    assert_rejects(rt, s.stages.at(0));
-    assert_numbers(rt, numbers_of(s.stages.at(1)), without);
+    assert_numbers(rt, numbers_of(first), with);
+    assert_rejects(rt, first);
+    assert_numbers(rt, numbers_of(second), without);
+}
+
+/// The study takes the last meter, and accepts what is left.
+fn assert_taken(rt: &impl Abort, s: &Study) {
+    let taken = Taken {
+        stream: 2,
+        low: 599_999,
+    };
+    assert_eq!(rt;
+        (s.taken.as_slice(), s.stop),
+        ([taken].as_slice(), Some(Stop::Accepted)),
+        "meters taken and the stop"
+    );
+    assert!(rt; s.stages.len() == 2, "two stages");
+    assert_both_stages(rt, s.stages.at(0), s.stages.at(1));
 }
 
 #[test]
@@ -617,55 +598,58 @@ fn takes_a_bad_meter(rt: HostRuntime) -> Result<(), AllocError> {
     Ok(())
 }
 
-/// The study of a graph from its classes.
-fn study_from_classes(
+/// The studies have one stage each, alike in streams, prices and tests.
+fn assert_alike(rt: &impl Abort, one: &Study, other: &Study) {
+    assert!(rt;
+        one.stages.len() == 1 && other.stages.len() == 1,
+        "the stages"
+    );
+    let (one, other) = (one.stages.at(0), other.stages.at(0));
+    assert!(rt; one.streams == other.streams, "the streams");
+    assert!(rt; one.prices == other.prices, "the prices");
+    assert!(rt; one.tests == other.tests, "the tests");
+    let bounds = within(100_999_997, 101_000_002);
+    assert_flows(rt, other, &[(0, 101_000_000, bounds)]);
+}
+
+/// A study of a graph is alike to the one from its classes.
+fn assert_as_from_classes(
+    rt: &impl Abort,
     alloc: Global,
     g: &Graph,
     options: &Options,
     critical: &Critical,
-) -> Result<Study, AllocError>
+    one: &Study,
+) -> Result<(), AllocError>
     requires limits { AreOptions options.now }
     requires critical { AreCritical critical.now }
 {
     let classes = classify(alloc, g)?;
-    study_classed(alloc, g, classes, options, critical)
+    let other = study_classed(alloc, g, classes, options, critical)?;
+    assert_alike(rt, one, &other);
+    Ok(())
 }
 
-/// The study of two meters at a unit, 2 t apart, without known classes and with them.
-fn both_studies(rt: &impl Abort, alloc: Global) -> Result<(Study, Study), AllocError> {
-    let streams = [
-        metered(0, 1, 102_000_000, 1_000_000_000_000),
-        metered(1, 0, 100_000_000, 1_000_000_000_000),
-    ];
+/// The same of a graph without critical values.
+fn assert_both_ways(rt: &impl Abort, alloc: Global, g: &Graph) -> Result<(), AllocError> {
     let options = Options {
         gap: 10,
         sweeps: 5_000,
         tests: true,
         eliminate: 0,
     };
-    let g = graph_of(rt, alloc, 2, &streams)?;
     let critical = no_critical(alloc);
-    let one = study(alloc, &g, &options, &critical)?;
-    let other = study_from_classes(alloc, &g, &options, &critical)?;
-    Ok((one, other))
+    let one = study(alloc, g, &options, &critical)?;
+    assert_as_from_classes(rt, alloc, g, &options, &critical, &one)
 }
 
-/// The studies have one stage each, alike in streams, prices and tests.
-fn assert_alike(rt: &impl Abort, one: &Study, other: &Study) {
-    assert_eq!(rt; one.stages.len(), 1);
-    assert_eq!(rt; other.stages.len(), 1);
-    let (one, other) = (one.stages.at(0), other.stages.at(0));
-    assert!(rt; one.streams == other.streams);
-    assert!(rt; one.prices == other.prices);
-    assert!(rt; one.tests == other.tests);
-    let bounds = within(100_999_997, 101_000_002);
-    assert_flows(rt, other, &[(0, 101_000_000, bounds)]);
-}
-
-/// From its classes a graph has the study that it has without them.
+/// From its classes a graph has the study that it has without them: two meters at a unit, 2 t apart.
 #[test]
 fn studies_from_known_classes(rt: HostRuntime) -> Result<(), AllocError> {
-    let (one, other) = both_studies(&rt, rt.alloc())?;
-    assert_alike(&rt, &one, &other);
-    Ok(())
+    let streams = [
+        metered(0, 1, 102_000_000, 1_000_000_000_000),
+        metered(1, 0, 100_000_000, 1_000_000_000_000),
+    ];
+    let g = graph_of(&rt, rt.alloc(), 2, &streams)?;
+    assert_both_ways(&rt, rt.alloc(), &g)
 }

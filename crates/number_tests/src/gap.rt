@@ -125,14 +125,11 @@ fn bounds_of_difference(rt: &impl Abort, solver: &Solver, g: &Graph) -> (Bounds,
 
 /// An empty sum is 0.
 fn check_empty(rt: &impl Abort, solver: &Solver) {
-    let (bounds, least) = (solver.bounds(&[]), solver.least(&[]));
-    assert_bounds(rt, "bounds without a member", 0, Some(bounds), within(0, 0));
-    assert_bounds(
-        rt,
-        "least bounds without a member",
-        0,
-        Some(least),
-        within(0, 0),
+    let zero = Bounds { lo: 0, hi: 0 };
+    assert_eq!(rt;
+        (solver.bounds(&[]), solver.least(&[])),
+        (zero, zero),
+        "bounds and least bounds without a member"
     );
 }
 
@@ -157,9 +154,28 @@ fn check_run(
 fn check_difference(rt: &impl Abort, solver: &Solver, g: &Graph)
     requires { solver.now.graph ≡ g.now }
 {
-    let (bounds, least) = bounds_of_difference(rt, solver, g);
-    assert_bounds(rt, "bounds less those", 1, Some(bounds), within(-4, 3));
-    assert_bounds(rt, "least bounds less those", 1, Some(least), within(-3, 2));
+    assert_eq!(rt;
+        bounds_of_difference(rt, solver, g),
+        (Bounds { lo: -4, hi: 3 }, Bounds { lo: -3, hi: 2 }),
+        "bounds and least bounds of a difference"
+    );
+}
+
+/// Solves, and compares each answer, the bounds and the least bounds.
+fn check_with_bounds(
+    rt: &impl Abort,
+    solver: &mut Solver,
+    g: &Graph,
+    run: &Run,
+    bounds: &[Bound],
+    least: &[Bound],
+)
+    requires { solver.old.graph ≡ g.now }
+    ensures { solver.new.graph ≡ g.now }
+{
+    check(rt, solver, g, run);
+    check_bounds(rt, solver, g, false, bounds);
+    check_bounds(rt, solver, g, true, least);
 }
 
 /// Solves with up to 5,000 sweeps and with one, and compares bounds.
@@ -189,12 +205,11 @@ fn check_two_meters_disagree(rt: &impl Abort, solver: &mut Solver, g: &Graph)
         (1, 1, 100_999_999, 101_000_002),
         (0, -1, -101_000_001, -100_999_998),
     ];
-    check(rt, solver, g, &run);
-    check_bounds(rt, solver, g, false, &bounds);
-    check_bounds(rt, solver, g, true, &least);
+    let once = Run { sweeps: 1, ..run };
+    check_with_bounds(rt, solver, g, &run, &bounds, &least);
+    check_with_bounds(rt, solver, g, &once, &bounds, &least);
     check_difference(rt, solver, g);
     check_empty(rt, solver);
-    check(rt, solver, g, &Run { sweeps: 1, ..run });
 }
 
 #[test]
@@ -247,16 +262,12 @@ fn check_half_a_gram(rt: &impl Abort, solver: &mut Solver, g: &Graph)
         },
         ..fine
     };
-    check(rt, solver, g, &fine);
     let both = [(0, 1, -1, 2), (1, 1, -1, 2)];
-    check_bounds(rt, solver, g, false, &both);
-    check_bounds(rt, solver, g, true, &both);
-    check(rt, solver, g, &near);
-    check(rt, solver, g, &coarse);
     let bounds = [(0, 1, -1, 3), (1, 1, -2, 2)];
     let least = [(0, 1, -1, 2), (1, 1, -1, 1)];
-    check_bounds(rt, solver, g, false, &bounds);
-    check_bounds(rt, solver, g, true, &least);
+    check_with_bounds(rt, solver, g, &fine, &both, &both);
+    check_with_bounds(rt, solver, g, &near, &both, &both);
+    check_with_bounds(rt, solver, g, &coarse, &bounds, &least);
 }
 
 /// Half a gram goes up: the gap is not met at 10 thousandths, and at 1,000 before the first sweep.

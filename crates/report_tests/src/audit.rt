@@ -75,8 +75,7 @@ fn judges_one_report(rt: HostRuntime) -> Result<(), Fail> {
     ];
     for (what, text, want, line) in table {
         let (judged, row) = finding(rt.alloc(), text)?;
-        assert_eq!(rt; judged, want, "{what}");
-        assert_eq!(rt; row.as_slice(), line, "{what}");
+        assert_eq!(rt; (judged, row.as_slice()), (want, line), "{what}");
     }
     Ok(())
 }

@@ -3,57 +3,73 @@
 
 use pb_graph::Bounds;
 use pb_readback::{Block, ReadRefused, read};
-use pb_rows::Records;
+use pb_rows::{Name, Records};
 use std::alloc::Global;
-use std::process::Abort;
 use std::test::Fail;
 
-fn asserts_block(rt: &impl Abort, block: &Block) {
-    assert_eq!(rt; block.period.bytes(), b"d".as_slice());
-    assert_eq!(rt; block.round, 1);
-    assert_eq!(rt; block.names.nodes.len(), 1);
-    assert_eq!(rt; block.stage.prices.as_slice(), [-7i128].as_slice());
-    assert_eq!(rt; block.stage.low, 5);
-    assert!(rt; block.stage.high.is_none());
+// Of a block its period and round, how many nodes are named, how many prices it has and the first one, the statistic's ends, and
+// the least bounds of its first stream.
+type Found = (
+    Name,
+    u32,
+    usize,
+    (usize, Option<i128>),
+    (i128, Option<i128>),
+    Option<Bounds>,
+);
+
+fn found(block: &Block) -> Found {
+    let prices = block.stage.prices.as_slice();
+    let least = match block.stage.streams.as_slice() {
+        [first, ..] => first.least,
+        [] => None,
+    };
+    (
+        block.period,
+        block.round,
+        block.names.nodes.len(),
+        (prices.len(), prices.first().copied()),
+        (block.stage.low, block.stage.high),
+        least,
+    )
 }
 
-// What is read of a short text.
-fn read_of(alloc: Global, text: &[u8]) -> Result<Option<Block>, ReadRefused> {
+// What is read of a short text. Of a row that can't be read its number, and the code of its fault.
+fn read_of(alloc: Global, text: &[u8]) -> Result<Option<Found>, Option<(u32, u32)>> {
     if 10_000 < text.len() {
-        return Err(ReadRefused::NoMemory);
+        return Err(None);
     }
     let mut records = Records::of(alloc, text);
-    read(alloc, &mut records)
+    match read(alloc, &mut records) {
+        Ok(Some(block)) => Ok(Some(found(&block))),
+        Ok(None) => Ok(None),
+        Err(ReadRefused::At { row, fault }) => Err(Some((row, fault.code()))),
+        Err(ReadRefused::NoMemory) => Err(None),
+    }
 }
 
 #[test]
-fn reads_a_block(rt: HostRuntime) {
+fn reads_a_block(rt: HostRuntime) -> Result<(), Fail> {
     let text = b"stop\nreport,d,1,1,0,10,0\nnode,env,-7\nsolved,0,converged,0,0,0,5,\nend,d,1\n";
-    match read_of(rt.alloc(), text) {
-        Ok(Some(block)) => asserts_block(&rt, &block),
-        _ => assert!(rt; false, "no block"),
-    }
+    let period = Name::read(b"d").ok_or("a name")?;
+    let want: Found = (period, 1, 1, (1, Some(-7)), (5, None), None);
+    assert_eq!(rt; read_of(rt.alloc(), text), Ok(Some(want)), "a block");
+    Ok(())
 }
 
 #[test]
 fn reads_no_block(rt: HostRuntime) {
-    match read_of(rt.alloc(), b"over,d1,A\n") {
-        Ok(None) => {}
-        _ => assert!(rt; false, "a block, or a row that can't be read"),
-    }
-}
-
-fn least_of(block: &Block) -> Result<Option<Bounds>, Fail> {
-    match block.stage.streams.as_slice() {
-        [first, ..] => Ok(first.least),
-        [] => Err(Fail::new("no stream")),
-    }
+    assert_eq!(rt;
+        read_of(rt.alloc(), b"over,d1,A\n"),
+        Ok(None),
+        "a row without a block"
+    );
 }
 
 // The least bounds of the first stream of the block that is read from a short text.
 fn least_bounds(alloc: Global, text: &[u8]) -> Result<Option<Bounds>, Fail> {
     match read_of(alloc, text) {
-        Ok(Some(block)) => least_of(&block),
+        Ok(Some((_, _, _, _, _, least))) => Ok(least),
         _ => Err(Fail::new("no block")),
     }
 }
@@ -82,14 +98,6 @@ fn reads_least_bounds(rt: HostRuntime) -> Result<(), Fail> {
         assert_eq!(rt; least_bounds(rt.alloc(), text)?, least, "{what}");
     }
     Ok(())
-}
-
-// The number of the first row of a short text that can't be read, and the code of its fault.
-fn refusal(alloc: Global, text: &[u8]) -> Option<(u32, u32)> {
-    match read_of(alloc, text) {
-        Err(ReadRefused::At { row, fault }) => Some((row, fault.code())),
-        _ => None,
-    }
 }
 
 #[test]
@@ -122,6 +130,6 @@ fn refuses_rows(rt: HostRuntime) {
         ),
     ];
     for (what, text, want) in table {
-        assert_eq!(rt; refusal(rt.alloc(), text), Some(want), "{what}");
+        assert_eq!(rt; read_of(rt.alloc(), text), Err(Some(want)), "{what}");
     }
 }

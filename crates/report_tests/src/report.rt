@@ -149,13 +149,36 @@ fn cycle(alloc: Global, class: Class, steps: &[Step]) -> Result<Classified, Fail
     })
 }
 
-fn result(classified: Classified, flow: i128, bounds: Bounds, least: Bounds) -> StreamResult {
-    StreamResult {
-        classified,
-        flow,
-        bounds: Some(bounds),
-        least: Some(least),
+// A stream's class and its cut, its flow, its bounds and its least bounds.
+type Row<'a> = (
+    Class,
+    &'a [bool],
+    &'a [Member],
+    i128,
+    Bounds,
+    Option<Bounds>,
+);
+
+fn add_results(
+    alloc: Global,
+    streams: &mut List<StreamResult>,
+    rows: &[Row<'_>],
+) -> Result<(), Fail> {
+    for &(class, side, members, flow, bounds, least) in rows {
+        streams.push(StreamResult {
+            classified: cut(alloc, class, side, members)?,
+            flow,
+            bounds: Some(bounds),
+            least,
+        })?;
     }
+    Ok(())
+}
+
+fn results(alloc: Global, rows: &[Row<'_>]) -> Result<List<StreamResult>, Fail> {
+    let mut streams = List::new(alloc);
+    add_results(alloc, &mut streams, rows)?;
+    Ok(streams)
 }
 
 fn between(lo: i128, hi: i128) -> Bounds {
@@ -230,9 +253,8 @@ fn writes_a_total_too_great(rt: HostRuntime) -> Result<(), Fail> {
     Ok(())
 }
 
-// The classes of an unmeasured stream and of a metered one beside it.
-fn two_classes(alloc: Global) -> Result<List<Classified>, Fail> {
-    let mut classes = List::new(alloc);
+// Adds the classes of an unmeasured stream and of a metered one beside it.
+fn add_classes(alloc: Global, classes: &mut List<Classified>) -> Result<(), Fail> {
     classes.push(cut(
         alloc,
         Class::Observable,
@@ -240,6 +262,12 @@ fn two_classes(alloc: Global) -> Result<List<Classified>, Fail> {
         &[leaves(0), leaves(1)],
     )?)?;
     classes.push(cycle(alloc, Class::Nonredundant, &[forward(1), backward(0)])?)?;
+    Ok(())
+}
+
+fn two_classes(alloc: Global) -> Result<List<Classified>, Fail> {
+    let mut classes = List::new(alloc);
+    add_classes(alloc, &mut classes)?;
     Ok(classes)
 }
 
@@ -298,24 +326,6 @@ fn names_of_meters(alloc: Global) -> Result<Names, Fail> {
     names(alloc, &[b"env", b"U"], &[b"A", b"B"])
 }
 
-fn cut_at_env(alloc: Global) -> Result<Classified, Fail> {
-    cut(
-        alloc,
-        Class::Redundant,
-        &[true, false],
-        &[leaves(0), enters(1)],
-    )
-}
-
-fn cut_at_unit(alloc: Global) -> Result<Classified, Fail> {
-    cut(
-        alloc,
-        Class::Redundant,
-        &[false, true],
-        &[enters(0), leaves(1)],
-    )
-}
-
 fn study(alloc: Global, stage: Stage) -> Result<Study, Fail> {
     let mut stages = List::new(alloc);
     stages.push(stage)?;
@@ -326,39 +336,54 @@ fn study(alloc: Global, stage: Stage) -> Result<Study, Fail> {
     })
 }
 
-fn results_of_two_meters(alloc: Global) -> Result<List<StreamResult>, Fail> {
-    let mut streams = List::new(alloc);
-    streams.push(result(
-        cut_at_env(alloc)?,
-        101_000_000,
+// The results of two meters, which share a flow: the cut of the environment, and that of the unit.
+fn results_of_two_meters(
+    alloc: Global,
+    flow: i128,
+    bounds: [Bounds; 2],
+    least: [Option<Bounds>; 2],
+) -> Result<List<StreamResult>, Fail> {
+    let at_env: &[Member] = &[leaves(0), enters(1)];
+    let at_unit: &[Member] = &[enters(0), leaves(1)];
+    let class = Class::Redundant;
+    results(
+        alloc,
+        &[
+            (class, &[true, false], at_env, flow, bounds[0], least[0]),
+            (class, &[false, true], at_unit, flow, bounds[1], least[1]),
+        ],
+    )
+}
+
+fn stage_of_two_meters(alloc: Global) -> Result<Stage, Fail> {
+    let bounds = [
         between(100_999_997, 101_000_002),
-        between(100_999_998, 101_000_001),
-    ))?;
-    streams.push(result(
-        cut_at_unit(alloc)?,
-        101_000_000,
         between(100_999_998, 101_000_003),
-        between(100_999_999, 101_000_002),
-    ))?;
-    Ok(streams)
+    ];
+    let least = [
+        Some(between(100_999_998, 101_000_001)),
+        Some(between(100_999_999, 101_000_002)),
+    ];
+    let prices = list(alloc, &[0, -72_057_594_038])?;
+    let graph = meters(alloc, 102_000_000, 100_000_000, 1_000_000_000_000)?;
+    let streams = results_of_two_meters(alloc, 101_000_000, bounds, least)?;
+    Ok(Stage {
+        graph,
+        streams,
+        prices,
+        solved: Solved::Converged(1),
+        g: 2,
+        h: 0,
+        dof: 1,
+        low: 1999,
+        high: Some(2000),
+        tests: None,
+    })
 }
 
 fn two_meters(alloc: Global, tests: Option<Tests>) -> Result<Study, Fail> {
-    study(
-        alloc,
-        Stage {
-            graph: meters(alloc, 102_000_000, 100_000_000, 1_000_000_000_000)?,
-            streams: results_of_two_meters(alloc)?,
-            prices: list(alloc, &[0, -72_057_594_038])?,
-            solved: Solved::Converged(1),
-            g: 2,
-            h: 0,
-            dof: 1,
-            low: 1999,
-            high: Some(2000),
-            tests,
-        },
-    )
+    let stage = stage_of_two_meters(alloc)?;
+    study(alloc, Stage { tests, ..stage })
 }
 
 fn measure(

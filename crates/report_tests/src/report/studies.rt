@@ -1,13 +1,13 @@
 // Rows of studies from outside, and the summary of one.
 
 use super::{
-    backward, between, cut, cut_at_env, cut_at_unit, cycle, enters, forward, graph, leaves, list,
-    measure, metered, meters, names, names_of_meters, nodal, options, plain, report, result, study,
+    Row, backward, between, cycle, enters, forward, graph, leaves, list, measure, metered, meters,
+    names, names_of_meters, nodal, options, plain, report, results, results_of_two_meters, study,
     two_meters,
 };
 use pb_graph::{
-    Bounds, Class, Classified, GlobalTest, Graph, List, MeasureTest, Member, NodalTest, Solved,
-    Stage, Step, Stop, Stream, StreamResult, Study, Taken, Tests, Verdict,
+    Bounds, Class, GlobalTest, Graph, List, MeasureTest, Member, NodalTest, Solved, Stage, Step,
+    Stop, Stream, StreamResult, Study, Taken, Tests, Verdict,
 };
 use pb_report::write_summary;
 use std::alloc::Global;
@@ -32,19 +32,14 @@ fn tests_of_two_meters(alloc: Global) -> Result<Tests, Fail> {
 
 // The rows of two meters that disagree, without tests or with them.
 fn meters_disagree(alloc: Global, tests: bool) -> Result<Vec<u8>, Fail> {
+    let names = names_of_meters(alloc)?;
     let made = if tests {
         Some(tests_of_two_meters(alloc)?)
     } else {
         None
     };
     let study = two_meters(alloc, made)?;
-    report(
-        alloc,
-        names_of_meters(alloc)?,
-        b"d1",
-        &options(tests, 0),
-        study,
-    )
+    report(alloc, names, b"d1", &options(tests, 0), study)
 }
 
 #[test]
@@ -81,24 +76,14 @@ end,d1,0
 }
 
 // A meter that says a gram and one that says none, of variance 1 each.
-fn half_a_gram_results(alloc: Global, least: Option<Bounds>) -> Result<List<StreamResult>, Fail> {
-    let mut streams = List::new(alloc);
-    for classified in [cut_at_env(alloc)?, cut_at_unit(alloc)?] {
-        streams.push(StreamResult {
-            classified,
-            flow: 1,
-            bounds: Some(between(-1, 2)),
-            least,
-        })?;
-    }
-    Ok(streams)
-}
-
 fn half_a_gram_stage(alloc: Global, least: Option<Bounds>) -> Result<Stage, Fail> {
+    let prices = list(alloc, &[0, -36_028_797_018_963_968])?;
+    let graph = meters(alloc, 1, 0, 1)?;
+    let streams = results_of_two_meters(alloc, 1, [between(-1, 2); 2], [least; 2])?;
     Ok(Stage {
-        graph: meters(alloc, 1, 0, 1)?,
-        streams: half_a_gram_results(alloc, least)?,
-        prices: list(alloc, &[0, -36_028_797_018_963_968])?,
+        graph,
+        streams,
+        prices,
         solved: Solved::Unconverged(5000),
         g: 741456,
         h: 0,
@@ -110,14 +95,9 @@ fn half_a_gram_stage(alloc: Global, least: Option<Bounds>) -> Result<Stage, Fail
 }
 
 fn half_a_gram_rows(alloc: Global, least: Option<Bounds>) -> Result<Vec<u8>, Fail> {
+    let names = names_of_meters(alloc)?;
     let day = study(alloc, half_a_gram_stage(alloc, least)?)?;
-    report(
-        alloc,
-        names_of_meters(alloc)?,
-        b"d1",
-        &options(false, 0),
-        day,
-    )
+    report(alloc, names, b"d1", &options(false, 0), day)
 }
 
 #[test]
@@ -161,44 +141,45 @@ fn refinery_results(alloc: Global) -> Result<List<StreamResult>, Fail> {
     let env: &[Member] = &[enters(0), leaves(1), enters(2), enters(4)];
     let unit: &[Member] = &[enters(1), leaves(2), leaves(3)];
     let redundant = Class::Redundant;
-    let table: [(Class, &[bool], &[Member], i128); 5] = [
-        (redundant, both, members, 1_416_525_000),
-        (redundant, &[true, false, false], env, 10_000_000_000),
-        (redundant, both, members, 6_000_000_000),
-        (
-            Class::Observable,
-            &[false, true, false],
-            unit,
-            4_000_000_000,
-        ),
-        (redundant, both, members, 2_583_475_000),
-    ];
-    let mut streams = List::new(alloc);
-    for (class, side, members, flow) in table {
-        streams.push(exact(cut(alloc, class, side, members)?, flow))?;
-    }
-    Ok(streams)
+    results(
+        alloc,
+        &[
+            exact(redundant, both, members, 1_416_525_000),
+            exact(redundant, &[true, false, false], env, 10_000_000_000),
+            exact(redundant, both, members, 6_000_000_000),
+            exact(
+                Class::Observable,
+                &[false, true, false],
+                unit,
+                4_000_000_000,
+            ),
+            exact(redundant, both, members, 2_583_475_000),
+        ],
+    )
 }
 
-fn exact(classified: Classified, flow: i128) -> StreamResult {
-    result(classified, flow, between(flow, flow), between(flow, flow))
+fn exact<'a>(class: Class, side: &'a [bool], members: &'a [Member], flow: i128) -> Row<'a> {
+    let bounds = between(flow, flow);
+    (class, side, members, flow, bounds, Some(bounds))
 }
 
 fn refinery_day_stage(alloc: Global) -> Result<Stage, Fail> {
+    let prices = list(alloc, &[0, 0, 0])?;
+    let graph = graph(
+        alloc,
+        3,
+        &[
+            metered(2, 0, 1_416_525_000, 1_000_001_000_000),
+            metered(0, 1, 10_000_000_000, 2_500_000_000_000_001),
+            metered(1, 0, 6_000_000_000, 900_000_000_000_001),
+            plain(1, 2),
+            metered(2, 0, 2_583_475_000, 100_001_000_000),
+        ],
+    )?;
     Ok(Stage {
-        graph: graph(
-            alloc,
-            3,
-            &[
-                metered(2, 0, 1_416_525_000, 1_000_001_000_000),
-                metered(0, 1, 10_000_000_000, 2_500_000_000_000_001),
-                metered(1, 0, 6_000_000_000, 900_000_000_000_001),
-                plain(1, 2),
-                metered(2, 0, 2_583_475_000, 100_001_000_000),
-            ],
-        )?,
+        graph,
         streams: refinery_results(alloc)?,
-        prices: list(alloc, &[0, 0, 0])?,
+        prices,
         solved: Solved::Converged(0),
         g: 0,
         h: 0,
@@ -210,12 +191,12 @@ fn refinery_day_stage(alloc: Global) -> Result<Stage, Fail> {
 }
 
 fn refinery_day_rows(alloc: Global) -> Result<Vec<u8>, Fail> {
-    let day = study(alloc, refinery_day_stage(alloc)?)?;
     let names = names(
         alloc,
         &[b"env", b"CDU", b"TK1"],
         &[b"TK1", b"CRUDE", b"RES", b"NAPH", b"SHIP"],
     )?;
+    let day = study(alloc, refinery_day_stage(alloc)?)?;
     report(alloc, names, b"may1", &options(false, 0), day)
 }
 
@@ -271,36 +252,29 @@ fn chain_tests(
 }
 
 fn first_results(alloc: Global) -> Result<List<StreamResult>, Fail> {
-    let (bounds, least) = (
-        between(100_999_755, 101_000_490),
-        between(100_999_938, 101_000_307),
-    );
-    let table: [(&[bool], &[Member], Bounds, Bounds); 3] = [
-        (
-            &[true, false, false],
-            &[leaves(0), enters(2)],
-            between(100_999_388, 101_000_123),
-            between(100_999_754, 101_000_123),
-        ),
-        (
-            &[false, true, false],
-            &[enters(0), leaves(1)],
-            bounds,
-            least,
-        ),
-        (
-            &[false, false, true],
-            &[enters(1), leaves(2)],
-            bounds,
-            least,
-        ),
-    ];
-    let mut streams = List::new(alloc);
-    for (side, members, bounds, least) in table {
-        let classified = cut(alloc, Class::Redundant, side, members)?;
-        streams.push(result(classified, 101_000_122, bounds, least))?;
-    }
-    Ok(streams)
+    let bounds = between(100_999_755, 101_000_490);
+    let least = Some(between(100_999_938, 101_000_307));
+    let first = between(100_999_388, 101_000_123);
+    let first_least = Some(between(100_999_754, 101_000_123));
+    let (class, flow) = (Class::Redundant, 101_000_122);
+    let at_env: &[Member] = &[leaves(0), enters(2)];
+    let at_first: &[Member] = &[enters(0), leaves(1)];
+    let at_second: &[Member] = &[enters(1), leaves(2)];
+    results(
+        alloc,
+        &[
+            (
+                class,
+                &[true, false, false],
+                at_env,
+                flow,
+                first,
+                first_least,
+            ),
+            (class, &[false, true, false], at_first, flow, bounds, least),
+            (class, &[false, false, true], at_second, flow, bounds, least),
+        ],
+    )
 }
 
 fn first_tests(alloc: Global) -> Result<Option<Tests>, Fail> {
@@ -323,43 +297,36 @@ fn first_tests(alloc: Global) -> Result<Option<Tests>, Fail> {
 
 // All three meters of the chain.
 fn first_stage(alloc: Global) -> Result<Stage, Fail> {
+    let prices = list(alloc, &[0, 7_204_000_185_188, 14_410_639_198_283])?;
+    let graph = chain(alloc, metered(2, 0, 103_000_000, 10_000_000_000))?;
+    let tests = first_tests(alloc)?;
     Ok(Stage {
-        graph: chain(alloc, metered(2, 0, 103_000_000, 10_000_000_000))?,
+        graph,
         streams: first_results(alloc)?,
-        prices: list(alloc, &[0, 7_204_000_185_188, 14_410_639_198_283])?,
+        prices,
         solved: Solved::Converged(7),
         g: 3841,
         h: 0,
         dof: 2,
         low: 599_999,
         high: Some(600_001),
-        tests: first_tests(alloc)?,
+        tests,
     })
 }
 
 fn second_results(alloc: Global) -> Result<List<StreamResult>, Fail> {
-    let table: [(Class, &[bool], &[Member]); 3] = [
-        (
-            Class::Redundant,
-            &[true, false, true],
-            &[leaves(0), enters(1)],
-        ),
-        (
-            Class::Redundant,
-            &[false, true, false],
-            &[enters(0), leaves(1)],
-        ),
-        (
-            Class::Observable,
-            &[false, false, true],
-            &[enters(1), leaves(2)],
-        ),
-    ];
-    let mut streams = List::new(alloc);
-    for (class, side, members) in table {
-        streams.push(exact(cut(alloc, class, side, members)?, 100_000_000))?;
-    }
-    Ok(streams)
+    let at_first: &[Member] = &[enters(0), leaves(1)];
+    let at_others: &[Member] = &[leaves(0), enters(1)];
+    let at_second: &[Member] = &[enters(1), leaves(2)];
+    let (class, flow) = (Class::Redundant, 100_000_000);
+    results(
+        alloc,
+        &[
+            exact(class, &[true, false, true], at_others, flow),
+            exact(class, &[false, true, false], at_first, flow),
+            exact(Class::Observable, &[false, false, true], at_second, flow),
+        ],
+    )
 }
 
 fn second_tests(alloc: Global) -> Result<Option<Tests>, Fail> {
@@ -378,24 +345,32 @@ fn second_tests(alloc: Global) -> Result<Option<Tests>, Fail> {
 
 // The chain without the meter of its last stream.
 fn second_stage(alloc: Global) -> Result<Stage, Fail> {
+    let prices = list(alloc, &[0, 0, 0])?;
+    let graph = chain(alloc, plain(2, 0))?;
+    let tests = second_tests(alloc)?;
     Ok(Stage {
-        graph: chain(alloc, plain(2, 0))?,
+        graph,
         streams: second_results(alloc)?,
-        prices: list(alloc, &[0, 0, 0])?,
+        prices,
         solved: Solved::Converged(0),
         g: 0,
         h: 0,
         dof: 1,
         low: 0,
         high: Some(0),
-        tests: second_tests(alloc)?,
+        tests,
     })
+}
+
+fn add_stages(alloc: Global, stages: &mut List<Stage>) -> Result<(), Fail> {
+    stages.push(first_stage(alloc)?)?;
+    stages.push(second_stage(alloc)?)?;
+    Ok(())
 }
 
 fn stages_of_chain(alloc: Global) -> Result<List<Stage>, Fail> {
     let mut stages = List::new(alloc);
-    stages.push(first_stage(alloc)?)?;
-    stages.push(second_stage(alloc)?)?;
+    add_stages(alloc, &mut stages)?;
     Ok(stages)
 }
 
@@ -457,9 +432,8 @@ stop,d1,accepted,1
     Ok(())
 }
 
-fn parallel_results(alloc: Global) -> Result<List<StreamResult>, Fail> {
+fn add_parallel(alloc: Global, streams: &mut List<StreamResult>) -> Result<(), Fail> {
     let steps: &[Step] = &[forward(1), backward(0)];
-    let mut streams = List::new(alloc);
     for _stream in 0..2 {
         streams.push(StreamResult {
             classified: cycle(alloc, Class::Unobservable, steps)?,
@@ -469,14 +443,22 @@ fn parallel_results(alloc: Global) -> Result<List<StreamResult>, Fail> {
             least: Some(between(-1, 1)),
         })?;
     }
+    Ok(())
+}
+
+fn parallel_results(alloc: Global) -> Result<List<StreamResult>, Fail> {
+    let mut streams = List::new(alloc);
+    add_parallel(alloc, &mut streams)?;
     Ok(streams)
 }
 
 fn parallel_stage(alloc: Global) -> Result<Stage, Fail> {
+    let prices = list(alloc, &[0, 0, 0])?;
+    let graph = graph(alloc, 3, &[plain(1, 2), plain(1, 2)])?;
     Ok(Stage {
-        graph: graph(alloc, 3, &[plain(1, 2), plain(1, 2)])?,
+        graph,
         streams: parallel_results(alloc)?,
-        prices: list(alloc, &[0, 0, 0])?,
+        prices,
         solved: Solved::Converged(0),
         g: 0,
         h: 0,
@@ -495,8 +477,8 @@ fn parallel_stage(alloc: Global) -> Result<Stage, Fail> {
 }
 
 fn parallel_rows(alloc: Global) -> Result<Vec<u8>, Fail> {
-    let day = study(alloc, parallel_stage(alloc)?)?;
     let names = names(alloc, &[b"env", b"U", b"V"], &[b"P", b"R"])?;
+    let day = study(alloc, parallel_stage(alloc)?)?;
     report(alloc, names, b"d1", &options(true, 0), day)
 }
 
@@ -519,11 +501,16 @@ end,d1,0
     Ok(())
 }
 
-fn summary_of_refinery_day(alloc: Global) -> Result<Vec<u8>, Fail> {
+// The summary of a stage after a text.
+fn summary_of(alloc: Global, stage: &Stage) -> Result<Vec<u8>, Fail> {
     let mut out = Vec::from_slice(alloc, b"before\n")?;
-    let stage = refinery_day_stage(alloc)?;
-    write_summary(alloc, 4294967295, 5, 42, &stage, &mut out)?;
+    write_summary(alloc, 4294967295, 5, 42, stage, &mut out)?;
     Ok(out)
+}
+
+fn summary_of_refinery_day(alloc: Global) -> Result<Vec<u8>, Fail> {
+    let stage = refinery_day_stage(alloc)?;
+    summary_of(alloc, &stage)
 }
 
 #[test]
