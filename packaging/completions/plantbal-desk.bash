@@ -26,7 +26,7 @@ _plantbal_desk() {
     fi
     for ((at = 1; at < COMP_CWORD; at++)); do
         case ${COMP_WORDS[at]} in
-        run|lint|explain|check|report|solve|convert|template|from-spreadsheet|tables|draw|chart|page|fleet|critical|from-scipy|schema) word=${COMP_WORDS[at]}; break ;;
+        run|lint|explain|check|report|solve|convert|book|template|from-spreadsheet|tables|draw|chart|page|fleet|critical|from-scipy|schema) word=${COMP_WORDS[at]}; break ;;
         esac
     done
     case $word:$before in
@@ -47,6 +47,16 @@ _plantbal_desk() {
         convert:--locale) :; return ;;
         convert:--missing) :; return ;;
         convert:--skip) :; return ;;
+        book:--locale) :; return ;;
+        book:--missing) :; return ;;
+        book:--skip) :; return ;;
+        book:--book) _plantbal_files -d; return ;;
+        book:--who) :; return ;;
+        book:--why) :; return ;;
+        book:--eliminate) :; return ;;
+        book:--gap) :; return ;;
+        book:--sweeps) :; return ;;
+        book:--program) _plantbal_files -f; return ;;
         from-spreadsheet:--decimal) _plantbal_words 'point comma'; return ;;
         from-spreadsheet:--date) :; return ;;
         from-spreadsheet:--missing) :; return ;;
@@ -111,6 +121,13 @@ _plantbal_desk() {
             return
         fi
         _plantbal_words '-h --help --out --locale --missing --skip --limits --design' ;;
+    book)
+        if [[ $here != -* ]]; then
+            _plantbal_files -f
+            _plantbal_more 'new add report'
+            return
+        fi
+        _plantbal_words '-h --help --locale --missing --skip --limits --book --who --why --strike --dry-run --no-tests --eliminate --gap --sweeps --program' ;;
     template)
         if [[ $here != -* ]]; then
             _plantbal_files -f
@@ -165,7 +182,7 @@ _plantbal_desk() {
         _plantbal_words '-h --help --period --change --without-least' ;;
     schema)
         _plantbal_words '-h --help' ;;
-    *) _plantbal_words 'run lint explain check report solve convert template from-spreadsheet tables draw chart page fleet critical from-scipy schema -h --help --version' ;;
+    *) _plantbal_words 'run lint explain check report solve convert book template from-spreadsheet tables draw chart page fleet critical from-scipy schema -h --help --version' ;;
     esac
 }
 

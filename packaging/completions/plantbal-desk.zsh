@@ -5,7 +5,7 @@ _plantbal_desk() {
     local -a specifications
     local word at
     for ((at = 2; at < CURRENT; at++)); do
-        case $words[at] in run|lint|explain|check|report|solve|convert|template|from-spreadsheet|tables|draw|chart|page|fleet|critical|from-scipy|schema) word=$words[at]; break ;; esac
+        case $words[at] in run|lint|explain|check|report|solve|convert|book|template|from-spreadsheet|tables|draw|chart|page|fleet|critical|from-scipy|schema) word=$words[at]; break ;; esac
     done
     case $word in
     run)
@@ -78,6 +78,28 @@ _plantbal_desk() {
             '--limits[errors are limits that hold 95 times in 100\: half of each is taken]'
             '--design[ask for the design before the reports]'
             '1:word:(convert)'
+            '*:WORKBOOK:_files'
+        ) ;;
+    book)
+        specifications=(
+            '-h[show this help message and exit]'
+            '--help[show this help message and exit]'
+            '--locale=[whose numbers and days\: de]:NAME:'
+            '--missing=[a further text that stands for a missing figure]:TEXT:'
+            '--skip=[a column to leave out]:HEAD:'
+            '--limits[errors are limits\: half is taken]'
+            '--book=[the book'\''s folder]:FOLDER:_files -/'
+            '--who=[who does it, for the journal\: the login]:NAME:'
+            '--why=[the reason of what is changed or struck]:TEXT:'
+            '--strike[strike facts that aren'\''t in the workbook any more]'
+            '--dry-run[say it, and book nothing]'
+            '--no-tests[make no tests]'
+            '--eliminate=[at most N rounds]:N:'
+            '--gap=[10 without it]:N:'
+            '--sweeps=[5,000 without it]:N:'
+            '--program=[the program]:PATH:_files'
+            '1:word:(book)'
+            '2:COMMAND:(new add report)'
             '*:WORKBOOK:_files'
         ) ;;
     template)
@@ -182,7 +204,7 @@ _plantbal_desk() {
             '-h[show this help message and exit]'
             '--help[show this help message and exit]'
             '--version[write the version and end]'
-            "1:word:((run\:'run a session, and say what has to be looked at' lint\:'say what of a session is accepted and looks wrong' explain\:'say of each refused row what is wrong with it' check\:'check a report, of CSV or of JSON lines' report\:'turn a report into CSV, SQLite or a workbook' solve\:'reconcile by scipy what sweeps don'\''t come near' convert\:'a session from a plant'\''s workbook' template\:'an empty workbook for convert' from-spreadsheet\:'a session from daily readings and tags' tables\:'tables of flows, classes, suspects, imbalances' draw\:'draw a report or a design' chart\:'chart the periods of a session' page\:'one page for a browser' fleet\:'run a folder of sessions' critical\:'critical values as rows of a session' from-scipy\:'another program'\''s figures in the form of a report' schema\:'the rows of sessions and outputs as data'))"
+            "1:word:((run\:'run a session, and say what has to be looked at' lint\:'say what of a session is accepted and looks wrong' explain\:'say of each refused row what is wrong with it' check\:'check a report, of CSV or of JSON lines' report\:'turn a report into CSV, SQLite or a workbook' solve\:'reconcile by scipy what sweeps don'\''t come near' convert\:'a session from a plant'\''s workbook' book\:'keep a plant'\''s book, a session a year' template\:'an empty workbook for convert' from-spreadsheet\:'a session from daily readings and tags' tables\:'tables of flows, classes, suspects, imbalances' draw\:'draw a report or a design' chart\:'chart the periods of a session' page\:'one page for a browser' fleet\:'run a folder of sessions' critical\:'critical values as rows of a session' from-scipy\:'another program'\''s figures in the form of a report' schema\:'the rows of sessions and outputs as data'))"
         ) ;;
     esac
     _arguments -s : $specifications

@@ -126,6 +126,8 @@ def convert(
         work.read_facts()
         work.read_rows()
         work.check_days()
+        work.check_whole()
+        work.say_rounded()
     work.faults += work.session.refused
     reported = {row[1] for row in work.session if row[0] == "report"}
     for period in work.session.periods:

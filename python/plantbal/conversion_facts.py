@@ -192,7 +192,7 @@ class Converter(Readings):
     # ---- what is said
 
     def check_days(self) -> None:
-        """Say which days lack, which facts stand in no period, and what was rounded."""
+        """Say which days lack, and which facts stand in no period."""
         periods = {period.name: period_days(period) for period in self.session.periods}
         inside = {day for first, last in periods.values() for day in days_of(first, last)}
         for name, (first, last) in periods.items():
@@ -206,12 +206,19 @@ class Converter(Readings):
             first_cell = str(outside[0].place()).rstrip(":")
             what = f"{len(outside)} figures stand in no period, the first in {first_cell}"
             self.notes.append(what)
-        if not self.sheets["rows"] and not self.faults and not (periods and self.streams):
-            place = Place(file=next((s.file for k in self.sheets.values() for s in k), ""))
-            what, remedy = "there is no period", "write readings, or a sheet periods"
-            if not self.streams:
-                what, remedy = "there is no stream", "write the rows of the sheet streams"
-            self.faults.append(InputFault(what, place=place, remedy=remedy))
+
+    def check_whole(self) -> None:
+        """Keep a fault if there is nothing to report."""
+        if self.sheets["rows"] or self.faults or (self.session.periods and self.streams):
+            return
+        place = Place(file=next((s.file for k in self.sheets.values() for s in k), ""))
+        what, remedy = "there is no period", "write readings, or a sheet periods"
+        if not self.streams:
+            what, remedy = "there is no stream", "write the rows of the sheet streams"
+        self.faults.append(InputFault(what, place=place, remedy=remedy))
+
+    def say_rounded(self) -> None:
+        """Say what was rounded."""
         for sheet, (count, cell, most) in self.reader.rounded.items():
             where = str(cell.place()).rstrip(":")
             self.notes.append(

@@ -4,6 +4,7 @@ from __future__ import annotations
 
 import difflib
 import re
+from collections.abc import Iterable
 from dataclasses import dataclass, field
 from fractions import Fraction
 
@@ -94,6 +95,30 @@ class Plant(Tables):
                 self.bad |= {row.text("stream"), row.text("tag")}
         self._check_ends([row for row, _ in ends])
         self._read_critical()
+
+    def take_tanks(self, rows: Iterable[tuple[str, ...]], tanks: Iterable[Tank]) -> None:
+        """Take tanks and tables that are known already, as rows of a session."""
+        self.tanks |= {tank.name: tank for tank in tanks}
+        for row in rows:
+            self.session.row(*row)
+
+    def take_plant(
+        self, rows: Iterable[tuple[str, ...]], streams: Iterable[Stream], tanks: Iterable[Tank]
+    ) -> None:
+        """Take a plant that is known already, as rows of a session, in place of its sheets.
+
+        Parameters
+        ----------
+        rows : iterable of tuple of str
+            The rows.
+        streams, tanks : iterable of Stream and of Tank
+            Their streams and tanks.
+        """
+        self.take_tanks(rows, tanks)
+        for stream in streams:
+            self.streams[stream.name] = stream
+            if stream.tag:
+                self.tags[stream.tag] = stream
 
     def _base(self, cell: Cell, density: Fraction | None) -> int:
         """Return the variance of a base."""

@@ -30,12 +30,20 @@ class Readings(Plant):
         How its cells are written.
     skip : tuple of str
         Heads of columns of readings to leave out.
+
+    Attributes
+    ----------
+    days : dict of str to dict of date to Cell
+        The days of each stream that have a figure, and where it stands.
+    listed : set of str
+        The streams that have a column or a row, with figures or without.
     """
 
     def __init__(self, sheets: list[Sheet], reader: Reader, skip: tuple[str, ...] = ()) -> None:
         super().__init__(sheets, reader)
         self.skip = {head.casefold() for head in skip}
         self.days: dict[str, dict[datetime.date, Cell]] = {}
+        self.listed: set[str] = set()
 
     def reading(self, stream: Stream, cell: Cell, day: datetime.date | None, unit: str) -> None:
         """Take a reading."""
@@ -123,7 +131,10 @@ class Readings(Plant):
                 continue
             day = self._day(row["day"])
             stream = self.named(row["tag"], "tag")
-            if stream is None or self.reader.is_missing(row["value"]):
+            if stream is None:
+                continue
+            self.listed.add(stream.name)
+            if self.reader.is_missing(row["value"]):
                 continue
             with self.kept():
                 unit = self.reader.unit(row.get("unit"), GRAMS | VOLUMES, "")
@@ -222,9 +233,9 @@ class Readings(Plant):
                     self.fault(cell, "this column has no head", "write its tag over it")
             for column, cell in figures.items():
                 self.reading(columns[column], cell, day, units.get(column, ""))
-        return {stream.name for stream in columns.values()} | {
-            stream.tag for stream in columns.values()
-        }
+        names = {stream.name for stream in columns.values()}
+        self.listed |= names
+        return names | {stream.tag for stream in columns.values()}
 
     def _read_across(self, heads: list[Cell], lines: list[list[Cell]]) -> None:
         """Read a sheet with a row a tag and a column a day."""
@@ -245,6 +256,7 @@ class Readings(Plant):
             stream = self.named((known or cells)[0], "tag")
             if stream is None:
                 continue
+            self.listed.add(stream.name)
             units = [c.text for c in cells[:first] if unit_of(c.text) in GRAMS | VOLUMES]
             for column, day in days.items():
                 if column < len(cells) and not self.reader.is_missing(cells[column]):

@@ -1,0 +1,154 @@
+"""What a workbook changes in a book: facts that are new, changed, moved or gone."""
+
+from __future__ import annotations
+
+from collections.abc import Callable, Iterable
+from dataclasses import dataclass, field, replace
+
+from plantbal.book.ledger import Fact, Ledger
+from plantbal.book.years import Years
+from plantbal.conversion_facts import Converter
+from plantbal.session import Period
+
+
+@dataclass(frozen=True)
+class Change:
+    """A fact that is booked, and what the workbook has in its place.
+
+    Attributes
+    ----------
+    ledger : Ledger
+        The year.
+    old, new : Fact
+        The fact as it is booked, and as it is in the workbook.
+    """
+
+    ledger: Ledger
+    old: Fact
+    new: Fact
+
+    @property
+    def moved(self) -> bool:
+        """Whether its stream or its days are others, which no amendment can change."""
+        return self.old.slot != self.new.slot
+
+    def said(self) -> str:
+        """Return what changes."""
+        if self.moved:
+            days = [f"{fact.place} {_days(fact)} {fact.said()}" for fact in (self.old, self.new)]
+            return f"{self.old.id}: {days[0]} becomes {days[1]}"
+        if self.old.values == self.new.values:
+            return f"{self.old.id}: its error {self.old.error()} becomes {self.new.error()}"
+        return f"{self.old.id}: {self.old.said()} becomes {self.new.said()}"
+
+
+def _days(fact: Fact) -> str:
+    return str(fact.first) if fact.first == fact.last else f"{fact.first} to {fact.last}"
+
+
+@dataclass
+class Changes:
+    """What a workbook changes.
+
+    Attributes
+    ----------
+    new : list of (Ledger, Fact)
+        Facts that aren't booked.
+    changed : list of Change
+        Facts that are booked otherwise.
+    gone : list of (Ledger, Fact)
+        Facts that are booked and might stand in the workbook, and don't.
+    same : int
+        How many are booked as they stand there.
+    """
+
+    new: list[tuple[Ledger, Fact]] = field(default_factory=list)
+    changed: list[Change] = field(default_factory=list)
+    gone: list[tuple[Ledger, Fact]] = field(default_factory=list)
+    same: int = 0
+
+    def put(self, reason: Callable[[str, str], str], strike: bool) -> None:
+        """Put the rows to the ledgers.
+
+        Parameters
+        ----------
+        reason : callable
+            Returns the reason of a change, by the fact's id and what changes.
+        strike : bool
+            Whether facts that are gone are struck.
+        """
+        for ledger, fact in self.gone if strike else ():
+            ledger.put("strike", fact.id, reason(fact.id, f"{fact.id} is struck"))
+        for change in self.changed:
+            why = reason(change.old.id, change.said())
+            if change.moved:
+                change.ledger.put("strike", change.old.id, why)
+                self.new.append((change.ledger, change.new))
+            else:
+                change.ledger.put(*change.new.amendment(change.old.id, why))
+        for ledger, fact in self.new:
+            ledger.put_fact(replace(fact, id=ledger.free(fact.id)))
+
+
+def compare(years: Years, facts: list[Fact]) -> Changes:
+    """Return what facts change; what is gone isn't looked for."""
+    found = Changes()
+    own = frozenset(fact.id for fact in facts)
+    for fact in facts:
+        for ledger in years.of_fact(fact):
+            if fact.kind == "transfer":
+                old = ledger.ticket(fact.id, own)
+            else:
+                old = ledger.on(fact.place, fact.first)
+            if old is None:
+                found.new.append((ledger, fact))
+            elif (old.slot, old.values, old.variance) == (fact.slot, fact.values, fact.variance):
+                found.same += 1
+            else:
+                found.changed.append(Change(ledger, old, fact))
+    return found
+
+
+def gone(
+    work: Converter, facts: list[Fact], ledgers: Iterable[Ledger]
+) -> list[tuple[Ledger, Fact]]:
+    """Return the facts that are booked and might stand in a workbook, and don't.
+
+    These are, in the periods of which the workbook has readings (or, if it has none, other facts):
+    the readings of the streams that have a column in it, the dips if it has a sheet of dips, and
+    the tickets if it has a sheet of these.
+    """
+    own = frozenset(fact.id for fact in facts)
+    days = {fact.first for fact in facts if fact.kind == "reading"}
+    days = days or {fact.first for fact in facts}
+    slots = {(fact.place, fact.first) for fact in facts}
+    found = []
+    for ledger in ledgers:
+        periods = [
+            period
+            for period in ledger.periods.values()
+            if any(period.first <= day.toordinal() <= period.last for day in days)
+        ]
+        kept = {fact.id for fact in (ledger.ticket(each, own) for each in own) if fact is not None}
+        for fact in ledger.facts.values():
+            if not _in_sheets(work, fact) or not any(_touches(fact, each) for each in periods):
+                continue
+            there = (
+                fact.id in kept if fact.kind == "transfer" else (fact.place, fact.first) in slots
+            )
+            if not there:
+                found.append((ledger, fact))
+    return found
+
+
+def _in_sheets(work: Converter, fact: Fact) -> bool:
+    """Say whether a workbook has a sheet in which a fact might stand."""
+    if fact.kind == "reading":
+        return bool(work.sheets["readings"]) and fact.place in work.listed
+    return bool(work.sheets["dips" if fact.kind == "dip" else "tickets"])
+
+
+def _touches(fact: Fact, period: Period) -> bool:
+    eve = 1 if fact.kind == "dip" else 0
+    first, last = fact.first.toordinal(), fact.last.toordinal()
+    return first <= period.last and last >= period.first - eve

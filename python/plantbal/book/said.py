@@ -1,0 +1,105 @@
+"""What commands on a book say: what was added and changed, and which days lack."""
+
+from __future__ import annotations
+
+import datetime
+from collections import Counter
+from collections.abc import Iterable
+
+from plantbal.book.changes import Changes
+from plantbal.book.ledger import PLANT_KINDS, Fact, Ledger
+from plantbal.book.meters import Meter
+from plantbal.conversion_facts import days_of, spans
+from plantbal.session import Period, period_days
+
+FIRST = 12  # things of which each is shown; the others are counted
+_NEW = {"period": "period", "reading": "reading", "transfer": "ticket", "dip": "dip"}
+_EDITED = {"amend": "amended", "strike": "struck", "close": "closed"}
+
+
+def counted(count: int, word: str) -> str:
+    """Return how many of something there are: `1 fact`, `1,200 facts`."""
+    return f"{count:,} {word}{'' if count == 1 else 's'}"
+
+
+def added(ledger: Ledger) -> list[str]:
+    """Return what was added to a ledger, in a line."""
+    counts = Counter(row[1] if row[0] == "late" else row[0] for row in ledger.added)
+    new = [counted(counts[kind], word) for kind, word in _NEW.items() if counts[kind]]
+    plant = sum(counts[kind] for kind in PLANT_KINDS)
+    new += [counted(plant, "row") + " of the plant"] if plant else []
+    late = sum(row[0] == "late" for row in ledger.added)
+    parts = [f"new: {', '.join(new)}"] if new else []
+    parts += [f"late: {late:,} of them"] if late else []
+    parts += [f"{word}: {counts[kind]:,}" for kind, word in _EDITED.items() if counts[kind]]
+    return [f"{ledger.name}.csv: {'; '.join(parts) or 'nothing new'}"]
+
+
+def changed(changes: Changes, name: str, struck: bool) -> list[str]:
+    """Return what a workbook changes, a line each, and what it leaves.
+
+    Parameters
+    ----------
+    changes : Changes
+        What it changes.
+    name : str
+        The workbook's name.
+    struck : bool
+        Whether facts that are gone are struck.
+    """
+    every = list(dict.fromkeys(change.said() for change in changes.changed))
+    lines = every[:FIRST]
+    if len(every) > FIRST:
+        lines.append(f"{len(every) - FIRST:,} more are changed")
+    if changes.same:
+        are = "is" if changes.same == 1 else "are"
+        lines.append(f"{counted(changes.same, 'fact')} {are} booked already")
+    if changes.gone:
+        ids = ", ".join(fact.id for _, fact in changes.gone[:3])
+        ids += ", .." if len(changes.gone) > 3 else ""
+        are = "is" if len(changes.gone) == 1 else "are"
+        what = f"{counted(len(changes.gone), 'fact')} {are} booked and not in {name}: {ids}"
+        lines.append(f"{what}; struck" if struck else f"{what}; kept, and --strike takes them out")
+    return lines
+
+
+def lacking(ledger: Ledger, facts: Iterable[Fact], meters: dict[str, Meter]) -> list[str]:
+    """Return what lacks in the periods in which some facts are."""
+    days = {fact.first.toordinal() for fact in facts}
+    periods = ledger.periods.values()
+    found = [each for each in periods if any(each.first <= day <= each.last for day in days)]
+    return [line for period in found for line in lacks(ledger, period, meters)]
+
+
+def lacks(ledger: Ledger, period: Period, meters: dict[str, Meter]) -> list[str]:
+    """Return which readings and dips a period lacks, those of the same days in a line."""
+    first, last = period_days(period)
+    days = days_of(first, last)
+    eve = first - datetime.timedelta(1)
+    groups: dict[tuple[str, str], list[str]] = {}
+    for name, kind in ledger.session.streams.items():
+        if kind == "metered":
+            _group(groups, "reading", ledger, name, meters, days)
+    for name, kind in ledger.session.nodes.items():
+        if kind == "tank":
+            _group(groups, "dip", ledger, name, meters, [eve, last])
+    return [
+        f"{period.name}: no {kind} of {', '.join(names)} on {when}"
+        for (kind, when), names in groups.items()
+    ]
+
+
+def _group(
+    groups: dict[tuple[str, str], list[str]],
+    kind: str,
+    ledger: Ledger,
+    name: str,
+    meters: dict[str, Meter],
+    days: list[datetime.date],
+) -> None:
+    """Put a stream or a tank to those that lack a reading or a dip on the same days."""
+    missing = [day for day in days if ledger.on(name, day) is None]
+    if missing:
+        tag = meters[name].tag if name in meters else ""
+        said = f"{tag} ({name})" if tag else name
+        groups.setdefault((kind, spans(missing)), []).append(said)

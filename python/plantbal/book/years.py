@@ -1,0 +1,146 @@
+"""The years of a book: from which day to which each goes, and their ledgers."""
+
+from __future__ import annotations
+
+import datetime
+from collections.abc import Iterable
+from dataclasses import dataclass
+
+from plantbal.book.ledger import Fact, Ledger
+from plantbal.book.store import Book
+from plantbal.faults import Fault
+
+_DAY = datetime.timedelta(1)
+# Before the first period of a year may stand days of the year before it, such as the 26th of
+# December, but no others: so a year that is typed wrong is told.
+_BEFORE = datetime.timedelta(31)
+
+
+@dataclass(frozen=True)
+class Span:
+    """The days of a year."""
+
+    name: str
+    first: datetime.date
+    last: datetime.date
+
+
+def calendar_year(name: str) -> int | None:
+    """Return the calendar year that a name is, or None if it is another name."""
+    return int(name) if len(name) == 4 else None
+
+
+def last_period_day(text: str) -> datetime.date | None:
+    """Return the last day of the periods that a session declares, or None if it declares none."""
+    days = [line.rstrip("\r").split(",")[3] for line in text.split("\n") if line[:7] == "period,"]
+    return max(map(datetime.date.fromisoformat, days), default=None)
+
+
+def spans_of(book: Book) -> list[Span]:
+    """Return the days of each year, in order.
+
+    A year begins on the day after the last period of the year before it, and goes up to the next.
+    The last year ends with the calendar year if its name is one.
+    """
+    names = book.years
+    found: list[Span] = []
+    for at, name in enumerate(names):
+        year = calendar_year(name)
+        if found:
+            first = found[-1].last + _DAY
+        else:
+            first = datetime.date.min if year is None else datetime.date(year, 1, 1) - _BEFORE
+        if at + 1 < len(names):
+            last = last_period_day(book.text(f"{name}.csv")) or first
+        else:
+            last = datetime.date.max if year is None else datetime.date(year, 12, 31)
+        found.append(Span(name, first, last))
+    return found
+
+
+class Years:
+    """The ledgers of a book, each read when it is first wanted.
+
+    Parameters
+    ----------
+    book : Book
+        The book, which has been opened.
+    """
+
+    def __init__(self, book: Book) -> None:
+        self.book = book
+        self.spans = spans_of(book)
+        self._ledgers: dict[str, Ledger] = {}
+
+    def __getitem__(self, name: str) -> Ledger:
+        """Return the ledger of a year."""
+        if name not in self._ledgers:
+            span = next(span for span in self.spans if span.name == name)
+            file = f"{name}.csv"
+            self._ledgers[name] = Ledger.read(
+                name, str(self.book.path(file)), self.book.text(file), span.first, span.last
+            )
+        return self._ledgers[name]
+
+    @property
+    def used(self) -> list[Ledger]:
+        """The ledgers that were read, in order."""
+        return [self._ledgers[span.name] for span in self.spans if span.name in self._ledgers]
+
+    @property
+    def last(self) -> Ledger:
+        """The last year's ledger."""
+        return self[self.spans[-1].name]
+
+    def all(self) -> list[Ledger]:
+        """Return all ledgers."""
+        return [self[span.name] for span in self.spans]
+
+    def of_day(self, day: datetime.date) -> Ledger | None:
+        """Return the ledger of the year that has a day, or None."""
+        for span in self.spans:
+            if span.first <= day <= span.last:
+                return self[span.name]
+        return None
+
+    def of_fact(self, fact: Fact) -> list[Ledger]:
+        """Return the ledgers that a fact belongs to: two, if it touches two years."""
+        found = []
+        for span in self.spans:
+            eve = fact.kind == "dip" and fact.last + _DAY == span.first
+            if eve or (fact.first <= span.last and fact.last >= span.first):
+                found.append(self[span.name])
+        return found
+
+    def of_period(self, name: str) -> Ledger:
+        """Return the ledger that has a period, the last one if several have.
+
+        Raises
+        ------
+        Fault
+            If there is no such period.
+        """
+        for span in reversed(self.spans):
+            if name in self[span.name].periods:
+                return self[span.name]
+        names = [period for ledger in self.all() for period in ledger.periods]
+        remedy = f"the periods are {', '.join(names)}" if names else "add a workbook first"
+        raise Fault(f"there is no period {name} in this book", text=name, remedy=remedy)
+
+    def outside(self, facts: Iterable[Fact]) -> list[Fault]:
+        """Return what is to be said of facts that belong to no year."""
+        faults = []
+        for fact in facts:
+            if self.of_fact(fact):
+                continue
+            last = self.spans[-1]
+            if fact.first > last.last:
+                what = f"{fact.id}: {fact.first} comes after {last.name}"
+                year = fact.first.year
+                remedy = f"mend the day, or begin the next year: plantbal-desk book next {year}"
+            else:
+                first = self.spans[0]
+                what = f"{fact.id}: {fact.first} is before {first.name}, the book's first year"
+                remedy = "mend the day"
+            faults.append(Fault(what, text=str(fact.first), remedy=remedy))
+        return faults
