@@ -53,10 +53,14 @@ _plantbal_desk() {
         book:--book) _plantbal_files -d; return ;;
         book:--who) :; return ;;
         book:--why) :; return ;;
+        book:--density) :; return ;;
+        book:--error) :; return ;;
         book:--eliminate) :; return ;;
         book:--gap) :; return ;;
         book:--sweeps) :; return ;;
         book:--program) _plantbal_files -f; return ;;
+        book:--plant) _plantbal_files -f; return ;;
+        book:--first) :; return ;;
         from-spreadsheet:--decimal) _plantbal_words 'point comma'; return ;;
         from-spreadsheet:--date) :; return ;;
         from-spreadsheet:--missing) :; return ;;
@@ -124,10 +128,10 @@ _plantbal_desk() {
     book)
         if [[ $here != -* ]]; then
             _plantbal_files -f
-            _plantbal_more 'new add report'
+            _plantbal_more 'new add amend strike report close status next'
             return
         fi
-        _plantbal_words '-h --help --locale --missing --skip --limits --book --who --why --strike --dry-run --no-tests --eliminate --gap --sweeps --program' ;;
+        _plantbal_words '-h --help --locale --missing --skip --limits --book --who --why --strike --dry-run --density --error --no-tests --eliminate --gap --sweeps --program --anyway --all --plant --first' ;;
     template)
         if [[ $here != -* ]]; then
             _plantbal_files -f

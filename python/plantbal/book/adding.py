@@ -237,7 +237,8 @@ def run(options: argparse.Namespace) -> int:
         plant = put_plant(years.last, work) if work.sheets["streams"] or work.sheets["rows"] else 0
         put_periods(years, work, facts)
         changes = compare(years, facts)
-        changes.gone = gone(work, facts, _wanted(years, facts))
+        if work.sheets["readings"] or options.strike:
+            changes.gone = gone(work, facts, _wanted(years, facts))
         changes.put(asked(options, changes), options.strike)
         found = {meter.name: meter for meter in meters_of(work)}
         action = Action(f"add {Path(options.workbook).name}", options.why or "", options.who)

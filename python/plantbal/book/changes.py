@@ -58,6 +58,8 @@ class Changes:
         Facts that are booked otherwise.
     gone : list of (Ledger, Fact)
         Facts that are booked and might stand in the workbook, and don't.
+    stale : list of Change
+        Facts that a command has amended or struck, and that the workbook has as they were before.
     same : int
         How many are booked as they stand there.
     """
@@ -65,6 +67,7 @@ class Changes:
     new: list[tuple[Ledger, Fact]] = field(default_factory=list)
     changed: list[Change] = field(default_factory=list)
     gone: list[tuple[Ledger, Fact]] = field(default_factory=list)
+    stale: list[Change] = field(default_factory=list)
     same: int = 0
 
     def put(self, reason: Callable[[str, str], str], strike: bool) -> None:
@@ -100,13 +103,26 @@ def compare(years: Years, facts: list[Fact]) -> Changes:
                 old = ledger.ticket(fact.id, own)
             else:
                 old = ledger.on(fact.place, fact.first)
-            if old is None:
-                found.new.append((ledger, fact))
-            elif (old.slot, old.values, old.variance) == (fact.slot, fact.values, fact.variance):
+            was = old or ledger.lost(fact, own)
+            if old is not None and old.says(fact):
                 found.same += 1
+            elif was is not None and _before(years, ledger, was, fact):
+                found.stale.append(Change(ledger, was, fact))
+            elif old is None:
+                found.new.append((ledger, fact))
             else:
                 found.changed.append(Change(ledger, old, fact))
     return found
+
+
+def _before(years: Years, ledger: Ledger, was: Fact, fact: Fact) -> bool:
+    """Say whether a fact says what one said before a command amended or struck it."""
+    for number, before in reversed(ledger.edits.get(was.id, [])):
+        if number not in years.typed[ledger.name]:
+            return False
+        if before.says(fact):
+            return True
+    return False
 
 
 def gone(

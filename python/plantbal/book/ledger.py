@@ -75,6 +75,10 @@ class Fact:
         """What an amendment doesn't change: its kind, stream or tank, and days."""
         return self.kind, self.place, self.first, self.last
 
+    def says(self, other: Fact) -> bool:
+        """Say whether another fact says the same, whatever its id."""
+        return replace(self, id="") == replace(other, id="")
+
     def said(self) -> str:
         """Return what it says: `12,188 t`, or `6,560 mm at 1,250 kg/m3`."""
         if self.kind == "dip":
@@ -112,6 +116,10 @@ class Ledger:
         The rows that declare the plant.
     facts : dict of str to Fact
         The facts that aren't struck, by their ids, with their last values.
+    struck : dict of str to Fact
+        Those that are.
+    edits : dict of str to list of (int, Fact)
+        Of each fact that was amended or struck the numbers of these rows, and what it was before.
     added : list of tuple of str
         The rows that were put after those that were read.
     """
@@ -123,10 +131,12 @@ class Ledger:
         self.session = Session()
         self.plant: list[tuple[str, ...]] = []
         self.facts: dict[str, Fact] = {}
-        self.struck: set[str] = set()
+        self.struck: dict[str, Fact] = {}
+        self.edits: dict[str, list[tuple[int, Fact]]] = {}
         self.added: list[tuple[str, ...]] = []
         self.count = 0
         self._slots: dict[tuple[str, datetime.date], str] = {}
+        self._lost: dict[tuple[str, datetime.date], list[Fact]] = {}
         self._latest: defaultdict[datetime.date, int] = defaultdict(int)
         self._latest_dip: defaultdict[datetime.date, int] = defaultdict(int)
 
@@ -210,14 +220,17 @@ class Ledger:
             self._keep(Fact.of(fields))
         elif kind == "amend":
             fact = self.facts[fields[1]]
+            self.edits.setdefault(fact.id, []).append((self.count, fact))
             *values, variance = map(int, fields[2:-1])
             self._keep(replace(fact, values=tuple(values), variance=variance))
         elif kind == "strike":
             fact = self.facts.pop(fields[1])
-            self.struck.add(fact.id)
+            self.struck[fact.id] = fact
+            self.edits.setdefault(fact.id, []).append((self.count, fact))
             self._touch(fact)
             if fact.kind != "transfer":
                 del self._slots[fact.place, fact.first]
+                self._lost.setdefault((fact.place, fact.first), []).append(fact)
 
     def _keep(self, fact: Fact) -> None:
         self.facts[fact.id] = fact
@@ -271,15 +284,26 @@ class Ledger:
         others : frozenset of str
             Ids that are those of other tickets.
         """
+        chain = self._chain(identity, others)
+        return next((fact for fact in chain if fact.id in self.facts), None)
+
+    def _chain(self, identity: str, others: frozenset[str]) -> Iterator[Fact]:
+        """Give the transfers that were booked for a ticket one after the other, struck or not."""
         for name in self._names(identity):
-            if name != identity and name in others:
-                continue
-            fact = self.facts.get(name)
-            if fact is not None and fact.kind == "transfer":
-                return fact
-            if fact is None and name not in self.struck:
-                break
-        return None
+            if name == identity or name not in others:
+                fact = self.facts.get(name) or self.struck.get(name)
+                if fact is None:
+                    return
+                if fact.kind == "transfer":
+                    yield fact
+
+    def lost(self, fact: Fact, others: frozenset[str] = frozenset()) -> Fact | None:
+        """Return the struck fact that says the same as a fact, or None."""
+        if fact.kind == "transfer":
+            found = [each for each in self._chain(fact.id, others) if each.id in self.struck]
+        else:
+            found = self._lost.get((fact.place, fact.first), [])
+        return next((each for each in reversed(found) if each.says(fact)), None)
 
     def free(self, identity: str) -> str:
         """Return an id for a fact that was struck and comes again, or this id if it is free."""

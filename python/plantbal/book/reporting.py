@@ -99,8 +99,8 @@ def file_of(period: str) -> str:
     return f"{REPORTS}/{period}.csv"
 
 
-def keep(book: Book, action: Action, ledger: Ledger, period: str, text: str) -> bool:
-    """Have an action write a report, and keep the one before it if its period is closed.
+def keep(book: Book, action: Action, ledger: Ledger, period: str, text: str, closed: bool) -> bool:
+    """Have an action write a report, and keep the one before it if its period was closed then.
 
     Returns
     -------
@@ -111,7 +111,7 @@ def keep(book: Book, action: Action, ledger: Ledger, period: str, text: str) -> 
     before = book.text(name)
     if before == text:
         return False
-    if before and ledger.periods[period].closed:
+    if before and closed:
         number = 1
         while book.path(f"{REPORTS}/{period}.{number}.csv").exists():
             number += 1
@@ -137,7 +137,7 @@ def run(options: argparse.Namespace) -> int:
             ledger = years.of_period(name)
             text, output = report_of(options, book.text(f"{ledger.name}.csv"), name)
             action = Action(f"report {name}", who=options.who)
-            new = keep(book, action, ledger, name, text)
+            new = keep(book, action, ledger, name, text, ledger.periods[name].closed)
             if new:
                 book.do(action)
             print(state_of(output, name))

@@ -54,6 +54,12 @@ def changed(changes: Changes, name: str, struck: bool) -> list[str]:
     if changes.same:
         are = "is" if changes.same == 1 else "are"
         lines.append(f"{counted(changes.same, 'fact')} {are} booked already")
+    for change in changes.stale[:FIRST]:
+        old = change.old
+        booked = f"amended to {old.said()}" if old.id in change.ledger.facts else "struck"
+        lines.append(f"{old.id}: {booked}, and {name} has {change.new.said()} still: kept so")
+    if len(changes.stale) > FIRST:
+        lines.append(f"{len(changes.stale) - FIRST:,} more are kept as they were amended")
     if changes.gone:
         ids = ", ".join(fact.id for _, fact in changes.gone[:3])
         ids += ", .." if len(changes.gone) > 3 else ""

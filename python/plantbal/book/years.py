@@ -3,6 +3,8 @@
 from __future__ import annotations
 
 import datetime
+import re
+from collections import defaultdict
 from collections.abc import Iterable
 from dataclasses import dataclass
 
@@ -14,6 +16,7 @@ _DAY = datetime.timedelta(1)
 # Before the first period of a year may stand days of the year before it, such as the 26th of
 # December, but no others: so a year that is typed wrong is told.
 _BEFORE = datetime.timedelta(31)
+_TYPED = ("amend ", "strike ")
 
 
 @dataclass(frozen=True)
@@ -65,12 +68,24 @@ class Years:
     ----------
     book : Book
         The book, which has been opened.
+
+    Attributes
+    ----------
+    spans : list of Span
+        The years and their days.
+    typed : dict of str to set of int
+        Of each year the rows that the commands `amend` and `strike` have written.
     """
 
     def __init__(self, book: Book) -> None:
         self.book = book
         self.spans = spans_of(book)
+        self.typed: defaultdict[str, set[int]] = defaultdict(set)
         self._ledgers: dict[str, Ledger] = {}
+        for line in book.journal():
+            if line.what.startswith(_TYPED):
+                for name, number in re.findall(r"([^ ;]+): ([0-9]+)", line.rows):
+                    self.typed[name].add(int(number))
 
     def __getitem__(self, name: str) -> Ledger:
         """Return the ledger of a year."""
