@@ -37,6 +37,8 @@ class Readings(Plant):
         The days of each stream that have a figure, and where it stands.
     listed : set of str
         The streams that have a column or a row, with figures or without.
+    whole : bool
+        Whether each meter of the plant has to have a column.
     """
 
     def __init__(self, sheets: list[Sheet], reader: Reader, skip: tuple[str, ...] = ()) -> None:
@@ -44,6 +46,7 @@ class Readings(Plant):
         self.skip = {head.casefold() for head in skip}
         self.days: dict[str, dict[datetime.date, Cell]] = {}
         self.listed: set[str] = set()
+        self.whole = True
 
     def reading(self, stream: Stream, cell: Cell, day: datetime.date | None, unit: str) -> None:
         """Take a reading."""
@@ -94,7 +97,7 @@ class Readings(Plant):
                     what = "no row has a tag of the sheet streams"
                     raise InputFault(what, place=sheet.place(lines[0][0].line), remedy=remedy)
         for stream in self.tags.values():
-            if wide and stream.kind == "metered" and stream.tag not in found:
+            if wide and self.whole and stream.kind == "metered" and stream.tag not in found:
                 if stream.name not in found and stream.name not in self.days:
                     sheet = self.sheets["readings"][0]
                     what = f"there is no column for {stream.said}"

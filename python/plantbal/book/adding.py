@@ -6,7 +6,7 @@ import argparse
 import calendar
 import datetime
 import sys
-from collections.abc import Callable
+from collections.abc import Callable, Iterator
 from pathlib import Path
 
 from plantbal.book.changes import Changes, compare, gone
@@ -19,7 +19,7 @@ from plantbal.cells import MISSING, Reader, check_locale
 from plantbal.conversion import Conversion
 from plantbal.conversion_facts import Converter
 from plantbal.conversion_tables import SHEETS
-from plantbal.faults import Fault, InputFault, Place, Refusal
+from plantbal.faults import Fault, InputFault, Refusal
 from plantbal.memory import uncollected
 from plantbal.records import text_of
 from plantbal.session import Period
@@ -76,6 +76,7 @@ def converted(
     """
     with uncollected():
         work = Converter(sheets_of(options.workbook), reader_of(options), tuple(options.skip))
+        work.whole = False
         streams, tanks = taken(plant, meters)
         if work.sheets["streams"]:
             given = [kind for kind in ("tanks", "straps") if work.sheets[kind]]
@@ -85,24 +86,24 @@ def converted(
         else:
             work.take_plant(plant, streams, tanks)
         work.read_facts()
-        work.read_rows()
+        edits = list(_edits(work))
+        if not edits:
+            work.read_rows()
         work.say_rounded()
-    work.faults += work.session.refused
-    work.faults += [_no_edit(row, options) for row in work.session if row[0] in _EDITS]
+    work.faults += [*work.session.refused, *edits]
     found = Conversion(work.session, work.faults, work.notes)
     say_faults(options.prog, found, "nothing is booked")
     return work
 
 
-_EDITS = {"amend": "amend", "strike": "strike", "close": "close"}
-
-
-def _no_edit(row: tuple[str, ...], options: argparse.Namespace) -> Fault:
-    return InputFault(
-        f"a row {','.join(row[:2])} stands in a sheet rows",
-        place=Place(file=options.workbook),
-        remedy=f"take it out, and type plantbal-desk book {_EDITS[row[0]]}",
-    )
+def _edits(work: Converter) -> Iterator[Fault]:
+    """Give what is to be said of rows that a book has its own commands for."""
+    for sheet in work.sheets["rows"]:
+        for cells in sheet.rows():
+            if cells[0].text in ("amend", "strike", "close"):
+                remedy = f"take it out, and type plantbal-desk book {cells[0].text}"
+                what = f"a row {cells[0].text} stands in a sheet rows"
+                yield InputFault(what, place=cells[0].place(), remedy=remedy)
 
 
 # ---- the rows
@@ -278,6 +279,11 @@ def _raise(options: argparse.Namespace, faults: list[Fault]) -> None:
         raise Faulty(f"{count:,} fault{'s' if count > 1 else ''}, and nothing is booked")
 
 
+def _may_ask() -> bool:
+    """Say whether somebody sits at a terminal."""
+    return sys.stdin.isatty()
+
+
 def asked(options: argparse.Namespace, changes: Changes) -> Callable[[str, str], str]:
     """Return what gives the reason of a change: that of --why, or what is typed.
 
@@ -292,7 +298,7 @@ def asked(options: argparse.Namespace, changes: Changes) -> Callable[[str, str],
     why: str = options.why or ""
     if why or not lines:
         return lambda identity, said: why
-    if not sys.stdin.isatty():
+    if not _may_ask():
         lines = list(dict.fromkeys(lines))
         for line in lines[:_FIRST]:
             print(line)

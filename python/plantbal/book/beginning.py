@@ -194,7 +194,6 @@ def carry(old: Ledger, new: Ledger, eve: datetime.date, program: str | None) -> 
         if grams == opening.get(name, 0):
             continue
         said = f"{name} holds {plain(tonnes_of(grams))} t as {old.name} ends"
-        other = f"{plain(tonnes_of(opening[name]))} t as {new.name} begins"
         if name not in opening:
             raise Fault(
                 f"{said}, and isn't in the plant of {new.name}",
@@ -202,7 +201,7 @@ def carry(old: Ledger, new: Ledger, eve: datetime.date, program: str | None) -> 
                 remedy="book what became of it as a transfer, or keep the tank",
             )
         raise Fault(
-            f"{said}, and by the other table {other}",
+            f"{said}, and by the other table {plain(tonnes_of(opening[name]))} t as {new.name} begins",
             text=name,
             remedy="keep its table, or give the tank another name",
         )

@@ -1,0 +1,714 @@
+"""A plant's book: what is added, amended, struck, closed, and begun with a year."""
+
+from __future__ import annotations
+
+import csv
+import io
+import os
+import shutil
+import signal
+import subprocess
+import sys
+from collections.abc import Callable
+from fractions import Fraction
+from pathlib import Path
+from typing import Any
+
+import pytest
+from conftest import TOP, Desk, Said, example, text_of
+
+from plantbal import desk
+from plantbal.book.contents import contents_of
+from plantbal.book.ledger import Fact
+from plantbal.book.lock import locked
+from plantbal.book.meters import decimal, error_text, read_meters
+from plantbal.book.store import Action, Book
+from plantbal.cells import Error
+from plantbal.faults import Fault
+
+Rows = list[list[Any]]
+Sheets = dict[str, Rows]
+Type = Callable[..., Said]
+
+PLANT: Sheets = {
+    "streams": [
+        ["tag", "stream", "from", "to", "kind", "error"],
+        ["F-1", "FEED", "env", "MILL", "", "1 % or 5 t"],
+        ["P-1", "PRODUCT", "MILL", "SILO", "", "2 t"],
+        ["", "TRUCKS", "SILO", "env", "batch", "0.1 t"],
+    ],
+    "tanks": [["tank", "error", "density"], ["SILO", "3 mm", "1250"]],
+    "straps": [["tank", "level", "volume"], ["SILO", "0", "2"], ["SILO", "20000", "4710"]],
+    "critical": [["test", "dof", "value"], ["global", "1", "3.84"], ["global", "2", "5.99"]],
+}
+
+
+def month(first: int = 1, last: int = 3, month: str = "04") -> Sheets:
+    """Some days of a month: readings, a ticket, and dips of the eve and of the last day."""
+    eve, end = {"04": ("2024-03-31", "2024-04-30"), "05": ("2024-04-30", "2024-05-31")}[month]
+    levels = {"04": ("8000", "9500"), "05": ("9500", "9000")}[month]
+    days = [f"2024-{month}-{day:02}" for day in range(first, last + 1)]
+    return {
+        "readings": [["day", "F-1", "P-1"], *([day, "1200", "1199.5"] for day in days)],
+        "tickets": [
+            ["id", "stream", "first", "amount"],
+            [f"truck-{month}", "TRUCKS", days[0], "800"],
+        ],
+        "dips": [["tank", "day", "level"], ["SILO", eve, levels[0]], ["SILO", end, levels[1]]],
+    }
+
+
+def folder(room: Path, sheets: Sheets) -> Path:
+    """A workbook as a folder of CSV files."""
+    shutil.rmtree(room, ignore_errors=True)
+    room.mkdir(parents=True)
+    for name, rows in sheets.items():
+        out = io.StringIO()
+        csv.writer(out, lineterminator="\n").writerows(rows)
+        (room / f"{name}.csv").write_text(out.getvalue(), encoding="utf-8")
+    return room
+
+
+@pytest.fixture(name="book")
+def fixture_book(say: Desk, tmp_path: Path) -> Type:
+    """Types a command on the book in `mill`, which has a year and April's first days."""
+
+    def typed(*words: object) -> Said:
+        return say("book", *words, "--book", tmp_path / "mill", "--who", "anna")
+
+    assert typed("new", "2024", folder(tmp_path / "plant", PLANT)).status == 0
+    said = typed("add", folder(tmp_path / "april", month()))
+    assert (said.status, said.err) == (0, "")
+    return typed
+
+
+def rows_of(folder: Path, year: str = "2024") -> list[str]:
+    return text_of(folder / "mill" / f"{year}.csv").splitlines()
+
+
+def journal_of(folder: Path) -> list[list[str]]:
+    return [row[1:] for row in csv.reader(io.StringIO(text_of(folder / "mill" / "journal.csv")))]
+
+
+# ---- adding
+
+
+def test_new_and_add(book: Type, tmp_path: Path) -> None:
+    rows = rows_of(tmp_path)
+    assert rows[0] == "unit,MILL" and rows[8:10] == [
+        "critical,global,2,5990",
+        "period,2024-04,2024-04-01,2024-04-30",
+    ]
+    assert rows[-3:] == [
+        "transfer,truck-04,TRUCKS,2024-04-01,2024-04-01,800000000,10000000000",
+        f"dip,SILO_2024-03-31,SILO,2024-03-31,8000,1250000,{rows[-2].rsplit(',', 1)[1]}",
+        f"dip,SILO_2024-04-30,SILO,2024-04-30,9500,1250000,{rows[-1].rsplit(',', 1)[1]}",
+    ]
+    assert text_of(tmp_path / "mill" / "meters.csv").splitlines() == [
+        "name,tag,unit,density,error",
+        "FEED,F-1,,,1 % or 5 t",
+        "PRODUCT,P-1,,,2 t",
+        "TRUCKS,,,,0.1 t",
+        "SILO,,,1250 kg/m3,3 mm",
+    ]
+    assert journal_of(tmp_path) == [
+        ["who", "what", "why", "rows"],
+        ["anna", "new 2024 plant", "", "2024: 1 to 9"],
+        ["anna", "add april", "", "2024: 10 to 19"],
+    ]
+
+
+def test_adding_again_books_nothing(book: Type, tmp_path: Path) -> None:
+    before = files_of(tmp_path / "mill")
+    said = book("add", tmp_path / "april")
+    assert said.out.startswith("2024.csv: nothing new\n9 facts are booked already\n")
+    assert files_of(tmp_path / "mill") == before
+
+
+def test_more_days_and_another_month(book: Type, tmp_path: Path) -> None:
+    said = book("add", folder(tmp_path / "april", month(last=30)))
+    assert said.out == "2024.csv: new: 54 readings\n9 facts are booked already\n"
+    said = book("add", folder(tmp_path / "may", month(last=30, month="05")))
+    assert said.out.splitlines() == [
+        "2024.csv: new: 1 period, 60 readings, 1 ticket, 1 dip",
+        "1 fact is booked already",
+        "2024-05: no reading of F-1 (FEED), P-1 (PRODUCT) on 2024-05-31",
+    ]
+
+
+def test_a_changed_figure_wants_a_reason(book: Type, tmp_path: Path) -> None:
+    sheets = month()
+    sheets["readings"][2][1] = "1210"
+    before = files_of(tmp_path / "mill")
+    said = book("add", folder(tmp_path / "april", sheets))
+    assert said.status == 1 and said.out == "F-1_2024-04-02: 1,200 t becomes 1,210 t\n"
+    assert "1 fact is booked otherwise: say why: --why" in said.err
+    assert files_of(tmp_path / "mill") == before
+    said = book("add", tmp_path / "april", "--why", "second look")
+    assert "2024.csv: amended: 1\nF-1_2024-04-02: 1,200 t becomes 1,210 t\n" in said.out
+    variance = (12_100_000) ** 2
+    assert rows_of(tmp_path)[-1] == f"amend,F-1_2024-04-02,1210000000,{variance},second look"
+    assert journal_of(tmp_path)[-1] == ["anna", "add april", "second look", "2024: 20"]
+
+
+def test_a_reason_is_asked_for(
+    book: Type, tmp_path: Path, monkeypatch: pytest.MonkeyPatch, say: Desk
+) -> None:
+    sheets = month()
+    sheets["readings"][1][1:] = ["1210", "1200"]
+    asked: list[str] = []
+    answers = iter(["", "typed wrong", ""])
+
+    def answer(prompt: str) -> str:
+        asked.append(prompt)
+        return next(answers)
+
+    monkeypatch.setattr("builtins.input", answer)
+    monkeypatch.setattr("plantbal.book.adding._may_ask", lambda: True)
+    assert book("add", folder(tmp_path / "april", sheets)).status == 0
+    assert asked[0] == asked[1] == "F-1_2024-04-01: 1,200 t becomes 1,210 t. Why? "
+    assert asked[2] == "P-1_2024-04-01: 1,199.5 t becomes 1,200 t. Why? [typed wrong] "
+    assert [row.rsplit(",", 1)[1] for row in rows_of(tmp_path)[-2:]] == ["typed wrong"] * 2
+
+
+def test_what_is_gone_stays_unless_it_is_struck(book: Type, tmp_path: Path) -> None:
+    sheets = month()
+    sheets["readings"][2][1] = ""
+    sheets["tickets"].append(["truck-9", "TRUCKS", "2024-04-02", "10"])
+    book("add", folder(tmp_path / "april", sheets))
+    del sheets["tickets"][1]
+    said = book("add", folder(tmp_path / "april", sheets))
+    what = "2 facts are booked and not in april: F-1_2024-04-02, truck-04"
+    assert f"{what}; kept, and --strike takes them out" in said.out
+    said = book("add", tmp_path / "april", "--strike", "--why", "never came")
+    assert f"{what}; struck" in said.out
+    assert rows_of(tmp_path)[-2:] == [
+        "strike,F-1_2024-04-02,never came",
+        "strike,truck-04,never came",
+    ]
+    assert "no reading of F-1 (FEED) on 2024-04-02, 2024-04-04 to 2024-04-30" in said.out
+    # What comes again after it was struck has another id.
+    book("add", folder(tmp_path / "april", month()))
+    assert [row.split(",")[:2] for row in rows_of(tmp_path)[-2:]] == [
+        ["reading", "F-1_2024-04-02.2"],
+        ["transfer", "truck-04.2"],
+    ]
+    assert "nothing new" in book("add", tmp_path / "april").out
+
+
+def test_a_ticket_of_another_day_is_struck_and_booked_again(book: Type, tmp_path: Path) -> None:
+    sheets = month()
+    sheets["tickets"][1][2] = "2024-04-03"
+    said = book("add", folder(tmp_path / "april", sheets), "--why", "wrong day")
+    days = "truck-04: TRUCKS 2024-04-01 800 t becomes TRUCKS 2024-04-03 800 t"
+    assert days in said.out
+    assert rows_of(tmp_path)[-2:] == [
+        "strike,truck-04,wrong day",
+        "transfer,truck-04.2,TRUCKS,2024-04-03,2024-04-03,800000000,10000000000",
+    ]
+    assert "nothing new" in book("add", tmp_path / "april").out
+
+
+def test_one_file_and_an_estimate(book: Type, tmp_path: Path) -> None:
+    (tmp_path / "second.csv").write_text("day,P-1\n2024-04-04,1180\n", encoding="utf-8")
+    assert "new: 1 reading" in book("add", tmp_path / "second.csv").out
+    rows = "tag,day,amount,error\nF-1,2024-04-04,1190,60 t\n"
+    (tmp_path / "estimates.csv").write_text(rows, encoding="utf-8")
+    assert "new: 1 reading" in book("add", tmp_path / "estimates.csv").out
+    wanted = f"reading,F-1_2024-04-04,FEED,2024-04-04,1190000000,{60_000_000**2}"
+    assert rows_of(tmp_path)[-1] == wanted
+
+
+FAULTY: dict[str, tuple[Sheets, str]] = {
+    "a tag that isn't there": (
+        {"readings": [["day", "F-1", "P-l"], ["2024-04-05", "1", "2"]]},
+        "did you mean P-1?",
+    ),
+    "a year too early": (
+        {"readings": [["day", "F-1"], ["2023-04-05", "1"]]},
+        "F-1_2023-04-05: 2023-04-05 is before 2024, the book's first year: mend the day",
+    ),
+    "the next year": (
+        {"readings": [["day", "F-1"], ["2025-01-05", "1"]]},
+        "2025-01-05 comes after 2024: mend the day, or begin the next year: plantbal-desk book next",
+    ),
+    "an edit": (
+        {"rows": [["strike", "F-1_2024-04-01", "why"]]},
+        "take it out, and type plantbal-desk book strike",
+    ),
+    "another end": (
+        PLANT | {"streams": [*PLANT["streams"][:3], ["", "TRUCKS", "MILL", "env", "batch", "1 t"]]},
+        "the next one by plantbal-desk book next YEAR --plant WORKBOOK",
+    ),
+    "other days of a period": (
+        {
+            "periods": [["name", "first", "last"], ["2024-04", "2024-04-01", "2024-04-29"]],
+            "readings": [["day", "F-1"], ["2024-04-05", "1"]],
+        },
+        "and from 2024-04-01 to 2024-04-30 in the book: mend the sheet periods",
+    ),
+    "a level above the table": (
+        {"dips": [["tank", "day", "level"], ["SILO", "2024-04-05", "20001"]]},
+        "MM is 20001",
+    ),
+}
+
+
+@pytest.mark.parametrize("sheets, said", FAULTY.values(), ids=FAULTY)
+def test_faults_book_nothing(book: Type, tmp_path: Path, sheets: Sheets, said: str) -> None:
+    before = files_of(tmp_path / "mill")
+    found = book("add", folder(tmp_path / "bad", sheets))
+    assert found.status == 1 and said in found.err, found.err
+    assert files_of(tmp_path / "mill") == before
+
+
+def test_a_dry_run_books_nothing(book: Type, tmp_path: Path) -> None:
+    before = files_of(tmp_path / "mill")
+    said = book("add", folder(tmp_path / "april", month(last=4)), "--dry-run")
+    assert "new: 2 readings" in said.out and "--dry-run" in said.out
+    assert files_of(tmp_path / "mill") == before
+
+
+# ---- the plant
+
+
+def test_a_new_meter(book: Type, tmp_path: Path) -> None:
+    """It is added before the first close, and refused after it."""
+    new = PLANT | {"streams": [*PLANT["streams"], ["W-1", "WASTE", "MILL", "env", "", "1 t"]]}
+    assert "1 row of the plant" in book("add", folder(tmp_path / "plant", new)).out
+    assert text_of(tmp_path / "mill" / "plant.csv").splitlines()[-1].startswith("stream,WASTE")
+    assert text_of(tmp_path / "mill" / "meters.csv").splitlines()[-1] == "WASTE,W-1,,,1 t"
+    book("close", "2024-04", "--anyway")
+    more = PLANT | {"streams": [*new["streams"], ["W-2", "LOSS", "MILL", "env", "", "1 t"]]}
+    said = book("add", folder(tmp_path / "plant", more))
+    assert said.status == 1 and "what is new of the plant comes before the first close" in said.err
+
+
+def test_another_error_of_a_meter(book: Type, tmp_path: Path) -> None:
+    streams = [row[:] for row in PLANT["streams"]]
+    streams[2][5] = "1.5 t"
+    book("add", folder(tmp_path / "plant", {"streams": streams}))
+    assert read_meters(tmp_path / "mill" / "meters.csv")["PRODUCT"].error == Error(grams=1_500_000)
+    book("amend", "P-1", "2024-04-02", "1195 t", "--why", "log book")
+    assert rows_of(tmp_path)[-1].split(",")[3] == str(1_500_000**2)
+
+
+# ---- single facts
+
+
+AMENDED = [
+    (["F-1", "2024-04-02", "1300 t"], "amend,F-1_2024-04-02,1300000000,169000000000000,why"),
+    (["FEED", "2024-04-02", "1300000 kg"], "amend,F-1_2024-04-02,1300000000,169000000000000,why"),
+    (["F-1_2024-04-02", "-1 t"], "amend,F-1_2024-04-02,-1000000,25000000000000,why"),
+    (["truck-04", "801"], "amend,truck-04,801000000,10000000000,why"),
+    (
+        ["truck-04", "801,5", "--error", "0,3 t", "--locale", "de"],
+        "amend,truck-04,801500000,90000000000,why",
+    ),
+    (["SILO", "2024-04-30", "9.6 m"], "amend,SILO_2024-04-30,9600,1250000,779247562500,why"),
+    (
+        ["SILO", "2024-04-30", "9600 mm", "--density", "1260"],
+        "amend,SILO_2024-04-30,9600,1260000,791765395344,why",
+    ),
+]
+
+
+@pytest.mark.parametrize("words, row", AMENDED, ids=[" ".join(words) for words, _ in AMENDED])
+def test_amend(book: Type, tmp_path: Path, words: list[str], row: str) -> None:
+    said = book("amend", *words, "--why", "why")
+    assert (said.status, said.err) == (0, "")
+    assert rows_of(tmp_path)[-1] == row
+    before = files_of(tmp_path / "mill")
+    assert "already" in book("amend", *words, "--why", "why").out
+    assert files_of(tmp_path / "mill") == before
+
+
+NOT_AMENDED = [
+    (["F-1", "2024-04-09", "1 t"], "F-1 has no figure of 2024-04-09 in this book"),
+    (["F-9", "2024-04-01", "1 t"], "there is no tag, stream or tank F-9: the tags are F-1, P-1"),
+    (["truck-9", "1 t"], "there is no fact truck-9 in this book"),
+    (["F-1", "2024-04-01", "1 mm"], "'1 mm' is no figure"),
+    (["F-1", "2024-04-01", "1.234 t"], "'1.234' is a decimal number in one country"),
+    (["F-1", "2024-04-01", "99999999 t"], "GRAMS is '99999999000000'"),
+    (["F-1", "04/05/2024", "1 t"], "'04/05/2024' can be read as two days"),
+    (["SILO", "2024-04-30", "1 t"], "'1 t' is no figure"),
+    (["SILO", "2024-04-30", "25 m"], "MM is 25000, and the table of SILO goes from 0 to 20000"),
+]
+
+
+@pytest.mark.parametrize("words, said", NOT_AMENDED, ids=[words[-1] for words, _ in NOT_AMENDED])
+def test_not_amended(book: Type, tmp_path: Path, words: list[str], said: str) -> None:
+    before = files_of(tmp_path / "mill")
+    found = book("amend", *words, "--why", "why")
+    assert found.status == 1 and said in found.err, found.err
+    assert files_of(tmp_path / "mill") == before
+
+
+def test_what_a_command_has_changed_stays(book: Type, tmp_path: Path) -> None:
+    """The workbook has the old figures still, so adding it again changes nothing."""
+    book("amend", "F-1", "2024-04-02", "1300 t", "--why", "log book")
+    book("amend", "F-1", "2024-04-02", "1301 t", "--why", "log book again")
+    book("strike", "truck-04", "--why", "twice")
+    book("strike", "P-1", "2024-04-03", "--why", "frozen")
+    before = rows_of(tmp_path)
+    said = book("add", tmp_path / "april")
+    assert "F-1_2024-04-02: amended to 1,301 t, and april has 1,200 t still: kept so" in said.out
+    assert "truck-04: struck, and april has 800 t still: kept so" in said.out
+    assert rows_of(tmp_path) == before
+    sheets = month()
+    sheets["readings"][2][1], sheets["readings"][3][2] = "1302", "1191"
+    book("add", folder(tmp_path / "april", sheets), "--why", "mended")
+    assert [row.split(",")[1:5] for row in rows_of(tmp_path)[-2:]] == [
+        ["F-1_2024-04-02", "1302000000", "169520400000000", "mended"],
+        ["P-1_2024-04-03.2", "PRODUCT", "2024-04-03", "1191000000"],
+    ]
+
+
+def test_struck_twice(book: Type, tmp_path: Path) -> None:
+    assert "is struck" in book("strike", "P-1", "2024-04-03", "--why", "frozen").out
+    before = files_of(tmp_path / "mill")
+    said = book("strike", "P-1", "2024-04-03", "--why", "frozen")
+    assert (said.status, said.out) == (0, "P-1 2024-04-03 is struck already\n")
+    assert book("amend", "P-1", "2024-04-03", "1 t", "--why", "x").status == 1
+    assert files_of(tmp_path / "mill") == before
+
+
+# ---- reports and closing
+
+
+def test_report_close_and_late(book: Type, tmp_path: Path) -> None:
+    book("add", folder(tmp_path / "april", month(last=30)))
+    said = book("report")
+    assert said.status == 1 and "suspects" not in said.out
+    assert said.out.startswith("2024-04: converged, rejected by the global test: ")
+    said = book("close", "2024-04")
+    assert said.status == 1 and "2024-04 isn't closed: 2024-04 is rejected" in said.err
+    assert not any(row.startswith("close") for row in rows_of(tmp_path))
+    book("amend", "truck-04", "35543 t", "--why", "a digit short", "--error", "9 t")
+    said = book("close", "2024-04")
+    assert said.status == 0 and "2024-04 is closed, with the report" in said.out
+    assert "closed already" in book("close", "2024-04").out
+    assert "1 period closed, 0 open" in book("status").out
+    sheets = month(last=30)
+    sheets["tickets"].append(["truck-5", "TRUCKS", "2024-04-29", "10"])
+    assert "late: 1 of them" in book("add", folder(tmp_path / "april", sheets)).out
+    said = book("status")
+    assert "2024-04: closed, changed since its report: plantbal-desk book report 2024-04" in said.out
+    assert "with 3 edits" in book("report", "2024-04").out
+    assert sorted(path.name for path in (tmp_path / "mill/reports").iterdir()) == [
+        "2024-04.1.csv",
+        "2024-04.csv",
+    ]
+    assert text_of(tmp_path / "mill/reports/2024-04.csv").splitlines()[-3:] == [
+        "edit,74,amend,truck-04,a digit short",
+        "edit,75,close,,",
+        "edit,76,late,truck-5,",
+    ]
+    assert "as it was" in book("report", "2024-04").out
+    assert book("report", "2024-03").err.endswith("in this book: the periods are 2024-04\n")
+    assert "no period is open" in book("report").err
+
+
+def test_status(book: Type, tmp_path: Path) -> None:
+    assert book("status").out.splitlines() == [
+        "2024: 0 periods closed, 1 open; 9 of 200,000 facts (0.0 %), 1 of 1,000 periods (0.1 %)",
+        "2024-04: open, not reported yet",
+        "2024-04: no reading of F-1 (FEED), P-1 (PRODUCT) on 2024-04-04 to 2024-04-30",
+    ]
+
+
+def test_nearly_full(book: Type, monkeypatch: pytest.MonkeyPatch) -> None:
+    from plantbal.schema import schema
+
+    monkeypatch.setitem(schema().limits, "most_facts", 11)
+    assert "nearly full: begin another part: plantbal-desk book next 2024-2" in book("status").out
+
+
+# ---- years
+
+
+@pytest.fixture(name="two")
+def fixture_two(book: Type, tmp_path: Path) -> Type:
+    """A book whose first year ends with April."""
+    said = book("next", "2024-2")
+    assert (said.status, said.err) == (0, "")
+    grams = (9500 * 4_708_000_000 // 20_000 + 2_000_000) * 1_250_000 // 10**6
+    assert said.out.splitlines() == [
+        "2024-2.csv: from 2024-05-01 on; 9 rows of the plant",
+        f"SILO: {grams / 10**6:,} t at the end of 2024-04-30 and as the opening",
+    ]
+    return book
+
+
+def test_next(two: Type, tmp_path: Path) -> None:
+    rows = rows_of(tmp_path, "2024-2")
+    assert rows[:9] == rows_of(tmp_path)[:9]
+    assert rows[9:] == [row for row in rows_of(tmp_path) if "SILO_2024-04-30" in row]
+    assert two("next", "2024-2").out == "2024-2.csv is there already\n"
+    assert two("next", "2023").status == 1 and two("next", "24").status == 1
+
+
+def test_a_dip_of_the_eve_is_one_in_both_years(two: Type, tmp_path: Path) -> None:
+    assert two("amend", "SILO", "2024-04-30", "9501", "--why", "again").status == 0
+    for year in ("2024", "2024-2"):
+        assert rows_of(tmp_path, year)[-1].startswith("amend,SILO_2024-04-30,9501,")
+    assert journal_of(tmp_path)[-1][-1] == "2024: 20; 2024-2: 11"
+    sheets = month(month="05")
+    sheets["dips"][1][2] = "9502"
+    two("add", folder(tmp_path / "may", sheets), "--why", "once more")
+    assert rows_of(tmp_path)[-1].startswith("amend,SILO_2024-04-30,9502,")
+    assert "period,2024-05,2024-05-01,2024-05-31" in rows_of(tmp_path, "2024-2")
+    assert "amend one of both" not in two("status").out
+
+
+def test_late_facts_go_to_their_year(two: Type, tmp_path: Path) -> None:
+    sheets = month(last=5)
+    sheets["tickets"].append(["bl-7", "TRUCKS", "2024-04-29", "90"])
+    sheets["tickets"][0].append("last")
+    sheets["tickets"][2].append("2024-05-02")
+    two("add", folder(tmp_path / "april", sheets))
+    assert rows_of(tmp_path)[-1] == rows_of(tmp_path, "2024-2")[-1]
+    assert rows_of(tmp_path)[-1].startswith("transfer,bl-7,TRUCKS,2024-04-29,2024-05-02,")
+    assert rows_of(tmp_path)[-2].startswith("reading,P-1_2024-04-05")
+
+
+def test_a_year_begins_after_the_last_period(book: Type) -> None:
+    said = book("next", "2025")
+    assert "ends on 2024-04-30, and 2025 begins on 2025-01-01: add what" in said.err
+    assert "say --first 2024-05-01" in said.err
+    assert book("next", "2025", "--first", "2024-05-01").status == 0
+
+
+TABLES = {
+    "another table": (
+        {"straps": [["tank", "level", "volume"], ["SILO", "0", "2"], ["SILO", "20000", "4711"]]},
+        "by the other table",
+    ),
+    "no tank": (
+        {
+            "streams": [*PLANT["streams"][:2], ["P-1", "PRODUCT", "MILL", "env", "", "2 t"]],
+            "tanks": [["tank"]],
+            "straps": [["tank", "level", "volume"]],
+        },
+        "and isn't in the plant of 2024-2",
+    ),
+}
+
+
+@pytest.mark.parametrize("sheets, said", TABLES.values(), ids=TABLES)
+def test_contents_that_would_change(
+    book: Type, tmp_path: Path, sheets: Sheets, said: str
+) -> None:
+    before = files_of(tmp_path / "mill")
+    found = book("next", "2024-2", "--plant", folder(tmp_path / "other", PLANT | sheets))
+    assert found.status == 1 and "SILO holds 2,797.875 t" in found.err and said in found.err
+    assert files_of(tmp_path / "mill") == before
+
+
+def test_a_new_meter_with_the_next_year(book: Type, tmp_path: Path) -> None:
+    book("close", "2024-04", "--anyway")
+    new = PLANT | {"streams": [*PLANT["streams"], ["W-1", "WASTE", "MILL", "env", "", "1 t"]]}
+    said = book("next", "2024-2", "--plant", folder(tmp_path / "plant2", new))
+    assert (said.status, said.err) == (0, "")
+    sheets = month(month="05")
+    sheets["readings"] = [["day", "W-1"], ["2024-05-01", "5"]]
+    assert "1 reading" in book("add", folder(tmp_path / "may", sheets)).out
+    assert "meters.csv" not in book("amend", "W-1", "2024-05-01", "6", "--why", "x").err
+
+
+@pytest.mark.parametrize("first", [(0, 0), (0, 2_000_000), (500, 0), (500, 7_000_000)])
+def test_contents_by_the_program(program: Path, first: tuple[int, int]) -> None:
+    plant = [("strap", "T", str(first[0]), str(first[1])), ("strap", "T", "9999", "99999999")]
+    dip = Fact("dip", "d", "T", *[__import__("datetime").date(2024, 4, 30)] * 2, (777, 861_234), 1)
+    volume = first[1] + (777 - first[0]) * (99_999_999 - first[1]) // (9999 - first[0])
+    assert contents_of(plant, [dip]) == {"T": volume * 861_234 // 10**6}
+
+
+# ---- what isn't a book
+
+
+def test_no_book(say: Desk, tmp_path: Path) -> None:
+    said = say("book", "status", "--book", tmp_path)
+    assert said.status == 1 and "there is no book in" in said.err
+    assert list(tmp_path.iterdir()) == []
+    said = say("book", "new", "24", tmp_path, "--book", tmp_path)
+    assert "'24' is no year: say four digits" in said.err
+
+
+def test_a_book_that_was_changed_by_hand(book: Type, tmp_path: Path) -> None:
+    path = tmp_path / "mill" / "2024.csv"
+    before = path.read_text(encoding="utf-8")
+    path.write_text(before + "reading,x,FEED,2024-04-09,1.5,1\n", encoding="utf-8")
+    said = book("status")
+    assert "2024.csv: line 20, record 20: reading x: GRAMS is '1.5' (refused 4, number)" in said.err
+    assert "rows of a book are written by its commands alone" in said.err
+    path.write_text(before + "amend,F-1_2024-04-01,1,1,wh", encoding="utf-8")
+    assert "2024.csv: line 20: its last line has no end" in book("status").err
+    assert "there is a book in" in book("new", "2025", tmp_path / "plant").err
+
+
+def test_errors_as_texts() -> None:
+    assert error_text(None) == "" and error_text(Error()) == "0 t"
+    assert decimal(Fraction(-1, 8)) == "-0.125"
+
+
+# ---- stopped at any moment
+
+
+def files_of(folder: Path) -> dict[str, str]:
+    """The files of a book but for its lock; the journal without its times."""
+    found = {}
+    for path in sorted(folder.rglob("*")):
+        if path.is_file() and path.name != ".lock" and not path.name.startswith("..pending."):
+            text = text_of(path)
+            if path.name == "journal.csv":
+                text = "\n".join(line.partition(",")[2] for line in text.splitlines())
+            found[str(path.relative_to(folder))] = text
+    return found
+
+
+def killed_at(number: int, folder: Path, words: list[str]) -> bool:
+    """Type a command in a child that kills itself before its Nth step on the book's files.
+
+    Returns
+    -------
+    bool
+        Whether it was killed; else it came to its end.
+    """
+    child = os.fork()
+    if child:
+        _, status = os.waitpid(child, 0)
+        return os.WIFSIGNALED(status)
+    steps = 0
+
+    def step(event: str, arguments: tuple[Any, ...]) -> None:
+        nonlocal steps
+        reads = event == "open" and arguments[1] in ("r", "rb")
+        if event in ("open", "os.rename", "os.remove", "os.mkdir", "os.chmod") and not reads:
+            if str(arguments[0]).startswith(str(folder)):
+                steps += 1
+                if steps == number:
+                    os.kill(os.getpid(), signal.SIGKILL)
+
+    sys.addaudithook(step)
+    try:
+        os.dup2(os.open(os.devnull, os.O_WRONLY), 1)
+        desk.call(desk.desk_parser(), words)
+    finally:
+        os._exit(0)
+
+
+@pytest.fixture(name="moments")
+def fixture_moments(tmp_path: Path) -> dict[str, list[str]]:
+    """Commands that are killed: each follows the one before it."""
+    changed = month(last=30)
+    changed["readings"][2][1] = ""
+    changed["readings"][3][1] = "1210"
+    for name, sheets in {"plant": PLANT, "april": month(last=30), "mended": changed}.items():
+        folder(tmp_path / name, sheets)
+    why = ["--why", "a look at the log"]
+    return {
+        "new": ["new", "2024", str(tmp_path / "plant")],
+        "add": ["add", str(tmp_path / "april")],
+        "amend": ["amend", "truck-04", "32000 t", *why, "--error", "500 t"],
+        "add again": ["add", str(tmp_path / "mended"), "--strike", *why],
+        "strike": ["strike", "P-1", "2024-04-03", *why],
+        "report": ["report", "--no-tests"],
+        "close": ["close", "2024-04", "--anyway"],
+        "next": ["next", "2024-2"],
+        "in both": ["amend", "SILO", "2024-04-30", "9400", *why],
+    }
+
+
+def test_killed_at_any_moment(
+    moments: dict[str, list[str]], tmp_path: Path, say: Desk, program: Path
+) -> None:
+    """It is as before or as after, and typing the command again gives the same end."""
+    mill, whole, saved = tmp_path / "mill", tmp_path / "whole", tmp_path / "saved"
+    mill.mkdir()
+    for name, command in moments.items():
+        words = ["book", *command, "--book", str(mill), "--who", "anna"]
+        before = files_of(mill)
+        shutil.rmtree(saved, ignore_errors=True)
+        shutil.copytree(mill, saved)
+        say(*words)
+        after = files_of(mill)
+        assert after != before
+        shutil.rmtree(whole, ignore_errors=True)
+        shutil.copytree(mill, whole)
+        for number in range(1, 200):
+            shutil.rmtree(mill)
+            shutil.copytree(saved, mill)
+            if not killed_at(number, mill, words):
+                break
+            say("book", "status", "--book", mill)
+            found = files_of(mill)
+            assert found in (before, after), (name, number)
+            say(*words)
+            assert files_of(mill) == after, (name, number)
+        assert number > 8, name
+        shutil.rmtree(mill)
+        shutil.copytree(whole, mill)
+
+
+def test_killed_in_the_middle_of_its_time(
+    moments: dict[str, list[str]], tmp_path: Path, say: Desk
+) -> None:
+    mill = tmp_path / "mill"
+    say("book", *moments["new"], "--book", mill)
+    before = files_of(mill)
+    words = ["book", *moments["add"], "--book", str(mill), "--who", "anna"]
+    command = [sys.executable, "-m", "plantbal", *words]
+    surroundings = os.environ | {"PYTHONPATH": str(TOP / "python")}
+    ends = set()
+    for wait in (0.1, 0.2, 0.3, 0.4, 0.5):
+        process = subprocess.Popen(command, env=surroundings, stdout=subprocess.DEVNULL)
+        try:
+            process.wait(wait)
+        except subprocess.TimeoutExpired:
+            process.kill()
+            process.wait()
+        say("book", "status", "--book", mill)
+        ends.add(files_of(mill) == before)
+    say(*words)
+    after = files_of(mill)
+    say(*words)
+    assert files_of(mill) == after != before
+
+
+def test_many_at_the_same_time(
+    moments: dict[str, list[str]], tmp_path: Path, say: Desk
+) -> None:
+    mill = tmp_path / "mill"
+    say("book", *moments["new"], "--book", mill)
+    words = ["book", *moments["add"], "--book", str(mill), "--who", "anna"]
+    command = [sys.executable, "-m", "plantbal", *words]
+    surroundings = os.environ | {"PYTHONPATH": str(TOP / "python")}
+    ran = [
+        subprocess.Popen(command, env=surroundings, stdout=subprocess.PIPE, text=True)
+        for _ in range(4)
+    ]
+    said = sorted(process.communicate()[0] for process in ran)
+    assert [text.splitlines()[0] for text in said] == [
+        "2024.csv: new: 1 period, 60 readings, 1 ticket, 2 dips",
+        *["2024.csv: nothing new"] * 3,
+    ]
+    assert len(journal_of(tmp_path)) == 3
+
+
+def test_a_book_that_is_locked(book: Type, tmp_path: Path) -> None:
+    mill = tmp_path / "mill"
+    with locked(mill / ".lock", 1), pytest.raises(Fault, match="another command is at work"):
+        with Book(mill, seconds=0.2).opened():
+            pass
+
+
+def test_another_program_writes_between(book: Type, tmp_path: Path) -> None:
+    """What waits isn't put after rows that nobody here has written."""
+    kept = Book(tmp_path / "mill")
+    with kept.opened():
+        kept.do(Action("nothing"))
+        text = '[{"file": "2024.csv", "from": 5, "text": "unit,X\\n"}]'
+        (tmp_path / "mill" / ".pending").write_text(text, encoding="utf-8")
+    said = book("status")
+    assert said.status == 1 and "another program has changed it, and 1 rows wait" in said.err
