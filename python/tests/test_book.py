@@ -2,72 +2,18 @@
 
 from __future__ import annotations
 
-import csv
-import io
-import os
-import shutil
-import signal
-import subprocess
-import sys
-from collections.abc import Callable
+import datetime
 from fractions import Fraction
 from pathlib import Path
-from typing import Any
 
 import pytest
-from conftest import TOP, Desk, Said, example, text_of
+from books import PLANT, Sheets, Type, files_of, folder, journal_of, month
+from conftest import Desk, Said, text_of
 
-from plantbal import desk
 from plantbal.book.contents import contents_of
 from plantbal.book.ledger import Fact
-from plantbal.book.lock import locked
 from plantbal.book.meters import decimal, error_text, read_meters
-from plantbal.book.store import Action, Book
 from plantbal.cells import Error
-from plantbal.faults import Fault
-
-Rows = list[list[Any]]
-Sheets = dict[str, Rows]
-Type = Callable[..., Said]
-
-PLANT: Sheets = {
-    "streams": [
-        ["tag", "stream", "from", "to", "kind", "error"],
-        ["F-1", "FEED", "env", "MILL", "", "1 % or 5 t"],
-        ["P-1", "PRODUCT", "MILL", "SILO", "", "2 t"],
-        ["", "TRUCKS", "SILO", "env", "batch", "0.1 t"],
-    ],
-    "tanks": [["tank", "error", "density"], ["SILO", "3 mm", "1250"]],
-    "straps": [["tank", "level", "volume"], ["SILO", "0", "2"], ["SILO", "20000", "4710"]],
-    "critical": [["test", "dof", "value"], ["global", "1", "3.84"], ["global", "2", "5.99"]],
-}
-
-
-def month(first: int = 1, last: int = 3, month: str = "04") -> Sheets:
-    """Some days of a month: readings, a ticket, and dips of the eve and of the last day."""
-    eve, end = {"04": ("2024-03-31", "2024-04-30"), "05": ("2024-04-30", "2024-05-31")}[month]
-    levels = {"04": ("8000", "9500"), "05": ("9500", "9000")}[month]
-    days = [f"2024-{month}-{day:02}" for day in range(first, last + 1)]
-    return {
-        "readings": [["day", "F-1", "P-1"], *([day, "1200", "1199.5"] for day in days)],
-        "tickets": [
-            ["id", "stream", "first", "amount"],
-            [f"truck-{month}", "TRUCKS", days[0], "800"],
-        ],
-        "dips": [["tank", "day", "level"], ["SILO", eve, levels[0]], ["SILO", end, levels[1]]],
-    }
-
-
-def folder(room: Path, sheets: Sheets) -> Path:
-    """A workbook as a folder of CSV files."""
-    shutil.rmtree(room, ignore_errors=True)
-    room.mkdir(parents=True)
-    for name, rows in sheets.items():
-        out = io.StringIO()
-        csv.writer(out, lineterminator="\n").writerows(rows)
-        (room / f"{name}.csv").write_text(out.getvalue(), encoding="utf-8")
-    return room
-
 
 @pytest.fixture(name="book")
 def fixture_book(say: Desk, tmp_path: Path) -> Type:
@@ -84,10 +30,6 @@ def fixture_book(say: Desk, tmp_path: Path) -> Type:
 
 def rows_of(folder: Path, year: str = "2024") -> list[str]:
     return text_of(folder / "mill" / f"{year}.csv").splitlines()
-
-
-def journal_of(folder: Path) -> list[list[str]]:
-    return [row[1:] for row in csv.reader(io.StringIO(text_of(folder / "mill" / "journal.csv")))]
 
 
 # ---- adding
@@ -111,7 +53,7 @@ def test_new_and_add(book: Type, tmp_path: Path) -> None:
         "TRUCKS,,,,0.1 t",
         "SILO,,,1250 kg/m3,3 mm",
     ]
-    assert journal_of(tmp_path) == [
+    assert journal_of(tmp_path / "mill") == [
         ["who", "what", "why", "rows"],
         ["anna", "new 2024 plant", "", "2024: 1 to 9"],
         ["anna", "add april", "", "2024: 10 to 19"],
@@ -148,7 +90,7 @@ def test_a_changed_figure_wants_a_reason(book: Type, tmp_path: Path) -> None:
     assert "2024.csv: amended: 1\nF-1_2024-04-02: 1,200 t becomes 1,210 t\n" in said.out
     variance = (12_100_000) ** 2
     assert rows_of(tmp_path)[-1] == f"amend,F-1_2024-04-02,1210000000,{variance},second look"
-    assert journal_of(tmp_path)[-1] == ["anna", "add april", "second look", "2024: 20"]
+    assert journal_of(tmp_path / "mill")[-1] == ["anna", "add april", "second look", "2024: 20"]
 
 
 def test_a_reason_is_asked_for(
@@ -452,7 +394,7 @@ def test_a_dip_of_the_eve_is_one_in_both_years(two: Type, tmp_path: Path) -> Non
     assert two("amend", "SILO", "2024-04-30", "9501", "--why", "again").status == 0
     for year in ("2024", "2024-2"):
         assert rows_of(tmp_path, year)[-1].startswith("amend,SILO_2024-04-30,9501,")
-    assert journal_of(tmp_path)[-1][-1] == "2024: 20; 2024-2: 11"
+    assert journal_of(tmp_path / "mill")[-1][-1] == "2024: 20; 2024-2: 11"
     sheets = month(month="05")
     sheets["dips"][1][2] = "9502"
     two("add", folder(tmp_path / "may", sheets), "--why", "once more")
@@ -519,7 +461,8 @@ def test_a_new_meter_with_the_next_year(book: Type, tmp_path: Path) -> None:
 @pytest.mark.parametrize("first", [(0, 0), (0, 2_000_000), (500, 0), (500, 7_000_000)])
 def test_contents_by_the_program(program: Path, first: tuple[int, int]) -> None:
     plant = [("strap", "T", str(first[0]), str(first[1])), ("strap", "T", "9999", "99999999")]
-    dip = Fact("dip", "d", "T", *[__import__("datetime").date(2024, 4, 30)] * 2, (777, 861_234), 1)
+    day = datetime.date(2024, 4, 30)
+    dip = Fact("dip", "d", "T", day, day, (777, 861_234), 1)
     volume = first[1] + (777 - first[0]) * (99_999_999 - first[1]) // (9999 - first[0])
     assert contents_of(plant, [dip]) == {"T": volume * 861_234 // 10**6}
 
@@ -550,165 +493,3 @@ def test_a_book_that_was_changed_by_hand(book: Type, tmp_path: Path) -> None:
 def test_errors_as_texts() -> None:
     assert error_text(None) == "" and error_text(Error()) == "0 t"
     assert decimal(Fraction(-1, 8)) == "-0.125"
-
-
-# ---- stopped at any moment
-
-
-def files_of(folder: Path) -> dict[str, str]:
-    """The files of a book but for its lock; the journal without its times."""
-    found = {}
-    for path in sorted(folder.rglob("*")):
-        if path.is_file() and path.name != ".lock" and not path.name.startswith("..pending."):
-            text = text_of(path)
-            if path.name == "journal.csv":
-                text = "\n".join(line.partition(",")[2] for line in text.splitlines())
-            found[str(path.relative_to(folder))] = text
-    return found
-
-
-def killed_at(number: int, folder: Path, words: list[str]) -> bool:
-    """Type a command in a child that kills itself before its Nth step on the book's files.
-
-    Returns
-    -------
-    bool
-        Whether it was killed; else it came to its end.
-    """
-    child = os.fork()
-    if child:
-        _, status = os.waitpid(child, 0)
-        return os.WIFSIGNALED(status)
-    steps = 0
-
-    def step(event: str, arguments: tuple[Any, ...]) -> None:
-        nonlocal steps
-        reads = event == "open" and arguments[1] in ("r", "rb")
-        if event in ("open", "os.rename", "os.remove", "os.mkdir", "os.chmod") and not reads:
-            if str(arguments[0]).startswith(str(folder)):
-                steps += 1
-                if steps == number:
-                    os.kill(os.getpid(), signal.SIGKILL)
-
-    sys.addaudithook(step)
-    try:
-        os.dup2(os.open(os.devnull, os.O_WRONLY), 1)
-        desk.call(desk.desk_parser(), words)
-    finally:
-        os._exit(0)
-
-
-@pytest.fixture(name="moments")
-def fixture_moments(tmp_path: Path) -> dict[str, list[str]]:
-    """Commands that are killed: each follows the one before it."""
-    changed = month(last=30)
-    changed["readings"][2][1] = ""
-    changed["readings"][3][1] = "1210"
-    for name, sheets in {"plant": PLANT, "april": month(last=30), "mended": changed}.items():
-        folder(tmp_path / name, sheets)
-    why = ["--why", "a look at the log"]
-    return {
-        "new": ["new", "2024", str(tmp_path / "plant")],
-        "add": ["add", str(tmp_path / "april")],
-        "amend": ["amend", "truck-04", "32000 t", *why, "--error", "500 t"],
-        "add again": ["add", str(tmp_path / "mended"), "--strike", *why],
-        "strike": ["strike", "P-1", "2024-04-03", *why],
-        "report": ["report", "--no-tests"],
-        "close": ["close", "2024-04", "--anyway"],
-        "next": ["next", "2024-2"],
-        "in both": ["amend", "SILO", "2024-04-30", "9400", *why],
-    }
-
-
-def test_killed_at_any_moment(
-    moments: dict[str, list[str]], tmp_path: Path, say: Desk, program: Path
-) -> None:
-    """It is as before or as after, and typing the command again gives the same end."""
-    mill, whole, saved = tmp_path / "mill", tmp_path / "whole", tmp_path / "saved"
-    mill.mkdir()
-    for name, command in moments.items():
-        words = ["book", *command, "--book", str(mill), "--who", "anna"]
-        before = files_of(mill)
-        shutil.rmtree(saved, ignore_errors=True)
-        shutil.copytree(mill, saved)
-        say(*words)
-        after = files_of(mill)
-        assert after != before
-        shutil.rmtree(whole, ignore_errors=True)
-        shutil.copytree(mill, whole)
-        for number in range(1, 200):
-            shutil.rmtree(mill)
-            shutil.copytree(saved, mill)
-            if not killed_at(number, mill, words):
-                break
-            say("book", "status", "--book", mill)
-            found = files_of(mill)
-            assert found in (before, after), (name, number)
-            say(*words)
-            assert files_of(mill) == after, (name, number)
-        assert number > 8, name
-        shutil.rmtree(mill)
-        shutil.copytree(whole, mill)
-
-
-def test_killed_in_the_middle_of_its_time(
-    moments: dict[str, list[str]], tmp_path: Path, say: Desk
-) -> None:
-    mill = tmp_path / "mill"
-    say("book", *moments["new"], "--book", mill)
-    before = files_of(mill)
-    words = ["book", *moments["add"], "--book", str(mill), "--who", "anna"]
-    command = [sys.executable, "-m", "plantbal", *words]
-    surroundings = os.environ | {"PYTHONPATH": str(TOP / "python")}
-    ends = set()
-    for wait in (0.1, 0.2, 0.3, 0.4, 0.5):
-        process = subprocess.Popen(command, env=surroundings, stdout=subprocess.DEVNULL)
-        try:
-            process.wait(wait)
-        except subprocess.TimeoutExpired:
-            process.kill()
-            process.wait()
-        say("book", "status", "--book", mill)
-        ends.add(files_of(mill) == before)
-    say(*words)
-    after = files_of(mill)
-    say(*words)
-    assert files_of(mill) == after != before
-
-
-def test_many_at_the_same_time(
-    moments: dict[str, list[str]], tmp_path: Path, say: Desk
-) -> None:
-    mill = tmp_path / "mill"
-    say("book", *moments["new"], "--book", mill)
-    words = ["book", *moments["add"], "--book", str(mill), "--who", "anna"]
-    command = [sys.executable, "-m", "plantbal", *words]
-    surroundings = os.environ | {"PYTHONPATH": str(TOP / "python")}
-    ran = [
-        subprocess.Popen(command, env=surroundings, stdout=subprocess.PIPE, text=True)
-        for _ in range(4)
-    ]
-    said = sorted(process.communicate()[0] for process in ran)
-    assert [text.splitlines()[0] for text in said] == [
-        "2024.csv: new: 1 period, 60 readings, 1 ticket, 2 dips",
-        *["2024.csv: nothing new"] * 3,
-    ]
-    assert len(journal_of(tmp_path)) == 3
-
-
-def test_a_book_that_is_locked(book: Type, tmp_path: Path) -> None:
-    mill = tmp_path / "mill"
-    with locked(mill / ".lock", 1), pytest.raises(Fault, match="another command is at work"):
-        with Book(mill, seconds=0.2).opened():
-            pass
-
-
-def test_another_program_writes_between(book: Type, tmp_path: Path) -> None:
-    """What waits isn't put after rows that nobody here has written."""
-    kept = Book(tmp_path / "mill")
-    with kept.opened():
-        kept.do(Action("nothing"))
-        text = '[{"file": "2024.csv", "from": 5, "text": "unit,X\\n"}]'
-        (tmp_path / "mill" / ".pending").write_text(text, encoding="utf-8")
-    said = book("status")
-    assert said.status == 1 and "another program has changed it, and 1 rows wait" in said.err
