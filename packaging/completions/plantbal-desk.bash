@@ -47,6 +47,7 @@ _plantbal_desk() {
         convert:--locale) :; return ;;
         convert:--missing) :; return ;;
         convert:--skip) :; return ;;
+        book:--program) _plantbal_files -f; return ;;
         book:--locale) :; return ;;
         book:--missing) :; return ;;
         book:--skip) :; return ;;
@@ -58,7 +59,6 @@ _plantbal_desk() {
         book:--eliminate) :; return ;;
         book:--gap) :; return ;;
         book:--sweeps) :; return ;;
-        book:--program) _plantbal_files -f; return ;;
         book:--plant) _plantbal_files -f; return ;;
         book:--first) :; return ;;
         from-spreadsheet:--decimal) _plantbal_words 'point comma'; return ;;
@@ -69,6 +69,7 @@ _plantbal_desk() {
         draw:--period) :; return ;;
         draw:--round) :; return ;;
         draw:--mark) :; return ;;
+        draw:--out) _plantbal_files -f; return ;;
         chart:--most) :; return ;;
         page:--title) :; return ;;
         page:--session) _plantbal_files -f; return ;;
@@ -128,10 +129,10 @@ _plantbal_desk() {
     book)
         if [[ $here != -* ]]; then
             _plantbal_files -f
-            _plantbal_more 'new add amend strike report close status next'
+            _plantbal_more 'new add show amend strike report close status next'
             return
         fi
-        _plantbal_words '-h --help --locale --missing --skip --limits --book --who --why --strike --dry-run --density --error --no-tests --eliminate --gap --sweeps --program --anyway --all --plant --first' ;;
+        _plantbal_words '-h --help --program --locale --missing --skip --limits --book --who --why --strike --dry-run --density --error --no-tests --eliminate --gap --sweeps --anyway --all --plant --first' ;;
     template)
         if [[ $here != -* ]]; then
             _plantbal_files -f
@@ -157,7 +158,7 @@ _plantbal_desk() {
             _plantbal_files -f
             return
         fi
-        _plantbal_words '-h --help --period --round --mark --dot' ;;
+        _plantbal_words '-h --help --period --round --mark --dot --out' ;;
     chart)
         if [[ $here != -* ]]; then
             _plantbal_files -f

@@ -84,6 +84,7 @@ _plantbal_desk() {
         specifications=(
             '-h[show this help message and exit]'
             '--help[show this help message and exit]'
+            '--program=[the program]:PATH:_files'
             '--locale=[whose numbers and days\: de]:NAME:'
             '--missing=[a further text that stands for a missing figure]:TEXT:'
             '--skip=[a column to leave out]:HEAD:'
@@ -99,13 +100,12 @@ _plantbal_desk() {
             '--eliminate=[at most N rounds]:N:'
             '--gap=[10 without it]:N:'
             '--sweeps=[5,000 without it]:N:'
-            '--program=[the program]:PATH:_files'
             '--anyway[also if its report wants a look before it is booked]'
             '--all[closed periods too]'
             '--plant=[another plant; plant.csv without it]:WORKBOOK:_files'
             '--first=[its first day; January 1st without it]:DAY:'
             '1:word:(book)'
-            '2:COMMAND:(new add amend strike report close status next)'
+            '2:COMMAND:(new add show amend strike report close status next)'
             '*:WORKBOOK:_files'
         ) ;;
     template)
@@ -146,6 +146,7 @@ _plantbal_desk() {
             '--round=[the round to draw, 0 for the one before any meter was taken]:N:'
             '--mark=[the stream whose cut or cycle is marked]:STREAM:'
             '--dot[write the text for Graphviz in place of SVG]'
+            '--out=[the picture]:FILE:_files'
             '1:word:(draw)'
             '*:OUTPUT:_files'
         ) ;;

@@ -20,7 +20,9 @@ from plantbal.cells import Reader
 from plantbal.conversion import Conversion
 from plantbal.conversion_facts import Converter
 from plantbal.faults import Fault, InputFault, Place, Refusal
+from plantbal.program import call
 from plantbal.records import read_records, text_of
+from plantbal.report import parse_rows
 
 _DAY = datetime.timedelta(1)
 
@@ -62,6 +64,7 @@ def plant_of(options: argparse.Namespace, workbook: str) -> tuple[list[tuple[str
 def _add_new(parser: argparse.ArgumentParser) -> None:
     parser.add_argument("year", metavar="YEAR", help="the first year, such as 2024")
     parser.add_argument("workbook", metavar="WORKBOOK", help="it has the sheets of the plant")
+    parser.add_argument("--program", metavar="PATH", help="the program")
     add_reading(parser)
 
 
@@ -81,9 +84,21 @@ def _new(options: argparse.Namespace) -> int:
         action.written = {PLANT: text, METERS: meters_text(meters)}
         action.appended = {f"{options.year}.csv": text}
         action.rows = [f"{options.year}: 1 to {len(rows)}"]
+        classes = classes_of(rows, options.program)
         book.do(action)
-    print(f"{options.year}.csv: {counted(len(rows), 'row')} of the plant")
+    print("\n".join([f"{options.year}.csv: {counted(len(rows), 'row')} of the plant", *classes]))
     return 0
+
+
+def classes_of(rows: list[tuple[str, ...]], program: str | None) -> list[str]:
+    """Return which streams of a plant have each class by its design, a line a class."""
+    text = "".join(text_of(row) + "\n" for row in [*rows, ("design",)])
+    _, output = call(["run"], text.encode("ascii"), program=program)
+    found: dict[str, list[str]] = {}
+    for row in parse_rows("the design", output.decode("ascii")):
+        if row["row"] == "class":
+            found.setdefault(row["class"], []).append(row["name"])
+    return [f"{word}: {', '.join(names)}" for word, names in found.items()]
 
 
 # ---- the next year
@@ -115,7 +130,9 @@ def _next(options: argparse.Namespace) -> int:
         new = Ledger(options.year, first, datetime.date.max)
         for row in rows:
             new.put(*row)
-        contents = carry(old, new, first - _DAY, options.program)
+        eve = first - _DAY
+        contents = carry(old, new, eve, options.program)
+        classes = classes_of(rows, options.program) if options.plant else []
         action = Action(f"next {options.year}", who=options.who)
         action.add(new)
         if options.plant:
@@ -123,11 +140,13 @@ def _next(options: argparse.Namespace) -> int:
             action.written[PLANT] = "".join(text_of(row) + "\n" for row in rows)
             action.written[METERS] = meters_text(meters)
         book.do(action)
-    print(f"{new.name}.csv: from {first} on; {counted(len(rows), 'row')} of the plant")
-    for name, grams in contents.items():
-        print(f"{name}: {plain(tonnes_of(grams))} t at the end of {first - _DAY} and as the opening")
-    lines = [f"{name}: no dip of {first - _DAY}, so it has no opening yet" for name in _undipped(new)]
-    print("\n".join(lines), end="\n" if lines else "")
+    lines = [f"{new.name}.csv: from {first} on; {counted(len(rows), 'row')} of the plant", *classes]
+    lines += [
+        f"{name}: {plain(tonnes_of(grams))} t at the end of {eve} and as the opening"
+        for name, grams in contents.items()
+    ]
+    lines += [f"{name}: no dip of {eve}, so it has no opening yet" for name in _undipped(new)]
+    print("\n".join(lines))
     return 0
 
 

@@ -4,6 +4,7 @@ from __future__ import annotations
 
 import argparse
 import importlib
+import sys
 from collections.abc import Sequence
 from dataclasses import dataclass
 from typing import Protocol, cast
@@ -22,6 +23,7 @@ middle is finished by the next command. Two commands at a time wait for each oth
 examples:
   plantbal-desk book new 2024 plant.xlsx
   plantbal-desk book add april.xlsx
+  plantbal-desk book show FI-302 2024-04-16 2024-04-19
   plantbal-desk book amend FI-302 2024-04-18 "12188 t" --why "typed a digit short"
   plantbal-desk book report 2024-04
   plantbal-desk book close 2024-04
@@ -57,6 +59,7 @@ class Inner:
 COMMANDS: Sequence[Inner] = (
     Inner("new", "beginning:NEW", "make a book of a plant's workbook"),
     Inner("add", "adding", "add a workbook: what is new, and what is changed, with its reason"),
+    Inner("show", "showing", "show what is booked of a stream or tank"),
     Inner("amend", "editing:AMEND", "give a fact another value, with a reason"),
     Inner("strike", "editing:STRIKE", "take a fact out, with a reason"),
     Inner("report", "reporting", "write the reports of periods"),
@@ -82,5 +85,8 @@ def add_arguments(parser: argparse.ArgumentParser) -> None:
 
 def run(options: argparse.Namespace) -> int:
     """Do what the inner word says."""
-    status: int = options.inner(options)
+    try:
+        status: int = options.inner(options)
+    finally:
+        sys.stdout.flush()  # before what is said of a fault
     return status
