@@ -44,11 +44,21 @@ def replacing(path: str | Path) -> Iterator[Path]:
         umask = os.umask(0)
         os.umask(umask)
         made.chmod(0o666 & ~umask)
-        with made.open("rb") as file:
+        with made.open("rb+") as file:
             os.fsync(file.fileno())
-        os.replace(made, target)
+        _rename(made, target)
     finally:
         made.unlink(missing_ok=True)
+
+
+def _rename(made: Path, target: Path) -> None:
+    """Give a file its name; another program may keep the name, on Windows."""
+    try:
+        os.replace(made, target)
+    except OSError as error:
+        what = error.strerror or "it can't be written"
+        remedy = "close it in other programs, and type this again"
+        raise InputFault(what, place=Place(file=str(target)), remedy=remedy) from error
 
 
 def write_bytes(path: str | Path, data: bytes) -> None:
@@ -58,7 +68,11 @@ def write_bytes(path: str | Path, data: bytes) -> None:
         sys.stdout.buffer.flush()
         return
     with replacing(path) as made:
-        made.write_bytes(data)
+        try:
+            made.write_bytes(data)
+        except OSError as error:
+            what = error.strerror or "it can't be written"
+            raise InputFault(what, place=Place(file=str(path))) from error
 
 
 def write_text(path: str | Path, text: str) -> None:

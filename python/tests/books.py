@@ -9,7 +9,8 @@ from collections.abc import Callable
 from pathlib import Path
 from typing import Any
 
-from conftest import Said, text_of
+import pytest
+from conftest import Desk, Said, text_of
 
 from plantbal import desk
 
@@ -77,3 +78,33 @@ def typed(*words: object) -> int:
     """Type a command on a book, and return its status; what it says isn't kept."""
     command = next(command for command in desk.COMMANDS if command.word == "book")
     return desk.call(desk.parser_of(command, "plantbal-desk book"), [str(word) for word in words])
+
+
+@pytest.fixture(name="book")
+def fixture_book(say: Desk, tmp_path: Path) -> Type:
+    """Types a command on the book in `mill`, which has a year and April's first days."""
+
+    def typed(*words: object) -> Said:
+        return say("book", *words, "--book", tmp_path / "mill", "--who", "anna")
+
+    assert typed("new", "2024", folder(tmp_path / "plant", PLANT)).status == 0
+    said = typed("add", folder(tmp_path / "april", month()))
+    assert (said.status, said.err) == (0, "")
+    return typed
+
+
+def rows_of(folder: Path, year: str = "2024") -> list[str]:
+    return text_of(folder / "mill" / f"{year}.csv").splitlines()
+
+
+@pytest.fixture(name="two")
+def fixture_two(book: Type, tmp_path: Path) -> Type:
+    """A book whose first year ends with April."""
+    said = book("next", "2024-2")
+    assert (said.status, said.err) == (0, "")
+    grams = (9500 * 4_708_000_000 // 20_000 + 2_000_000) * 1_250_000 // 10**6
+    assert said.out.splitlines() == [
+        "2024-2.csv: from 2024-05-01 on; 9 rows of the plant",
+        f"SILO: {grams / 10**6:,} t at the end of 2024-04-30 and as the opening",
+    ]
+    return book

@@ -2,35 +2,17 @@
 
 from __future__ import annotations
 
-import datetime
 from fractions import Fraction
 from pathlib import Path
 
 import pytest
-from books import PLANT, Sheets, Type, files_of, folder, journal_of, month
-from conftest import Desk, Said, text_of
+from books import PLANT, Sheets, Type, files_of, fixture_book, folder, journal_of, month, rows_of
+from conftest import Desk, text_of
 
-from plantbal.book.contents import contents_of
-from plantbal.book.ledger import Fact
 from plantbal.book.meters import decimal, error_text, read_meters
 from plantbal.cells import Error
 
-@pytest.fixture(name="book")
-def fixture_book(say: Desk, tmp_path: Path) -> Type:
-    """Types a command on the book in `mill`, which has a year and April's first days."""
-
-    def typed(*words: object) -> Said:
-        return say("book", *words, "--book", tmp_path / "mill", "--who", "anna")
-
-    assert typed("new", "2024", folder(tmp_path / "plant", PLANT)).status == 0
-    said = typed("add", folder(tmp_path / "april", month()))
-    assert (said.status, said.err) == (0, "")
-    return typed
-
-
-def rows_of(folder: Path, year: str = "2024") -> list[str]:
-    return text_of(folder / "mill" / f"{year}.csv").splitlines()
-
+__all__ = ["fixture_book"]
 
 # ---- adding
 
@@ -310,7 +292,7 @@ def test_struck_twice(book: Type, tmp_path: Path) -> None:
     assert "is struck" in book("strike", "P-1", "2024-04-03", "--why", "frozen").out
     before = files_of(tmp_path / "mill")
     said = book("strike", "P-1", "2024-04-03", "--why", "frozen")
-    assert (said.status, said.out) == (0, "P-1 2024-04-03 is struck already\n")
+    assert (said.status, said.out) == (0, "P-1_2024-04-03 is struck already\n")
     assert book("amend", "P-1", "2024-04-03", "1 t", "--why", "x").status == 1
     assert files_of(tmp_path / "mill") == before
 
@@ -366,107 +348,6 @@ def test_nearly_full(book: Type, monkeypatch: pytest.MonkeyPatch) -> None:
     assert "nearly full: begin another part: plantbal-desk book next 2024-2" in book("status").out
 
 
-# ---- years
-
-
-@pytest.fixture(name="two")
-def fixture_two(book: Type, tmp_path: Path) -> Type:
-    """A book whose first year ends with April."""
-    said = book("next", "2024-2")
-    assert (said.status, said.err) == (0, "")
-    grams = (9500 * 4_708_000_000 // 20_000 + 2_000_000) * 1_250_000 // 10**6
-    assert said.out.splitlines() == [
-        "2024-2.csv: from 2024-05-01 on; 9 rows of the plant",
-        f"SILO: {grams / 10**6:,} t at the end of 2024-04-30 and as the opening",
-    ]
-    return book
-
-
-def test_next(two: Type, tmp_path: Path) -> None:
-    rows = rows_of(tmp_path, "2024-2")
-    assert rows[:9] == rows_of(tmp_path)[:9]
-    assert rows[9:] == [row for row in rows_of(tmp_path) if "SILO_2024-04-30" in row]
-    assert two("next", "2024-2").out == "2024-2.csv is there already\n"
-    assert two("next", "2023").status == 1 and two("next", "24").status == 1
-
-
-def test_a_dip_of_the_eve_is_one_in_both_years(two: Type, tmp_path: Path) -> None:
-    assert two("amend", "SILO", "2024-04-30", "9501", "--why", "again").status == 0
-    for year in ("2024", "2024-2"):
-        assert rows_of(tmp_path, year)[-1].startswith("amend,SILO_2024-04-30,9501,")
-    assert journal_of(tmp_path / "mill")[-1][-1] == "2024: 20; 2024-2: 11"
-    sheets = month(month="05")
-    sheets["dips"][1][2] = "9502"
-    two("add", folder(tmp_path / "may", sheets), "--why", "once more")
-    assert rows_of(tmp_path)[-1].startswith("amend,SILO_2024-04-30,9502,")
-    assert "period,2024-05,2024-05-01,2024-05-31" in rows_of(tmp_path, "2024-2")
-    assert "amend one of both" not in two("status").out
-
-
-def test_late_facts_go_to_their_year(two: Type, tmp_path: Path) -> None:
-    sheets = month(last=5)
-    sheets["tickets"].append(["bl-7", "TRUCKS", "2024-04-29", "90"])
-    sheets["tickets"][0].append("last")
-    sheets["tickets"][2].append("2024-05-02")
-    two("add", folder(tmp_path / "april", sheets))
-    assert rows_of(tmp_path)[-1] == rows_of(tmp_path, "2024-2")[-1]
-    assert rows_of(tmp_path)[-1].startswith("transfer,bl-7,TRUCKS,2024-04-29,2024-05-02,")
-    assert rows_of(tmp_path)[-2].startswith("reading,P-1_2024-04-05")
-
-
-def test_a_year_begins_after_the_last_period(book: Type) -> None:
-    said = book("next", "2025")
-    assert "ends on 2024-04-30, and 2025 begins on 2025-01-01: add what" in said.err
-    assert "say --first 2024-05-01" in said.err
-    assert book("next", "2025", "--first", "2024-05-01").status == 0
-
-
-TABLES = {
-    "another table": (
-        {"straps": [["tank", "level", "volume"], ["SILO", "0", "2"], ["SILO", "20000", "4711"]]},
-        "by the other table",
-    ),
-    "no tank": (
-        {
-            "streams": [*PLANT["streams"][:2], ["P-1", "PRODUCT", "MILL", "env", "", "2 t"]],
-            "tanks": [["tank"]],
-            "straps": [["tank", "level", "volume"]],
-        },
-        "and isn't in the plant of 2024-2",
-    ),
-}
-
-
-@pytest.mark.parametrize("sheets, said", TABLES.values(), ids=TABLES)
-def test_contents_that_would_change(
-    book: Type, tmp_path: Path, sheets: Sheets, said: str
-) -> None:
-    before = files_of(tmp_path / "mill")
-    found = book("next", "2024-2", "--plant", folder(tmp_path / "other", PLANT | sheets))
-    assert found.status == 1 and "SILO holds 2,797.875 t" in found.err and said in found.err
-    assert files_of(tmp_path / "mill") == before
-
-
-def test_a_new_meter_with_the_next_year(book: Type, tmp_path: Path) -> None:
-    book("close", "2024-04", "--anyway")
-    new = PLANT | {"streams": [*PLANT["streams"], ["W-1", "WASTE", "MILL", "env", "", "1 t"]]}
-    said = book("next", "2024-2", "--plant", folder(tmp_path / "plant2", new))
-    assert (said.status, said.err) == (0, "")
-    sheets = month(month="05")
-    sheets["readings"] = [["day", "W-1"], ["2024-05-01", "5"]]
-    assert "1 reading" in book("add", folder(tmp_path / "may", sheets)).out
-    assert "meters.csv" not in book("amend", "W-1", "2024-05-01", "6", "--why", "x").err
-
-
-@pytest.mark.parametrize("first", [(0, 0), (0, 2_000_000), (500, 0), (500, 7_000_000)])
-def test_contents_by_the_program(program: Path, first: tuple[int, int]) -> None:
-    plant = [("strap", "T", str(first[0]), str(first[1])), ("strap", "T", "9999", "99999999")]
-    day = datetime.date(2024, 4, 30)
-    dip = Fact("dip", "d", "T", day, day, (777, 861_234), 1)
-    volume = first[1] + (777 - first[0]) * (99_999_999 - first[1]) // (9999 - first[0])
-    assert contents_of(plant, [dip]) == {"T": volume * 861_234 // 10**6}
-
-
 # ---- what isn't a book
 
 
@@ -493,3 +374,34 @@ def test_a_book_that_was_changed_by_hand(book: Type, tmp_path: Path) -> None:
 def test_errors_as_texts() -> None:
     assert error_text(None) == "" and error_text(Error()) == "0 t"
     assert decimal(Fraction(-1, 8)) == "-0.125"
+
+
+# ---- ids that come again
+
+
+def test_a_ticket_with_the_id_of_another_month(book: Type, tmp_path: Path) -> None:
+    sheets = month(month="05")
+    sheets["tickets"][1][0] = "truck-04"
+    before = files_of(tmp_path / "mill")
+    said = book("add", folder(tmp_path / "may", sheets), "--why", "whatever")
+    assert "truck-04: the book has a ticket of this id already, of TRUCKS on 2024-04-01" in said.err
+    assert "give it another id, such as 2024-05-truck-04" in said.err
+    assert files_of(tmp_path / "mill") == before
+
+
+def test_show(book: Type, tmp_path: Path) -> None:
+    book("amend", "F-1", "2024-04-02", "1300 t", "--why", "log book")
+    book("strike", "F-1", "2024-04-03", "--why", "frozen")
+    assert book("show", "F-1", "2024-04-02").out.splitlines() == [
+        "F-1_2024-04-02: 1,300 t, error 13 t; before 1,200 t",
+        "F-1_2024-04-03: 1,200 t, error 12 t; struck",
+    ]
+    assert book("show", "SILO").out.splitlines()[0].startswith(
+        "SILO_2024-03-31: 8,000 mm at 1,250 kg/m3, error 0.883 t"
+    )
+    assert book("show", "F-9").status == 1
+
+
+def test_a_csv_file_in_the_folder_is_no_year(book: Type, tmp_path: Path) -> None:
+    (tmp_path / "mill" / "2024-05.csv").write_text("day,F-1\n", encoding="utf-8")
+    assert book("status").status == 0

@@ -9,11 +9,13 @@ from dataclasses import dataclass, replace
 from pathlib import Path
 
 from books import Sheets, folder, typed
-from conftest import text_of
 from hypothesis import HealthCheck, given, settings
 from hypothesis import strategies as st
 
 from plantbal import convert
+from plantbal.book.ledger import FACT_KINDS, Fact
+from plantbal.book.store import Book
+from plantbal.book.years import Years
 from plantbal.program import call
 from plantbal.report import Block, blocks_of, parse_rows
 from plantbal.session import Session
@@ -116,7 +118,10 @@ def reported(session: Session, period: str) -> Block:
 def test_a_book_reports_the_last_workbook(
     versions: list[Version], closed: list[int], begun: int
 ) -> None:
-    """Whatever was booked, changed, struck and closed before, and in one year or in two."""
+    """Whatever was booked, changed, struck and closed before, and in one year or in two.
+
+    Each year has the facts of the workbook that touch it, and the program refuses none of its rows.
+    """
     with tempfile.TemporaryDirectory() as made:
         room = Path(made)
         mill = ["--book", room / "mill"]
@@ -135,6 +140,10 @@ def test_a_book_reports_the_last_workbook(
             typed("report", period, *mill)
             found = block_of((room / "mill/reports" / f"{period}.csv").read_bytes(), period)
             assert found == reported(whole.session, period)
-        for path in (room / "mill").glob("2024*.csv"):
-            status, output = call(["run"], path.read_bytes())
-            assert (status, output) == (0, b""), text_of(path)
+        facts = [Fact.of(row) for row in whole.session if row[0] in FACT_KINDS]
+        years = Years(Book(room / "mill"))
+        for ledger in years.all():
+            there = {replace(fact, id="") for fact in ledger.facts.values()}
+            assert there == {replace(each, id="") for each in facts if ledger in years.of_fact(each)}
+            session = (room / "mill" / f"{ledger.name}.csv").read_bytes()
+            assert call(["run"], session) == (0, b"")

@@ -9,8 +9,8 @@ import sys
 from collections.abc import Callable, Iterator
 from pathlib import Path
 
-from plantbal.book.changes import Changes, compare, gone
-from plantbal.book.ledger import FACT_KINDS, PLANT_KINDS, Fact, Ledger
+from plantbal.book.changes import Changes, compare, gone, strayed
+from plantbal.book.ledger import FACT_KINDS, PLANT_KINDS, Fact, Ledger, rows_text
 from plantbal.book.meters import Meter, meters_of, meters_text, read_meters, taken
 from plantbal.book.said import added, changed, lacking
 from plantbal.book.store import METERS, PLANT, Action, Book
@@ -206,6 +206,7 @@ def add_arguments(parser: argparse.ArgumentParser) -> None:
     parser.add_argument(
         "--strike", action="store_true", help="strike facts that aren't in the workbook any more"
     )
+    parser.add_argument("--year", metavar="YEAR", help="whose plant it is; the last year's without it")
     parser.add_argument("--dry-run", action="store_true", help="say it, and book nothing")
     add_reading(parser)
 
@@ -231,24 +232,25 @@ def run(options: argparse.Namespace) -> int:
     book = Book(options.book)
     with book.opened():
         years = Years(book)
+        year = years.named(options.year)
         meters = read_meters(book.path(METERS))
-        work = converted(options, years.last.plant, meters)
+        work = converted(options, year.plant, meters)
         facts = [Fact.of(row) for row in work.session if row[0] in (*FACT_KINDS, "late")]
         _raise(options, years.outside(facts))
-        plant = put_plant(years.last, work) if work.sheets["streams"] or work.sheets["rows"] else 0
+        plant = put_plant(year, work) if work.sheets["streams"] or work.sheets["rows"] else 0
         put_periods(years, work, facts)
         changes = compare(years, facts)
+        _raise(options, list(strayed(years, changes, facts)))
         if work.sheets["readings"] or options.strike:
-            changes.gone = gone(work, facts, _wanted(years, facts))
+            changes.gone = gone(years, work, facts)
         changes.put(asked(options, changes), options.strike)
         found = {meter.name: meter for meter in meters_of(work)}
         action = Action(f"add {Path(options.workbook).name}", options.why or "", options.who)
         for ledger in years.used:
             if ledger.added:
                 action.add(ledger)
-        if plant:
-            rows = "".join(text_of(row) + "\n" for row in years.last.plant)
-            action.written[PLANT] = rows
+        if plant and year is years.last:
+            action.written[PLANT] = rows_text(year.plant)
         text = meters_text((meters | found).values())
         if text != meters_text(meters.values()):
             action.written[METERS] = text
@@ -263,12 +265,6 @@ def run(options: argparse.Namespace) -> int:
         elif action.appended or action.written:
             book.do(action)
     return 0
-
-
-def _wanted(years: Years, facts: list[Fact]) -> list[Ledger]:
-    """Return the ledgers that facts belong to, in order."""
-    names = {ledger.name for fact in facts for ledger in years.of_fact(fact)}
-    return [years[span.name] for span in years.spans if span.name in names]
 
 
 def _raise(options: argparse.Namespace, faults: list[Fault]) -> None:

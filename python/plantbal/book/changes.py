@@ -2,12 +2,13 @@
 
 from __future__ import annotations
 
-from collections.abc import Callable, Iterable
+from collections.abc import Callable, Iterable, Iterator
 from dataclasses import dataclass, field, replace
 
 from plantbal.book.ledger import Fact, Ledger
 from plantbal.book.years import Years
 from plantbal.conversion_facts import Converter
+from plantbal.faults import Fault
 from plantbal.session import Period
 
 
@@ -125,36 +126,54 @@ def _before(years: Years, ledger: Ledger, was: Fact, fact: Fact) -> bool:
     return False
 
 
-def gone(
-    work: Converter, facts: list[Fact], ledgers: Iterable[Ledger]
-) -> list[tuple[Ledger, Fact]]:
+def scope_of(years: Years, facts: list[Fact]) -> list[tuple[Ledger, Period]]:
+    """Return the periods of which a workbook has readings or, if it has none, other facts."""
+    days = {fact.first for fact in facts if fact.kind == "reading"}
+    days = days or {fact.first for fact in facts}
+    ledgers = {ledger.name: ledger for ledger in map(years.of_day, days) if ledger is not None}
+    return [
+        (ledger, period)
+        for ledger in ledgers.values()
+        for period in ledger.periods.values()
+        if any(period.first <= day.toordinal() <= period.last for day in days)
+    ]
+
+
+def strayed(years: Years, changes: Changes, facts: list[Fact]) -> Iterator[Fault]:
+    """Give what is to be said of tickets that have the id of one of another period."""
+    scope = scope_of(years, facts)
+    for change in changes.changed:
+        if change.moved and not any(_touches(change.old, period) for _, period in scope):
+            old = change.old
+            yield Fault(
+                f"{change.new.id}: the book has a ticket of this id already, of {old.place} on "
+                f"{_days(old)}",
+                text=change.new.id,
+                remedy=f"give it another id, such as {change.new.first:%Y-%m}-{change.new.id}",
+            )
+
+
+def gone(years: Years, work: Converter, facts: list[Fact]) -> list[tuple[Ledger, Fact]]:
     """Return the facts that are booked and might stand in a workbook, and don't.
 
     These are, in the periods of which the workbook has readings (or, if it has none, other facts):
     the readings of the streams that have a column in it, the dips if it has a sheet of dips, and
-    the tickets if it has a sheet of these.
+    the tickets if it has a sheet of these. One that is booked in two years is given for both.
     """
+    scope = scope_of(years, facts)
     own = frozenset(fact.id for fact in facts)
-    days = {fact.first for fact in facts if fact.kind == "reading"}
-    days = days or {fact.first for fact in facts}
-    slots = {(fact.place, fact.first) for fact in facts}
-    found = []
-    for ledger in ledgers:
-        periods = [
-            period
-            for period in ledger.periods.values()
-            if any(period.first <= day.toordinal() <= period.last for day in days)
-        ]
+    slots = {(fact.place, fact.first) for fact in facts if fact.kind != "transfer"}
+    found: dict[tuple[str, str], tuple[Ledger, Fact]] = {}
+    for ledger in {ledger.name: ledger for ledger, _ in scope}.values():
         kept = {fact.id for fact in (ledger.ticket(each, own) for each in own) if fact is not None}
         for fact in ledger.facts.values():
-            if not _in_sheets(work, fact) or not any(_touches(fact, each) for each in periods):
+            there = fact.id in kept or (fact.place, fact.first) in slots
+            if there or not _in_sheets(work, fact):
                 continue
-            there = (
-                fact.id in kept if fact.kind == "transfer" else (fact.place, fact.first) in slots
-            )
-            if not there:
-                found.append((ledger, fact))
-    return found
+            if any(_touches(fact, period) for _, period in scope):
+                for twin, same in years.twins(ledger, fact):
+                    found[twin.name, same.id] = twin, same
+    return list(found.values())
 
 
 def _in_sheets(work: Converter, fact: Fact) -> bool:

@@ -57,7 +57,7 @@ class Inner:
 
 
 COMMANDS: Sequence[Inner] = (
-    Inner("new", "beginning:NEW", "make a book of a plant's workbook"),
+    Inner("new", "beginning", "make a book of a plant's workbook"),
     Inner("add", "adding", "add a workbook: what is new, and what is changed, with its reason"),
     Inner("show", "showing", "show what is booked of a stream or tank"),
     Inner("amend", "editing:AMEND", "give a fact another value, with a reason"),
@@ -65,7 +65,7 @@ COMMANDS: Sequence[Inner] = (
     Inner("report", "reporting", "write the reports of periods"),
     Inner("close", "editing:CLOSE", "close a period with its report"),
     Inner("status", "overview", "say what is open, what lacks, and how full the year is"),
-    Inner("next", "beginning:NEXT", "begin the next year"),
+    Inner("next", "following", "begin the next year"),
 )
 
 

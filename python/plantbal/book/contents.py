@@ -5,7 +5,7 @@ from __future__ import annotations
 import datetime
 from collections.abc import Iterable
 
-from plantbal.book.ledger import Fact
+from plantbal.book.ledger import Fact, rows_text
 from plantbal.faults import Fault
 from plantbal.program import call
 from plantbal.records import text_of
@@ -67,12 +67,12 @@ def _reckoned(
     if dips:
         rows.append(("period", "eve", dips[0].first, dips[0].first))
         rows.append(("report", "eve"))
-    text = "".join(text_of(tuple(map(str, row))) + "\n" for row in rows)
+    texts = [tuple(map(str, row)) for row in rows]
+    text = rows_text(texts)
     status, output = call(["run", "--sweeps", "0"], text.encode("ascii"), program=program)
     answer = parse_rows("the contents", output.decode("ascii"))
     refused = [row for row in answer if row["row"] == "refused"]
     if status or refused:
-        row = rows[int(refused[0]["at"]) - 1] if refused else ()
-        said = text_of(tuple(map(str, row)))
+        said = text_of(texts[int(refused[0]["at"]) - 1]) if refused else "a row"
         raise Fault(f"the contents of tanks can't be reckoned: {said} is refused", text=said)
     return {row["name"]: int(row["value"]) for row in answer if row["row"] == "stream"}

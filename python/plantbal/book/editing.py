@@ -3,112 +3,19 @@
 from __future__ import annotations
 
 import argparse
-import datetime
 from dataclasses import dataclass, replace
 from fractions import Fraction
 from types import SimpleNamespace
 
 from plantbal.book.ledger import Fact, Ledger
 from plantbal.book.meters import Meter, read_meters, taken
+from plantbal.book.naming import Names, cell_of, day_of
 from plantbal.book.reporting import add_program, file_of, keep, report_of, state_of, suspects_of
 from plantbal.book.store import METERS, Action, Book
 from plantbal.book.years import Years
 from plantbal.cells import Reader, check_locale
 from plantbal.conversion_plant import Tank
-from plantbal.faults import Fault, Place, Refusal
-from plantbal.workbook import Cell, Sheet
-
-
-class _Words(Sheet):
-    """The words of a command as a sheet: what is said of them needs no place."""
-
-    def place(self, line: int | None = None, column: int | None = None, head: str = "") -> Place:
-        """Return no place."""
-        return Place()
-
-
-def cell_of(text: str) -> Cell:
-    """Return a word of a command as a cell."""
-    return Cell(_Words("", "", []), 0, 0, text.strip() or None)
-
-
-# ---- which fact is meant
-
-
-def day_of(options: argparse.Namespace) -> datetime.date | None:
-    """Return the day that a command names, or None."""
-    if options.day is None:
-        return None
-    return Reader(check_locale(options.locale)).day(cell_of(options.day))
-
-
-def named(
-    years: Years, name: str, day: datetime.date | None, meters: dict[str, Meter]
-) -> tuple[list[Ledger], Fact]:
-    """Return the fact of a tag, stream or tank and its day, or of an id, and its ledgers.
-
-    Raises
-    ------
-    Fault
-        If there is none.
-    """
-    tags = {meter.tag: meter.name for meter in meters.values() if meter.tag}
-    if day is None:
-        ledgers = [ledger for ledger in years.all() if _by_id(ledger, name) is not None]
-    else:
-        place = tags.get(name, name)
-        eve = day + datetime.timedelta(1)
-        found = {ledger.name: ledger for ledger in map(years.of_day, (day, eve)) if ledger}
-        ledgers = [ledger for ledger in found.values() if ledger.on(place, day) is not None]
-    if ledgers:
-        last = ledgers[-1]
-        fact = _by_id(last, name) if day is None else last.on(tags.get(name, name), day)
-        assert fact is not None
-        return ledgers, fact
-    raise _unknown(years, name, day, tags)
-
-
-def struck(
-    years: Years, name: str, day: datetime.date | None, meters: dict[str, Meter]
-) -> bool:
-    """Say whether a fact was struck, and none is booked in its place."""
-    tags = {meter.tag: meter.name for meter in meters.values() if meter.tag}
-    place = tags.get(name, name)
-    for ledger in years.all() if day is None else filter(None, [years.of_day(day)]):
-        if day is None:
-            if _by_id(ledger, name) is None and name in ledger.struck:
-                return True
-        elif ledger.on(place, day) is None and any(
-            (fact.place, fact.first) == (place, day) for fact in ledger.struck.values()
-        ):
-            return True
-    return False
-
-
-def _by_id(ledger: Ledger, name: str) -> Fact | None:
-    return ledger.facts.get(name) or ledger.ticket(name)
-
-
-def _unknown(
-    years: Years, name: str, day: datetime.date | None, tags: dict[str, str]
-) -> Fault:
-    """Return what is to be said of a fact that isn't there."""
-    if struck(years, name, day, {tag: Meter(place, tag) for tag, place in tags.items()}):
-        what = f"{name}{f' of {day}' if day else ''} was struck"
-        return Fault(what, text=name, remedy="add it anew by a workbook: plantbal-desk book add")
-    if day is None:
-        what = f"there is no fact {name} in this book"
-        remedy = "a reading and a dip are named by tag and day: FI-302 2024-04-18"
-        return Fault(what, text=name, remedy=remedy)
-    known = {*tags, *years.last.session.streams, *years.last.session.nodes}
-    if name not in known:
-        return Fault(
-            f"there is no tag, stream or tank {name}",
-            text=name,
-            remedy=f"the tags are {', '.join(tags)}" if tags else "see plant.csv",
-        )
-    what = f"{name} has no figure of {day} in this book"
-    return Fault(what, text=str(day), remedy="add it by a workbook: plantbal-desk book add")
+from plantbal.faults import Fault, Refusal
 
 
 # ---- other values
@@ -185,10 +92,13 @@ def _amend(options: argparse.Namespace) -> int:
     """Give a fact other values."""
     book = Book(options.book)
     with book.opened():
-        years = Years(book)
         meters = read_meters(book.path(METERS))
-        ledgers, fact = named(years, options.name, day_of(options), meters)
-        tanks = {tank.name: tank for tank in taken(ledgers[-1].plant, meters)[1]}
+        named = Names(Years(book), meters).find(options.name, day_of(options.day, options.locale))
+        fact, places = named.fact, named.places
+        if named.struck:
+            remedy = "add it anew by a workbook: plantbal-desk book add"
+            raise Fault(f"{fact.id} was struck", text=options.name, remedy=remedy)
+        tanks = {tank.name: tank for tank in taken(places[-1][0].plant, meters)[1]}
         other = Other(options.amount, options.density, options.error, options.locale)
         meter = meters.get(fact.place, Meter(fact.place))
         new = other.of(fact, meter, tanks.get(fact.place))
@@ -198,12 +108,12 @@ def _amend(options: argparse.Namespace) -> int:
         action = Action(
             f"amend {fact.id} {new.said()}", why=options.why, who=options.who
         )
-        for ledger in ledgers:
-            _put(ledger, new.amendment(fact.id, options.why))
+        for ledger, there in places:
+            _put(ledger, new.amendment(there.id, options.why))
             action.add(ledger)
         book.do(action)
         print(f"{fact.id}: {fact.said()} becomes {new.said()}, with an error of {new.error()}")
-        _say_stale(book, ledgers, fact)
+        _say_stale(book, places)
     return 0
 
 
@@ -215,11 +125,11 @@ def _put(ledger: Ledger, row: tuple[str, ...]) -> None:
         raise Fault(refusal.said, text=refusal.text, remedy=refusal.remedy) from refusal
 
 
-def _say_stale(book: Book, ledgers: list[Ledger], fact: Fact) -> None:
-    """Say which reports that are there are made anew."""
-    eve = 1 if fact.kind == "dip" else 0
-    first, last = fact.first.toordinal(), fact.last.toordinal()
-    for ledger in ledgers:
+def _say_stale(book: Book, places: list[tuple[Ledger, Fact]]) -> None:
+    """Say which reports that are there have to be made anew."""
+    for ledger, fact in places:
+        eve = 1 if fact.kind == "dip" else 0
+        first, last = fact.first.toordinal(), fact.last.toordinal()
         for name, period in ledger.periods.items():
             touched = first <= period.last and last >= period.first - eve
             if touched and book.path(file_of(name)).is_file():
@@ -239,20 +149,19 @@ def _strike(options: argparse.Namespace) -> int:
     """Take a fact out."""
     book = Book(options.book)
     with book.opened():
-        years = Years(book)
         meters = read_meters(book.path(METERS))
-        day = day_of(options)
-        if struck(years, options.name, day, meters):
-            print(f"{options.name}{f' {day}' if day else ''} is struck already")
+        named = Names(Years(book), meters).find(options.name, day_of(options.day, options.locale))
+        fact = named.fact
+        if named.struck:
+            print(f"{fact.id} is struck already")
             return 0
-        ledgers, fact = named(years, options.name, day, meters)
         action = Action(f"strike {fact.id}", why=options.why, who=options.who)
-        for ledger in ledgers:
-            _put(ledger, ("strike", fact.id, options.why))
+        for ledger, there in named.places:
+            _put(ledger, ("strike", there.id, options.why))
             action.add(ledger)
         book.do(action)
         print(f"{fact.id}: {fact.said()} is struck")
-        _say_stale(book, ledgers, fact)
+        _say_stale(book, named.places)
     return 0
 
 

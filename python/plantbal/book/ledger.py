@@ -4,7 +4,7 @@ from __future__ import annotations
 
 import datetime
 from collections import defaultdict
-from collections.abc import Iterator, Sequence
+from collections.abc import Iterable, Iterator, Sequence
 from dataclasses import dataclass, replace
 from decimal import Decimal
 from math import isqrt
@@ -90,6 +90,11 @@ class Fact:
         """Return its standard deviation: `182.82 t`."""
         root = Decimal(isqrt(self.variance * 10**6)).scaleb(-9)
         return f"{plain(round(root, 3))} t"
+
+
+def rows_text(rows: Iterable[Sequence[str]]) -> str:
+    """Return rows as they stand in a session."""
+    return "".join(text_of(tuple(row)) + "\n" for row in rows)
 
 
 def plain(number: Decimal) -> str:
@@ -249,7 +254,7 @@ class Ledger:
 
     def added_text(self) -> str:
         """Return the rows that were added, as they stand in the file."""
-        return "".join(text_of(row) + "\n" for row in self.added)
+        return rows_text(self.added)
 
     def added_said(self) -> str:
         """Return which rows were added, by their numbers."""
@@ -296,6 +301,14 @@ class Ledger:
                     return
                 if fact.kind == "transfer":
                     yield fact
+
+    def origin(self, fact: Fact) -> str:
+        """Return the id of a transfer's ticket, which another had before it if that was struck."""
+        for identity, before in self.struck.items():
+            if before.kind == "transfer":
+                if any(each.id == fact.id for each in self._chain(identity, frozenset())):
+                    return identity
+        return fact.id
 
     def lost(self, fact: Fact, others: frozenset[str] = frozenset()) -> Fact | None:
         """Return the struck fact that says the same as a fact, or None."""

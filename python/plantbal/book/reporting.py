@@ -128,9 +128,7 @@ def run(options: argparse.Namespace) -> int:
     with book.opened():
         years = Years(book)
         meters = read_meters(book.path(METERS))
-        periods = options.periods or [
-            name for name, period in years.last.periods.items() if not period.closed
-        ]
+        periods = options.periods or years.open_periods()
         if not periods:
             raise Fault("no period is open", remedy="name the periods whose reports are wanted")
         for name in periods:

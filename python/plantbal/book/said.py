@@ -22,6 +22,12 @@ def counted(count: int, word: str) -> str:
     return f"{count:,} {word}{'' if count == 1 else 's'}"
 
 
+def listed(names: list[str]) -> str:
+    """Return names with commas, of many the first."""
+    more = f" and {len(names) - FIRST:,} more" if len(names) > FIRST else ""
+    return ", ".join(names[:FIRST]) + more
+
+
 def added(ledger: Ledger) -> list[str]:
     """Return what was added to a ledger, in a line."""
     counts = Counter(row[1] if row[0] == "late" else row[0] for row in ledger.added)
@@ -90,7 +96,7 @@ def lacks(ledger: Ledger, period: Period, meters: dict[str, Meter]) -> list[str]
         if kind == "tank":
             _group(groups, "dip", ledger, name, meters, [eve, last])
     return [
-        f"{period.name}: no {kind} of {', '.join(names)} on {when}"
+        f"{period.name}: no {kind} of {listed(names)} on {when}"
         for (kind, when), names in groups.items()
     ]
 

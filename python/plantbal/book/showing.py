@@ -5,12 +5,11 @@ from __future__ import annotations
 import argparse
 import datetime
 
-from plantbal.book.editing import cell_of
 from plantbal.book.ledger import Fact, Ledger
 from plantbal.book.meters import read_meters
+from plantbal.book.naming import Names, day_of
 from plantbal.book.store import METERS, Book
 from plantbal.book.years import Years
-from plantbal.cells import Reader, check_locale
 from plantbal.faults import Fault
 
 
@@ -24,21 +23,16 @@ def add_arguments(parser: argparse.ArgumentParser) -> None:
 
 def run(options: argparse.Namespace) -> int:
     """Show it."""
-    reader = Reader(check_locale(options.locale))
-    first, last = datetime.date.min, datetime.date.max
-    if options.first:
-        first = reader.day(cell_of(options.first))
-    if options.last:
-        last = reader.day(cell_of(options.last))
+    first = day_of(options.first, options.locale) or datetime.date.min
+    last = day_of(options.last, options.locale) or datetime.date.max
     book = Book(options.book)
     with book.opened():
         years = Years(book)
-        meters = read_meters(book.path(METERS))
-    tags = {meter.tag: meter.name for meter in meters.values() if meter.tag}
-    place = tags.get(options.name, options.name)
+        place = Names(years, read_meters(book.path(METERS))).place(options.name)
+        ledgers = [years[span.name] for span in years.spans if span.last >= first]
     found = {
         (fact.first, fact.last, fact.id): line_of(ledger, fact)
-        for ledger in years.all()
+        for ledger in ledgers
         for fact in [*ledger.facts.values(), *ledger.struck.values()]
         if fact.place == place and fact.first <= last and fact.last >= first
     }

@@ -146,9 +146,9 @@ class Book:
 
     @property
     def years(self) -> list[str]:
-        """The names of the years, in order."""
-        names = (path.stem for path in self.folder.glob("*.csv"))
-        return sorted(name for name in names if is_year(name))
+        """The names of the years, in order, as the journal says that they were begun."""
+        begun = (line.what.split(" ") for line in self.journal())
+        return sorted(words[1] for words in begun if words[0] in ("new", "next"))
 
     def path(self, name: str) -> Path:
         """Return a file of the book."""

@@ -21,11 +21,22 @@ _TYPED = ("amend ", "strike ")
 
 @dataclass(frozen=True)
 class Span:
-    """The days of a year."""
+    """The days of a year.
+
+    Attributes
+    ----------
+    name : str
+        The year's name.
+    first, last : date
+        Its first and its last day.
+    periods : dict of str to bool
+        Its periods, and whether each is closed.
+    """
 
     name: str
     first: datetime.date
     last: datetime.date
+    periods: dict[str, bool]
 
 
 def calendar_year(name: str) -> int | None:
@@ -33,10 +44,18 @@ def calendar_year(name: str) -> int | None:
     return int(name) if len(name) == 4 else None
 
 
-def last_period_day(text: str) -> datetime.date | None:
-    """Return the last day of the periods that a session declares, or None if it declares none."""
-    days = [line.rstrip("\r").split(",")[3] for line in text.split("\n") if line[:7] == "period,"]
-    return max(map(datetime.date.fromisoformat, days), default=None)
+def periods_of(text: str) -> dict[str, tuple[bool, datetime.date]]:
+    """Return the periods that a session declares: whether each is closed, and its last day.
+
+    Only rows of these two kinds are read, so that a book of many years is looked through quickly.
+    """
+    found: dict[str, tuple[bool, datetime.date]] = {}
+    for line in text.split("\n"):
+        if line.startswith(("period,", "close,")):
+            kind, name, *days = line.rstrip("\r,").split(",")
+            last = datetime.date.fromisoformat(days[1]) if kind == "period" else found[name][1]
+            found[name] = kind == "close", last
+    return found
 
 
 def spans_of(book: Book) -> list[Span]:
@@ -49,15 +68,16 @@ def spans_of(book: Book) -> list[Span]:
     found: list[Span] = []
     for at, name in enumerate(names):
         year = calendar_year(name)
+        periods = periods_of(book.text(f"{name}.csv"))
         if found:
             first = found[-1].last + _DAY
         else:
             first = datetime.date.min if year is None else datetime.date(year, 1, 1) - _BEFORE
         if at + 1 < len(names):
-            last = last_period_day(book.text(f"{name}.csv")) or first
+            last = max((last for _, last in periods.values()), default=first)
         else:
             last = datetime.date.max if year is None else datetime.date(year, 12, 31)
-        found.append(Span(name, first, last))
+        found.append(Span(name, first, last, {each: closed for each, (closed, _) in periods.items()}))
     return found
 
 
@@ -107,6 +127,21 @@ class Years:
         """The last year's ledger."""
         return self[self.spans[-1].name]
 
+    def named(self, name: str | None) -> Ledger:
+        """Return the ledger of a year by its name, or the last one without a name.
+
+        Raises
+        ------
+        Fault
+            If there is no such year.
+        """
+        names = [span.name for span in self.spans]
+        if name is None:
+            return self.last
+        if name not in names:
+            raise Fault(f"there is no year {name}", text=name, remedy=f"say {', '.join(names)}")
+        return self[name]
+
     def all(self) -> list[Ledger]:
         """Return all ledgers."""
         return [self[span.name] for span in self.spans]
@@ -127,20 +162,38 @@ class Years:
                 found.append(self[span.name])
         return found
 
+    def twins(self, ledger: Ledger, fact: Fact) -> list[tuple[Ledger, Fact]]:
+        """Return a fact of a ledger in each year that it stands in, under its id there."""
+        found = []
+        for other in self.of_fact(fact):
+            if fact.kind == "transfer":
+                twin = other.ticket(ledger.origin(fact))
+            else:
+                twin = other.on(fact.place, fact.first)
+            if twin is not None and twin.slot == fact.slot:
+                found.append((other, twin))
+        return found or [(ledger, fact)]
+
     def of_period(self, name: str) -> Ledger:
-        """Return the ledger that has a period, the last one if several have.
+        """Return the ledger that has a period.
 
         Raises
         ------
         Fault
             If there is no such period.
         """
-        for span in reversed(self.spans):
-            if name in self[span.name].periods:
+        for span in self.spans:
+            if name in span.periods:
                 return self[span.name]
-        names = [period for ledger in self.all() for period in ledger.periods]
+        names = [period for span in self.spans for period in span.periods]
         remedy = f"the periods are {', '.join(names)}" if names else "add a workbook first"
         raise Fault(f"there is no period {name} in this book", text=name, remedy=remedy)
+
+    def open_periods(self) -> list[str]:
+        """Return the periods that aren't closed, in the order in which they were declared."""
+        return [
+            name for span in self.spans for name, closed in span.periods.items() if not closed
+        ]
 
     def outside(self, facts: Iterable[Fact]) -> list[Fault]:
         """Return what is to be said of facts that belong to no year."""
