@@ -54,6 +54,7 @@ _plantbal_desk() {
         book:--book) _plantbal_files -d; return ;;
         book:--who) :; return ;;
         book:--why) :; return ;;
+        book:--year) :; return ;;
         book:--density) :; return ;;
         book:--error) :; return ;;
         book:--eliminate) :; return ;;
@@ -132,7 +133,7 @@ _plantbal_desk() {
             _plantbal_more 'new add show amend strike report close status next'
             return
         fi
-        _plantbal_words '-h --help --program --locale --missing --skip --limits --book --who --why --strike --dry-run --density --error --no-tests --eliminate --gap --sweeps --anyway --all --plant --first' ;;
+        _plantbal_words '-h --help --program --locale --missing --skip --limits --book --who --why --strike --year --dry-run --density --error --no-tests --eliminate --gap --sweeps --anyway --all --plant --first' ;;
     template)
         if [[ $here != -* ]]; then
             _plantbal_files -f

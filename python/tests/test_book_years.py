@@ -141,3 +141,41 @@ def test_a_plant_that_was_spoilt(book: Type, tmp_path: Path) -> None:
     assert "plant.csv: line 10, record 10: unit WET MILL: NAME is 'WET MILL'" in said.err
     path.write_text(plant + "close,2024-04\n", encoding="utf-8")
     assert book("next", "2024-2").status == 1
+
+
+def test_a_ticket_that_moves_from_year_to_year(two: Type, tmp_path: Path) -> None:
+    """It is struck where its days are no more, and keeps its id where it is booked anew."""
+    both = month()
+    both["readings"] += month(month="05")["readings"][1:]
+    both["tickets"][0].append("last")
+    for days in (["2024-04-30", "2024-05-02"], ["2024-05-03"], ["2024-04-02"]):
+        both["tickets"][1][2] = days[0]
+        both["tickets"][1][4:] = days[1:]
+        assert two("add", folder(tmp_path / "both", both), "--why", "wrong day").status == 0
+        assert "nothing new" in two("add", tmp_path / "both").out
+    assert [row.split(",")[:2] for row in rows_of(tmp_path) if "truck" in row] == [
+        ["transfer", "truck-04"],
+        ["strike", "truck-04"],
+        ["transfer", "truck-04.2"],
+        ["strike", "truck-04.2"],
+        ["transfer", "truck-04.3"],
+    ]
+    assert [row.split(",")[:2] for row in rows_of(tmp_path, "2024-2") if "truck" in row] == [
+        ["transfer", "truck-04"],
+        ["strike", "truck-04"],
+        ["transfer", "truck-04.2"],
+        ["strike", "truck-04.2"],
+    ]
+
+
+def test_a_ticket_goes_over_with_its_own_id(book: Type, tmp_path: Path) -> None:
+    sheets = month()
+    sheets["tickets"][0].append("last")
+    sheets["tickets"][1][2:] = ["2024-04-30", "800", "2024-05-02"]
+    book("add", folder(tmp_path / "april", sheets), "--why", "wrong day")
+    book("next", "2024-2")
+    assert rows_of(tmp_path, "2024-2")[-1].startswith("transfer,truck-04,TRUCKS,2024-04-30,")
+    assert "nothing new" in book("add", tmp_path / "april").out
+    assert book("amend", "truck-04", "801", "--why", "scale").status == 0
+    assert rows_of(tmp_path)[-1].startswith("amend,truck-04.2,801000000,")
+    assert rows_of(tmp_path, "2024-2")[-1].startswith("amend,truck-04,801000000,")

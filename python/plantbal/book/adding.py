@@ -288,7 +288,7 @@ def asked(options: argparse.Namespace, changes: Changes) -> Callable[[str, str],
     Fault
         If there is no reason, and nobody to ask.
     """
-    lines = [change.said() for change in changes.changed]
+    lines = [change.said() for change in [*changes.changed, *changes.left]]
     if options.strike:
         lines += [f"{fact.id}: {fact.said()} is struck" for _, fact in changes.gone]
     why: str = options.why or ""

@@ -57,6 +57,8 @@ class Changes:
         Facts that aren't booked.
     changed : list of Change
         Facts that are booked otherwise.
+    left : list of Change
+        Tickets that are booked in a year which their days in the workbook don't touch.
     gone : list of (Ledger, Fact)
         Facts that are booked and might stand in the workbook, and don't.
     stale : list of Change
@@ -67,6 +69,7 @@ class Changes:
 
     new: list[tuple[Ledger, Fact]] = field(default_factory=list)
     changed: list[Change] = field(default_factory=list)
+    left: list[Change] = field(default_factory=list)
     gone: list[tuple[Ledger, Fact]] = field(default_factory=list)
     stale: list[Change] = field(default_factory=list)
     same: int = 0
@@ -83,6 +86,8 @@ class Changes:
         """
         for ledger, fact in self.gone if strike else ():
             ledger.put("strike", fact.id, reason(fact.id, f"{fact.id} is struck"))
+        for change in self.left:
+            change.ledger.put("strike", change.old.id, reason(change.old.id, change.said()))
         for change in self.changed:
             why = reason(change.old.id, change.said())
             if change.moved:
@@ -98,8 +103,10 @@ def compare(years: Years, facts: list[Fact]) -> Changes:
     """Return what facts change; what is gone isn't looked for."""
     found = Changes()
     own = frozenset(fact.id for fact in facts)
+    scope = {ledger.name: ledger for ledger, _ in scope_of(years, facts)}
     for fact in facts:
-        for ledger in years.of_fact(fact):
+        ledgers = years.of_fact(fact)
+        for ledger in ledgers:
             if fact.kind == "transfer":
                 old = ledger.ticket(fact.id, own)
             else:
@@ -113,6 +120,12 @@ def compare(years: Years, facts: list[Fact]) -> Changes:
                 found.new.append((ledger, fact))
             else:
                 found.changed.append(Change(ledger, old, fact))
+        if fact.kind == "transfer":
+            names = [ledger.name for ledger in ledgers]
+            booked = [(each, each.ticket(fact.id, own)) for each in [*ledgers, *scope.values()]]
+            twins = [twin for each, old in booked if old for twin in years.twins(each, old)]
+            left = {ledger.name: Change(ledger, old, fact) for ledger, old in twins}
+            found.left += [change for name, change in left.items() if name not in names]
     return found
 
 
@@ -142,7 +155,7 @@ def scope_of(years: Years, facts: list[Fact]) -> list[tuple[Ledger, Period]]:
 def strayed(years: Years, changes: Changes, facts: list[Fact]) -> Iterator[Fault]:
     """Give what is to be said of tickets that have the id of one of another period."""
     scope = scope_of(years, facts)
-    for change in changes.changed:
+    for change in [*changes.changed, *changes.left]:
         if change.moved and not any(_touches(change.old, period) for _, period in scope):
             old = change.old
             yield Fault(

@@ -3,6 +3,7 @@
 from __future__ import annotations
 
 import datetime
+import re
 from collections import defaultdict
 from collections.abc import Iterable, Iterator, Sequence
 from dataclasses import dataclass, replace
@@ -18,6 +19,7 @@ from plantbal.session import Period, Session, period_days
 PLANT_KINDS = ("unit", "tank", "strap", "stream", "critical")
 FACT_KINDS = ("reading", "transfer", "dip")
 _DAY = datetime.timedelta(1)
+_AGAIN = re.compile(r"\.[0-9]+$")  # how the id ends of what was struck and came again
 _CLOSED = 11  # the code of a fact that touches a closed period
 
 
@@ -305,7 +307,7 @@ class Ledger:
     def origin(self, fact: Fact) -> str:
         """Return the id of a transfer's ticket, which another had before it if that was struck."""
         for identity, before in self.struck.items():
-            if before.kind == "transfer":
+            if before.kind == "transfer" and _AGAIN.search(fact.id):
                 if any(each.id == fact.id for each in self._chain(identity, frozenset())):
                     return identity
         return fact.id

@@ -53,7 +53,7 @@ def changed(changes: Changes, name: str, struck: bool) -> list[str]:
     struck : bool
         Whether facts that are gone are struck.
     """
-    every = list(dict.fromkeys(change.said() for change in changes.changed))
+    every = list(dict.fromkeys(each.said() for each in [*changes.changed, *changes.left]))
     lines = every[:FIRST]
     if len(every) > FIRST:
         lines.append(f"{len(every) - FIRST:,} more are changed")
