@@ -26,7 +26,7 @@ _plantbal_desk() {
     fi
     for ((at = 1; at < COMP_CWORD; at++)); do
         case ${COMP_WORDS[at]} in
-        run|lint|explain|check|report|solve|convert|book|template|from-spreadsheet|tables|draw|chart|page|fleet|critical|from-scipy|schema) word=${COMP_WORDS[at]}; break ;;
+        run|lint|explain|check|report|solve|convert|book|template|from-spreadsheet|tables|uncertainty|draw|chart|page|fleet|critical|from-scipy|schema) word=${COMP_WORDS[at]}; break ;;
         esac
     done
     case $word:$before in
@@ -67,11 +67,15 @@ _plantbal_desk() {
         from-spreadsheet:--missing) :; return ;;
         from-spreadsheet:--skip) :; return ;;
         from-spreadsheet:--before) _plantbal_files -f; return ;;
+        uncertainty:--form) _plantbal_words 'text csv json'; return ;;
         draw:--period) :; return ;;
         draw:--round) :; return ;;
         draw:--mark) :; return ;;
         draw:--out) _plantbal_files -f; return ;;
         chart:--most) :; return ;;
+        chart:--stream) :; return ;;
+        chart:--session) _plantbal_files -f; return ;;
+        chart:--out) _plantbal_files -f; return ;;
         page:--title) :; return ;;
         page:--session) _plantbal_files -f; return ;;
         fleet:--out) _plantbal_files -d; return ;;
@@ -154,6 +158,12 @@ _plantbal_desk() {
             return
         fi
         _plantbal_words '-h --help' ;;
+    uncertainty)
+        if [[ $here != -* ]]; then
+            _plantbal_files -f
+            return
+        fi
+        _plantbal_words '-h --help --form' ;;
     draw)
         if [[ $here != -* ]]; then
             _plantbal_files -f
@@ -165,7 +175,7 @@ _plantbal_desk() {
             _plantbal_files -f
             return
         fi
-        _plantbal_words '-h --help --most' ;;
+        _plantbal_words '-h --help --most --stream --session --out' ;;
     page)
         if [[ $here != -* ]]; then
             _plantbal_files -f
@@ -188,7 +198,7 @@ _plantbal_desk() {
         _plantbal_words '-h --help --period --change --without-least' ;;
     schema)
         _plantbal_words '-h --help' ;;
-    *) _plantbal_words 'run lint explain check report solve convert book template from-spreadsheet tables draw chart page fleet critical from-scipy schema -h --help --version' ;;
+    *) _plantbal_words 'run lint explain check report solve convert book template from-spreadsheet tables uncertainty draw chart page fleet critical from-scipy schema -h --help --version' ;;
     esac
 }
 

@@ -5,7 +5,7 @@ _plantbal_desk() {
     local -a specifications
     local word at
     for ((at = 2; at < CURRENT; at++)); do
-        case $words[at] in run|lint|explain|check|report|solve|convert|book|template|from-spreadsheet|tables|draw|chart|page|fleet|critical|from-scipy|schema) word=$words[at]; break ;; esac
+        case $words[at] in run|lint|explain|check|report|solve|convert|book|template|from-spreadsheet|tables|uncertainty|draw|chart|page|fleet|critical|from-scipy|schema) word=$words[at]; break ;; esac
     done
     case $word in
     run)
@@ -139,6 +139,14 @@ _plantbal_desk() {
             '2:WHAT:(flows classes count suspects imbalance)'
             '*:OUTPUT:_files'
         ) ;;
+    uncertainty)
+        specifications=(
+            '-h[show this help message and exit]'
+            '--help[show this help message and exit]'
+            '--form=[text without it]:FORM:(text csv json)'
+            '1:word:(uncertainty)'
+            '*:OUTPUT:_files'
+        ) ;;
     draw)
         specifications=(
             '-h[show this help message and exit]'
@@ -156,6 +164,9 @@ _plantbal_desk() {
             '-h[show this help message and exit]'
             '--help[show this help message and exit]'
             '--most=[show the N meters that are adjusted most; 12 without it]:N:'
+            '--stream=[show this stream, measured or observable; may be given more than once]:NAME:'
+            '--session=[the session, which has the days of the periods]:SESSION:_files'
+            '--out=[a .svg, .png or .pdf file]:FILE:_files'
             '1:word:(chart)'
             '*:OUTPUT:_files'
         ) ;;
@@ -212,7 +223,7 @@ _plantbal_desk() {
             '-h[show this help message and exit]'
             '--help[show this help message and exit]'
             '--version[write the version and end]'
-            "1:word:((run\:'run a session, and say what has to be looked at' lint\:'say what of a session is accepted and looks wrong' explain\:'say of each refused row what is wrong with it' check\:'check a report, of CSV or of JSON lines' report\:'turn a report into CSV, SQLite or a workbook' solve\:'reconcile by scipy what sweeps don'\''t come near' convert\:'a session from a plant'\''s workbook' book\:'keep a plant'\''s book, a session a year' template\:'an empty workbook for convert' from-spreadsheet\:'a session from daily readings and tags' tables\:'tables of flows, classes, suspects, imbalances' draw\:'draw a report or a design' chart\:'chart the periods of a session' page\:'one page for a browser' fleet\:'run a folder of sessions' critical\:'critical values as rows of a session' from-scipy\:'another program'\''s figures in the form of a report' schema\:'the rows of sessions and outputs as data'))"
+            "1:word:((run\:'run a session, and say what has to be looked at' lint\:'say what of a session is accepted and looks wrong' explain\:'say of each refused row what is wrong with it' check\:'check a report, of CSV or of JSON lines' report\:'turn a report into CSV, SQLite or a workbook' solve\:'reconcile by scipy what sweeps don'\''t come near' convert\:'a session from a plant'\''s workbook' book\:'keep a plant'\''s book, a session a year' template\:'an empty workbook for convert' from-spreadsheet\:'a session from daily readings and tags' tables\:'tables of flows, classes, suspects, imbalances' uncertainty\:'how good each flow is, and the meters that it rests on' draw\:'draw a report or a design' chart\:'chart the periods of a session' page\:'one page for a browser' fleet\:'run a folder of sessions' critical\:'critical values as rows of a session' from-scipy\:'another program'\''s figures in the form of a report' schema\:'the rows of sessions and outputs as data'))"
         ) ;;
     esac
     _arguments -s : $specifications

@@ -25,6 +25,7 @@ if TYPE_CHECKING:
     from plantbal.program import check, find_program, run
     from plantbal.session import Session
     from plantbal.solver import solve
+    from plantbal.uncertainty import uncertainty_of
 
 __all__ = [
     "Fault",
@@ -43,6 +44,7 @@ __all__ = [
     "read_report",
     "run",
     "solve",
+    "uncertainty_of",
 ]
 
 _HOMES = {
@@ -61,6 +63,7 @@ _HOMES = {
     "read_report": "output",
     "run": "program",
     "solve": "solver",
+    "uncertainty_of": "uncertainty",
 }
 
 

@@ -1,130 +1,288 @@
-"""Charts a session's periods by matplotlib: each meter's adjustment, and the statistic of the global
-test."""
+"""Charts a session's periods: flows and how good they are, adjustments, the statistic."""
 
 from __future__ import annotations
 
 import argparse
 import sys
-from dataclasses import dataclass
+from collections.abc import Callable
+from pathlib import Path
 from typing import Any, BinaryIO
 
-from plantbal.faults import Fault, ToolMissing
-from plantbal.report import Block, Values, blocks_of, read_rows
+from plantbal.faults import Fault, ToolMissing, read_bytes
+from plantbal.files import replacing
+from plantbal.trend import Trend, Line, trend_of
+from plantbal.output import read_report
 
 HELP = """
-OUTPUT is what plantbal wrote, as CSV or as JSON lines; without it standard input is read. The picture
-goes to standard output as SVG. Of each period's last report the first round is taken, before any meter
-was.
+OUTPUT is what plantbal wrote, as CSV or as JSON lines; without it standard input is read. The
+picture goes to standard output as SVG, or to the file of --out as SVG, PNG or PDF by its ending.
 
-Above: for each measured stream, flow less value in standard deviations of the value, with a bar between
-its bounds. A meter that is adjusted the same way in each period is worth a look. Below: the least and
-the greatest value that the statistic of the global test may have, and its critical value where the
-session has one and was run with --tests.
+A row for each meter:
+
+  left    the flow to book in tonnes, in a band of two of its standard deviations to each side,
+          which holds 95 times in 100; and what the meter says, as circles
+  middle  flow less meter, in standard deviations of the meter, as bars, with the same band. A meter
+          that is adjusted the same way in each period is worth a look
+  right   the sum of flow less meter since the first period, in tonnes: a drift goes away from 0
+
+Below: the statistic of the global test, and its critical value if the session has one and was run
+with --tests. Periods that the global test rejects are hatched everywhere, and have a cross below.
+
+Flows to book are of the last round of each period's last report; meters, adjustments and statistic
+of its first round, before any meter was taken. Periods stand at their days, if --session names the
+session, or if they are called by them (2024, 2024-Q2, 2024-05, 2024-05-17); otherwise one after the
+other.
 
 examples:
-  plantbal run --tests < year.csv | plantbal-desk chart --most 6 > year.svg
+  plantbal run --tests < year.csv | plantbal-desk chart --session year.csv > year.svg
+  plantbal-desk chart --stream FILTERED --stream TAILS --out tails.pdf year.out.csv
 """
 
-
-@dataclass(frozen=True, slots=True)
-class Adjustment:
-    """Flow, lo and hi less the value, in standard deviations, in the period of a place."""
-
-    place: int
-    flow: float
-    lo: float
-    hi: float
-
-
-def first_rounds(rows: list[Values]) -> list[Block]:
-    """Return each period's first round of its last report, in the order of the periods."""
-    found = {block.period: block for block in blocks_of(rows) if block.round == 0 and block.solved}
-    if not found:
-        raise Fault("there is no report in what was read")
-    return list(found.values())
+ENDINGS = ("svg", "png", "pdf")
+INK, BAND, REJECTED, PALE = "#0b3d6b", "#a9cbe8", "#b2182b", "#fbe3da"
+GREY, DARK = "#d3d6d9", "#5a6066"
+HATCHED = {"facecolor": PALE, "edgecolor": REJECTED, "hatch": "////"}
+HEADINGS = (
+    "flow, t",
+    "flow less meter,\nstandard deviations of the meter",
+    "sum of flow less meter, t",
+)
+# In inches: the width of a chart, and the heights of a meter, of the statistic and of the legend.
+WIDTH, METER, STATISTIC, LEGEND = 13.0, 1.55, 2.0, 0.45
+# With more periods than these circles are small.
+MANY = 40
 
 
-def adjustments(blocks: list[Block]) -> dict[str, list[Adjustment]]:
-    """Return for each measured stream its adjustments."""
-    found: dict[str, list[Adjustment]] = {}
-    for place, block in enumerate(blocks):
-        for stream in block.streams:
-            if stream["value"] and stream["lo"]:
-                value, deviation = int(stream["value"]), float(int(stream["variance"])) ** 0.5
-                away = [(int(stream[name]) - value) / deviation for name in ("flow", "lo", "hi")]
-                found.setdefault(stream["name"], []).append(Adjustment(place, *away))
-    return found
+class Chart:
+    """A chart that is being drawn.
 
+    Parameters
+    ----------
+    trend : Trend
+        What it shows.
+    lines : list of Line
+        Its meters.
+    """
 
-def greatest(found: dict[str, list[Adjustment]], most: int) -> dict[str, list[Adjustment]]:
-    """Return the streams with the greatest adjustments, in the order of the report."""
-    size = {name: max(abs(point.flow) for point in points) for name, points in found.items()}
-    kept = sorted(found, key=lambda name: -size[name])[:most]
-    return {name: points for name, points in found.items() if name in kept}
+    def __init__(self, trend: Trend, lines: list[Line]) -> None:
+        from matplotlib import pyplot
 
+        heights = [LEGEND, *[METER] * len(lines), STATISTIC]
+        self.trend, self.lines = trend, lines
+        self.figure = pyplot.figure(figsize=(WIDTH, sum(heights)), constrained_layout=True)
+        self.grid = self.figure.add_gridspec(len(heights), 3, height_ratios=heights)
 
-def draw_adjustments(axes: Any, found: dict[str, list[Adjustment]]) -> None:
-    """Draw the upper panel."""
-    width = 0.6 / max(1, len(found))
-    for number, (name, points) in enumerate(found.items()):
-        across = [point.place + (number - (len(found) - 1) / 2) * width for point in points]
-        below = [point.flow - point.lo for point in points]
-        above = [point.hi - point.flow for point in points]
-        flows = [point.flow for point in points]
-        look = {"fmt": "o", "markersize": 4, "capsize": 3}
-        bars = axes.errorbar(across, flows, [below, above], label=name, **look)
-        bars.lines[0].set_gid(f"meter-{name}")
-    axes.axhline(0, color="black", linewidth=0.8)
-    axes.set_ylabel("flow less value,\nstandard deviations")
-    axes.legend(loc="center left", bbox_to_anchor=(1.0, 0.5), fontsize="small")
+    def draw(self) -> None:
+        """Draw all of it."""
+        self._legend()
+        panels: list[list[Any]] = []
+        for row, line in enumerate(self.lines, 1):
+            drawn = (self._flow, self._adjustment, self._sum)
+            panels.append([self._panel(row, column) for column in range(3)])
+            for axes, draw in zip(panels[-1], drawn):
+                draw(axes, line)
+        for column, heading in enumerate(HEADINGS):
+            if panels:
+                panels[0][column].set_title(heading, fontsize="medium")
+        self._same_scale([row[1] for row in panels])
+        for place, row_of in enumerate(panels):
+            for axes in row_of:
+                self._ticks(axes, 6, labels=place == len(panels) - 1)
+        axes = self._panel(len(self.lines) + 1, slice(None))
+        self._statistic(axes)
+        self._ticks(axes, 18, labels=True)
 
+    def _panel(self, row: int, column: int | slice) -> Any:
+        """Return a panel with the rejected periods hatched."""
+        axes = self.figure.add_subplot(self.grid[row, column])
+        trend = self.trend
+        axes.set_xlim(trend.starts.min(), trend.ends.max())
+        for place in trend.rejected.nonzero()[0]:
+            span = trend.starts[place], trend.ends[place]
+            axes.axvspan(*span, linewidth=0, alpha=0.6, zorder=0, **HATCHED)
+        axes.tick_params(labelsize="small")
+        axes.yaxis.set_major_formatter("{x:,.10g}")
+        for side in ("top", "right"):
+            axes.spines[side].set_visible(False)
+        return axes
 
-def draw_statistic(axes: Any, blocks: list[Block]) -> None:
-    """Draw the statistic's ends as a bar; `high` is left out where the report has none."""
-    labels = []
-    for place, block in enumerate(blocks):
-        solved = block.solved or {}
-        low = int(solved["low"]) / 1000
-        high = int(solved["high"]) / 1000 if solved["high"] else low
-        blue = {"color": "#1565c0"}
-        axes.plot([place, place], [low, high], linewidth=6, solid_capstyle="butt", **blue)
+    def _flow(self, axes: Any, line: Line) -> None:
+        """Draw the flow of a meter in its band, and the meter."""
+        across, flow = self.trend.stairs(line.flow)
+        band = self._band(axes, line.flow, line.sd)
+        band.set_gid(f"band-{line.name}")
+        axes.plot(across, flow, color=INK, linewidth=1.2, gid=f"meter-{line.name}")
         axes.plot(
-            [place],
-            [high],
-            marker="_" if solved["high"] else "^",
-            markersize=14,
-            markeredgewidth=3,
-            gid=f"statistic-{block.period}",
-            **blue,
+            self.trend.middles,
+            line.value,
+            linestyle="none",
+            marker="o",
+            markersize=3.5 if len(self.trend.names) <= MANY else 1.8,
+            markerfacecolor="white",
+            markeredgecolor="black",
+            markeredgewidth=0.7 if len(self.trend.names) <= MANY else 0.4,
+            gid=f"value-{line.name}",
         )
-        if block.whole and block.whole["critical"]:
-            critical = int(block.whole["critical"]) / 1000
-            ends = [place - 0.3, place + 0.3]
-            gid = f"critical-{block.period}"
-            axes.plot(ends, [critical, critical], color="#d00000", gid=gid)
-        labels.append(f"{block.period}\ndof {solved['dof']}")
-    axes.set_ylim(bottom=0)
-    axes.set_ylabel("statistic (blue),\ncritical value (red)")
-    axes.set_xticks(range(len(blocks)), labels)
+        axes.margins(y=0.22)
+        axes.text(
+            *(0.012, 0.96, line.name),
+            transform=axes.transAxes,
+            verticalalignment="top",
+            fontsize="small",
+            fontweight="bold",
+            bbox={"facecolor": "white", "edgecolor": "none", "alpha": 0.8, "pad": 1.5},
+        )
+
+    def _band(self, axes: Any, flow: Any, sd: Any) -> Any:
+        """Draw a band of two standard deviations to each side of a flow."""
+        across, low, high = self.trend.stairs(flow - 2 * sd, flow + 2 * sd)
+        return axes.fill_between(across, low, high, color=BAND, linewidth=0)
+
+    def _adjustment(self, axes: Any, line: Line) -> None:
+        """Draw flow less meter in standard deviations of the meter."""
+        trend = self.trend
+        self._band(axes, (line.flow - line.value) / line.meter, line.sd / line.meter)
+        widths = (trend.ends - trend.starts) * 0.5
+        bars = axes.bar(trend.middles, line.away, widths, color=INK)
+        for bar, name in zip(bars, trend.names):
+            bar.set_gid(f"adjustment-{line.name}-{name}")
+        axes.axhline(0, color="black", linewidth=0.8)
+
+    def _sum(self, axes: Any, line: Line) -> None:
+        """Draw the sum of flow less meter in tonnes."""
+        across, total = self.trend.stairs(line.sum)
+        axes.plot(across, total, color=INK, linewidth=1.2, gid=f"sum-{line.name}")
+        axes.axhline(0, color="black", linewidth=0.8)
+        axes.margins(y=0.15)
+
+    def _same_scale(self, column: list[Any]) -> None:
+        """Give panels the same scale, with 0 in the middle."""
+        most = max((abs(end) for axes in column for end in axes.get_ylim()), default=1.0)
+        for axes in column:
+            axes.set_ylim(-1.1 * most, 1.1 * most)
+
+    def _statistic(self, axes: Any) -> None:
+        """Draw the statistic as bars, with the critical values, and crosses where they reject."""
+        trend = self.trend
+        widths = (trend.ends - trend.starts) * 0.86
+        bars = axes.bar(trend.middles, trend.high, widths, color=GREY, edgecolor=DARK)
+        for bar, name in zip(bars, trend.names):
+            bar.set_gid(f"statistic-{name}")
+            bar.set_linewidth(0.6)
+        for start, end, critical, name in zip(
+            trend.starts, trend.ends, trend.critical, trend.names
+        ):
+            if critical == critical:
+                ends, gid = [start, end], f"critical-{name}"
+                axes.plot(ends, [critical] * 2, color=REJECTED, linewidth=1.6, gid=gid)
+        axes.margins(y=0.15)
+        axes.set_ylim(bottom=0)
+        axes.set_ylabel("statistic of\nthe global test", fontsize="small")
+        top = axes.get_ylim()[1]
+        for place in trend.rejected.nonzero()[0]:
+            axes.plot(
+                *([trend.middles[place]], [top * 0.94]),
+                color=REJECTED,
+                marker="x",
+                markersize=6,
+                markeredgewidth=1.8,
+                gid=f"rejected-{trend.names[place]}",
+            )
+
+    def _ticks(self, axes: Any, most: int, *, labels: bool) -> None:
+        """Set the ticks of the axis of time: at most so many, or one for each of few periods."""
+        from matplotlib import dates, ticker
+
+        trend = self.trend
+        axes.tick_params(labelbottom=labels)
+        longest = max(map(len, trend.names))
+        if len(trend.names) == 1:
+            axes.set_xticks(trend.middles, trend.names)
+        elif trend.dated:
+            locator = dates.AutoDateLocator(minticks=min(3, most), maxticks=most)
+            axes.xaxis.set_major_locator(locator)
+            axes.xaxis.set_major_formatter(dates.ConciseDateFormatter(locator))
+        else:
+            room = max(1, min(most, 7 * most // longest))
+            axes.xaxis.set_major_locator(ticker.MaxNLocator(room, integer=True))
+            axes.xaxis.set_major_formatter(ticker.FuncFormatter(_name_at(trend.names)))
+
+    def _legend(self) -> None:
+        """Draw the legend above all."""
+        from matplotlib.lines import Line2D
+        from matplotlib.patches import Patch
+
+        circle = {"marker": "o", "markerfacecolor": "white", "markeredgecolor": "black"}
+        handles = [
+            Line2D([], [], color=INK, label="flow to book"),
+            Patch(color=BAND, label="± 2 standard deviations"),
+            Line2D([], [], linestyle="none", markersize=4, label="meter", **circle),
+            Line2D([], [], color=REJECTED, label="critical value"),
+            Patch(label="rejected by the global test", **HATCHED),
+        ]
+        axes = self.figure.add_subplot(self.grid[0, :])
+        axes.axis("off")
+        axes.legend(handles=handles, loc="center", ncol=len(handles), frameon=False)
 
 
-def write_chart(blocks: list[Block], most: int, out: BinaryIO) -> None:
-    """Write the chart of periods as SVG."""
+def _name_at(names: list[str]) -> Callable[[float, int], str]:
+    """Return what writes the name of a period at its place."""
+
+    def text(at: float, _: int) -> str:
+        """Return the name of the period there, or nothing between two."""
+        place = round(at)
+        return names[place] if abs(at - place) < 1e-6 and 0 <= place < len(names) else ""
+
+    return text
+
+
+def chosen(trend: Trend, most: int, names: list[str]) -> list[Line]:
+    """Return the lines of the streams that are named, or of the meters that are adjusted most.
+
+    Raises
+    ------
+    Fault
+        If a stream isn't there, or nothing determines it in any period.
+    """
+    if not names:
+        return trend.greatest(most)
+    for name in names:
+        if name not in trend.lines:
+            raise Fault(f"there is no flow of {name} to chart", text=name, remedy="mend --stream")
+    return [trend.lines[name] for name in dict.fromkeys(names)]
+
+
+def write_chart(trend: Trend, lines: list[Line], out: BinaryIO | Path, form: str) -> None:
+    """Write the chart of periods.
+
+    Parameters
+    ----------
+    trend : Trend
+        The periods.
+    lines : list of Line
+        The streams that are shown.
+    out : file or Path
+        Where it goes.
+    form : {'svg', 'png', 'pdf'}
+        Its form.
+    """
     try:
         import matplotlib
     except ImportError as error:
         raise ToolMissing("matplotlib", "python3-matplotlib") from error
-    matplotlib.use("svg")
-    matplotlib.rcParams.update({"svg.hashsalt": "plantbal", "svg.fonttype": "none"})
+    matplotlib.use("agg" if form == "png" else form)
+    look = {"svg.hashsalt": "plantbal", "svg.fonttype": "none", "hatch.linewidth": 0.5}
+    matplotlib.rcParams.update(look)
     from matplotlib import pyplot
 
-    shape = {"figsize": (8, 6), "gridspec_kw": {"height_ratios": [2, 1]}}
-    figure, (upper, lower) = pyplot.subplots(2, 1, sharex=True, **shape)
-    draw_adjustments(upper, greatest(adjustments(blocks), most))
-    draw_statistic(lower, blocks)
-    figure.tight_layout()
-    figure.savefig(out, format="svg", metadata={"Date": None, "Creator": "plantbal"})
-    pyplot.close(figure)
+    chart = Chart(trend, lines)
+    chart.draw()
+    told: dict[str, dict[str, str | None]] = {
+        "svg": {"Date": None, "Creator": "plantbal"},
+        "pdf": {"CreationDate": None, "Creator": "plantbal"},
+    }
+    chart.figure.savefig(out, format=form, dpi=110, metadata=told.get(form))
+    pyplot.close(chart.figure)
 
 
 def add_arguments(parser: argparse.ArgumentParser) -> None:
@@ -137,9 +295,32 @@ def add_arguments(parser: argparse.ArgumentParser) -> None:
         default=12,
         help="show the N meters that are adjusted most; 12 without it",
     )
+    parser.add_argument(
+        "--stream",
+        metavar="NAME",
+        action="append",
+        default=[],
+        help="show this stream, measured or observable; may be given more than once",
+    )
+    parser.add_argument(
+        "--session", metavar="SESSION", help="the session, which has the days of the periods"
+    )
+    parser.add_argument("--out", metavar="FILE", help="a .svg, .png or .pdf file")
 
 
 def run(options: argparse.Namespace) -> int:
     """Write the chart."""
-    write_chart(first_rounds(read_rows(options.output)), options.most, sys.stdout.buffer)
+    form = Path(options.out).suffix[1:].lower() if options.out else "svg"
+    if form not in ENDINGS:
+        raise Fault(
+            f"{options.out} ends with {form!r}", text=options.out, remedy="say .svg, .png or .pdf"
+        )
+    session = read_bytes(options.session)[1] if options.session else b""
+    trend = trend_of(read_report(options.output), session)
+    lines = chosen(trend, options.most, options.stream)
+    if options.out:
+        with replacing(options.out) as made:
+            write_chart(trend, lines, made, form)
+    else:
+        write_chart(trend, lines, sys.stdout.buffer, form)
     return 0

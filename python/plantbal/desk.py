@@ -65,6 +65,7 @@ COMMANDS: tuple[Command, ...] = (
     Command("template", "template", "an empty workbook for convert"),
     Command("from-spreadsheet", "spreadsheet", "a session from daily readings and tags"),
     Command("tables", "tables", "tables of flows, classes, suspects, imbalances"),
+    Command("uncertainty", "uncertainty", "how good each flow is, and the meters that it rests on"),
     Command("draw", "picture", "draw a report or a design"),
     Command("chart", "chart", "chart the periods of a session"),
     Command("page", "page", "one page for a browser"),

@@ -314,6 +314,16 @@ class Output:
         return _frame("stop", self._of_kind("stop"), {})
 
     @cached_property
+    def uncertainty(self) -> pandas.DataFrame:
+        """The standard deviation of each measured or observable stream, in grams, of each block.
+
+        `plantbal.uncertainty.uncertainty_of` has its columns.
+        """
+        from plantbal.uncertainty import uncertainty_of
+
+        return uncertainty_of(self)
+
+    @cached_property
     def classes(self) -> pandas.DataFrame:
         """The streams of designs; `design` is the number of the design, counted from 0."""
         rows: list[Values] = []
@@ -361,6 +371,15 @@ class Output:
                 frame[name] = [float("nan") if t is None else float(t) for t in amounts]
         return frame.reset_index(drop=True)
 
+    def _booked(self) -> pandas.DataFrame:
+        """Return the flows to book and what belongs to them in tonnes, with standard deviations."""
+        keys = ["block", "name"]
+        found = self.tonnes(anyway=True).drop(columns=["side", "parts", "shape"])
+        deviations = self.uncertainty.set_index(keys)["sd"] / 1e6
+        sd = deviations.reindex(found.set_index(keys).index).to_numpy()
+        found.insert(list(found.columns).index("flow") + 1, "sd", sd)
+        return found
+
     # ---- files
 
     def to_csv(self, path: str | Path | None = None) -> str:
@@ -377,8 +396,8 @@ class Output:
 
     def tables(self) -> dict[str, pandas.DataFrame]:
         """Return the tables that have rows, by their names."""
-        names = "blocks streams nodes tests refused over taken stops histories history classes"
-        found = {name: getattr(self, name) for name in names.split()}
+        names = "blocks streams uncertainty nodes tests refused over taken stops histories history"
+        found = {name: getattr(self, name) for name in [*names.split(), "classes"]}
         found["verdicts"] = self.verdicts
         return {name: table for name, table in found.items() if len(table)}
 
@@ -407,6 +426,8 @@ class Output:
     def to_xlsx(self, path: str | Path) -> None:
         """Write a workbook with one table a sheet.
 
+        The first sheet, `tonnes`, has the flows to book, each with its standard deviation `sd` beside it.
+
         A column with a number of more than fifteen digits is one of texts, since a spreadsheet would
         round it.
 
@@ -423,8 +444,7 @@ class Output:
             raise ToolMissing("openpyxl", "python3-openpyxl") from error
         tables = self.tables()
         if self.blocks_in_order:
-            streams = self.tonnes(anyway=True)
-            tables = {"tonnes": streams.drop(columns=["side", "parts", "shape"]), **tables}
+            tables = {"tonnes": self._booked(), **tables}
         with replacing(path) as made:
             with pandas.ExcelWriter(made, engine="openpyxl") as book:
                 for name, table in (tables or {"empty": pandas.DataFrame()}).items():

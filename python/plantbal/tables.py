@@ -19,8 +19,8 @@ HELP = """
 OUTPUT is what plantbal wrote, as JSON lines or as CSV; without it standard input is read. The table
 goes to standard output, as CSV:
 
-  flows      a row a stream, a column a period: the flow to book in tonnes; empty where nothing
-             determines it
+  flows      a row a stream, two columns a period: the flow to book in tonnes, and beside it, in the
+             column ±, its standard deviation; empty if nothing determines it
   classes    a row a stream, a column a period: the class
   count      a row a class, a column a period: how many streams have it
 
@@ -73,6 +73,21 @@ def pivot(streams: pandas.DataFrame, what: str) -> pandas.DataFrame:
     return table.loc[list(dict.fromkeys(streams["stream"]))][periods]
 
 
+def with_deviations(table: pandas.DataFrame, rows: list[Values]) -> pandas.DataFrame:
+    """Return a table of flows with a column ± beside each period: the standard deviation in tonnes."""
+    from plantbal.output import Output
+    from plantbal.uncertainty import last_of_each_period
+
+    found = last_of_each_period(Output(rows))
+    deviations = found.pivot(index="name", columns="period", values="sd").reindex(
+        index=table.index, columns=table.columns
+    )
+    table = table.copy()
+    for place, period in enumerate(deviations.columns):
+        table.insert(2 * place + 1, f"{period} ±", (deviations[period] / 1e6).round(6))
+    return table
+
+
 def short(number: Decimal) -> str:
     """Return a decimal number without zeros at its end."""
     text = f"{number:f}"
@@ -116,5 +131,8 @@ def run(options: argparse.Namespace) -> int:
         lines = suspects(blocks) if options.what == "suspects" else imbalances(blocks)
         sys.stdout.writelines("\t".join(line) + "\n" for line in lines)
     else:
-        sys.stdout.write(pivot(frame(rows), options.what).to_csv())
+        table = pivot(frame(rows), options.what)
+        if options.what == "flows":
+            table = with_deviations(table, rows)
+        sys.stdout.write(table.to_csv())
     return 0

@@ -50,17 +50,6 @@ def test_wrong_drawing(say: Desk, words: list[object], text: str, said: str) -> 
     assert said in found.err
 
 
-def test_chart(say: Desk) -> None:
-    found = say("chart", example("concentrator/tested.out.csv"))
-    xml.dom.minidom.parseString(found.out)
-    for part in ("meter-TAILS", "meter-FILTERED", "statistic-2024-05", "critical-2024-06"):
-        assert f'id="{part}"' in found.out
-    found = say("chart", example("heat_exchanger_suspect.jsonl"))
-    assert 'id="critical-day2"' in found.out
-    found = say("chart")
-    assert found.status == 1 and "there is no report" in found.err
-
-
 @pytest.fixture(name="page")
 def fixture_page(say: Desk) -> str:
     """A page with refused rows and the refinery day."""
