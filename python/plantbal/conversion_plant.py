@@ -1,4 +1,4 @@
-"""The plant of a workbook: units, tanks with their tables, streams with their meters, critical values."""
+"""The plant of a workbook: units, tanks and their tables, streams and meters, critical values."""
 
 from __future__ import annotations
 
@@ -101,6 +101,12 @@ class Plant(Tables):
         self.tanks |= {tank.name: tank for tank in tanks}
         for row in rows:
             self.session.row(*row)
+
+    def take_straps(self, rows: Iterable[tuple[str, ...]]) -> None:
+        """Take the tables of its tanks that are known already, as rows of a session."""
+        for _, tank, mm, ml in rows:
+            if tank in self.tanks and self.session.row("strap", tank, mm, ml):
+                self.tanks[tank].points.append((int(mm), int(ml)))
 
     def take_plant(
         self, rows: Iterable[tuple[str, ...]], streams: Iterable[Stream], tanks: Iterable[Tank]

@@ -154,7 +154,7 @@ FAULTY: dict[str, tuple[Sheets, str]] = {
     ),
     "the next year": (
         {"readings": [["day", "F-1"], ["2025-01-05", "1"]]},
-        "2025-01-05 comes after 2024: mend the day, or begin the next year: plantbal-desk book next",
+        "2025-01-05 comes after 2024: mend the day, or begin the next year: plantbal-desk book",
     ),
     "an edit": (
         {"rows": [["strike", "F-1_2024-04-01", "why"]]},
@@ -206,6 +206,15 @@ def test_a_new_meter(book: Type, tmp_path: Path) -> None:
     more = PLANT | {"streams": [*new["streams"], ["W-2", "LOSS", "MILL", "env", "", "1 t"]]}
     said = book("add", folder(tmp_path / "plant", more))
     assert said.status == 1 and "what is new of the plant comes before the first close" in said.err
+
+
+@pytest.mark.parametrize("names", ["streams", "streams tanks", "streams straps", "tanks straps"])
+def test_parts_of_the_plant(book: Type, tmp_path: Path, names: str) -> None:
+    """What a workbook lacks of the plant is the book's."""
+    parts = {name: PLANT[name] for name in names.split()}
+    said = book("add", folder(tmp_path / "parts", parts | month(last=4)))
+    assert said.err == "" and said.out.startswith("2024.csv: new: 2 readings\n9 facts are")
+    assert ("the sheet is passed over" in said.out) == ("streams" not in names)
 
 
 def test_another_error_of_a_meter(book: Type, tmp_path: Path) -> None:
@@ -317,7 +326,7 @@ def test_report_close_and_late(book: Type, tmp_path: Path) -> None:
     sheets["tickets"].append(["truck-5", "TRUCKS", "2024-04-29", "10"])
     assert "late: 1 of them" in book("add", folder(tmp_path / "april", sheets)).out
     said = book("status")
-    assert "2024-04: closed, changed since its report: plantbal-desk book report 2024-04" in said.out
+    assert "2024-04: closed, changed since its report: plantbal-desk book report" in said.out
     assert "with 3 edits" in book("report", "2024-04").out
     assert sorted(path.name for path in (tmp_path / "mill/reports").iterdir()) == [
         "2024-04.1.csv",

@@ -1,10 +1,11 @@
-"""A workbook that is edited at random and added again: the book reports what it would report anew."""
+"""A workbook edited at random and added again: the book reports what it would report anew."""
 
 from __future__ import annotations
 
 import calendar
 import datetime
 import tempfile
+from collections.abc import Iterable
 from dataclasses import dataclass, replace
 from pathlib import Path
 
@@ -70,7 +71,8 @@ class Version:
 
     def sheets(self) -> Sheets:
         """The sheets; each has a row at least, without which it isn't there."""
-        rows = [[str(day), *(self.readings.get((day, tag), "1200") for tag in TAGS)] for day in DAYS]
+        read = self.readings
+        rows = [[str(day), *(read.get((day, tag), "1200") for tag in TAGS)] for day in DAYS]
         dips = [["SILO", str(day), *values] for day, values in self.dips.items()]
         tickets = [
             [name, "TRUCKS", str(first), str(first + datetime.timedelta(more)), amount]
@@ -109,6 +111,11 @@ def reported(session: Session, period: str) -> Block:
     return block_of(output, period)
 
 
+def nameless(facts: Iterable[Fact]) -> set[Fact]:
+    """Facts without their ids."""
+    return {replace(fact, id="") for fact in facts}
+
+
 @settings(deadline=None, max_examples=25, suppress_health_check=[HealthCheck.too_slow])
 @given(
     versions=st.lists(VERSIONS, min_size=2, max_size=4),
@@ -143,7 +150,7 @@ def test_a_book_reports_the_last_workbook(
         facts = [Fact.of(row) for row in whole.session if row[0] in FACT_KINDS]
         years = Years(Book(room / "mill"))
         for ledger in years.all():
-            there = {replace(fact, id="") for fact in ledger.facts.values()}
-            assert there == {replace(each, id="") for each in facts if ledger in years.of_fact(each)}
+            wanted = [fact for fact in facts if ledger in years.of_fact(fact)]
+            assert nameless(ledger.facts.values()) == nameless(wanted)
             session = (room / "mill" / f"{ledger.name}.csv").read_bytes()
             assert call(["run"], session) == (0, b"")

@@ -9,9 +9,9 @@ import argparse
 from collections.abc import Iterable
 from pathlib import Path
 
-from plantbal.book.adding import add_reading, reader_of, say_faults, sheets_of
 from plantbal.book.ledger import PLANT_KINDS, rows_text
 from plantbal.book.meters import Meter, meters_of, meters_text
+from plantbal.book.reading import add_reading, reader_of, say_faults, sheets_of
 from plantbal.book.said import counted, listed
 from plantbal.book.store import METERS, PLANT, Action, Book, is_year
 from plantbal.conversion import Conversion

@@ -1,4 +1,4 @@
-"""Keeps a plant's book: a folder with a session a year, its reports, and a journal of what was done."""
+"""Keeps a plant's book: a folder with a session a year, its reports, and a journal."""
 
 from __future__ import annotations
 
@@ -15,10 +15,10 @@ The book is the present folder, or that of --book. It has
   meters.csv    tags, units, densities and errors of meters and gauges
   2024.csv      the session of a year; rows are only added to it
   reports/      the last report of each period, with its history
-  journal.csv   a line an action: when, who, what, why, and which rows of the session it added
+  journal.csv   a line an action: when, who, what, why, and which rows it added
 
-A command is done as a whole or not at all, at whatever moment it is stopped; what was stopped in the
-middle is finished by the next command. Two commands at a time wait for each other.
+A command is done as a whole or not at all, at whatever moment it is stopped; what was begun is
+finished by the next command. Two commands at a time wait for each other.
 
 examples:
   plantbal-desk book new 2024 plant.xlsx

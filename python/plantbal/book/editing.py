@@ -217,7 +217,7 @@ STRIKE = SimpleNamespace(
 )
 CLOSE = SimpleNamespace(
     __doc__="Closes a period with its report: what is added to it from then on comes late, and its "
-    "history says so. A report that isn't to be booked without a look isn't closed without --anyway.",
+    "history says so. If the report wants a look before it is booked, only with --anyway.",
     add_arguments=_add_close,
     run=_close,
 )

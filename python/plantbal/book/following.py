@@ -12,12 +12,12 @@ from dataclasses import replace
 from pathlib import Path
 
 from plantbal.amounts import tonnes_of
-from plantbal.book.adding import add_reading
 from plantbal.book.beginning import check_year, classes_of, plant_of
 from plantbal.book.contents import contents_of
 from plantbal.book.ledger import Fact, Ledger, plain, rows_text
 from plantbal.book.meters import meters_text, read_meters
 from plantbal.book.naming import day_of
+from plantbal.book.reading import add_reading
 from plantbal.book.said import counted
 from plantbal.book.store import METERS, PLANT, Action, Book
 from plantbal.book.years import Years, calendar_year, periods_of

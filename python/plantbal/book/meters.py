@@ -1,4 +1,4 @@
-"""What a session can't hold of the plant: tags, units, densities, and the errors of meters and gauges.
+"""What a session can't hold of the plant: tags, units, densities, errors of meters and gauges.
 
 It stands in `meters.csv`, a row a stream or tank, with numbers as in English.
 """
@@ -45,7 +45,9 @@ class Meter:
 
     def row(self) -> tuple[str, ...]:
         """Return it as a row of the file."""
-        density = "" if self.density is None else f"{decimal(self.density / DENSITIES['kg/m3'])} kg/m3"
+        density = ""
+        if self.density is not None:
+            density = decimal(self.density / DENSITIES["kg/m3"]) + " kg/m3"
         return self.name, self.tag, self.unit, density, error_text(self.error)
 
 

@@ -28,7 +28,7 @@ def listed(names: list[str]) -> str:
     return ", ".join(names[:FIRST]) + more
 
 
-def added(ledger: Ledger) -> list[str]:
+def added(ledger: Ledger) -> str:
     """Return what was added to a ledger, in a line."""
     counts = Counter(row[1] if row[0] == "late" else row[0] for row in ledger.added)
     new = [counted(counts[kind], word) for kind, word in _NEW.items() if counts[kind]]
@@ -38,7 +38,7 @@ def added(ledger: Ledger) -> list[str]:
     parts = [f"new: {', '.join(new)}"] if new else []
     parts += [f"late: {late:,} of them"] if late else []
     parts += [f"{word}: {counts[kind]:,}" for kind, word in _EDITED.items() if counts[kind]]
-    return [f"{ledger.name}.csv: {'; '.join(parts) or 'nothing new'}"]
+    return f"{ledger.name}.csv: {'; '.join(parts) or 'nothing new'}"
 
 
 def changed(changes: Changes, name: str, struck: bool) -> list[str]:

@@ -1,4 +1,4 @@
-"""Shows what is booked of a stream or tank: each day's figure, its error, and what it was before."""
+"""Shows what is booked of a stream or tank: each figure, its error, and what it was before."""
 
 from __future__ import annotations
 

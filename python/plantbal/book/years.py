@@ -77,7 +77,8 @@ def spans_of(book: Book) -> list[Span]:
             last = max((last for _, last in periods.values()), default=first)
         else:
             last = datetime.date.max if year is None else datetime.date(year, 12, 31)
-        found.append(Span(name, first, last, {each: closed for each, (closed, _) in periods.items()}))
+        closed = {period: closed for period, (closed, _) in periods.items()}
+        found.append(Span(name, first, last, closed))
     return found
 
 
