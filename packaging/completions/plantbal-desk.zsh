@@ -93,7 +93,7 @@ _plantbal_desk() {
             '--who=[who does it, for the journal\: the login]:NAME:'
             '--why=[the reason]:TEXT:'
             '--strike[strike facts that aren'\''t in the workbook any more]'
-            '--year=[whose plant it is; the last year'\''s without it]:YEAR:'
+            '--year=[whose plant it is; the last without it]:YEAR:'
             '--dry-run[say it, and book nothing]'
             '--density=[another density\: 862]:TEXT:'
             '--error=[another error\: 0.2 t]:TEXT:'
