@@ -35,6 +35,14 @@ def test_back_to_csv(path: Path) -> None:
     assert read_report(path).to_csv() == path.read_text(encoding="utf-8")
 
 
+@pytest.mark.parametrize("path", OUTPUTS, ids=lambda path: path.name)
+def test_saved_by_a_spreadsheet(path: Path) -> None:
+    """A spreadsheet makes all rows as long as the longest, and ends them as Windows does."""
+    rows = path.read_text(encoding="utf-8").splitlines()
+    saved = "".join(f"{row},,,,,,,\r\n" for row in rows)
+    assert parse_report(saved, "saved").to_csv() == path.read_text(encoding="utf-8")
+
+
 def test_json_to_csv() -> None:
     found = example("heat_exchanger_suspect.jsonl").to_csv()
     wanted = TOP / "examples/heat_exchanger_suspect.out.csv"
@@ -140,6 +148,10 @@ FAULTY = [
     ("unit,U\n", "line 1, column 1: plantbal writes no row of the kind 'unit': this is a session"),
     ("report;p\n", "save it with commas"),
     ("report,p,0,1,0,10,5000\nnode,env\n", "line 2: a node row has 3 columns, this one has 2"),
+    (
+        "report,p,0,2,1,10,5000\nnode,env,0\nnode,U,1.5E+12\n",
+        "line 3: 1.5E+12 stands here, as a spreadsheet writes long numbers: take the file as",
+    ),
     ('{"row":"end"}\n', "line 1: the keys of the row end are period, round, row"),
     ('{"row":"end"\n', "line 1, column 13: no JSON object"),
     ('{"row":"unit"}\n', "its \"row\" is 'unit'"),
