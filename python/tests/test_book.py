@@ -186,6 +186,15 @@ def test_faults_book_nothing(book: Type, tmp_path: Path, sheets: Sheets, said: s
     assert files_of(tmp_path / "mill") == before
 
 
+def test_another_unit_is_told(book: Type, tmp_path: Path) -> None:
+    """It is booked, since it may be right; the next time nothing is said of it."""
+    sheets = month(last=4)
+    sheets["readings"][4][2] = "119950"
+    said = book("add", folder(tmp_path / "april", sheets))
+    assert "look at it: reading P-1_2024-04-04 of PRODUCT is 119,950.000 t, 100 times" in said.out
+    assert "look at it" not in book("add", folder(tmp_path / "april", month(last=3))).out
+
+
 def test_a_dry_run_books_nothing(book: Type, tmp_path: Path) -> None:
     before = files_of(tmp_path / "mill")
     said = book("add", folder(tmp_path / "april", month(last=4)), "--dry-run")

@@ -13,7 +13,7 @@ from plantbal.book.changes import Changes, compare, gone, strayed
 from plantbal.book.ledger import FACT_KINDS, PLANT_KINDS, Fact, Ledger, rows_text
 from plantbal.book.meters import meters_of, meters_text, read_meters
 from plantbal.book.reading import add_reading, converted, raise_all
-from plantbal.book.said import FIRST, added, changed, counted, lacking
+from plantbal.book.said import FIRST, added, changed, counted, doubts, lacking
 from plantbal.book.store import METERS, PLANT, Action, Book
 from plantbal.book.years import Years
 from plantbal.conversion_facts import Converter
@@ -61,7 +61,9 @@ def run(options: argparse.Namespace) -> int:
 
         lines = [added(ledger) for ledger in years.used]
         lines += changed(changes, name, options.strike)
-        lines += [line for ledger in years.used for line in lacking(ledger, facts, found)]
+        for ledger in years.used:
+            lines += doubts(book.text(f"{ledger.name}.csv"), ledger.added_text())
+            lines += lacking(ledger, facts, found)
         print("\n".join([*lines, *work.notes]))
         if options.dry_run:
             print("nothing is booked, as --dry-run says")

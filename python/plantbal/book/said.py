@@ -10,10 +10,13 @@ from plantbal.book.changes import Changes
 from plantbal.book.ledger import PLANT_KINDS, Fact, Ledger
 from plantbal.book.meters import Meter
 from plantbal.conversion_facts import days_of, spans
+from plantbal.lint import lint_session
+from plantbal.lintrules import RULES
 from plantbal.session import Period, period_days
 
 FIRST = 12  # things of which each is shown; the others are counted
 _NEW = {"period": "period", "reading": "reading", "transfer": "ticket", "dip": "dip"}
+_ODD = {"magnitude", "small-deviation", "large-deviation", "density", "near-names"}
 _EDITED = {"amend": "amended", "strike": "struck", "close": "closed"}
 
 
@@ -73,6 +76,25 @@ def changed(changes: Changes, name: str, struck: bool) -> list[str]:
         what = f"{counted(len(changes.gone), 'fact')} {are} booked and not in {name}: {ids}"
         lines.append(f"{what}; struck" if struck else f"{what}; kept, and --strike takes them out")
     return lines
+
+
+def doubts(before: str, added_rows: str) -> list[str]:
+    """Return what rows bring that looks wrong: another unit, an error of another size.
+
+    Parameters
+    ----------
+    before, added_rows : str
+        The session before them, and the rows.
+    """
+    if not added_rows:
+        return []
+    old, new = (_odd(text.encode("ascii")) for text in (before, before + added_rows))
+    return [f"look at it: {said}" for said in new if said not in old][:FIRST]
+
+
+def _odd(session: bytes) -> list[str]:
+    others = RULES.keys() - _ODD
+    return [f"{each.text}: {each.remedy}" for each in lint_session(session, ignore=others)]
 
 
 def lacking(ledger: Ledger, facts: Iterable[Fact], meters: dict[str, Meter]) -> list[str]:
