@@ -2,6 +2,7 @@
 
 from __future__ import annotations
 
+import datetime
 from fractions import Fraction
 from pathlib import Path
 
@@ -200,6 +201,27 @@ def test_a_dry_run_books_nothing(book: Type, tmp_path: Path) -> None:
     said = book("add", folder(tmp_path / "april", month(last=4)), "--dry-run")
     assert "new: 2 readings" in said.out and "--dry-run" in said.out
     assert files_of(tmp_path / "mill") == before
+
+
+def test_a_workbook_of_excel(book: Type, tmp_path: Path) -> None:
+    import openpyxl
+
+    made = openpyxl.Workbook()
+    made.remove(made.active)
+    for name, rows in month(last=4).items():
+        sheet = made.create_sheet(name)
+        for row in rows:
+            sheet.append([_excel(text) for text in row])
+    made.save(tmp_path / "april.xlsx")
+    said = book("add", tmp_path / "april.xlsx")
+    assert said.out.startswith("2024.csv: new: 2 readings\n9 facts are booked already\n")
+
+
+def _excel(text: str) -> object:
+    try:
+        return datetime.datetime.fromisoformat(text) if "-" in text[4:5] else float(text)
+    except ValueError:
+        return text
 
 
 # ---- the plant

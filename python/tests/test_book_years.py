@@ -18,6 +18,7 @@ from books import (
     month,
     rows_of,
 )
+from conftest import Desk, Said
 
 from plantbal.book.contents import contents_of
 from plantbal.book.ledger import Fact
@@ -180,3 +181,30 @@ def test_a_ticket_goes_over_with_its_own_id(book: Type, tmp_path: Path) -> None:
     assert book("amend", "truck-04", "801", "--why", "scale").status == 0
     assert rows_of(tmp_path)[-1].startswith("amend,truck-04.2,801000000,")
     assert rows_of(tmp_path, "2024-2")[-1].startswith("amend,truck-04,801000000,")
+
+
+def test_months_from_the_26th_to_the_25th(say: Desk, tmp_path: Path) -> None:
+    def typed(*words: object) -> Said:
+        return say("book", *words, "--book", tmp_path / "mill")
+
+    def december(last: str, *more: list[str]) -> Path:
+        first = datetime.date(2024, 11, 26)
+        days = [first + datetime.timedelta(at) for at in range(61)]
+        rows = [[str(day), "1200", "1199.5"] for day in days if str(day) <= last]
+        periods = [["name", "first", "last"], ["XII", "2024-11-26", "2024-12-25"], *more]
+        sheets: Sheets = {"readings": [["day", "F-1", "P-1"], *rows], "periods": periods}
+        return folder(tmp_path / "sheets", sheets)
+
+    january = ["I", "2024-12-26", "2025-01-25"]
+    typed("new", "2024", folder(tmp_path / "plant", PLANT))
+    assert "new: 1 period, 72 readings" in typed("add", december("2024-12-31")).out
+    assert "isn't within a year of this book" in typed("add", december("2024-12-31", january)).err
+    assert "comes after 2024: mend the day, or begin" in typed("add", december("2025-01-02")).err
+    assert "or say --first 2024-12-26" in typed("next", "2025").err
+    assert typed("next", "2025", "--first", "2024-12-26").status == 0
+    assert sum(row.startswith("reading") for row in rows_of(tmp_path, "2025")) == 12
+    said = typed("add", december("2025-01-25", january))
+    assert said.out.startswith("2024.csv: nothing new\n2025.csv: new: 1 period, 50 readings\n")
+    (tmp_path / "more.csv").write_text("day,F-1\n2025-01-26,1\n", encoding="utf-8")
+    said = typed("add", tmp_path / "more.csv")
+    assert "it shares a day with period I" in said.err and "into a sheet periods" in said.err
