@@ -94,6 +94,13 @@ def test_a_reason_is_asked_for(
     assert asked[0] == asked[1] == "F-1_2024-04-01: 1,200 t becomes 1,210 t. Why? "
     assert asked[2] == "P-1_2024-04-01: 1,199.5 t becomes 1,200 t. Why? [typed wrong] "
     assert [row.rsplit(",", 1)[1] for row in rows_of(tmp_path)[-2:]] == ["typed wrong"] * 2
+    assert journal_of(tmp_path / "mill")[-1][2] == "typed wrong"
+    monkeypatch.undo()
+    monkeypatch.setattr("plantbal.book.adding._may_ask", lambda: True)
+    before = files_of(tmp_path / "mill")
+    said = book("add", folder(tmp_path / "april", month()))
+    assert said.status == 1 and "a reason is wanted, and none came: say --why TEXT" in said.err
+    assert files_of(tmp_path / "mill") == before
 
 
 def test_what_is_gone_stays_unless_it_is_struck(book: Type, tmp_path: Path) -> None:
@@ -305,6 +312,31 @@ def test_not_amended(book: Type, tmp_path: Path, words: list[str], said: str) ->
     before = files_of(tmp_path / "mill")
     found = book("amend", *words, "--why", "why")
     assert found.status == 1 and said in found.err, found.err
+    assert files_of(tmp_path / "mill") == before
+
+
+@pytest.mark.parametrize("why", ["Zähler", "x" * 81])
+def test_a_reason_that_a_session_cannot_hold(book: Type, tmp_path: Path, why: str) -> None:
+    before = files_of(tmp_path / "mill")
+    sheets = month()
+    sheets["readings"][2][1] = "1210"
+    for words in (
+        ["amend", "F-1", "2024-04-02", "1 t"],
+        ["strike", "F-1", "2024-04-02"],
+        ["add", folder(tmp_path / "april", sheets)],
+    ):
+        assert "1 to 80 plain characters" in book(*words, "--why", why).err
+    assert files_of(tmp_path / "mill") == before
+
+
+def test_a_full_year(book: Type, tmp_path: Path, monkeypatch: pytest.MonkeyPatch) -> None:
+    from plantbal.schema import schema
+
+    before = files_of(tmp_path / "mill")
+    monkeypatch.setitem(schema().limits, "most_facts", 10)
+    (tmp_path / "more.csv").write_text("day,F-1,P-1\n2024-04-04,1,1\n", encoding="utf-8")
+    said = book("add", tmp_path / "more.csv")
+    assert "(refused 13, full): begin another part of the year: plantbal-desk book next" in said.err
     assert files_of(tmp_path / "mill") == before
 
 

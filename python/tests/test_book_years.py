@@ -208,3 +208,10 @@ def test_months_from_the_26th_to_the_25th(say: Desk, tmp_path: Path) -> None:
     (tmp_path / "more.csv").write_text("day,F-1\n2025-01-26,1\n", encoding="utf-8")
     said = typed("add", tmp_path / "more.csv")
     assert "it shares a day with period I" in said.err and "into a sheet periods" in said.err
+
+
+def test_a_period_has_its_name_in_one_year(two: Type, tmp_path: Path) -> None:
+    periods = [["name", "first", "last"], ["2024-04", "2024-05-01", "2024-05-31"]]
+    said = two("add", folder(tmp_path / "may", month(month="05") | {"periods": periods}))
+    what = "2024 has a period 2024-04 already: give it another name, such as 2024-2-2024-04"
+    assert what in said.err

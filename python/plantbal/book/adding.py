@@ -6,7 +6,6 @@ import argparse
 import calendar
 import datetime
 import sys
-from collections.abc import Callable
 from pathlib import Path
 
 from plantbal.book.changes import Changes, compare, gone, strayed
@@ -48,9 +47,11 @@ def run(options: argparse.Namespace) -> int:
         plant = put_plant(year, work)
         put_periods(years, work, facts)
         changes = changes_of(options, years, work, facts)
-        changes.put(asked(options, changes), options.strike)
+        check_reasons(options, changes)
+        reasons = Reasons(options.why or "")
+        changes.put(reasons, options.strike)
 
-        action = Action(f"add {name}", options.why or "", options.who)
+        action = Action(f"add {name}", reasons.said(), options.who)
         for ledger in years.used:
             action.add(ledger)
         if plant and year is years.last:
@@ -94,40 +95,62 @@ def _may_ask() -> bool:
     return sys.stdin.isatty()
 
 
-def asked(options: argparse.Namespace, changes: Changes) -> Callable[[str, str], str]:
-    """Return what gives the reason of a change: that of --why, or what is typed.
+class Reasons:
+    """The reasons of changes: that of ``--why``, or those that are typed.
+
+    Parameters
+    ----------
+    why : str
+        The reason of all changes; empty if each is asked for.
+
+    Attributes
+    ----------
+    given : dict of str to str
+        The reasons that were asked for, by the ids of facts.
+    """
+
+    def __init__(self, why: str) -> None:
+        self.why = why
+        self.given: dict[str, str] = {}
+
+    def __call__(self, identity: str, said: str) -> str:
+        """Return the reason of a change; an empty answer is the reason before."""
+        if self.why:
+            self.given[identity] = self.why
+        before = next(reversed(self.given.values()), "")
+        while identity not in self.given:
+            offer = f" [{before}]" if before else ""
+            try:
+                typed = input(f"{said}. Why?{offer} ").strip() or before
+            except EOFError:
+                raise Fault("a reason is wanted, and none came", remedy="say --why TEXT") from None
+            if typed:
+                self.given[identity] = typed
+        return self.given[identity]
+
+    def said(self) -> str:
+        """Return the reasons, each once."""
+        return "; ".join(dict.fromkeys(self.given.values()))
+
+
+def check_reasons(options: argparse.Namespace, changes: Changes) -> None:
+    """Refuse changes if there is no reason for them, and nobody to ask.
 
     Raises
     ------
     Fault
-        If there is no reason, and nobody to ask.
+        If it is so.
     """
     lines = [change.said() for change in [*changes.changed, *changes.left]]
     if options.strike:
         lines += [f"{fact.id}: {fact.said()} is struck" for _, fact in changes.gone]
-    why: str = options.why or ""
-    if why or not lines:
-        return lambda identity, said: why
-    if not _may_ask():
-        lines = list(dict.fromkeys(lines))
-        print("\n".join(lines[:FIRST]))
-        are = "is" if len(lines) == 1 else "are"
-        what = f"{counted(len(lines), 'fact')} {are} booked otherwise"
-        raise Fault(what, remedy='say why: --why "typed a digit short"; nothing is booked')
-    reasons: dict[str, str] = {}
-    before = ""
-
-    def ask(identity: str, said: str) -> str:
-        nonlocal before
-        if identity not in reasons:
-            offer = f" [{before}]" if before else ""
-            typed = ""
-            while not typed:
-                typed = input(f"{said}. Why?{offer} ").strip() or before
-            reasons[identity] = before = typed
-        return reasons[identity]
-
-    return ask
+    if options.why or not lines or _may_ask():
+        return
+    lines = list(dict.fromkeys(lines))
+    print("\n".join(lines[:FIRST]))
+    are = "is" if len(lines) == 1 else "are"
+    what = f"{counted(len(lines), 'fact')} {are} booked otherwise"
+    raise Fault(what, remedy='say why: --why "typed a digit short"; nothing is booked')
 
 
 # ---- the plant and the periods
@@ -204,6 +227,13 @@ def _put_period(years: Years, name: str, first: datetime.date, last: datetime.da
             f"the period {name} goes from {first} to {last}, and isn't within a year of this book",
             text=name,
             remedy="cut it where the year ends, or begin the next: plantbal-desk book next",
+        )
+    others = [span.name for span in years.spans if name in span.periods]
+    if others and ledger.name not in others:
+        raise Fault(
+            f"{others[0]} has a period {name} already",
+            text=name,
+            remedy=f"give it another name, such as {ledger.name}-{name}",
         )
     there = ledger.periods.get(name)
     if there is None:

@@ -20,7 +20,8 @@ PLANT_KINDS = ("unit", "tank", "strap", "stream", "critical")
 FACT_KINDS = ("reading", "transfer", "dip")
 _DAY = datetime.timedelta(1)
 _AGAIN = re.compile(r"\.[0-9]+$")  # how the id ends of what was struck and came again
-_CLOSED = 11  # the code of a fact that touches a closed period
+# The codes of a fact that touches a closed period, and of one that is too many.
+_CLOSED, _FULL = 11, 13
 
 
 @dataclass(frozen=True)
@@ -208,6 +209,8 @@ class Ledger:
         try:
             self.put(*fact.row())
         except Refusal as refusal:
+            if refusal.code == _FULL:
+                refusal.remedy = "begin another part of the year: plantbal-desk book next"
             if refusal.code != _CLOSED:
                 raise
             self.put("late", *fact.row())
