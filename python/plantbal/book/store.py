@@ -37,7 +37,11 @@ REPORTS = "reports"
 _PENDING = ".pending"
 _LOCK = ".lock"
 _YEAR = re.compile(r"[0-9]{4}[A-Za-z0-9_-]*")
-_BEGUN = re.compile(r"\.\.?[A-Za-z0-9_.-]+\.[a-z0-9_]{8}(?:\.csv)?")
+# Files that are written and have no name yet: those of this folder, and those of its reports.
+_BEGUN = re.compile(
+    rf"\.(?:plant|meters|journal|\.pending|{_YEAR.pattern})\.[a-z0-9_]{{8}}(?:\.csv)?"
+)
+_BEGUN_REPORT = re.compile(r"\.[A-Za-z0-9_.-]+\.[a-z0-9_]{8}\.csv")
 _JOURNAL_HEADS = ("when", "who", "what", "why", "rows")
 
 
@@ -136,9 +140,9 @@ class Book:
 
     def _tidy(self) -> None:
         """Remove files that were begun and never got their names."""
-        for folder in (self.folder, self.folder / REPORTS):
+        for folder, names in ((self.folder, _BEGUN), (self.folder / REPORTS, _BEGUN_REPORT)):
             for path in folder.glob(".*"):
-                if _BEGUN.fullmatch(path.name):
+                if names.fullmatch(path.name):
                     path.unlink(missing_ok=True)
 
     def _is_there(self) -> bool:
@@ -186,7 +190,7 @@ class Book:
             {"file": name, "from": None, "text": text} for name, text in action.written.items()
         ]
         write_text(self.folder / _PENDING, json.dumps(files))
-        self._sync()
+        _sync(self.folder)
         self._finish()
 
     def _finish(self) -> None:
@@ -212,23 +216,25 @@ class Book:
                     remedy=f"put it back as it was with {start:,} bytes; {pending} has the rows",
                 )
             write_text(path, whole.decode("utf-8"))
-        self._sync()
+        for folder in (self.folder, self.folder / REPORTS):
+            _sync(folder)
         pending.unlink()
-        self._sync()
+        _sync(self.folder)
 
     def _bytes(self, name: str) -> bytes:
         path = self.folder / name
         return path.read_bytes() if path.is_file() else b""
 
-    def _sync(self) -> None:
-        """Have the folder's renames written to the disk, if the system can be told to."""
-        if os.name == "nt":
-            return
-        handle = os.open(self.folder, os.O_RDONLY)
-        try:
-            os.fsync(handle)
-        finally:
-            os.close(handle)
+
+def _sync(folder: Path) -> None:
+    """Have a folder's renames written to the disk, if the system can be told to."""
+    if os.name == "nt" or not folder.is_dir():
+        return
+    handle = os.open(folder, os.O_RDONLY)
+    try:
+        os.fsync(handle)
+    finally:
+        os.close(handle)
 
 
 def is_year(name: str) -> bool:
