@@ -348,8 +348,8 @@ def test_what_a_command_has_changed_stays(book: Type, tmp_path: Path) -> None:
     book("strike", "P-1", "2024-04-03", "--why", "frozen")
     before = rows_of(tmp_path)
     said = book("add", tmp_path / "april")
-    assert "F-1_2024-04-02: amended to 1,301 t, and april has 1,200 t still: kept so" in said.out
-    assert "truck-04: struck, and april has 800 t still: kept so" in said.out
+    assert "F-1_2024-04-02: it stays amended to 1,301 t; april has 1,200 t still" in said.out
+    assert "truck-04: it stays struck; april has 800 t still" in said.out
     assert rows_of(tmp_path) == before
     sheets = month()
     sheets["readings"][2][1], sheets["readings"][3][2] = "1302", "1191"

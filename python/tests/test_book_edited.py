@@ -116,7 +116,11 @@ def nameless(facts: Iterable[Fact]) -> set[Fact]:
     return {replace(fact, id="") for fact in facts}
 
 
-@settings(deadline=None, max_examples=25, suppress_health_check=[HealthCheck.too_slow])
+@settings(
+    deadline=None,
+    max_examples=25,
+    suppress_health_check=[HealthCheck.too_slow, HealthCheck.data_too_large],
+)
 @given(
     versions=st.lists(VERSIONS, min_size=2, max_size=4),
     closed=st.lists(st.sampled_from([*MONTHS, 0]), min_size=4, max_size=4),

@@ -66,7 +66,7 @@ def changed(changes: Changes, name: str, struck: bool) -> list[str]:
     for change in changes.stale[:FIRST]:
         old = change.old
         booked = f"amended to {old.said()}" if old.id in change.ledger.facts else "struck"
-        lines.append(f"{old.id}: {booked}, and {name} has {change.new.said()} still: kept so")
+        lines.append(f"{old.id}: it stays {booked}; {name} has {change.new.said()} still")
     if len(changes.stale) > FIRST:
         lines.append(f"{len(changes.stale) - FIRST:,} more are kept as they were amended")
     if changes.gone:
