@@ -137,7 +137,7 @@ _plantbal_desk() {
             _plantbal_more 'new add show amend strike report close status next'
             return
         fi
-        _plantbal_words '-h --help --program --locale --missing --skip --limits --book --who --why --strike --year --dry-run --density --error --no-tests --eliminate --gap --sweeps --anyway --all --plant --first' ;;
+        _plantbal_words '-h --help --program --locale --missing --skip --limits --book --who --why --strike --anyway --year --dry-run --density --error --no-tests --eliminate --gap --sweeps --all --plant --first' ;;
     template)
         if [[ $here != -* ]]; then
             _plantbal_files -f

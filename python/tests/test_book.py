@@ -128,6 +128,17 @@ def test_what_is_gone_stays_unless_it_is_struck(book: Type, tmp_path: Path) -> N
     assert "nothing new" in book("add", tmp_path / "april").out
 
 
+def test_a_part_of_a_workbook_strikes_nothing(book: Type, tmp_path: Path) -> None:
+    """Without the word for it: mostly it is the wrong file."""
+    path, before = tmp_path / "part.csv", rows_of(tmp_path)
+    path.write_text("day,F-1,P-1\n2024-04-02,1200,1199.5\n", encoding="utf-8")
+    said = book("add", path, "--strike", "--why", "tidy up")
+    assert "4 of 6 facts that are booked aren't in part.csv: is it a part of the" in said.err
+    assert said.status == 1 and rows_of(tmp_path) == before
+    assert book("add", path, "--strike", "--anyway", "--why", "tidy up").status == 0
+    assert sum(row.startswith("strike") for row in rows_of(tmp_path)) == 4
+
+
 def test_a_ticket_of_another_day_is_struck_and_booked_again(book: Type, tmp_path: Path) -> None:
     sheets = month()
     sheets["tickets"][1][2] = "2024-04-03"

@@ -28,6 +28,7 @@ def add_arguments(parser: argparse.ArgumentParser) -> None:
     parser.add_argument(
         "--strike", action="store_true", help="strike facts that aren't in the workbook any more"
     )
+    parser.add_argument("--anyway", action="store_true", help="strike also most of what is booked")
     parser.add_argument("--year", metavar="YEAR", help="whose plant it is; the last without it")
     parser.add_argument("--dry-run", action="store_true", help="say it, and book nothing")
     add_reading(parser)
@@ -81,12 +82,20 @@ def changes_of(
     Raises
     ------
     Fault
-        If a ticket has the id of another one.
+        If a ticket has the id of another one, or most of what is booked would be struck.
     """
     changes = compare(years, facts)
     raise_all(options.prog, list(strayed(years, changes, facts)))
     if work.sheets["readings"] or options.strike:
         changes.gone = gone(years, work, facts)
+    there = changes.same + len(changes.changed) + len(changes.stale)
+    if options.strike and len(changes.gone) > there and not options.anyway:
+        raise Fault(
+            f"{len(changes.gone):,} of {len(changes.gone) + there:,} facts that are booked aren't "
+            f"in {Path(options.workbook).name}",
+            remedy="is it a part of the workbook? Single facts are struck by plantbal-desk book "
+            "strike; --anyway strikes all of them",
+        )
     return changes
 
 
