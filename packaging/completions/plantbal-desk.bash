@@ -79,8 +79,11 @@ _plantbal_desk() {
         page:--title) :; return ;;
         page:--session) _plantbal_files -f; return ;;
         fleet:--out) _plantbal_files -d; return ;;
+        fleet:--date) :; return ;;
         fleet:--engine) _plantbal_words 'parallel dask'; return ;;
         fleet:--jobs) :; return ;;
+        fleet:--timeout) :; return ;;
+        fleet:--retries) :; return ;;
         fleet:--scheduler) :; return ;;
         fleet:--program) _plantbal_files -f; return ;;
         critical:--nodal) :; return ;;
@@ -187,7 +190,7 @@ _plantbal_desk() {
             _plantbal_files -d
             return
         fi
-        _plantbal_words '-h --help --out --engine --jobs --scheduler --program --lint' ;;
+        _plantbal_words '-h --help --out --date --again --recursive --engine --jobs --timeout --retries --scheduler --send --program --lint' ;;
     critical)
         _plantbal_words '-h --help --nodal --measure' ;;
     from-scipy)

@@ -11,7 +11,7 @@ from typing import Any, BinaryIO
 from plantbal.faults import Fault, ToolMissing, read_bytes
 from plantbal.files import replacing
 from plantbal.trend import Trend, Line, trend_of
-from plantbal.output import read_report
+from plantbal.output import read_whole
 
 HELP = """
 OUTPUT is what plantbal wrote, as CSV or as JSON lines; without it standard input is read. The
@@ -316,7 +316,7 @@ def run(options: argparse.Namespace) -> int:
             f"{options.out} ends with {form!r}", text=options.out, remedy="say .svg, .png or .pdf"
         )
     session = read_bytes(options.session)[1] if options.session else b""
-    trend = trend_of(read_report(options.output), session)
+    trend = trend_of(read_whole(options.output, "report"), session)
     lines = chosen(trend, options.most, options.stream)
     if options.out:
         with replacing(options.out) as made:

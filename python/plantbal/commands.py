@@ -3,17 +3,20 @@
 from __future__ import annotations
 
 import argparse
+import errno
+import os
 import sys
+from collections.abc import Callable
 from pathlib import Path
 from types import SimpleNamespace
 
-from plantbal.faults import Fault, ProgramFault, read_bytes
-from plantbal.files import write_text
-from plantbal.output import Output, read_report
+from plantbal.faults import Fault, ProgramFault, decoded, read_bytes
+from plantbal.files import unwritten, write_text
+from plantbal.output import Output, parse_report, read_report
 from plantbal.program import STATUSES, check, run
 from plantbal.progress import Progress
 from plantbal.records import read_records
-from plantbal.report import Block
+from plantbal.report import Block, refuse_other, refuse_parts
 
 OUTPUT_HELP = """
 The report goes to standard output, or to the file of --out by its ending: .csv, .sqlite or .xlsx. The
@@ -35,17 +38,30 @@ def say(options: argparse.Namespace, output: Output) -> int:
     return 0 if output.ok else 1
 
 
-def write(output: Output, path: str) -> None:
-    """Write an output by the ending of a file's name."""
+def writer_of(path: str) -> Callable[[Output], object]:
+    """Return what writes an output, by the ending of a file's name; before a long run is made.
+
+    Raises
+    ------
+    Fault
+        If the ending is none of these, or the file can't be written.
+    """
     ending = Path(path).suffix.lower()
-    if path == "-" or ending == ".csv":
-        output.to_csv(path)
-    elif ending in (".sqlite", ".db"):
-        output.to_sqlite(path)
-    elif ending == ".xlsx":
-        output.to_xlsx(path)
-    else:
+    writers: dict[str, Callable[[Output], object]] = {
+        ".csv": lambda output: output.to_csv(path),
+        ".sqlite": lambda output: output.to_sqlite(path),
+        ".db": lambda output: output.to_sqlite(path),
+        ".xlsx": lambda output: output.to_xlsx(path),
+    }
+    if path == "-":
+        return writers[".csv"]
+    if ending not in writers:
         raise Fault(f"{path} ends with {ending!r}", text=path, remedy="say .csv, .sqlite or .xlsx")
+    if not Path(path).parent.is_dir():
+        raise unwritten(path, OSError(errno.ENOENT, os.strerror(errno.ENOENT)))
+    if Path(path).is_dir():
+        raise unwritten(path, OSError(errno.EISDIR, os.strerror(errno.EISDIR)))
+    return writers[ending]
 
 
 def _add_session(parser: argparse.ArgumentParser) -> None:
@@ -65,6 +81,7 @@ def _add_run(parser: argparse.ArgumentParser) -> None:
 
 
 def _run(options: argparse.Namespace) -> int:
+    write = writer_of(options.out)
     _say_reading(options.session)
     source, data = read_bytes(options.session)
     try:
@@ -81,7 +98,7 @@ def _run(options: argparse.Namespace) -> int:
     except ProgramFault as fault:
         print(f"{options.prog}: {source}: {fault}", file=sys.stderr)
         return fault.status if fault.status in STATUSES else 1
-    write(output, options.out)
+    write(output)
     status = say(options, output)
     say_rows(options, source, data, output)
     for line in periods_of(data, output):
@@ -162,10 +179,14 @@ def _say_reading(path: str) -> None:
 def _solve(options: argparse.Namespace) -> int:
     from plantbal.solver import solve
 
+    write = writer_of(options.out)
     _say_reading(options.session)
-    output = solve(options.session, gap=options.gap, sweeps=options.sweeps, program=options.program)
-    write(output, options.out)
-    return say(options, output)
+    source, data = read_bytes(options.session)
+    output = solve(data, gap=options.gap, sweeps=options.sweeps, program=options.program)
+    write(output)
+    status = say(options, output)
+    say_rows(options, source, data, output)
+    return status
 
 
 def _add_check(parser: argparse.ArgumentParser) -> None:
@@ -175,7 +196,13 @@ def _add_check(parser: argparse.ArgumentParser) -> None:
 
 def _check(options: argparse.Namespace) -> int:
     _say_reading(options.report)
-    verdicts = check(options.report, program=options.program)
+    source, data = read_bytes(options.report)
+    text = decoded(source, data)
+    if text.startswith("{"):
+        verdicts = check(parse_report(text, source), program=options.program, source=source)
+    else:
+        refuse_other(source, text)
+        verdicts = check(data, program=options.program, source=source)
     for row in verdicts.itertuples():
         if row.verdict == "yes":
             print(f"yes: {row.period}, round {row.round}")
@@ -185,7 +212,12 @@ def _check(options: argparse.Namespace) -> int:
             print(f"no: {row.period}, round {row.round}: {row.word}{where}{numbers}: {row.about}")
         else:
             print(f"unreadable: row {row.at}: {row.word}: it {row.about}")
-    return 0 if (verdicts["verdict"] == "yes").all() else 1
+    if (verdicts["verdict"] == "yes").all():
+        return 0
+    named = "FILE" if source == "standard input" else source
+    hint = f"plantbal-desk explain {named} shows the rows"
+    print(f"{options.prog}: {source}: not all of it passes: {hint}", file=sys.stderr)
+    return 1
 
 
 def _add_report(parser: argparse.ArgumentParser) -> None:
@@ -194,8 +226,11 @@ def _add_report(parser: argparse.ArgumentParser) -> None:
 
 
 def _report(options: argparse.Namespace) -> int:
+    write = writer_of(options.out)
     _say_reading(options.report)
-    write(read_report(options.report), options.out)
+    output = read_report(options.report)
+    refuse_parts(output.source, output.rows, checks=True)
+    write(output)
     return 0
 
 

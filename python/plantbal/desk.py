@@ -69,7 +69,7 @@ COMMANDS: tuple[Command, ...] = (
     Command("draw", "picture", "draw a report or a design"),
     Command("chart", "chart", "chart the periods of a session"),
     Command("page", "page", "one page for a browser"),
-    Command("fleet", "fleet", "run a folder of sessions", takes_words=True),
+    Command("fleet", "fleet.command", "run a folder of sessions", takes_words=True),
     Command("critical", "critical", "critical values as rows of a session"),
     Command("from-scipy", "foreign", "another program's figures in the form of a report"),
     Command("schema", "commands:SCHEMA", "the rows of sessions and outputs as data"),
@@ -165,6 +165,11 @@ def call(parser: argparse.ArgumentParser, words: Sequence[str]) -> int:
     except BrokenPipeError:
         # The reader has gone: nothing more can be written, not even at the end of the process.
         os.dup2(os.open(os.devnull, os.O_WRONLY), sys.stdout.fileno())
+        return 1
+    except OSError as error:  # a full disk, mostly: what reads and writes files has its own faults
+        os.dup2(os.open(os.devnull, os.O_WRONLY), sys.stdout.fileno())
+        said = f"{error.filename or 'standard output'}: {error.strerror or error}"
+        print(f"{options.prog}: {said}: make room, or write elsewhere", file=sys.stderr)
         return 1
     except KeyboardInterrupt:
         print(f"{options.prog}: stopped", file=sys.stderr)

@@ -15,7 +15,7 @@ from plantbal.faults import InputFault, Place, Refusal, read_bytes
 from plantbal.files import write_text
 from plantbal.meant import number_meant
 from plantbal.records import Record, read_records, without_empty_end
-from plantbal.report import Values, parse_rows
+from plantbal.report import Values, read_rows
 from plantbal.schema import Column, Row, schema
 from plantbal.session import Session, field_fits, kind_near, rows_of_kind
 
@@ -803,9 +803,7 @@ def run(options: argparse.Namespace) -> int:
     else:
         said = explain_bytes(source, data)
         if options.output is not None:
-            output, text = read_bytes(options.output)
-            rows = parse_rows(output, text.decode("utf-8", "replace"))
-            same_refusals(said, rows, output, source)
+            same_refusals(said, read_rows(options.output), options.output, source)
     if not said.whole and not said.rows:
         print(f"{options.prog}: {source}: nothing to explain", file=sys.stderr)
         return 0

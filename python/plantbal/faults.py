@@ -2,8 +2,18 @@
 
 from __future__ import annotations
 
+import errno
+import sys
 from dataclasses import dataclass
 from pathlib import Path
+
+# What to do about a file that can't be read, by the system's number of the fault.
+_UNREAD = {
+    errno.ENOENT: "mend its name, or make it",
+    errno.EISDIR: "name a file in this folder",
+    errno.ENOTDIR: "mend its name",
+    errno.EACCES: "ask for the right to read it",
+}
 
 
 @dataclass(frozen=True, kw_only=True)
@@ -103,7 +113,10 @@ class ToolMissing(Fault):
     """
 
     def __init__(self, tool: str, package: str) -> None:
-        super().__init__(f"there is no {tool}", remedy=f"install {package}")
+        remedy = f"install {package}"
+        if package.startswith("python3-") and not sys.executable.startswith("/usr/bin/"):
+            remedy += f", which is for /usr/bin/python3: this is {sys.executable}"
+        super().__init__(f"there is no {tool}", remedy=remedy)
         self.tool = tool
         self.package = package
 
@@ -173,16 +186,21 @@ def read_bytes(path: str | Path) -> tuple[str, bytes]:
     InputFault
         Where it can't be read.
     """
-    import sys
-
     if str(path) == "-":
         return "standard input", sys.stdin.buffer.read()
     try:
         return str(path), Path(path).read_bytes()
     except OSError as error:
-        raise InputFault(
-            error.strerror or "it can't be read", place=Place(file=str(path))
-        ) from error
+        raise unread(path, error) from error
+
+
+def unread(path: str | Path, error: OSError) -> InputFault:
+    """Return the fault of a file that can't be read."""
+    return InputFault(
+        error.strerror or "it can't be read",
+        place=Place(file=str(path)),
+        remedy=_UNREAD.get(error.errno or 0, ""),
+    )
 
 
 def read_text(path: str | Path) -> tuple[str, str]:
@@ -194,8 +212,19 @@ def read_text(path: str | Path) -> tuple[str, str]:
         Where it can't be read, or is no UTF-8 text.
     """
     source, data = read_bytes(path)
+    return source, decoded(source, data)
+
+
+def decoded(source: str, data: bytes) -> str:
+    """Return bytes as text: UTF-8 without a byte order mark.
+
+    Raises
+    ------
+    InputFault
+        Where it is no UTF-8 text.
+    """
     try:
-        return source, data.decode("utf-8-sig")
+        return data.decode("utf-8-sig")
     except UnicodeDecodeError as error:
         if data.startswith((b"\xff\xfe", b"\xfe\xff")):
             raise InputFault(

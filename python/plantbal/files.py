@@ -2,6 +2,7 @@
 
 from __future__ import annotations
 
+import errno
 import os
 import sys
 import tempfile
@@ -10,6 +11,26 @@ from contextlib import contextmanager
 from pathlib import Path
 
 from plantbal.faults import InputFault, Place
+
+
+# What to do about a file that can't be written, by the system's number of the fault.
+_UNWRITTEN = {
+    errno.ENOENT: "make its folder first",
+    errno.ENOTDIR: "mend its name",
+    errno.EISDIR: "name a file in this folder",
+    errno.EACCES: "ask for the right to write there, or write elsewhere",
+    errno.EROFS: "write elsewhere",
+    errno.ENOSPC: "make room, or write elsewhere",
+}
+
+
+def unwritten(path: str | Path, error: OSError) -> InputFault:
+    """Return the fault of a file that can't be written."""
+    return InputFault(
+        f"it can't be written: {error.strerror or error}",
+        place=Place(file=str(path)),
+        remedy=_UNWRITTEN.get(error.errno or 0, ""),
+    )
 
 
 @contextmanager
@@ -34,9 +55,7 @@ def replacing(path: str | Path) -> Iterator[Path]:
             dir=target.parent, prefix=f".{target.stem}.", suffix=target.suffix
         )
     except OSError as error:
-        raise InputFault(
-            error.strerror or "it can't be written", place=Place(file=str(path))
-        ) from error
+        raise unwritten(path, error) from error
     os.close(handle)
     made = Path(name)
     try:
@@ -46,19 +65,11 @@ def replacing(path: str | Path) -> Iterator[Path]:
         made.chmod(0o666 & ~umask)
         with made.open("rb+") as file:
             os.fsync(file.fileno())
-        _rename(made, target)
+        os.replace(made, target)
+    except OSError as error:  # the disk is full, or a folder has the name
+        raise unwritten(path, error) from error
     finally:
         made.unlink(missing_ok=True)
-
-
-def _rename(made: Path, target: Path) -> None:
-    """Give a file its name; another program may keep the name, on Windows."""
-    try:
-        os.replace(made, target)
-    except OSError as error:
-        what = error.strerror or "it can't be written"
-        remedy = "close it in other programs, and type this again"
-        raise InputFault(what, place=Place(file=str(target)), remedy=remedy) from error
 
 
 def write_bytes(path: str | Path, data: bytes) -> None:
@@ -68,11 +79,7 @@ def write_bytes(path: str | Path, data: bytes) -> None:
         sys.stdout.buffer.flush()
         return
     with replacing(path) as made:
-        try:
-            made.write_bytes(data)
-        except OSError as error:
-            what = error.strerror or "it can't be written"
-            raise InputFault(what, place=Place(file=str(path))) from error
+        made.write_bytes(data)
 
 
 def write_text(path: str | Path, text: str) -> None:

@@ -43,21 +43,19 @@ def add_arguments(parser: argparse.ArgumentParser) -> None:
 
 def run(options: argparse.Namespace) -> int:
     """Write the report."""
-    blocks = [
-        block
-        for block in blocks_of(read_rows(options.report))
-        if options.period in (None, block.period) and block.round == 0
-    ]
-    if not blocks or not blocks[0].solved:
-        raise Fault("there is no report of this period")
+    every = blocks_of(read_rows(options.report, "report"))
+    blocks = [b for b in every if options.period in (None, b.period) and b.round == 0]
+    if not blocks:
+        there = ", ".join(dict.fromkeys(block.period for block in every))
+        raise Fault(f"there is no report of {options.period}", remedy=f"there are {there}")
     block = blocks[0]
     change = None
     if options.change:
         name, grams = options.change
         if name not in [stream["name"] for stream in block.streams]:
-            raise Fault(f"there is no stream {name} in the report")
+            raise Fault(f"there is no stream {name} in the report", remedy="mend its name")
         if not re.fullmatch(r"-?[0-9]+", grams):
-            raise Fault(f"{grams!r} is no whole number of grams")
+            raise Fault(f"{grams!r} is no whole number of grams", remedy="write 1500000")
         change = name, int(grams)
     write_text("-", csv_of(solved_rows(block, least=not options.without_least, change=change)))
     return 0

@@ -11,7 +11,7 @@ from typing import TYPE_CHECKING, Any
 from plantbal.amounts import tonnes_of
 from plantbal.faults import Fault, ToolMissing, read_text
 from plantbal.files import replacing, write_text
-from plantbal.report import Block, Values, blocks_of, csv_of, parse_rows
+from plantbal.report import Block, Values, blocks_of, csv_of, parse_rows, read_rows
 from plantbal.schema import Column, schema
 
 if TYPE_CHECKING:
@@ -531,6 +531,25 @@ def read_report(path: str | Path) -> Output:
     """
     source, text = read_text(path)
     return Output(parse_rows(source, text), source=source)
+
+
+def read_whole(path: str | Path, *wanted: str) -> Output:
+    """Return an output that is whole, and no check's.
+
+    Parameters
+    ----------
+    path : str or Path
+        The file; ``-`` is standard input.
+    *wanted : str
+        Kinds of rows of which one at least has to be there.
+
+    Raises
+    ------
+    InputFault
+        If it can't be read, is empty or cut off, is what a check said, or has no such row.
+    """
+    source = "standard input" if str(path) == "-" else str(path)
+    return Output(read_rows(path, *wanted), source=source)
 
 
 def parse_report(text: str, source: str = "output", status: int | None = None) -> Output:

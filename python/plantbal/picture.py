@@ -185,7 +185,9 @@ def chosen(rows: list[Values], period: str | None, number: int | None) -> Pictur
     if blocks:
         return picture_of(blocks[-1])
     if period is not None or number is not None:
-        raise Fault("there is no report of this period and round")
+        there = ", ".join(dict.fromkeys(block.title for block in blocks_of(rows)))
+        said = "there is no report of this period and round"
+        raise Fault(said, remedy=f"there are {there or 'none'}")
     designs = designs_of(rows)
     if not designs:
         raise Fault("there is neither a report nor a design in what was read")
@@ -223,7 +225,7 @@ def add_arguments(parser: argparse.ArgumentParser) -> None:
 
 def run(options: argparse.Namespace) -> int:
     """Write the picture."""
-    picture = chosen(read_rows(options.output), options.period, options.round)
+    picture = chosen(read_rows(options.output, "report", "design"), options.period, options.round)
     if options.mark is not None:
         picture.mark(options.mark)
     dot = picture.dot()

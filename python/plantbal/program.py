@@ -12,7 +12,7 @@ from collections.abc import Callable, Sequence
 from pathlib import Path
 from typing import TYPE_CHECKING
 
-from plantbal.faults import Fault, ProgramFault, ToolMissing, read_bytes
+from plantbal.faults import InputFault, Place, ProgramFault, ToolMissing, read_bytes
 from plantbal.output import Output, parse_report, verdict_frame
 from plantbal.report import parse_rows
 from plantbal.session import Session
@@ -204,6 +204,7 @@ def check(
     *,
     program: str | Path | None = None,
     timeout: float | None = None,
+    source: str = "the report",
 ) -> pandas.DataFrame:
     """Check the blocks of a report by their own numbers.
 
@@ -213,6 +214,8 @@ def check(
         An output, its bytes in CSV or JSON lines, or a file.
     program, timeout : optional
         As in `run`.
+    source : str
+        What bytes are called in what is said.
 
     Returns
     -------
@@ -231,11 +234,15 @@ def check(
     elif isinstance(report, bytes):
         data = report
     else:
-        data = read_bytes(report)[1]
+        source, data = read_bytes(report)
     if data.lstrip().startswith(b"{"):
-        data = parse_report(data.decode("utf-8")).to_csv().encode("utf-8")
+        data = parse_report(data.decode("utf-8"), source).to_csv().encode("utf-8")
     _, text = call(["check"], data, program=program, timeout=timeout)
     frame = verdict_frame(parse_rows("the check", text.decode("utf-8")))
     if not len(frame):
-        raise Fault("there is no block to check", remedy="ask for a report in the session")
+        raise InputFault(
+            "there is no block to check",
+            place=Place(file=source),
+            remedy="ask for a report in the session",
+        )
     return frame

@@ -19,6 +19,8 @@ from plantbal.schema import Row, schema
 _POWER = re.compile(r"(?<=,)-?[0-9]+(?:\.[0-9]+)?[eE]\+[0-9]+(?=[,\r\n])")
 # A row by its columns; `row` has its kind. A stream of an older report lacks its least bounds.
 Values = dict[str, str]
+_AS_WRITTEN = "give the file as plantbal wrote it: this one was cut off, or edited"
+_OF_CHECKS = ("yes", "no", "unreadable")
 
 
 def _row_of(source: str, line: int, fields: list[str]) -> Values:
@@ -27,7 +29,7 @@ def _row_of(source: str, line: int, fields: list[str]) -> Values:
     row = schema().output.get(kind)
     if row is None:
         raise InputFault(
-            f"plantbal writes no row of the kind {kind!r}",
+            f"plantbal writes no row of the kind {kind[:40]!r}",
             place=Place(file=source, line=line, column=1),
             text=kind,
             remedy=_instead(kind),
@@ -43,6 +45,7 @@ def _row_of(source: str, line: int, fields: list[str]) -> Values:
                 f"a {kind} row has {len(names) + 1} columns, this one has {len(values) + 1}",
                 place=Place(file=source, line=line),
                 text=",".join(fields)[:200],
+                remedy=_of_columns(values, len(names)),
             )
     made = dict(zip(names, values))
     made["row"] = kind
@@ -55,7 +58,18 @@ def _instead(kind: str) -> str:
         return "this is a session: run it first"
     if ";" in kind or "\t" in kind:
         return "save it with commas between fields"
-    return ""
+    if kind.startswith("["):
+        return "write an object a line: jq -c '.[]'"
+    if kind.startswith("PK"):
+        return "this is a workbook: save the sheet as CSV"
+    return "give what `plantbal run` wrote"
+
+
+def _of_columns(values: list[str], wanted: int) -> str:
+    """Return what to do about a row with too many columns, or too few."""
+    if len(values) > wanted and not any(values[wanted:]):
+        return "a spreadsheet put commas at the ends of rows: give the file as plantbal wrote it"
+    return "give the file as plantbal wrote it: this one was cut off, or edited"
 
 
 def _row_of_json(source: str, line: int, text: str) -> Values:
@@ -66,19 +80,28 @@ def _row_of_json(source: str, line: int, text: str) -> Values:
     except ValueError as error:
         column = getattr(error, "colno", 1)
         place = Place(file=source, line=line, column=column)
-        raise InputFault(f"no JSON object: {error}", place=place, text=text[:200]) from error
+        raise InputFault(
+            f"no JSON object: {error}", place=place, text=text[:200], remedy=_AS_WRITTEN
+        ) from error
     kind = found.get("row") if isinstance(found, dict) else None
     row = schema().output.get(kind) if isinstance(kind, str) else None
     if row is None:
-        raise InputFault(f'no row of plantbal: its "row" is {kind!r}', place=place, text=text[:200])
+        raise InputFault(
+            f'no row of plantbal: its "row" is {kind!r}',
+            place=place,
+            text=text[:200],
+            remedy="give what `plantbal run --format json` wrote",
+        )
     keys = sorted(found)
     if keys != sorted([*row.names, "row"]) and not (
         row.without and keys == sorted([*row.older, "row"])
     ):
         wanted = ", ".join([*row.names, "row"])
-        raise InputFault(f"the keys of the row {kind} are {wanted}", place=place, text=text[:200])
+        said = f"the keys of the row {kind} are {wanted}"
+        raise InputFault(said, place=place, text=text[:200], remedy=_AS_WRITTEN)
     if not all(isinstance(value, str) for value in found.values()):
-        raise InputFault("a value is no text", place=place, text=text[:200])
+        said = "a value is no text"
+        raise InputFault(said, place=place, text=text[:200], remedy=_AS_WRITTEN)
     values: Values = found
     return values
 
@@ -125,9 +148,86 @@ def parse_rows(source: str, text: str) -> list[Values]:
     return found
 
 
-def read_rows(path: str | Path) -> list[Values]:
-    """Return the rows of a file, or of standard input where the path is ``-``."""
-    return parse_rows(*read_text(path))
+def read_rows(path: str | Path, *wanted: str) -> list[Values]:
+    """Return the rows of an output; ``-`` is standard input.
+
+    Parameters
+    ----------
+    path : str or Path
+        The file.
+    *wanted : str
+        Kinds of rows, such as ``report``, of which one at least has to be there.
+
+    Raises
+    ------
+    InputFault
+        If it can't be read, isn't whole, or has no such row.
+    """
+    source, text = read_text(path)
+    rows = parse_rows(source, text)
+    refuse_parts(source, rows)
+    if wanted and not any(row["row"] in wanted for row in rows):
+        raise InputFault(
+            f"there is no {' and no '.join(wanted)} in it",
+            place=Place(file=source),
+            remedy="ask for one in the session, by a row such as report,PERIOD",
+        )
+    return rows
+
+
+def refuse_other(source: str, text: str) -> None:
+    """Refuse what is no report by its first row: a session, another form, what a check said.
+
+    Raises
+    ------
+    InputFault
+        If it is to be refused, or is empty.
+    """
+    first = next(filter(None, csv.reader(io.StringIO(text, newline=""))), None)
+    if first is None:
+        refuse_parts(source, [])
+    elif first[0] in _OF_CHECKS:
+        refuse_parts(source, [{"row": first[0]}])
+    elif first[0] not in schema().output:
+        _row_of(source, 1, first)
+
+
+def refuse_parts(source: str, rows: list[Values], *, checks: bool = False) -> None:
+    """Refuse an output that is empty or cut off, or is a check's where this isn't meant.
+
+    Parameters
+    ----------
+    source : str
+        What it is called.
+    rows : list of dict
+        Its rows.
+    checks : bool
+        Whether it may be what a check said.
+
+    Raises
+    ------
+    InputFault
+        If it is to be refused.
+    """
+    place = Place(file=source)
+    if not rows:
+        raise InputFault(
+            "it is empty",
+            place=place,
+            remedy="run a session that asks for a report, by a row report,PERIOD",
+        )
+    if not checks and any(row["row"] in _OF_CHECKS for row in rows):
+        raise InputFault(
+            "this is what a check said", place=place, remedy="give the report that was checked"
+        )
+    cut = [block.title for block in blocks_of(rows) if not block.ended or block.solved is None]
+    cut = [f"the report of {title}" for title in cut]
+    designs = [row for row in rows if row["row"] == "design"]
+    classes = sum(row["row"] == "class" for row in rows)
+    if classes < sum(int(row["streams"]) for row in designs):
+        cut.append("the design")
+    if cut:
+        raise InputFault(f"{cut[0]} is cut off", place=place, remedy="run the session again")
 
 
 def fields_of(values: Values) -> list[str]:

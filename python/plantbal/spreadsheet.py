@@ -3,6 +3,7 @@
 from __future__ import annotations
 
 import argparse
+import calendar
 import csv
 import datetime
 import io
@@ -11,12 +12,14 @@ import re
 import sys
 from dataclasses import dataclass, field
 from fractions import Fraction
+from itertools import groupby
 
 from plantbal.amounts import GRAMS_A_TONNE
 from plantbal.faults import InputFault, Place, read_text
 from plantbal.files import write_text
 from plantbal.lint import brief, lint_session
 from plantbal.schema import schema
+from plantbal.session import rows_of_kind
 
 HELP = """
 READINGS is a CSV file with a row a day: the day in the first column, then a column for each tag, in
@@ -31,7 +34,9 @@ TAGS is a CSV file with the heads tag,stream,from,to,error and, where it is want
 
 Fields are parted by commas, semicolons or tabs, whichever the first line has. Tonnes become grams
 exactly; more than six decimals are refused. Each month of READINGS becomes a period from its first to
-its last row, and a report. What is missing is said on standard error, and how many warnings lint has.
+its last row, and a report. What is missing is said on standard error, days at the ends of a month too, and
+how many warnings lint has. No session is written if a unit would have nothing coming in, or nothing going
+out: mostly its name is mistyped.
 
 examples:
   plantbal-desk from-spreadsheet tags.csv readings.csv > session.csv
@@ -43,6 +48,7 @@ _MOST_VARIANCE = schema().limits["most_row_variance"]
 # A reading's id is its tag, an underscore and its day.
 _MOST_TAG = schema().limits["most_name"] - len("_2024-04-01")
 _MARKS = {"point": ".", "comma": ","}
+_THOUSANDS = re.compile("-?[0-9]{1,3}([.,'\u2019 \u00a0\u202f][0-9]{3})+([.,][0-9]+)?")
 
 
 @dataclass(frozen=True, slots=True)
@@ -88,7 +94,9 @@ class Sheet:
         rows = [(reader.line_num, [cell.strip() for cell in row]) for row in reader]
         rows = [(line, row) for line, row in rows if any(row)]
         if not rows:
-            raise InputFault("there is no row", place=Place(file=path))
+            raise InputFault(
+                "there is no row", place=Place(file=path), remedy="write heads and rows into it"
+            )
         self.heads, self.rows = rows[0][1], rows[1:]
         while self.heads and not self.heads[-1]:
             self.heads.pop()
@@ -117,7 +125,15 @@ def why_not(text: str, mark: str) -> str:
     """Return what to do about a field that is no number."""
     names = {value: key for key, value in _MARKS.items()}
     other = {".": ",", ",": "."}[mark]
-    if read_decimal(text, other) is not None:
+    is_other = read_decimal(text, other) is not None
+    if _THOUSANDS.fullmatch(text):
+        return (
+            f"{text!r} has marks between thousands"
+            + (f", or a decimal {names[other]}" if is_other else "")
+            + ": take these marks out, or let plantbal-desk convert read the sheet"
+            + (f"; if they are decimal, say --decimal {names[other]}" if is_other else "")
+        )
+    if is_other:
         return f"{text!r} has a decimal {names[other]}: say --decimal {names[other]}"
     return (
         f"{text!r} is no figure: digits with at most one decimal {names[mark]}; "
@@ -169,8 +185,11 @@ class TagSheet:
         self.places = {head.lower(): place for place, head in enumerate(self.sheet.heads)}
         for head in ("tag", "stream", "from", "to", "error"):
             if head not in self.places:
-                what = f"there is no column {head!r}"
-                raise InputFault(what, place=Place(file=self.sheet.path, line=1))
+                raise InputFault(
+                    f"there is no column {head!r}",
+                    place=Place(file=self.sheet.path, line=1),
+                    remedy="give the table of tags first, with the heads tag,stream,from,to,error",
+                )
 
     def tags(self) -> list[Tag]:
         """Return the rows, of which no two have one tag or one stream."""
@@ -262,8 +281,11 @@ class ReadingSheet:
             self.columns[head] = column
         for tag in self.tags:
             if tag not in self.columns:
-                what = f"there is no column for the tag {tag}"
-                raise InputFault(what, place=Place(file=self.sheet.path, line=1))
+                raise InputFault(
+                    f"there is no column for the tag {tag}",
+                    place=Place(file=self.sheet.path, line=1),
+                    remedy="give the daily readings second, with the tags as heads",
+                )
 
     def days(self) -> Days:
         """Return the days in order."""
@@ -320,8 +342,17 @@ class ReadingSheet:
 
 def read_before(path: str) -> tuple[list[list[str]], set[str]]:
     """Return the rows of a file of further rows, and the units and tanks that they declare."""
-    _, text = read_text(path)
-    rows = [row for row in csv.reader(io.StringIO(text, newline="")) if any(row)]
+    source, text = read_text(path)
+    rows = []
+    reader = csv.reader(io.StringIO(text, newline=""))
+    for row in filter(any, reader):
+        if not rows_of_kind(row[0]):
+            raise InputFault(
+                f"a session has no row of the kind {row[0]!r}",
+                place=Place(file=source, line=reader.line_num),
+                remedy="write rows of a session there, with commas between fields",
+            )
+        rows.append(row)
     return rows, {row[1] for row in rows if row[0] in ("unit", "tank") and len(row) > 1}
 
 
@@ -374,6 +405,21 @@ def missing(tags: list[Tag], days: Days) -> list[str]:
     for one, other in zip(every, every[1:]):
         if one.month == other.month and other - one != datetime.timedelta(1):
             said.append(f"no row between {one} and {other}: no meter has a value in that month")
+    return said + short_months(days)
+
+
+def short_months(days: Days) -> list[str]:
+    """Return which months lack their first or their last days: their periods are shorter."""
+    said = []
+    for (year, month), some in groupby(days, key=lambda day: (day.year, day.month)):
+        rows = list(some)
+        first, last = rows[0], rows[-1]
+        end = calendar.monthrange(year, month)[1]
+        lacks = [f"its first {first.day - 1}"] if first.day > 1 else []
+        lacks += [f"its last {end - last.day}"] if last.day < end else []
+        if lacks:
+            what = f"the period {first:%Y-%m} goes from {first} to {last}"
+            said.append(f"{what}: days of the month lack, {' and '.join(lacks)}")
     return said
 
 
@@ -438,7 +484,17 @@ def run(options: argparse.Namespace) -> int:
     out = io.StringIO()
     csv.writer(out, lineterminator="\n").writerows(rows)
     text = out.getvalue()
-    looks_wrong = brief(lint_session(text.encode()))
+    findings = lint_session(text.encode())
+    wrong = [each for each in findings if each.code in ("one-sided", "near-names")]
+    if any(each.code == "one-sided" for each in wrong):
+        for each in wrong:
+            print(f"{options.prog}: {options.tags}: {each.text}: {each.remedy}", file=sys.stderr)
+        raise InputFault(
+            "a unit's flows would be 0, and no session is written",
+            place=Place(file=options.tags),
+            remedy="mend the ends of its streams",
+        )
+    looks_wrong = brief(findings)
     if looks_wrong:
         said = f"lint of the session: {looks_wrong} (plantbal-desk lint SESSION says more)"
         print(f"{options.prog}: {said}", file=sys.stderr)

@@ -125,7 +125,7 @@ def add_arguments(parser: argparse.ArgumentParser) -> None:
 
 def run(options: argparse.Namespace) -> int:
     """Write the table."""
-    rows = read_rows(options.output)
+    rows = read_rows(options.output, "report")
     if options.what in ("suspects", "imbalance"):
         blocks = blocks_of(rows)
         lines = suspects(blocks) if options.what == "suspects" else imbalances(blocks)

@@ -12,8 +12,8 @@ from collections.abc import Iterable
 from typing import TYPE_CHECKING, Any
 
 from plantbal.amounts import tonnes_text
-from plantbal.faults import Fault, InputFault, ToolMissing
-from plantbal.output import Output, read_report
+from plantbal.faults import InputFault, ToolMissing
+from plantbal.output import Output, read_whole
 from plantbal.report import Block, Values
 from plantbal.solver import Labels, Plant, plant_of
 
@@ -355,9 +355,7 @@ def add_arguments(parser: argparse.ArgumentParser) -> None:
 
 def run(options: argparse.Namespace) -> int:
     """Write the table."""
-    output = read_report(options.output)
-    if not output.blocks_in_order:
-        raise Fault("there is no report in what was read")
+    output = read_whole(options.output, "report")
     table = last_of_each_period(output)
     if options.form == "csv":
         text = table.to_csv(index=False)

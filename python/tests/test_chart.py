@@ -113,7 +113,7 @@ def test_files(say: Desk, tmp_path: Path) -> None:
 
 
 FAULTY = [
-    ([], "", "there is no report in what was read"),
+    ([], "", "it is empty: run a session that asks for a report"),
     (["--out", "chart.doc", TESTED], "", "chart.doc ends with 'doc': say .svg, .png or .pdf"),
     (["--stream", "TAIL", TESTED], "", "there is no flow of TAIL to chart: mend --stream"),
 ]

@@ -1,14 +1,27 @@
-"""Twenty made sessions, one that is too large and one of another form: the same table by each engine."""
+"""Fleets: what each plant's row says, what is kept, and what a fleet that was stopped does next."""
 
 from __future__ import annotations
 
+import csv
+import io
+import json
+import os
+import re
+import signal
+import sqlite3
 import subprocess
+import time
+from collections.abc import Callable
+from contextlib import closing
 from pathlib import Path
 
 import pytest
-from conftest import TOP, Desk
+from conftest import TOP, Desk, example, text_of
+from mistakes import BASE, MISTAKES, Mistake
 
-from plantbal.fleet import HEADS
+from plantbal.fleet.keep import checksums
+from plantbal.fleet.rows import HEADS
+from plantbal.fleet.sites import sites
 
 SITE = """unit,U
 stream,FEED,env,U,metered,1
@@ -18,69 +31,483 @@ reading,f,FEED,2024-05-01,{},1999999999999
 reading,p,PRODUCT,2024-05-01,100000000,1999999999999
 report,may
 """
+NIGHT = "2026-11-29"
+Row = dict[str, str]
 
 
-@pytest.fixture(name="folder", scope="module")
-def fixture_folder(tmp_path_factory: pytest.TempPathFactory) -> Path:
-    """Twenty sites of one unit, the feed's meter k t high at site k, and one that is a byte too long."""
-    folder = tmp_path_factory.mktemp("sites")
-    for k in range(1, 21):
-        text = SITE.format((100 + k) * 1_000_000)
-        if k == 7:
-            text += "unit,V W\n"
-        (folder / f"site {k:02}.csv").write_text("unit,U\n" if k == 11 else text, encoding="ascii")
-    (folder / "site 21.csv").write_bytes(b"\n" * 67_108_865)
+def rows_of(text: str) -> list[Row]:
+    """The rows of a table."""
+    return list(csv.DictReader(io.StringIO(text)))
+
+
+def row_of(text: str, site: str) -> Row:
+    """The row of a site that has one."""
+    (row,) = [row for row in rows_of(text) if row["site"] == site]
+    return row
+
+
+def folder_of(folder: Path, sessions: dict[str, bytes]) -> Path:
+    """A folder of sessions."""
+    folder.mkdir()
+    for name, data in sessions.items():
+        (folder / name).write_bytes(data)
     return folder
 
 
-def table() -> str:
-    """Each statistic is (k t)^2 / (4 t^2), the sum of both variances, less what roundings leave open."""
-    lines = [",".join(HEADS)]
-    for k in range(1, 21):
-        low = k * k * 250 - 1
-        said = f"may,converged,{low // 1000}.{low % 1000:03},,{int(k == 7)},{int(k == 7)}"
-        lines.append(f"site {k:02}," + (",none,,,0,0" if k == 11 else said))
-    return "\n".join([*lines, "site 21,,TooLarge,,,,5"]) + "\n"
+@pytest.fixture(name="plants", scope="module")
+def fixture_plants(tmp_path_factory: pytest.TempPathFactory) -> Path:
+    """Twenty plants of one unit, the feed's meter k t high at plant k."""
+    sessions = {f"site {k:02}.csv": SITE.format((100 + k) * 1_000_000) for k in range(1, 21)}
+    sessions["site 07.csv"] += "unit,V W\n"
+    sessions["site 11.csv"] = "unit,U\n"
+    data = {name: text.encode() for name, text in sessions.items()}
+    return folder_of(tmp_path_factory.mktemp("plants") / "sessions", data)
+
+
+def wanted(k: int) -> tuple[str, ...]:
+    """The statistic is (k t)^2 / (4 t^2), the sum of both variances, less what roundings leave."""
+    if k == 11:
+        return "", "none", "", "0", "0"
+    low = k * k * 250 - 1
+    statistic = f"{low // 1000}.{low % 1000:03}"
+    return "may", "converged", statistic, str(int(k == 7)), str(int(k == 7))
+
+
+ENGINES = {
+    "parallel": [],
+    "dask": ["--engine", "dask"],
+    "dask with bytes": ["--send"],
+}
+
+
+@pytest.mark.parametrize("words", ENGINES.values(), ids=ENGINES)
+def test_engine(program: Path, plants: Path, tmp_path: Path, words: list[str]) -> None:
+    out = tmp_path / "out"
+    command = [TOP / "examples/fleet", "--program", program, "--jobs", "2", "--date", NIGHT, *words]
+    done = subprocess.run(
+        [*command, "--out", out, plants], capture_output=True, text=True, timeout=300, check=False
+    )
+    columns = ("period", "state", "statistic", "refused", "status")
+    found = {row["site"]: tuple(row[name] for name in columns) for row in rows_of(done.stdout)}
+    assert found == {f"site {k:02}": wanted(k) for k in range(1, 21)}, done.stderr
+    said = done.stderr.splitlines()
+    assert said[0].startswith("fleet: site 07: 1 row is refused: ") and "'V W'" in said[0]
+    assert "it asks for nothing; add a row report,PERIOD" in said[1]
+    assert said[2:] == [f"fleet: 20 plants, of which 2 want a person: {out / 'index.html'}"]
+    assert done.returncode == 1
+    kept = {path.relative_to(out / "site 01").as_posix() for path in out.glob("site 01/**/*")}
+    files = {f"{NIGHT}/{name}" for name in ("output.csv", "stderr.txt", "run.json")}
+    assert kept == {NIGHT, "latest"} | files
+    assert not list(out.rglob("*.part"))
+
+
+def test_too_large(program: Path, tmp_path: Path, say: Desk) -> None:
+    """A session that is a byte too long has a row, and no output that looks like one."""
+    folder = folder_of(tmp_path / "sessions", {"a.csv": b"\n" * 67_108_865})
+    out = tmp_path / "out"
+    found = say("fleet", "--program", program, "--out", out, "--date", NIGHT, folder)
+    row = row_of(found.out, "a")
+    assert (found.status, row["state"], row["status"]) == (1, "TooLarge", "5")
+    assert "fleet: a: the program ended with status 5, TooLarge; " in found.err
+    assert {path.name for path in out.glob("a/**/*")} == {NIGHT, "stderr.txt", "run.json"}
+
+
+def test_what_is_kept(program: Path, tmp_path: Path, say: Desk) -> None:
+    sessions = folder_of(tmp_path / "sessions", {"a b.csv": SITE.format(100_000_000).encode()})
+    out = tmp_path / "out"
+    words = ["fleet", "--program", program, "--out", out, sessions]
+    first = say(*words[:-1], "--date", "2026-11-28", sessions)
+    found = say(*words[:-1], "--date", NIGHT, sessions, "--", "run", "--tests")
+    assert (first.status, found.status) == (0, 0)
+    assert (out / "latest").readlink() == Path("nights", NIGHT)
+    assert (out / "a b" / "latest").readlink() == Path(NIGHT)
+    assert text_of(out / "latest" / "table.csv") == found.out
+    assert "measure,FEED" in text_of(out / "a b" / "latest" / "output.csv")
+    assert "measure" not in text_of(out / "a b" / "2026-11-28" / "output.csv")
+    kept = json.loads(text_of(out / "a b" / NIGHT / "run.json"))
+    assert (kept["words"], kept["status"]) == (["run", "--tests"], 0)
+    for sums in ("SHA256SUMS", "sessions.sha256"):
+        subprocess.run(["sha256sum", "--check", f"latest/{sums}"], cwd=out, check=True)
+    with closing(sqlite3.connect(out / "fleet.sqlite")) as base:
+        nights = base.execute("SELECT night, words, plants, wanting FROM nights").fetchall()
+        assert nights == [("2026-11-28", "run", 1, 0), (NIGHT, "run --tests", 1, 0)]
+        plants = base.execute("SELECT night, site, state, statistic, dof, critical FROM plants")
+        said = ("a b", "converged", 0.0, 1, None)
+        assert plants.fetchall() == [("2026-11-28", *said), (NIGHT, *said)]
+    page = text_of(out / "index.html")
+    assert "<h1>1 plant, of which none wants a person</h1>" in page
+    assert 'href="a%20b/2026-11-29/output.csv"' in page
+    assert page.count('title="2026-11-') == 2
+    # an older night changes no link
+    assert say(*words[:-1], "--date", "2026-11-27", sessions).status == 0
+    assert (out / "latest").readlink() == Path("nights", NIGHT)
+    assert (out / "a b" / "latest").readlink() == Path(NIGHT)
+
+
+def test_each_mistake(program: Path, tmp_path: Path, say: Desk) -> None:
+    """What is told by refused rows, by the global test or by lint is told by the plant's row."""
+    data = {f"{each.name}.csv": each.session() for each in MISTAKES}
+    sessions = folder_of(tmp_path / "sessions", {"00 base.csv": BASE, **data})
+    out = tmp_path / "out"
+    words = ["--program", program, "--lint", "--out", out, sessions, "--", "run", "--tests"]
+    found = say("fleet", *words)
+    assert found.status == 1
+    assert len(rows_of(found.out)) == len(MISTAKES) + 1 > 40
+    assert row_of(found.out, "00 base")["look"] == ""
+    for each in MISTAKES:
+        row = row_of(found.out, each.name)
+        check_mistake(each, row)
+        assert (f"plantbal-desk fleet: {each.name}" in found.err) == bool(
+            row["look"] or row["warnings"]
+        )
+    assert f"{len(MISTAKES) + 1} plants, of which" in found.err.splitlines()[-1]
+
+
+def check_mistake(mistake: Mistake, row: Row) -> None:
+    """What is said of a plant with a mistake."""
+    rejected = mistake.verdict == "reject"
+    assert (row["state"] == "none") == (mistake.verdict == "-"), row
+    assert row["verdict"] == mistake.verdict.replace("-", ""), row
+    assert bool(row["suspects"]) == (rejected and mistake.suspects and not mistake.refused), row
+    assert (row["refused"] != "0") == bool(mistake.refused), row
+    assert bool(row["first_refusal"]) == bool(mistake.refused), row
+    assert mistake.lint <= set(re.findall("[a-z-]+", row["warnings"])), row
+    wants = mistake.refused or mistake.verdict in ("reject", "-", "nocritical")
+    assert bool(row["look"]) == bool(wants), row
+
+
+OUTPUTS = {
+    "garbage": ("echo hello, world", "unreadable", "output.csv: line 1"),
+    "bytes": ("printf '\\377\\376'", "unreadable", "UTF-16"),
+    "cut": ("sed '$d' $CANNED", "unreadable", "its report is cut off"),
+    "usage": ("echo Usage >&2; exit 2", "Usage", "status 2, Usage; these words are no command"),
+    "memory": ("echo NoMemory >&2; exit 6", "NoMemory", "it ran out of memory"),
+    "other": ("echo no such luck >&2; exit 17", "ended", "status 17; no such luck"),
+    "killed": ("kill -9 $$", "ended", "status 137; signal 9 stopped it"),
+    "late": ("exec sleep 60", "timeout", "stopped by the time limit"),
+}
 
 
 @pytest.mark.parametrize("engine", ["parallel", "dask"])
-def test_engine(program: Path, folder: Path, tmp_path: Path, engine: str) -> None:
-    command = [TOP / "examples/fleet", "--program", program, "--engine", engine, "--jobs", "2"]
-    done = subprocess.run(
-        [*command, "--out", tmp_path / "out", folder],
-        capture_output=True,
-        text=True,
-        timeout=300,
-        check=False,
-    )
-    assert done.stdout == table(), done.stderr
-    assert "fleet: site 07: 1 row is refused: " in done.stderr and "'V W'" in done.stderr
-    assert done.returncode == 1
-    ends = {path.suffix for path in (tmp_path / "out").iterdir()}
-    assert ends == {".out", ".err"}
+def test_outputs(tmp_path: Path, say: Desk, monkeypatch: pytest.MonkeyPatch, engine: str) -> None:
+    """An output that can't be read is a row, and so is each end of the program but its own."""
+    monkeypatch.setenv("CANNED", str(example("refinery_day.out.csv")))
+    cases = "".join(f"{name}) {made} ;;\n" for name, (made, _, _) in OUTPUTS.items())
+    program = tmp_path / "stub"
+    program.write_text(f'#!/bin/sh\nread case\ncase $case in\n{cases}*) cat "$CANNED";;\nesac\n')
+    program.chmod(0o755)
+    sessions = {f"{name}.csv": f"{name}\n".encode() for name in [*OUTPUTS, "good"]}
+    folder = folder_of(tmp_path / "sessions", sessions)
+    words = ["fleet", "--program", program, "--timeout", "3", "--jobs", "4", "--engine", engine]
+    found = say(*words, "--out", tmp_path / "out", folder)
+    assert found.status == 1
+    assert row_of(found.out, "good")["look"] == ""
+    for name, (_, state, said) in OUTPUTS.items():
+        row = row_of(found.out, name)
+        assert (row["state"], said in row["look"]) == (state, True), row
+    assert f"{len(OUTPUTS) + 1} plants, of which {len(OUTPUTS)} want" in found.err
+
+
+def test_tries_again(tmp_path: Path, say: Desk) -> None:
+    """A plant that fails once is tried again, if more tries are allowed."""
+    program = tmp_path / "stub"
+    canned = example("refinery_day.out.csv")
+    text = f"#!/bin/sh\ncd {tmp_path}\n[ -e tried ] || {{ >tried; exit 6; }}\ncat {canned}\n"
+    program.write_text(text)
+    program.chmod(0o755)
+    folder = folder_of(tmp_path / "sessions", {"a.csv": b"unit,U\n"})
+    for engine in ("parallel", "dask"):
+        words = ["fleet", "--engine", engine, "--program", program, "--out", tmp_path / engine]
+        (tmp_path / "tried").unlink(missing_ok=True)
+        assert row_of(say(*words, folder).out, "a")["state"] == "NoMemory"
+        (tmp_path / "tried").unlink()
+        found = say(*words, "--retries", 2, folder)
+        assert row_of(found.out, "a")["state"] == "converged", found.err
+
+
+def test_cluster(
+    forty: tuple[Path, Path, list[object]], say: Desk, monkeypatch: pytest.MonkeyPatch
+) -> None:
+    """A machine of a cluster needs nothing of this package; one that sees no folder gets bytes."""
+    distributed = pytest.importorskip("distributed")
+    _, out, words = forty
+    some_of(words, 10)
+    plain = {name: value for name, value in os.environ.items() if name != "PYTHONPATH"}
+    with distributed.LocalCluster(
+        n_workers=0, processes=False, protocol="tcp", dashboard_address=None
+    ) as cluster:
+        monkeypatch.setattr("plantbal.fleet.by_dask._ANSWERS", 1)
+        words = ["fleet", "--scheduler", cluster.scheduler_address, *words]
+        assert "has no machine: start `dask-worker`" in say(*words).err
+        monkeypatch.setattr("plantbal.fleet.by_dask._ANSWERS", 30)
+        worker = ["dask-worker", "--no-nanny", "--no-dashboard", "--nthreads", "8"]
+        with subprocess.Popen(
+            [*worker, cluster.scheduler_address], cwd="/", env=plain, stderr=subprocess.DEVNULL
+        ) as machine:
+            shared, sent = say(*words), say(*words, "--again", "--send")
+            machine.kill()
+    assert (shared.status, sent.status) == (0, 0), shared.err + sent.err
+    assert len(rows_of(shared.out)) == len(rows_of(sent.out)) == 10
+    assert shared.err == sent.err
+    assert len(list(out.glob("*/latest/output.csv"))) == 10
+
+
+STUB = """#!/bin/sh
+read site
+echo "$site" >>{log}
+sleep 0.1
+cat {canned}
+"""
+
+
+@pytest.fixture(name="forty")
+def fixture_forty(tmp_path: Path) -> tuple[Path, Path, list[object]]:
+    """Forty plants, a program that logs which it runs, and the words that run them."""
+    log, program = tmp_path / "log", tmp_path / "stub"
+    program.write_text(STUB.format(log=log, canned=example("refinery_day.out.csv")))
+    program.chmod(0o755)
+    data = {f"{k:02}.csv": f"{k:02}\n".encode() for k in range(40)}
+    folder = folder_of(tmp_path / "sessions", data)
+    out = tmp_path / "out"
+    words = ["--program", program, "--jobs", 2, "--date", NIGHT, "--out", out, folder]
+    return log, out, words
+
+
+def some_of(words: list[object], count: int) -> Path:
+    """The folder of the forty, of which only the first ones are left."""
+    folder = Path(str(words[-1]))
+    for path in sorted(folder.iterdir())[count:]:
+        path.unlink()
+    return folder
+
+
+def wait_for(what: Callable[[], bool]) -> None:
+    """Wait until something is so."""
+    end = time.monotonic() + 60
+    while not what():
+        assert time.monotonic() < end
+        time.sleep(0.02)
+
+
+STOPS = [("parallel", by) for by in (signal.SIGINT, signal.SIGTERM, signal.SIGKILL)]
+
+
+@pytest.mark.parametrize("engine, by", [*STOPS, ("dask", signal.SIGINT)])
+def test_stopped(
+    forty: tuple[Path, Path, list[object]], say: Desk, engine: str, by: signal.Signals
+) -> None:
+    """What has its output isn't run again, and nothing looks whole that isn't."""
+    log, out, words = forty
+    words = ["--engine", engine, *words]
+    command = [str(word) for word in [TOP / "examples/fleet", *words]]
+    with subprocess.Popen(
+        command, stdout=subprocess.PIPE, stderr=subprocess.PIPE, start_new_session=True
+    ) as fleet:
+        wait_for(lambda: len(list(out.glob("*/latest"))) >= 8)
+        if by == signal.SIGTERM:
+            fleet.send_signal(by)
+        else:
+            os.killpg(fleet.pid, by)
+        said = fleet.communicate(timeout=60)[1].decode()
+    done = {path.parent.parent.name for path in out.glob(f"*/{NIGHT}/output.csv")}
+    assert 8 <= len(done) < 40
+    if by != signal.SIGKILL:
+        assert fleet.returncode == 130
+        assert f"the same words with --date {NIGHT} run the others" in said
+        assert "Traceback" not in said and not list(out.rglob("*.part"))
+    assert not (out / "latest").exists()
+    wait_for(lambda: subprocess.run(["flock", "-n", out / ".lock", "true"]).returncode == 0)
+    log.write_text("")
+    found = say("fleet", *words)
+    assert found.status == 0, found.err
+    ran = set(log.read_text().split())
+    assert ran == {f"{k:02}" for k in range(40)} - done
+    assert len(rows_of(found.out)) == 40
+    log.write_text("")
+    assert say("fleet", *words).out == found.out
+    assert log.read_text() == ""
+
+
+def test_changed(forty: tuple[Path, Path, list[object]], say: Desk) -> None:
+    """A session that is changed, comes or goes, and an output that is lost, count as such."""
+    log, out, words = forty
+    folder = some_of(words, 15)
+    words = [*words, "--jobs", 8]
+    assert say("fleet", *words).status == 0
+    log.write_text("")
+    (folder / "03.csv").write_text("03\n\n")
+    (folder / "035.csv").write_text("035\n")
+    (folder / "10.csv").unlink()
+    (out / "11" / NIGHT / "output.csv").unlink()
+    (out / "12" / NIGHT / "output.csv").write_text("hello")
+    assert len(rows_of(say("fleet", *words).out)) == 15
+    assert sorted(log.read_text().split()) == ["03", "035", "11", "12"]
+    log.write_text("")
+    say("fleet", "--again", *words)
+    assert len(log.read_text().split()) == 15
+    log.write_text("")
+    say("fleet", *words, "--", "run", "--tests")
+    assert len(log.read_text().split()) == 15
+
+
+def test_changed_meanwhile(tmp_path: Path, say: Desk) -> None:
+    program = tmp_path / "stub"
+    folder = folder_of(tmp_path / "sessions", {"a.csv": b"unit,U\n"})
+    canned = example("refinery_day.out.csv")
+    program.write_text(f"#!/bin/sh\necho >>{folder}/a.csv\ncat {canned}\n")
+    program.chmod(0o755)
+    found = say("fleet", "--program", program, "--out", tmp_path / "out", folder)
+    assert found.status == 1 and "its session was changed while it ran" in found.err
+
+
+def test_alone(forty: tuple[Path, Path, list[object]], say: Desk) -> None:
+    _, out, words = forty
+    out.mkdir()
+    with subprocess.Popen(["flock", out / ".lock", "sleep", "60"]) as other:
+        wait_for(lambda: subprocess.run(["flock", "-n", out / ".lock", "true"]).returncode != 0)
+        found = say("fleet", *words)
+        other.kill()
+    assert found.status == 1 and "a fleet is writing to" in found.err and "wait until" in found.err
+
+
+def test_which_files(tmp_path: Path) -> None:
+    """No file and no folder is passed over without a word, but hidden ones."""
+    names = ["a.csv", "B.CSV", "c.Csv", ".d.csv", "e.txt", "f.csv.part", "april.xlsx"]
+    folder = folder_of(tmp_path / "sessions", {name: b"" for name in names})
+    folder_of(folder / "north", {"a.csv": b"", "g.csv": b""})
+    folder_of(folder / "none", {})
+    folder_of(folder / "nights of last year", {"h.csv": b""})
+    folder_of(folder / "out", {"i.csv": b""})
+    out = folder / "out"
+    chosen = sites(folder, out=out)
+    assert [site.name for site in chosen.sites] == ["B", "a", "c"]
+    assert chosen.left == [
+        f"{folder}/nights of last year: this folder has a session, which isn't run: say "
+        "--recursive for it too",
+        f"{folder}/north: this folder has 2 sessions, which aren't run: say --recursive for them "
+        "too",
+        f"{folder}: 3 files aren't run, since a session's name ends with .csv: april.xlsx, e.txt, "
+        "f.csv.part",
+    ]
+    chosen = sites(folder, recursive=True, out=out)
+    wanted = ["B", "a", "c", "nights of last year/h", "north/a", "north/g"]
+    assert [site.name for site in chosen.sites] == wanted
+    assert len(chosen.left) == 1
+
+
+def test_folders_inside(tmp_path: Path, program: Path, say: Desk) -> None:
+    folder = folder_of(tmp_path / "sessions", {"a.csv": SITE.format(100_000_000).encode()})
+    folder_of(folder / "north", {"a.csv": SITE.format(100_000_000).encode()})
+    out = tmp_path / "out"
+    found = say("fleet", "--recursive", "--program", program, "--out", out, folder)
+    assert [row["site"] for row in rows_of(found.out)] == ["a", "north/a"]
+    assert (out / "north" / "a" / "latest" / "output.csv").exists()
+
+
+ODD = ["-n", "a {2} b", "it's", '"quoted"', "$HOME", "`id`", "Dürnkrut", "a;b", "50%", "x\\y", "#"]
+
+
+def test_odd_names(program: Path, tmp_path: Path, say: Desk) -> None:
+    """Names may have whatever a shell, a table or a page would take for its own."""
+    data = SITE.format(100_000_000).encode()
+    folder = folder_of(tmp_path / "the sessions", {f"{name}.csv": data for name in ODD})
+    out = tmp_path / "the nights"
+    found = say("fleet", "--program", program, "--out", out, folder)
+    assert found.status == 0, found.err
+    assert [row["site"] for row in rows_of(found.out)] == sorted(ODD)
+    subprocess.run(["sha256sum", "--quiet", "--check", "latest/SHA256SUMS"], cwd=out, check=True)
+    assert "&#34;quoted&#34;" in text_of(out / "index.html")
+
+
+NAMES = {
+    "nights.csv": "the name nights is one of the nights' own: rename it",
+    "latest.csv": "the name latest is one of the nights' own: rename it",
+    "2026-11-29.csv": "the name 2026-11-29 is one of the nights' own: rename it",
+    "two\nlines.csv": "its name has other characters than letters, digits, signs and spaces",
+    os.fsdecode(b"\xff.csv"): "its name has other characters",
+    "a.CSV": "it would be the same plant as a.CSV: rename one of them",
+}
+
+
+@pytest.mark.parametrize("name, said", NAMES.items(), ids=NAMES)
+def test_names(tmp_path: Path, program: Path, say: Desk, name: str, said: str) -> None:
+    folder = folder_of(tmp_path / "sessions", {"a.csv": b"", name: b""})
+    found = say("fleet", "--program", program, "--out", tmp_path / "out", folder)
+    assert found.status == 1 and said in found.err
+    assert not (tmp_path / "out").exists()
+
+
+def test_check(program: Path, tmp_path: Path, say: Desk) -> None:
+    """Reports of another program are checked plant by plant."""
+    good = text_of(example("refinery_day.out.csv"))
+    bad = good.replace("1180680924", "1180680925", 1)
+    data = {"good.csv": good.encode(), "bad.csv": bad.encode(), "cut.csv": b"hello\n"}
+    folder = folder_of(tmp_path / "reports", data)
+    found = say("fleet", "--program", program, "--out", tmp_path / "out", folder, "--", "check")
+    states = {row["site"]: row["state"] for row in rows_of(found.out)}
+    assert states == {"good": "yes", "bad": "no", "cut": "unreadable"}
+    assert found.status == 1 and "bad, may1: the check says no: " in found.err
+    assert row_of(found.out, "good")["look"] == ""
 
 
 def test_words(program: Path, tmp_path: Path, say: Desk) -> None:
-    """Words after a lone -- are the program's; an output that is no report has a row of its own."""
-    (tmp_path / "sites").mkdir()
-    (tmp_path / "sites" / "a.csv").write_text(SITE.format(100_000_000), encoding="ascii")
-    words = ["fleet", "--program", program, "--out", tmp_path / "out", tmp_path / "sites", "--"]
-    found = say(*words, "run", "--tests")
-    assert (found.status, found.out.splitlines()[1]) == (0, "a,may,converged,0.000,,0,0")
-    assert "measure,FEED" in (tmp_path / "out" / "a.out").read_text(encoding="ascii")
+    """JSON lines keep their ending; a session of the program's is no report."""
+    folder = folder_of(tmp_path / "sessions", {"a.csv": SITE.format(100_000_000).encode()})
+    words = ["fleet", "--program", program, "--out", tmp_path / "out", folder, "--"]
+    found = say(*words, "run", "--format=json")
+    assert (found.status, row_of(found.out, "a")["state"]) == (0, "converged")
+    assert (tmp_path / "out" / "a" / "latest" / "output.jsonl").exists()
     found = say(*words, "make", "--streams", 3)
-    assert (found.status, found.out.splitlines()[1]) == (1, "a,,unreadable,,,,0")
-    assert "a.out: line 1" in found.err
+    assert (found.status, row_of(found.out, "a")["state"]) == (1, "unreadable")
 
 
-def test_mistakes(tmp_path: Path, program: Path, say: Desk) -> None:
-    (tmp_path / "none").mkdir()
-    out = ["--out", tmp_path / "out"]
-    found = say("fleet", "--program", program, *out, tmp_path / "none")
-    assert found.status == 1 and "there is no session" in found.err
-    found = say("fleet", "--program", program, *out, tmp_path / "nowhere")
-    assert found.status == 1 and "No such file" in found.err
-    (tmp_path / "none" / "only.csv").write_text("unit,U\n", encoding="ascii")
-    found = say("fleet", "--program", tmp_path / "nowhere", *out, tmp_path / "none")
-    assert found.out == ",".join(HEADS) + "\nonly,,ended,,,,127\n"
-    assert found.status == 1
+WRONG = {
+    "no folder": ({"folder": "nowhere"}, 1, "nowhere: No such file or directory"),
+    "no session": ({"folder": "none"}, 1, "there is no session, no file that ends with .csv"),
+    "a file": ({"folder": "file"}, 1, "file: Not a directory"),
+    "no program": ({"--program": "nowhere"}, 1, "there is no program"),
+    "no parallel": ({"PATH": "none"}, 1, "there is no `parallel`: install GNU parallel"),
+    "out is a file": ({"--out": "file"}, 1, "file: "),
+    "no database": ({"--out": "kept"}, 1, "fleet.sqlite: the nights can't be kept there: file is"),
+    "no cluster": ({"--scheduler": "tcp://127.0.0.1:9"}, 1, "tcp://127.0.0.1:9 doesn't answer"),
+    "jobs": ({"--jobs": "0"}, 2, "'0' is no number from 1 on"),
+    "date": ({"--date": "yesterday"}, 2, "'yesterday' is no night: write 2026-11-29"),
+    "timeout": ({"--timeout": "soon"}, 2, "'soon' is no number of seconds: write 600"),
+    "words": ({"--engine": "parallel", "--send": None}, 2, "--send are words for dask"),
+    "unknown": ({"--night": "1"}, 2, "unrecognized arguments: --night"),
+}
+
+
+@pytest.mark.parametrize("what, status, said", WRONG.values(), ids=WRONG)
+def test_wrong(
+    tmp_path: Path,
+    program: Path,
+    say: Desk,
+    monkeypatch: pytest.MonkeyPatch,
+    what: dict[str, str | None],
+    status: int,
+    said: str,
+) -> None:
+    monkeypatch.setattr("plantbal.fleet.by_dask._ANSWERS", 1)
+    folder_of(tmp_path / "good", {"a.csv": SITE.format(100_000_000).encode()})
+    folder_of(tmp_path / "none", {})
+    folder_of(tmp_path / "kept", {"fleet.sqlite": b"hello, world\n" * 100})
+    (tmp_path / "file").write_text("hello")
+    words = {"--program": str(program), "--out": str(tmp_path / "out"), "folder": "good", **what}
+    if path := words.pop("PATH", None):
+        monkeypatch.setenv("PATH", str(tmp_path / path))
+    folder = words.pop("folder")
+    monkeypatch.chdir(tmp_path)
+    options = [word for pair in words.items() for word in pair if word is not None]
+    found = say("fleet", *options, folder)
+    assert (found.status, said in found.err, found.out) == (status, True, ""), found.err
+    assert "Traceback" not in found.err
+
+
+def test_checksums_of_any_name() -> None:
+    text = checksums([("0" * 64, Path("a\nb\\c")), ("1" * 64, Path("plain"))])
+    assert text == f"\\{'0' * 64}  a\\nb\\\\c\n{'1' * 64}  plain\n"
+
+
+def test_heads_are_in_the_help(say: Desk) -> None:
+    assert ",".join(HEADS) in "".join(say("fleet", "--help").out.split())

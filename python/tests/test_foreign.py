@@ -79,7 +79,7 @@ def test_change(program: Path, say: Desk) -> None:
     [
         (["--change", "F7", "1"], "there is no stream F7"),
         (["--change", "F3", "1.5"], "'1.5' is no whole number of grams"),
-        (["--period", "day3"], "there is no report of this period"),
+        (["--period", "day3"], "there is no report of day3: there are "),
     ],
 )
 def test_mistakes(say: Desk, words: list[str], said: str) -> None:

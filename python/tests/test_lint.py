@@ -13,11 +13,13 @@ from hypothesis import strategies as st
 from mistakes import BASE, MISTAKES, Mistake
 
 import plantbal
-from plantbal.fleet import say_lint, sites
+from plantbal.fleet.command import lint_plants
+from plantbal.fleet.rows import Plant, Row
+from plantbal.fleet.sites import sites
 from plantbal.lint import brief, lint_session, summary
 from plantbal.lintrules import RULES, SEVERITIES, near_pairs, one_letter_apart
 from plantbal.program import call
-from plantbal.report import Block, blocks_of, parse_rows, read_rows
+from plantbal.report import Block, blocks_of, parse_rows
 from plantbal.session import LIMITS
 from plantbal.topology import Arc, classes_of, degrees_of_freedom
 
@@ -371,7 +373,7 @@ def test_near_pairs(names: list[str]) -> None:
 def reports() -> Iterator[Block]:
     for path in sorted(TOP.glob("examples/**/*.out.csv")):
         if example("conformance") not in path.parents:
-            yield from blocks_of(read_rows(path))
+            yield from blocks_of(parse_rows(str(path), path.read_text(encoding="utf-8")))
 
 
 def test_classes_are_those_of_the_program() -> None:
@@ -499,11 +501,14 @@ def test_page(say: Desk, tmp_path: Path) -> None:
     assert "<h2>What looks wrong</h2>" not in page
 
 
-def test_fleet(tmp_path: Path, capsys: pytest.CaptureFixture[str]) -> None:
+def test_fleet(tmp_path: Path) -> None:
     (tmp_path / "good.csv").write_text(GOOD, encoding="ascii")
     (tmp_path / "bad.csv").write_text(changed("report,d1\n", ""), encoding="ascii")
-    say_lint("fleet", sites(tmp_path))
-    assert capsys.readouterr().err == "fleet: bad: 1 error: nothing-asked\n"
+    chosen = sites(tmp_path).sites
+    plants = [Plant(site.name, [Row(site.name)]) for site in chosen]
+    lint_plants(plants, chosen)
+    found = {plant.site: plant.rows[0].warnings for plant in plants}
+    assert found == {"bad": "1 error: nothing-asked", "good": ""}
 
 
 @settings(deadline=None, max_examples=60)

@@ -38,7 +38,7 @@ def test_svg(say: Desk) -> None:
 FAULTY = [
     (["--mark", "GAS", REFINERY], "", "there is no stream GAS in may1"),
     (["--period", "may2", REFINERY], "", "there is no report of this period"),
-    ([], "", "neither a report nor a design"),
+    ([], "", "it is empty: run a session that asks for a report"),
     ([], "report,p,0,1,0,10,5000\nnode,env\n", "line 2: a node row has 3 columns, this one has 2"),
 ]
 

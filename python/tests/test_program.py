@@ -295,7 +295,7 @@ MISTAKES = [
     (["report", "none.csv"], "", 1, "none.csv: No such file"),
     (["report", "--out", "o.pdf"], "", 1, "o.pdf ends with '.pdf': say .csv, .sqlite or .xlsx"),
     (["report"], "a;b\n", 1, "save it with commas"),
-    (["check"], "", 1, "there is no block to check"),
+    (["check"], "", 1, "it is empty: run a session that asks for a report"),
     (["check"], "unit,U\n", 1, ""),
     (["run", "--gap", "x"], "", 2, "invalid int value: 'x'"),
     (["reprot"], "", 2, "invalid choice: 'reprot'"),

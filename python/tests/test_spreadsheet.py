@@ -54,7 +54,7 @@ READINGS = [
         "11697.5",
         "line 3, column 2 (WIC-101): '11697.5' has a decimal point: say --decimal point",
     ),
-    (4, "12047,5", "12.047,5", "line 4, column 2 (WIC-101): '12.047,5' is no figure"),
+    (4, "12047,5", "12.047,5", "line 4, column 2 (WIC-101): '12.047,5' has marks between thousands"),
     (3, "346,97", "Bad", "line 3, column 4 (WIC-301): 'Bad' is no figure"),
     (3, "346,97", "346,9700001", "line 3, column 4 (WIC-301): '346,9700001' is finer than a gram"),
     (3, "11482", "11482000", "line 3, column 3 (FI-201): '11482000' is above 10,000,000 t"),
@@ -117,3 +117,84 @@ def test_other_texts(say: Desk, tmp_path: Path, data: bytes, said: str) -> None:
     path.write_bytes(data)
     found = say("from-spreadsheet", path, FOLDER / "readings.csv")
     assert found.status == 1 and said in found.err and str(path) in found.err
+
+
+TWO = "tag,stream,from,to,error\nFI1,A,env,MILL,1 %\nFI2,B,MILL,env,1 %\n"
+OWN = {
+    "thousands": (
+        TWO,
+        'day,FI1,FI2\n2024-04-01,"12,408",1\n',
+        "'12,408' has marks between thousands, or a decimal comma: take these marks out",
+    ),
+    "thousands and decimals": (
+        TWO,
+        'day,FI1,FI2\n2024-04-01,"12,408.5",1\n',
+        "has marks between thousands: take these marks out, or let plantbal-desk convert read",
+    ),
+    "apostrophes": (TWO, "day,FI1,FI2\n2024-04-01,11'482.5,1\n", "has marks between thousands: "),
+    "decimal comma": (
+        TWO,
+        'day,FI1,FI2\n2024-04-01,"12,4",1\n',
+        "'12,4' has a decimal comma: say --decimal comma",
+    ),
+    "an end mistyped": (
+        TWO.replace("B,MILL", "B,MLIL"),
+        "day,FI1,FI2\n2024-04-01,1,1\n",
+        "a unit's flows would be 0, and no session is written: mend the ends of its streams",
+    ),
+}
+
+
+@pytest.mark.parametrize("tags, readings, said", OWN.values(), ids=OWN)
+def test_own(say: Desk, tmp_path: Path, tags: str, readings: str, said: str) -> None:
+    (tmp_path / "tags.csv").write_text(tags)
+    (tmp_path / "readings.csv").write_text(readings)
+    found = say("from-spreadsheet", tmp_path / "tags.csv", tmp_path / "readings.csv")
+    assert (found.status, found.out) == (1, "")
+    assert said in found.err and str(tmp_path) in found.err, found.err
+
+
+def test_a_mistyped_end_is_guessed(say: Desk, tmp_path: Path) -> None:
+    (tmp_path / "tags.csv").write_text(TWO.replace("B,MILL", "B,MILLL"))
+    (tmp_path / "readings.csv").write_text("day,FI1,FI2\n2024-04-01,1,1\n")
+    found = say("from-spreadsheet", tmp_path / "tags.csv", tmp_path / "readings.csv")
+    assert "nothing comes in at unit MILLL: B is booked as 0" in found.err
+    assert "did you mean MILL?" in found.err
+
+
+SHORT = {
+    "2024-04-01 2024-04-29": ["2024-04 goes from 2024-04-01 to 2024-04-29", "lack, its last 1"],
+    "2024-04-02 2024-04-30": ["2024-04 goes from 2024-04-02 to 2024-04-30", "lack, its first 1"],
+    "2024-04-01 2024-04-30": [],
+    # days and months exchanged: three months of a day each
+    "2024-01-04 2024-02-04 2024-03-04": [
+        "2024-01 goes from 2024-01-04 to 2024-01-04: days of the month lack, its first 3 and its "
+        "last 27",
+        "2024-02 goes from 2024-02-04 to 2024-02-04",
+        "2024-03 goes from 2024-03-04 to 2024-03-04",
+    ],
+}
+
+
+@pytest.mark.parametrize("days, said", SHORT.items(), ids=SHORT)
+def test_ends_of_months(say: Desk, tmp_path: Path, days: str, said: list[str]) -> None:
+    """A month's first or last day that lacks makes the period shorter, which is said."""
+    (tmp_path / "tags.csv").write_text(TWO)
+    rows = "".join(f"{day},1,1\n" for day in days.split())
+    (tmp_path / "readings.csv").write_text(f"day,FI1,FI2\n{rows}")
+    found = say("from-spreadsheet", tmp_path / "tags.csv", tmp_path / "readings.csv")
+    assert found.status == 0
+    assert ("goes from" in found.err) == bool(said)
+    assert all(each in found.err for each in said), found.err
+
+
+def test_rows_before_of_another_form(say: Desk, tmp_path: Path) -> None:
+    before = tmp_path / "plant.csv"
+    before.write_text("critical,global,1,3841\ntank;SILO;1\n")
+    found = say("from-spreadsheet", *WORDS, "--before", before, FOLDER / "tags.csv", "none.csv")
+    assert found.status == 1 and "none.csv: No such file" in found.err
+    files = [FOLDER / "tags.csv", FOLDER / "readings.csv"]
+    found = say("from-spreadsheet", *WORDS, "--before", before, *files)
+    assert (found.status, found.out) == (1, "")
+    assert f"{before}: line 2: a session has no row of the kind 'tank;SILO;1'" in found.err
+    assert "with commas between fields" in found.err

@@ -56,7 +56,7 @@ def test_tables(program: Path, say: Desk, what: str) -> None:
 
 
 FAULTY = [
-    ("", "there is no report"),
+    ("", "it is empty: run a session that asks for a report"),
     ("unit,U\n", "standard input: line 1, column 1: plantbal writes no row of the kind 'unit'"),
     ('{"row":"end"}\n', "standard input: line 1: the keys of the row end are period, round, row"),
 ]

@@ -381,4 +381,4 @@ def test_command(say: Desk) -> None:
     table = say("uncertainty", "--form", "csv", CONCENTRATOR).out
     assert table.splitlines()[0] == ",".join(COLUMNS)
     found = say("uncertainty")
-    assert found.status == 1 and "there is no report" in found.err
+    assert found.status == 1 and "it is empty: run a session" in found.err

@@ -9,7 +9,8 @@ from contextlib import contextmanager
 from pathlib import Path
 from typing import IO
 
-from plantbal.faults import Fault, InputFault, Place
+from plantbal.faults import Fault
+from plantbal.files import unwritten
 
 _PAUSE = 0.05
 
@@ -50,8 +51,7 @@ def locked(path: Path, seconds: float) -> Iterator[None]:
     try:
         file = path.open("ab")
     except OSError as error:
-        what = error.strerror or "it can't be written"
-        raise InputFault(what, place=Place(file=str(path))) from error
+        raise unwritten(path, error) from error
     with file:
         end = time.monotonic() + seconds
         while not _taken(file):

@@ -28,7 +28,7 @@ from pathlib import Path
 from plantbal.book.ledger import Ledger
 from plantbal.book.lock import locked
 from plantbal.faults import Fault, InputFault, Place, read_text
-from plantbal.files import write_text
+from plantbal.files import unwritten, write_text
 
 PLANT = "plant.csv"
 METERS = "meters.csv"
@@ -125,8 +125,7 @@ class Book:
             try:
                 self.folder.mkdir(parents=True, exist_ok=True)
             except OSError as error:
-                what = error.strerror or "it can't be made"
-                raise InputFault(what, place=Place(file=str(self.folder))) from error
+                raise unwritten(self.folder, error) from error
         elif not self._is_there():
             raise Fault(
                 f"there is no book in {self.folder.resolve()}",

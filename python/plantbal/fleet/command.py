@@ -1,0 +1,311 @@
+"""Runs a folder of sessions, keeps each night, and says which plants want a person."""
+
+from __future__ import annotations
+
+import argparse
+import datetime
+import signal
+import sys
+import threading
+from collections.abc import Callable, Iterator
+from concurrent.futures import ThreadPoolExecutor
+from contextlib import closing, contextmanager
+from dataclasses import dataclass, field, replace
+from pathlib import Path
+
+from plantbal.faults import Fault, InputFault
+from plantbal.files import write_text
+from plantbal.fleet import by_dask, by_parallel
+from plantbal.fleet.engines import Asked, Engine, Job
+from plantbal.fleet.gather import failed, gather
+from plantbal.fleet.index import index, summary
+from plantbal.fleet.keep import Times, keep, table
+from plantbal.fleet.night import Night, Run, alone, sha256_of
+from plantbal.fleet.rows import Plant
+from plantbal.fleet.sites import NIGHT, Site, sites
+from plantbal.lint import brief, lint_session
+from plantbal.program import find_program
+
+HELP = """
+Each FOLDER/SITE.csv is a session. What is kept of a night, which has the name of its day:
+
+  OUT/SITE/NIGHT/output.csv   the output (.jsonl with --format json), with stderr.txt and run.json
+  OUT/SITE/latest             a link to the last night that has an output
+  OUT/nights/NIGHT/           table.csv, SHA256SUMS, sessions.sha256, and the joblog of GNU parallel
+  OUT/latest                  a link to the last night that is whole
+  OUT/fleet.sqlite            the tables `nights` and `plants` of all nights
+  OUT/index.html              the last night, for a browser
+
+An output gets its place when it is whole. A fleet that was stopped goes on where it was if the
+same words are given again: what has its output isn't run again, unless the session, the program or
+the words changed.
+
+The table goes to standard output too, with a row for each period's last report:
+
+  site,period,days,state,dof,statistic,critical,verdict,suspects,refused,first_refusal,status,
+  seconds,warnings,look
+
+`state` is converged, unconverged, over (a total beyond the limits), none (no report), unreadable
+(the output is none of plantbal's), yes or no (of a check). Of a plant without an output it is the
+name of the program's status of 2 to 6, ended (another status), timeout, lost (by a machine of the
+cluster), nosession or nooutput (files that can't be read or written). `verdict` is that of the
+global test, which wants --tests or --eliminate N among WORDS; `suspects` are there only if it
+rejects and no row is refused, or if a stream was taken. `look` says why a person has to look: a
+row is refused, there is no report, it isn't converged, the global test rejects or can't be made.
+It is said on standard error too. The status is 1 if a person has to look at any plant, else 0.
+
+Words after a lone -- are given to plantbal; without them they are `run`:
+
+  plantbal-desk fleet --out nights sessions -- run --tests > table.csv
+  plantbal-desk fleet --timeout 600 --retries 2 --out nights sessions -- run --tests > table.csv
+  plantbal-desk fleet --scheduler tcp://head:8786 --program /usr/bin/plantbal \\
+      --out /shared/nights /shared/sessions > table.csv
+
+With a cluster of dask each machine has the program at the same place, and sees the folders under
+the same names; with --send it needn't: then the bytes of sessions and outputs go over the network.
+With --lint each session is read for what is accepted and looks wrong, too, which takes longer than
+most reports do.
+"""
+def add_arguments(parser: argparse.ArgumentParser) -> None:
+    """Add the words of the command."""
+    parser.usage = f"{parser.prog} [OPTIONS] --out OUT FOLDER [-- WORDS]"
+    add = parser.add_argument
+    add("folder", metavar="FOLDER")
+    add("--out", metavar="OUT", required=True, help="the folder of all nights")
+    add("--date", metavar="NIGHT", type=_night, help="the night's name; today's date without it")
+    add("--again", action="store_true", help="run what has its output too")
+    add("--recursive", action="store_true", help="take the sessions in folders inside FOLDER too")
+    add("--engine", choices=["parallel", "dask"], help="dask with --scheduler or --send")
+    processors = "N sessions at once; as many as there are processors without it"
+    add("--jobs", metavar="N", type=_count, help=processors)
+    add("--timeout", metavar="SECONDS", type=_seconds, help="stop a session after so long")
+    add("--retries", metavar="N", type=_count, default=1, help="try a failing one N times in all")
+    add("--scheduler", metavar="ADDRESS", help="the scheduler of a dask cluster")
+    add("--send", action="store_true", help="send bytes to the cluster, not paths")
+    program = "the program; without it that of PLANTBAL, of the path, or of this checkout"
+    add("--program", metavar="PATH", help=program)
+    add("--lint", action="store_true", help="say what lint warns of, too")
+    parser.set_defaults(words=[])
+
+
+def _night(text: str) -> str:
+    if not NIGHT.fullmatch(text):
+        said = f"{text!r} is no night: write 2026-11-29, or 2026-11-29T18"
+        raise argparse.ArgumentTypeError(said)
+    return text
+
+
+def _count(text: str) -> int:
+    if not (text.isdecimal() and int(text)):
+        raise argparse.ArgumentTypeError(f"{text!r} is no number from 1 on")
+    return int(text)
+
+
+def _seconds(text: str) -> float:
+    try:
+        if 0 < float(text) < float("inf"):
+            return float(text)
+    except ValueError:
+        pass
+    raise argparse.ArgumentTypeError(f"{text!r} is no number of seconds: write 600")
+
+
+@dataclass
+class Fleet:
+    """A night that is being run.
+
+    Attributes
+    ----------
+    night : Night
+        The night.
+    sites : list of Site
+        The plants.
+    runs : dict of Site to Run
+        What is asked of each whose session can be read, and how it ended.
+    plants : dict of str to Plant
+        What came of each.
+    """
+
+    night: Night
+    sites: list[Site]
+    runs: dict[Site, Run] = field(default_factory=dict)
+    plants: dict[str, Plant] = field(default_factory=dict)
+    begun: set[Site] = field(default_factory=set)
+
+    def job(self, site: Site) -> Job:
+        """Return the job of a plant."""
+        return Job(site.name, site.path.absolute(), self.night.part_of(site).absolute())
+
+    def choose(self, again: bool) -> tuple[list[Site], list[Site]]:
+        """Return the plants that are to be run, the largest first, and those that aren't."""
+        todo, done = list[Site](), list[Site]()
+        for site in self.sites:
+            try:
+                asked = self.night.asked_of(site)
+            except InputFault as fault:
+                self.plants[site.name] = failed(site, "nosession", str(fault))
+                continue
+            found = None if again else self.night.done(site, asked)
+            self.runs[site] = found or asked
+            (todo if found is None else done).append(site)
+        return sorted(todo, key=_size_of, reverse=True), done
+
+    def begin(self, todo: list[Site]) -> list[Job]:
+        """Make the folders of plants, and return the jobs of those that have one."""
+        jobs = []
+        for site in todo:
+            try:
+                self.night.begin(site)
+            except InputFault as fault:
+                self.plants[site.name] = failed(site, "nooutput", str(fault))
+                continue
+            self.begun.add(site)
+            jobs.append(self.job(site))
+        return jobs
+
+    def came(self, site: Site, why: str) -> None:
+        """Take in a plant whose job ended."""
+        self.begun.discard(site)
+        if why:
+            self.night.drop(site)
+        else:
+            try:
+                self.runs[site] = self.night.publish(site, self.runs[site])
+            except (OSError, InputFault) as error:
+                self.plants[site.name] = failed(site, "nooutput", f"its output is lost: {error}")
+                return
+        self.plants[site.name] = gather(self.night, site, self.runs[site], why)
+
+    def run(self, engine: Engine, asked: Asked, again: bool) -> None:
+        """Run what lacks."""
+        todo, done = self.choose(again)
+        site_of = {site.name: site for site in self.sites}
+        try:
+            jobs = self.begin(todo)
+            # Mostly these wait for the disk.
+            with (
+                ThreadPoolExecutor(8, "fleet") as pool,
+                closing(engine(asked, jobs, [self.job(site) for site in done])) as every,
+            ):
+                taken = [
+                    pool.submit(self.came, site_of[ended.site], ended.why) for ended in every
+                ]
+        finally:
+            for site in self.begun:
+                self.night.drop(site)
+        for each in taken:
+            each.result()
+        for site in done:
+            self.plants[site.name] = gather(self.night, site, self.runs[site])
+
+    def in_order(self) -> list[Plant]:
+        """Return the plants by name, with the reasons in their rows."""
+        return [self.plants[site.name] for site in self.sites]
+
+
+def _size_of(site: Site) -> int:
+    """Return how many bytes a session has; none if it has gone."""
+    try:
+        return site.path.stat().st_size
+    except OSError:
+        return 0
+
+
+def lint_plants(plants: list[Plant], chosen: list[Site]) -> None:
+    """Add to plants what lint finds in their sessions; its errors are in their outputs, too."""
+    for plant, site in zip(plants, chosen):
+        try:
+            findings = lint_session(site.path)
+        except Fault:
+            continue  # the plant's row says so
+        plant.rows = [replace(row, warnings=brief(findings)) for row in plant.rows]
+
+
+@contextmanager
+def _stopped_by_sigterm() -> Iterator[None]:
+    """Take SIGTERM as Ctrl-C is taken."""
+    if threading.current_thread() is not threading.main_thread():
+        yield
+        return
+
+    def stop(*_: object) -> None:
+        raise KeyboardInterrupt
+
+    before = signal.signal(signal.SIGTERM, stop)
+    try:
+        yield
+    finally:
+        signal.signal(signal.SIGTERM, before)
+
+
+def _now() -> str:
+    return datetime.datetime.now().astimezone().isoformat(timespec="seconds")
+
+
+def run(options: argparse.Namespace) -> int:
+    """Run the sessions, keep what comes, and write the table."""
+    say: Callable[[str], None] = lambda said: print(f"{options.prog}: {said}", file=sys.stderr)
+    elsewhere = options.scheduler is not None
+    if options.engine == "parallel" and (elsewhere or options.send):
+        say("--scheduler and --send are words for dask: leave --engine parallel out")
+        return 2
+    program = _program(options.program, elsewhere)
+    out, folder = Path(options.out), Path(options.folder)
+    chosen = sites(folder, recursive=options.recursive, out=out)
+    for left in chosen.left:
+        say(left)
+    name = options.date or datetime.date.today().isoformat()
+    digest = "" if elsewhere else sha256_of(program)
+    fleet = Fleet(Night(out, name, program, digest, options.words or ["run"]), chosen.sites)
+    by_cluster = elsewhere or options.send or options.engine == "dask"
+    engine: Engine = by_dask.run if by_cluster else by_parallel.run
+    begun = _now()
+    with _stopped_by_sigterm(), alone(out) as lock:
+        asked = Asked(
+            command=[str(program), *fleet.night.words],
+            log=fleet.night.folder / "joblog",
+            jobs=options.jobs,
+            timeout=options.timeout,
+            retries=options.retries,
+            scheduler=options.scheduler,
+            send=options.send,
+            lock=lock,
+        )
+        try:
+            fleet.run(engine, asked, options.again)
+        except KeyboardInterrupt:
+            count = f"{len(fleet.plants)} of {len(chosen.sites)} plants"
+            say(f"stopped after {count}: the same words with --date {name} run the others")
+            return 130
+        plants = fleet.in_order()
+        if options.lint:
+            lint_plants(plants, chosen.sites)
+        for plant in plants:
+            plant.tell()
+        times = Times(begun, _now())
+        keep(fleet.night, plants, fleet.runs, times)
+        index(fleet.night, plants, times)
+    write_text("-", table(plants))
+    return _say_all(say, plants, out)
+
+
+def _program(named: str | None, elsewhere: bool) -> Path:
+    """Return the program: here it is found, on other machines it has to be named."""
+    if not elsewhere:
+        return find_program(named).absolute()
+    if named is None:
+        raise Fault("no program is named", remedy="say --program PATH, where each machine has it")
+    return Path(named)
+
+
+def _say_all(say: Callable[[str], None], plants: list[Plant], out: Path) -> int:
+    """Say which plants want a person and why, and return the status."""
+    wanting = [plant for plant in plants if plant.wants]
+    for plant in wanting:
+        for said in plant.says():
+            say(said)
+    for plant in plants:
+        if warnings := plant.rows[0].warnings:
+            say(f"{plant.site}: {warnings}")
+    say(f"{summary(plants)}: {out / 'index.html'}")
+    return 1 if wanting else 0

@@ -1,0 +1,89 @@
+"""What an engine gets, and what it gives back as sessions end."""
+
+from __future__ import annotations
+
+from collections.abc import Generator, Sequence
+from dataclasses import dataclass
+from pathlib import Path
+from typing import Protocol
+
+
+@dataclass(frozen=True, slots=True)
+class Job:
+    """A session to run.
+
+    Attributes
+    ----------
+    site : str
+        The plant.
+    session : Path
+        The file of its session.
+    part : Path
+        The empty folder that its files go to.
+    """
+
+    site: str
+    session: Path
+    part: Path
+
+
+@dataclass(frozen=True, slots=True)
+class Asked:
+    """How jobs are run.
+
+    Attributes
+    ----------
+    command : list of str
+        The program and its words.
+    log : Path
+        Where GNU parallel keeps its log of jobs.
+    jobs : int or None
+        How many run at once; None is as many as there are processors.
+    timeout : float or None
+        The most seconds that one may take.
+    retries : int
+        How often one that failed is tried in all.
+    scheduler : str or None
+        The scheduler of a cluster of dask.
+    send : bool
+        Whether bytes go to the cluster's machines, which see no folder of this one.
+    lock : int or None
+        An open file that says, as long as a process has it, that this fleet runs.
+    """
+
+    command: list[str]
+    log: Path
+    jobs: int | None = None
+    timeout: float | None = None
+    retries: int = 1
+    scheduler: str | None = None
+    send: bool = False
+    lock: int | None = None
+
+
+@dataclass(frozen=True, slots=True)
+class Ended:
+    """A job that ended, and why it has no status, if it has none.
+
+    Attributes
+    ----------
+    site : str
+        The plant.
+    why : str
+        Why the program didn't end by itself, such as ``timeout``; empty if it did.
+    """
+
+    site: str
+    why: str = ""
+
+
+class Engine(Protocol):
+    """What runs jobs, and gives each as it ends.
+
+    The jobs of `done` have their outputs, and aren't run: a progress bar counts them, too.
+    """
+
+    def __call__(
+        self, asked: Asked, jobs: Sequence[Job], done: Sequence[Job] = ()
+    ) -> Generator[Ended, None, None]:
+        """Run the jobs."""

@@ -1,0 +1,237 @@
+"""Reads what came of a plant."""
+
+from __future__ import annotations
+
+from collections.abc import Iterator
+from dataclasses import dataclass, replace
+from itertools import chain
+from pathlib import Path
+
+from plantbal.explain import Explanation, explain
+from plantbal.faults import InputFault, read_bytes, read_text
+from plantbal.fleet.job import SAID
+from plantbal.fleet.night import Night, Run, sha256_of
+from plantbal.fleet.rows import Plant, Row
+from plantbal.fleet.sites import Site
+from plantbal.program import STATUSES
+from plantbal.records import read_records
+from plantbal.report import Block, Values, blocks_of, parse_rows
+from plantbal.schema import schema
+
+# What the words of `Ended.why` mean.
+WHY = {
+    "timeout": "it was stopped by the time limit; --timeout gives it more seconds",
+    "lost": "the machine that ran it has gone, or doesn't see its folder; --send sends the bytes",
+    "stopped": "it was stopped before it had ended",
+    "nosession": "its session has gone",
+}
+_VERDICTS = {
+    "reject": "the global test rejects",
+    "undecided": "the global test is undecided; a smaller --gap among the words decides it",
+}
+
+
+@dataclass(frozen=True, slots=True)
+class About:
+    """What a session says of its periods and tests.
+
+    Attributes
+    ----------
+    days : dict of str to str
+        The first and the last day of each period.
+    has_critical : bool
+        Whether it has critical values of the global test.
+    """
+
+    days: dict[str, str]
+    has_critical: bool
+
+
+def _lines(data: bytes, begin: bytes) -> Iterator[tuple[str, ...]]:
+    """Give the fields of the lines that begin so."""
+    text = b"\n" + data
+    place = text.find(b"\n" + begin)
+    while place >= 0:
+        end = text.find(b"\n", place + 1)
+        line = text[place + 1 : end if end >= 0 else len(text)]
+        yield tuple(line.decode("latin-1").split(","))
+        place = text.find(b"\n" + begin, end) if end >= 0 else -1
+
+
+def about(data: bytes, refused: set[int]) -> About:
+    """Return what a session says of its periods, without the refused rows."""
+    found: Iterator[tuple[str, ...]]
+    if refused or b'"' in data or b"\r" in data:
+        found = (r.fields for r in read_records(data) if r.number not in refused)
+    else:  # each line is a row, and no other rows need be split
+        found = chain(_lines(data, b"period,"), _lines(data, b"critical,"))
+    days, has_critical = dict[str, str](), False
+    for fields in found:
+        if fields[0] == "period" and len(fields) > 3:
+            days[fields[1]] = f"{fields[2]}..{fields[3]}"
+        elif fields[:2] == ("critical", "global"):
+            has_critical = True
+    return About(days, has_critical)
+
+
+def failed(site: Site, state: str, said: str, run: Run | None = None) -> Plant:
+    """Return a plant without an output."""
+    row = Row(site.name, state=state)
+    if run is not None and run.status is not None:
+        row = replace(row, status=str(run.status), seconds=f"{run.seconds:.3f}")
+    return Plant(site.name, [row], [said])
+
+
+def gather(night: Night, site: Site, run: Run, why: str = "") -> Plant:
+    """Return what came of a plant.
+
+    Parameters
+    ----------
+    night : Night
+        The night.
+    site : Site
+        The plant.
+    run : Run
+        Its run, as it was published.
+    why : str
+        Why the program didn't end by itself; empty if it did.
+    """
+    if why or run.status is None:
+        return failed(site, why or "stopped", WHY[why or "stopped"], run)
+    if run.status not in (0, 1):
+        return failed(site, *_of_status(night.folder_of(site) / SAID, run.status), run)
+    try:
+        rows = parse_rows(*read_text(night.output_of(site)))
+    except InputFault as fault:
+        return failed(site, "unreadable", str(fault), run)
+    plant = _of_rows(site, rows)
+    plant.rows = [
+        replace(row, status=str(run.status), seconds=f"{run.seconds:.3f}") for row in plant.rows
+    ]
+    try:
+        if sha256_of(site.path) != run.session_sha256:
+            plant.why.append("its session was changed while it ran; run the fleet again")
+    except InputFault as fault:
+        plant.why.append(str(fault))
+    return plant
+
+
+def _of_status(said: Path, status: int) -> tuple[str, str]:
+    """Return the state of a plant by a status other than 0 and 1, and a sentence."""
+    name, remedy = STATUSES.get(status, ("ended", ""))
+    if status > 128:
+        remedy = f"signal {status - 128} stopped it; signal 9 is often a lack of memory"
+    try:
+        lines = said.read_text(encoding="utf-8", errors="replace").split("\n")
+    except OSError:
+        lines = []
+    first = lines[0].strip()
+    first = "" if first == name else first
+    what = f"the program ended with status {status}" + (f", {name}" if status in STATUSES else "")
+    return name, "; ".join(filter(None, (what, first, remedy)))
+
+
+def _of_rows(site: Site, rows: list[Values]) -> Plant:
+    """Return what an output says of a plant."""
+    refused = {int(row["at"]) for row in rows if row["row"] == "refused"}
+    data = read_bytes(site.path)[1] if site.path.exists() else b""
+    session = about(data, refused)
+    plant = Plant(site.name)
+    blocks = {block.period: block for block in blocks_of(rows)}
+    over = {row["period"]: row["stream"] for row in rows if row["row"] == "over"}
+    for period in dict.fromkeys([*blocks, *over]):
+        if period in blocks:
+            row, said = _of_block(site, blocks[period], session, bool(refused))
+        else:
+            row = Row(site.name, period, state="over")
+            said = [f"no report: the total of {over[period]} is beyond the limits"]
+        plant.rows.append(replace(row, days=session.days.get(period, ""), refused="0"))
+        plant.why_of[period] = said
+    _of_check(plant, rows)
+    if refused or not plant.rows:
+        _of_refused(plant, site, len(refused))
+    return plant
+
+
+def _of_block(
+    site: Site, block: Block, session: About, refused: bool
+) -> tuple[Row, list[str]]:
+    """Return the row of a period's last round, and why a person has to look at it.
+
+    If rows are refused, the report is that of another plant: its suspects aren't worth a look.
+    """
+    if block.solved is None or not block.ended:
+        return Row(site.name, block.period, state="unreadable"), ["its report is cut off"]
+    solved, said, verdict = block.solved, list[str](), ""
+    suspects = list(block.taken)
+    critical = ""
+    if solved["state"] != "converged":
+        said.append("its report isn't converged; --sweeps among the words allows more sweeps")
+    if block.taken:
+        said.append(f"{', '.join(block.taken)} was taken out, so that the rest fits")
+    if block.whole:
+        verdict, critical = block.whole["verdict"], block.whole["critical"]
+        if verdict == "reject" and not refused:
+            suspects += [name for name in block.suspects() if name not in suspects]
+        if verdict in _VERDICTS:
+            said.append(_VERDICTS[verdict])
+        elif verdict == "nocritical" and session.has_critical:
+            said.append(
+                "the global test can't be made: there are critical values, and none for "
+                f"{solved['dof']} degrees of freedom; a meter lacks, or is one too many"
+            )
+    row = Row(
+        site.name,
+        block.period,
+        state=solved["state"],
+        dof=solved["dof"],
+        statistic=_thousandths(solved["low"]),
+        critical=_thousandths(critical),
+        verdict=verdict,
+        suspects=" ".join(suspects),
+    )
+    if verdict == "reject" and suspects:
+        said[-1] += f"; suspects are {', '.join(suspects[:5])}"
+    return row, said
+
+
+def _thousandths(text: str) -> str:
+    return f"{int(text) / 1000:.3f}" if text else ""
+
+
+def _of_check(plant: Plant, rows: list[Values]) -> None:
+    """Add the rows of a check: of each period whether all its blocks pass."""
+    states: dict[str, str] = {}
+    for row in rows:
+        if row["row"] in ("yes", "no") and states.get(row["period"]) != "no":
+            states[row["period"]] = row["row"]
+    plant.rows += [Row(plant.site, period, state=state) for period, state in states.items()]
+    for row in rows:
+        if row["row"] == "no":
+            test = schema().tests[int(row["code"])]
+            where = f" at {row['name']}" if row["name"] else ""
+            said = f"the check says no: {row['word']}{where}: {test.about}"
+            plant.why_of.setdefault(row["period"], []).append(said)
+        elif row["row"] == "unreadable":
+            about_it = schema().unreadable[int(row["code"])].about
+            plant.rows.append(Row(plant.site, state="unreadable"))
+            plant.why.append(f"the check can't read row {row['at']}: it {about_it}")
+
+
+def _of_refused(plant: Plant, site: Site, count: int) -> None:
+    """Say why the first row is refused, or why there is no report."""
+    try:
+        found = explain(site.path)
+    except InputFault:
+        found = Explanation([], [], 0)
+    first = next(iter([*found.whole, *found.rows]), None)
+    said = first.headline if first else ""
+    if count:
+        rows = "1 row is refused" if count == 1 else f"{count} rows are refused, the first"
+        plant.why.insert(0, f"{rows}: {said}" if said else rows.removesuffix(", the first"))
+    if not plant.rows:
+        plant.rows.append(Row(site.name, state="none", refused="0"))
+        if not count:
+            plant.why.append(said or "there is no report; add a row report,PERIOD to the session")
+    if count:
+        plant.rows = [replace(row, refused=str(count), first_refusal=said) for row in plant.rows]

@@ -1,0 +1,108 @@
+"""The page of a night: plants that want a person first, and each plant's nights before it."""
+
+from __future__ import annotations
+
+import sqlite3
+from collections import defaultdict
+from collections.abc import Sequence
+from dataclasses import dataclass
+from urllib.parse import quote
+
+from plantbal.faults import ToolMissing
+from plantbal.files import write_text
+from plantbal.fleet.keep import Times, database
+from plantbal.fleet.night import Night
+from plantbal.fleet.rows import Plant, Row
+
+NIGHTS = 14
+
+
+@dataclass(frozen=True, slots=True)
+class Line:
+    """A row of the page.
+
+    Attributes
+    ----------
+    row : Row
+        The row of the table.
+    link : str
+        Where its output is; empty if it has none.
+    why : list of str
+        Why a person has to look.
+    before : list of tuple of str
+        The nights before and this one: the night, and whether a person had to look.
+    """
+
+    row: Row
+    link: str
+    why: list[str]
+    before: list[tuple[str, bool]]
+
+
+def index(night: Night, plants: Sequence[Plant], times: Times) -> None:
+    """Write the page of a night.
+
+    Raises
+    ------
+    ToolMissing
+        If there is no Jinja2.
+    """
+    try:
+        from jinja2 import Environment, PackageLoader
+    except ImportError as error:
+        raise ToolMissing("jinja2", "python3-jinja2") from error
+    with database(night.out / "fleet.sqlite") as base:
+        before = _before(base, night)
+        nights = base.execute(
+            "SELECT night, plants, wanting FROM nights ORDER BY night DESC LIMIT 31"
+        ).fetchall()
+    ordered = sorted(plants, key=lambda plant: (not plant.wants, plant.site))
+    lines = [
+        Line(
+            row,
+            _link(night, row),
+            [*(plant.why if place == 0 else []), *plant.why_of.get(row.period, [])],
+            before[row.site] if place == 0 else [],
+        )
+        for plant in ordered
+        for place, row in enumerate(plant.rows)
+    ]
+    environment = Environment(
+        loader=PackageLoader("plantbal"), autoescape=True, trim_blocks=True, lstrip_blocks=True
+    )
+    text = environment.get_template("fleet.html.j2").render(
+        night=night,
+        times=times,
+        lines=lines,
+        nights=nights,
+        said=summary(plants),
+        words=" ".join(night.words),
+    )
+    write_text(night.out / "index.html", text)
+
+
+def summary(plants: Sequence[Plant]) -> str:
+    """Return how many plants there are, and how many want a person."""
+    wanting = sum(plant.wants for plant in plants)
+    count = "1 plant" if len(plants) == 1 else f"{len(plants)} plants"
+    some = f"{wanting} wants" if wanting == 1 else f"{wanting} want" if wanting else "none wants"
+    return f"{count}, of which {some} a person"
+
+
+def _link(night: Night, row: Row) -> str:
+    """Return where a plant's output is, seen from the page."""
+    path = night.out / row.site / night.name / night.output_name
+    return quote(path.relative_to(night.out).as_posix()) if path.exists() else ""
+
+
+def _before(base: sqlite3.Connection, night: Night) -> dict[str, list[tuple[str, bool]]]:
+    """Return the last nights of each plant, this one at the end."""
+    found: dict[str, list[tuple[str, bool]]] = defaultdict(list)
+    last = "SELECT night FROM nights WHERE night <= ? ORDER BY night DESC LIMIT ?"
+    for site, name, wants in base.execute(
+        f"SELECT site, night, MAX(look <> '') FROM plants WHERE night IN ({last})"
+        " GROUP BY site, night ORDER BY night",
+        (night.name, NIGHTS),
+    ):
+        found[site].append((name, bool(wants)))
+    return found

@@ -1,0 +1,118 @@
+"""One session's run, here or on another machine.
+
+Nothing of the package is imported here: a machine of a cluster gets these calls as they are.
+"""
+
+from __future__ import annotations
+
+import os
+import signal
+import subprocess
+import tempfile
+from contextlib import suppress
+from pathlib import Path
+
+WROTE, SAID, STATUS = "output", "stderr.txt", "run.json"
+# `sh -c JOB job SESSION PART PROGRAM WORD..` runs a session and leaves three files in the folder
+# PART. STATUS has the program's status, and later becomes the record of the run. The folder is as old
+# as the program's start, and STATUS as its end. The job ends with a fault if the program wasn't done.
+JOB = f"""
+session=$1 part=$2
+shift 2
+: >"$part/{STATUS}"
+(exec "$@" <"$session" >"$part/{WROTE}") 2>"$part/{SAID}"
+status=$?
+echo "$status" >"$part/{STATUS}"
+[ "$status" -le 1 ]
+"""
+
+
+# The jobs that run in this process, and whether more may begin.
+_RUNNING: set[subprocess.Popen[bytes]] = set()
+_STOPPED: set[str] = set()
+
+
+def run_here(command: list[str], session: str, part: str, timeout: float | None) -> bool:
+    """Run a session into a folder that this machine sees, and return whether it ended in time.
+
+    Parameters
+    ----------
+    command : list of str
+        The program and its words.
+    session, part : str
+        The file of the session, and the folder.
+    timeout : float or None
+        The most seconds that it may take.
+    """
+    job = subprocess.Popen(
+        ["sh", "-c", JOB, "job", session, part, *command],
+        stdin=subprocess.DEVNULL,
+        start_new_session=True,
+    )
+    _RUNNING.add(job)
+    try:
+        if not _STOPPED:
+            job.wait(timeout)
+        return not _STOPPED
+    except subprocess.TimeoutExpired:
+        return False
+    finally:
+        _kill(job)
+        _RUNNING.discard(job)
+
+
+def _kill(job: subprocess.Popen[bytes]) -> None:
+    """Stop a job and all that it started."""
+    if job.poll() is None:
+        with suppress(ProcessLookupError):
+            os.killpg(job.pid, signal.SIGKILL)
+        job.wait()
+
+
+def stop_all() -> None:
+    """Stop the jobs that run in this process, and let no other begin."""
+    _STOPPED.add("all")
+    for job in list(_RUNNING):
+        _kill(job)
+
+
+def go_on() -> None:
+    """Let jobs begin in this process."""
+    _STOPPED.clear()
+
+
+def run_sent(command: list[str], session: bytes, timeout: float | None) -> dict[str, bytes] | None:
+    """Run the bytes of a session, and return the files that it leaves; None if it took too long."""
+    with tempfile.TemporaryDirectory(prefix="plantbal-") as folder:
+        given = Path(folder, "session")
+        given.write_bytes(session)
+        part = Path(folder, "part")
+        part.mkdir()
+        if not run_here(command, str(given), str(part), timeout):
+            return None
+        found = {path.name: path.read_bytes() for path in part.iterdir()}
+        found[STATUS] = " ".join(map(str, ended(str(part)))).encode("ascii")
+        return found
+
+
+def ended(part: str) -> tuple[int, float, float]:
+    """Return how a job ended by what it left: the status, when it began, and when it ended.
+
+    Raises
+    ------
+    OSError, ValueError
+        If it left no status.
+    """
+    status = Path(part, STATUS)
+    said = status.read_text(encoding="ascii").split()
+    if len(said) > 1:  # it was sent, and its files are newer
+        return int(said[0]), float(said[1]), float(said[2])
+    return int(said[0]), Path(part).stat().st_mtime, status.stat().st_mtime
+
+
+def failed(part: str) -> bool:
+    """Say whether the program wasn't done, by the files that a job left."""
+    try:
+        return ended(part)[0] > 1
+    except (OSError, ValueError, IndexError):
+        return True

@@ -1,0 +1,155 @@
+"""What is kept of a night: the table, the checksums, the database of all nights, and the page."""
+
+from __future__ import annotations
+
+import csv
+import io
+import sqlite3
+from collections.abc import Iterable, Iterator, Sequence
+from contextlib import closing, contextmanager
+from dataclasses import dataclass
+from pathlib import Path
+
+from plantbal.faults import InputFault, Place
+from plantbal.files import write_text
+from plantbal.fleet.night import Night, Run, link, sha256_of
+from plantbal.fleet.rows import HEADS, Plant
+from plantbal.fleet.sites import Site
+
+_NUMBERS = {
+    "dof": "INTEGER",
+    "statistic": "REAL",
+    "critical": "REAL",
+    "refused": "INTEGER",
+    "status": "INTEGER",
+    "seconds": "REAL",
+}
+_TABLES = f"""
+CREATE TABLE IF NOT EXISTS nights (
+    night TEXT PRIMARY KEY, begun TEXT, ended TEXT, program TEXT, program_sha256 TEXT, words TEXT,
+    plants INTEGER, wanting INTEGER);
+CREATE TABLE IF NOT EXISTS plants (
+    night TEXT, {", ".join(f"{name} {_NUMBERS.get(name, 'TEXT')}" for name in HEADS)},
+    PRIMARY KEY (night, site, period));
+"""
+
+
+@dataclass(frozen=True, slots=True)
+class Times:
+    """When a night began and ended."""
+
+    begun: str
+    ended: str
+
+
+def table(plants: Iterable[Plant]) -> str:
+    """Return the table of plants as CSV."""
+    text = io.StringIO()
+    writer = csv.writer(text, lineterminator="\n")
+    writer.writerow(HEADS)
+    for plant in plants:
+        writer.writerows(row.values() for row in plant.rows)
+    return text.getvalue()
+
+
+def keep(night: Night, plants: Sequence[Plant], runs: dict[Site, Run], times: Times) -> None:
+    """Write what is kept of a night, and make it the latest one.
+
+    Parameters
+    ----------
+    night : Night
+        The night.
+    plants : sequence of Plant
+        What came of each plant.
+    runs : dict of Site to Run
+        The runs of those whose session could be read.
+    times : Times
+        When it began and ended.
+    """
+    night.folder.mkdir(parents=True, exist_ok=True)
+    write_text(night.folder / "table.csv", table(plants))
+    sessions = ((run.session_sha256, Path(run.session)) for run in runs.values())
+    write_text(night.folder / "sessions.sha256", checksums(sessions))
+    write_text(night.folder / "SHA256SUMS", checksums(_files(night, runs)))
+    with database(night.out / "fleet.sqlite") as base:
+        _insert(base, night, plants, times)
+    newest = night.out / "latest"
+    if not newest.exists() or newest.readlink().name <= night.name:
+        link(newest, f"nights/{night.name}")
+
+
+def _files(night: Night, runs: dict[Site, Run]) -> Iterator[tuple[str, Path]]:
+    """Give the digests of a night's files, by their paths in the folder of all nights."""
+    for site in runs:
+        folder = night.folder_of(site)
+        if folder.is_dir():
+            for path in sorted(folder.iterdir()):
+                yield sha256_of(path), path.relative_to(night.out)
+    for name in ("sessions.sha256", "table.csv"):
+        path = night.folder / name
+        yield sha256_of(path), path.relative_to(night.out)
+
+
+def checksums(digests: Iterable[tuple[str, Path]]) -> str:
+    """Return digests and paths as `sha256sum` writes them, and reads them with ``--check``."""
+    lines = []
+    for digest, path in digests:
+        name = str(path)
+        escaped = name.replace("\\", "\\\\").replace("\n", "\\n").replace("\r", "\\r")
+        lines.append(f"{'' if escaped == name else chr(92)}{digest}  {escaped}\n")
+    return "".join(lines)
+
+
+@contextmanager
+def database(path: Path) -> Iterator[sqlite3.Connection]:
+    """Give the database of all nights; what is changed in it is all there or not at all.
+
+    Raises
+    ------
+    InputFault
+        If it can't be opened, or is none of fleet's.
+    """
+    try:
+        with closing(sqlite3.connect(path, timeout=30)) as base, base:
+            base.executescript(_TABLES)
+            columns = [row[1] for row in base.execute("PRAGMA table_info(plants)")]
+            if columns != ["night", *HEADS]:
+                raise sqlite3.DatabaseError("its table has other columns")
+            yield base
+    except sqlite3.Error as error:
+        raise InputFault(
+            f"the nights can't be kept there: {error}",
+            place=Place(file=str(path)),
+            remedy="move the file away, and run the fleet again: no session runs twice",
+        ) from error
+
+
+def _insert(base: sqlite3.Connection, night: Night, plants: Sequence[Plant], times: Times) -> None:
+    """Put the rows of a night in the place of those that it has."""
+    base.execute("DELETE FROM plants WHERE night = ?", (night.name,))
+    places = ", ".join("?" * (1 + len(HEADS)))
+    base.executemany(
+        f"INSERT OR REPLACE INTO plants VALUES ({places})",
+        (
+            [night.name, *(_of(name, text) for name, text in zip(HEADS, row.values()))]
+            for plant in plants
+            for row in plant.rows
+        ),
+    )
+    wanting = sum(plant.wants for plant in plants)
+    words = " ".join(night.words)
+    program = str(night.program), night.program_sha256, words
+    base.execute(
+        "INSERT OR REPLACE INTO nights VALUES (?, ?, ?, ?, ?, ?, ?, ?)",
+        (night.name, times.begun, times.ended, *program, len(plants), wanting),
+    )
+
+
+def _of(name: str, text: str) -> str | int | float | None:
+    """Return a field of the table as the database has it: numbers as such, none as NULL."""
+    kind = _NUMBERS.get(name)
+    if kind is None:
+        return text
+    if not text:
+        return None
+    return int(text) if kind == "INTEGER" else float(text)

@@ -1,0 +1,105 @@
+"""What is said of a plant: a row for each period's last report, and why a person has to look."""
+
+from __future__ import annotations
+
+from collections.abc import Iterator
+from dataclasses import dataclass, field, fields, replace
+
+
+@dataclass(frozen=True, slots=True)
+class Row:
+    """A row of the table.
+
+    Attributes
+    ----------
+    site, period, days : str
+        The plant, the period, and its first and last day.
+    state : str
+        ``converged``, ``unconverged``, ``over``, ``none``, ``unreadable``; ``yes`` or ``no`` of a
+        check; the name of a status of 2 to 6, ``ended`` of any other, ``timeout``, ``lost``,
+        ``nosession``, ``nooutput``.
+    dof, statistic, critical, verdict : str
+        The global test: degrees of freedom, the least value that the statistic may have, the
+        critical value and the verdict.
+    suspects : str
+        The streams that were taken and, if the global test rejects, those whose own test does.
+    refused : str
+        How many rows of the session are refused.
+    first_refusal : str
+        Why the first one is, in a sentence.
+    status : str
+        The status of the program.
+    seconds : str
+        How long it took.
+    warnings : str
+        What lint finds in the session, if it was asked.
+    look : str
+        Why a person has to look, the reasons of the plant before those of the period; empty if
+        nobody has to.
+    """
+
+    site: str
+    period: str = ""
+    days: str = ""
+    state: str = ""
+    dof: str = ""
+    statistic: str = ""
+    critical: str = ""
+    verdict: str = ""
+    suspects: str = ""
+    refused: str = ""
+    first_refusal: str = ""
+    status: str = ""
+    seconds: str = ""
+    warnings: str = ""
+    look: str = ""
+
+    def values(self) -> list[str]:
+        """Return its fields in order."""
+        return [str(getattr(self, name)) for name in HEADS]
+
+
+HEADS = [each.name for each in fields(Row)]
+
+
+@dataclass(slots=True)
+class Plant:
+    """A plant: its rows, and why a person has to look at it as a whole.
+
+    Attributes
+    ----------
+    site : str
+        Its name.
+    rows : list of Row
+        Its rows, one at least.
+    why : list of str
+        Sentences on the plant.
+    why_of : dict of str to list of str
+        Sentences on its periods.
+    """
+
+    site: str
+    rows: list[Row] = field(default_factory=list)
+    why: list[str] = field(default_factory=list)
+    why_of: dict[str, list[str]] = field(default_factory=dict)
+
+    @property
+    def wants(self) -> bool:
+        """Whether a person has to look."""
+        return bool(self.why or any(self.why_of.values()))
+
+    def tell(self) -> None:
+        """Write the reasons into the rows."""
+        short = [said.split(", the first: ")[0] for said in self.why]
+        self.rows = [
+            replace(row, look="; ".join([*short, *self.why_of.get(row.period, [])]))
+            for row in self.rows
+        ]
+
+    def says(self) -> Iterator[str]:
+        """Give why a person has to look, a sentence each."""
+        for said in self.why:
+            yield f"{self.site}: {said}"
+        for period, some in self.why_of.items():
+            for said in some:
+                yield f"{self.site}, {period}: {said}"
