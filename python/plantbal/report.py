@@ -35,8 +35,6 @@ def _row_of(source: str, line: int, fields: list[str]) -> Values:
             remedy=_instead(kind),
         )
     names: tuple[str, ...] = row.names
-    if len(values) > len(names) and not any(values[len(names) :]):
-        values = values[: len(names)]  # a spreadsheet makes all rows of a file as long as its longest
     if len(values) != len(names):
         if row.without and len(values) == len(row.older):
             names = row.older

@@ -35,14 +35,6 @@ def test_back_to_csv(path: Path) -> None:
     assert read_report(path).to_csv() == path.read_text(encoding="utf-8")
 
 
-@pytest.mark.parametrize("path", OUTPUTS, ids=lambda path: path.name)
-def test_saved_by_a_spreadsheet(path: Path) -> None:
-    """A spreadsheet makes all rows as long as the longest, and ends them as Windows does."""
-    rows = path.read_text(encoding="utf-8").splitlines()
-    saved = "".join(f"{row},,,,,,,\r\n" for row in rows)
-    assert parse_report(saved, "saved").to_csv() == path.read_text(encoding="utf-8")
-
-
 def test_json_to_csv() -> None:
     found = example("heat_exchanger_suspect.jsonl").to_csv()
     wanted = TOP / "examples/heat_exchanger_suspect.out.csv"
