@@ -26,7 +26,7 @@ _plantbal_desk() {
     fi
     for ((at = 1; at < COMP_CWORD; at++)); do
         case ${COMP_WORDS[at]} in
-        run|lint|explain|check|report|solve|convert|book|template|from-spreadsheet|tables|uncertainty|draw|chart|page|fleet|critical|from-scipy|schema) word=${COMP_WORDS[at]}; break ;;
+        run|lint|explain|check|archive|audit|report|solve|convert|book|template|from-spreadsheet|tables|uncertainty|draw|chart|page|fleet|critical|from-scipy|schema) word=${COMP_WORDS[at]}; break ;;
         esac
     done
     case $word:$before in
@@ -38,6 +38,16 @@ _plantbal_desk() {
         lint:--ignore) _plantbal_words 'refused nothing-asked missing-reading missing-dip no-period after-report one-sided near-names magnitude small-deviation large-deviation density worse-class no-critical nearly-full untested no-elimination no-transfer unused-dip not-reported'; return ;;
         explain:--program) _plantbal_files -f; return ;;
         check:--program) _plantbal_files -f; return ;;
+        archive:--period) :; return ;;
+        archive:--plant) :; return ;;
+        archive:--out) _plantbal_files -f; return ;;
+        archive:--time) :; return ;;
+        archive:--gap) :; return ;;
+        archive:--sweeps) :; return ;;
+        archive:--eliminate) :; return ;;
+        archive:--program) _plantbal_files -f; return ;;
+        audit:--words) :; return ;;
+        audit:--program) _plantbal_files -f; return ;;
         report:--out) _plantbal_files -f; return ;;
         solve:--out) _plantbal_files -f; return ;;
         solve:--gap) :; return ;;
@@ -116,6 +126,18 @@ _plantbal_desk() {
             return
         fi
         _plantbal_words '-h --help --program' ;;
+    archive)
+        if [[ $here != -* ]]; then
+            _plantbal_files -f
+            return
+        fi
+        _plantbal_words '-h --help --period --plant --out --time --gap --sweeps --no-tests --eliminate --program' ;;
+    audit)
+        if [[ $here != -* ]]; then
+            _plantbal_files -f
+            return
+        fi
+        _plantbal_words '-h --help --words --no-program --strict --program' ;;
     report)
         if [[ $here != -* ]]; then
             _plantbal_files -f
@@ -201,7 +223,7 @@ _plantbal_desk() {
         _plantbal_words '-h --help --period --change --without-least' ;;
     schema)
         _plantbal_words '-h --help' ;;
-    *) _plantbal_words 'run lint explain check report solve convert book template from-spreadsheet tables uncertainty draw chart page fleet critical from-scipy schema -h --help --version' ;;
+    *) _plantbal_words 'run lint explain check archive audit report solve convert book template from-spreadsheet tables uncertainty draw chart page fleet critical from-scipy schema -h --help --version' ;;
     esac
 }
 

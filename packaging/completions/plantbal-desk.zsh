@@ -5,7 +5,7 @@ _plantbal_desk() {
     local -a specifications
     local word at
     for ((at = 2; at < CURRENT; at++)); do
-        case $words[at] in run|lint|explain|check|report|solve|convert|book|template|from-spreadsheet|tables|uncertainty|draw|chart|page|fleet|critical|from-scipy|schema) word=$words[at]; break ;; esac
+        case $words[at] in run|lint|explain|check|archive|audit|report|solve|convert|book|template|from-spreadsheet|tables|uncertainty|draw|chart|page|fleet|critical|from-scipy|schema) word=$words[at]; break ;; esac
     done
     case $word in
     run)
@@ -47,6 +47,34 @@ _plantbal_desk() {
             '--program=[the program]:PATH:_files'
             '1:word:(check)'
             '*:REPORT:_files'
+        ) ;;
+    archive)
+        specifications=(
+            '-h[show this help message and exit]'
+            '--help[show this help message and exit]'
+            '--period=[without it the one reported last]:NAME:'
+            '--plant=[without it the name of the file]:NAME:'
+            '--out=[without it PLANT_PERIOD.zip]:FILE:_files'
+            '--time=[such as 2024-05-02T06\:00\:00Z; now without it]:TIME:'
+            '--gap=[10 without it]:N:'
+            '--sweeps=[5,000 without it]:N:'
+            '--no-tests[make no tests]'
+            '--eliminate=[at most N rounds of elimination]:N:'
+            '--program=[the program]:PATH:_files'
+            '1:word:(archive)'
+            '*:SESSION:_files'
+        ) ;;
+    audit)
+        specifications=(
+            '-h[show this help message and exit]'
+            '--help[show this help message and exit]'
+            '--words=[the words of the run, as one word]:WORDS:'
+            '--no-program[don'\''t run the program]'
+            '--strict[status 1 on notes too]'
+            '--program=[the program]:PATH:_files'
+            '1:word:(audit)'
+            '2:BUNDLE|REPORT:'
+            '*:SESSION:_files'
         ) ;;
     report)
         specifications=(
@@ -229,7 +257,7 @@ _plantbal_desk() {
             '-h[show this help message and exit]'
             '--help[show this help message and exit]'
             '--version[write the version and end]'
-            "1:word:((run\:'run a session, and say what has to be looked at' lint\:'say what of a session is accepted and looks wrong' explain\:'say of each refused row what is wrong with it' check\:'check a report, of CSV or of JSON lines' report\:'turn a report into CSV, SQLite or a workbook' solve\:'reconcile by scipy what sweeps don'\''t come near' convert\:'a session from a plant'\''s workbook' book\:'keep a plant'\''s book, a session a year' template\:'an empty workbook for convert' from-spreadsheet\:'a session from daily readings and tags' tables\:'tables of flows, classes, suspects, imbalances' uncertainty\:'how good each flow is, and the meters that it rests on' draw\:'draw a report or a design' chart\:'chart the periods of a session' page\:'one page for a browser' fleet\:'run a folder of sessions' critical\:'critical values as rows of a session' from-scipy\:'another program'\''s figures in the form of a report' schema\:'the rows of sessions and outputs as data'))"
+            "1:word:((run\:'run a session, and say what has to be looked at' lint\:'say what of a session is accepted and looks wrong' explain\:'say of each refused row what is wrong with it' check\:'check a report, of CSV or of JSON lines' archive\:'put a month into a bundle with digests' audit\:'say whether a bundle, or a report and its session, holds' report\:'turn a report into CSV, SQLite or a workbook' solve\:'reconcile by scipy what sweeps don'\''t come near' convert\:'a session from a plant'\''s workbook' book\:'keep a plant'\''s book, a session a year' template\:'an empty workbook for convert' from-spreadsheet\:'a session from daily readings and tags' tables\:'tables of flows, classes, suspects, imbalances' uncertainty\:'how good each flow is, and the meters that it rests on' draw\:'draw a report or a design' chart\:'chart the periods of a session' page\:'one page for a browser' fleet\:'run a folder of sessions' critical\:'critical values as rows of a session' from-scipy\:'another program'\''s figures in the form of a report' schema\:'the rows of sessions and outputs as data'))"
         ) ;;
     esac
     _arguments -s : $specifications

@@ -203,9 +203,12 @@ def _check(options: argparse.Namespace) -> int:
     else:
         refuse_other(source, text)
         verdicts = check(data, program=options.program, source=source)
+    blocks = verdicts[verdicts["verdict"] != "unreadable"]
+    last = {row.period: row.Index for row in blocks.itertuples()}
     for row in verdicts.itertuples():
         if row.verdict == "yes":
-            print(f"yes: {row.period}, round {row.round}")
+            end = "" if last[row.period] == row.Index else "; a later block of this period follows"
+            print(f"yes: {row.period}, round {row.round}{end}")
         elif row.verdict == "no":
             where = f" at {row.name}" if row.name else ""
             numbers = f" (stated {row.stated}, found {row.found})" if row.name else ""

@@ -12,6 +12,7 @@ from pathlib import Path
 from plantbal.cells import MISSING, Reader, check_locale
 from plantbal.conversion_facts import Converter
 from plantbal.faults import Fault, InputFault, Place
+from plantbal.lint import say_brief
 from plantbal.memory import uncollected
 from plantbal.session import Session
 from plantbal.workbook import read_workbook
@@ -181,6 +182,7 @@ def run(options: argparse.Namespace) -> int:
         print(f"{options.prog}: {line}", file=sys.stderr)
     if found.ok:
         found.session.to_csv(options.out)
+        say_brief(options.prog, found.session)
         return 0
     for line in found.said():
         print(f"{options.prog}: {line}", file=sys.stderr)

@@ -58,6 +58,8 @@ COMMANDS: tuple[Command, ...] = (
     Command("lint", "lint", "say what of a session is accepted and looks wrong"),
     Command("explain", "explain", "say of each refused row what is wrong with it"),
     Command("check", "commands:CHECK", "check a report, of CSV or of JSON lines"),
+    Command("archive", "archive", "put a month into a bundle with digests"),
+    Command("audit", "audit", "say whether a bundle, or a report and its session, holds"),
     Command("report", "commands:REPORT", "turn a report into CSV, SQLite or a workbook"),
     Command("solve", "commands:SOLVE", "reconcile by scipy what sweeps don't come near"),
     Command("convert", "conversion", "a session from a plant's workbook"),

@@ -337,8 +337,8 @@ def _too_many(row: Row, fields: tuple[str, ...], extra: int) -> _Count:
                 if _fits(row, (*rest[0], "1", *rest[1])):
                     comma = ",".join(some)
                     low, high = column.low or 0, column.high or 0
-                    scale = ("tonnes", 1_000_000, "grams") if column.name == "grams" else None
-                    meant = number_meant(comma, low, high, scale) if scale else ""
+                    scales = [("tonnes", 1_000_000, "grams")] if column.name == "grams" else []
+                    meant = number_meant(comma, low, high, scales) if scales else ""
                     said = f"{column.label} is '{comma}', with a comma"
                     said = _and(said, meant or "write a whole number")
                     return _Count(said, column.label, *ends)
@@ -361,7 +361,7 @@ def _too_few(row: Row, fields: tuple[str, ...], lacks: int) -> _Count:
     count = len(row.columns)
     if all(map(field_fits, row.columns, fields)) and lacks > 1:
         names = ", ".join(column.label for column in row.columns[count - lacks :])
-        return _Count(f"{names} lack at its end; write {row.pattern}", names)
+        return _Count(f"{names} are missing at its end; write {row.pattern}", names)
     found = []
     if lacks == 1:
         for place in range(count):
@@ -370,9 +370,9 @@ def _too_few(row: Row, fields: tuple[str, ...], lacks: int) -> _Count:
                 found.append(row.columns[place])
     if found:
         names = _labels(found)
-        which = "" if len(found) == 1 else " (which one, can't be told)"
-        return _Count(f"{names} lacks{which}; write {row.pattern}", names)
-    few = "a field lacks" if lacks == 1 else f"{lacks} fields lack"
+        which = "" if len(found) == 1 else " (which one can't be told)"
+        return _Count(f"{names} is missing{which}; write {row.pattern}", names)
+    few = "a field is missing" if lacks == 1 else f"{lacks} fields are missing"
     return _Count(f"{few}, and it can't be told which; write {row.pattern}")
 
 
@@ -414,7 +414,9 @@ def _word_elsewhere(record: tuple[str, ...], place: int) -> str:
     words = {row.variant for row in rows_of_kind(record[0])}
     for number, text in enumerate(record):
         if number and number != place and text in words:
-            few = "a field lacks before it" if number < place else "a field is too many before it"
+            few = "a field is missing before it"
+            if number > place:
+                few = "there is a field too many before it"
             return f"{text!r} is field {number + 1}, and has to be field {place + 1}: {few}"
     return ""
 
@@ -492,33 +494,23 @@ def told_of(text: Text, record: Record, refusal: Refusal, instead: str = "") -> 
 
 def _of_no_kind(row: tuple[str, ...], remedy: str, number: int) -> str:
     """Return what to do about a row of no kind."""
-    first = row[0]
-    if first.lstrip().startswith(("#", "//", "%")):
-        return "a session has no comments: take the line out"
-    if first.strip() != first and rows_of_kind(first.strip()):
-        return f"take the space beside {first.strip()!r} out"
-    if "," in first and rows_of_kind(first.split(",")[0]):
-        return "the whole row stands between double quotes: take them out"
-    if not first:
-        return "a row begins with its kind: take the comma in front out, or the row"
-    if number == 1 and first.lower() in ("row", "kind", "type", "name", "record"):
+    if number == 1 and row[0].lower() in ("row", "kind", "type", "name", "record"):
         return "this looks like a row of heads: take it out"
-    if first in schema().output:
-        return "plantbal writes rows of this kind, and reads none: is this an output?"
     return remedy
 
 
 # ---- what is wrong with a whole file
 
 
+_CONVERT = "a plant's workbook becomes a session by plantbal-desk convert; save other sheets as CSV"
 _BEGINS = (
     (b"\xff\xfe", "this is UTF-16", 'save it as "CSV UTF-8"'),
     (b"\xfe\xff", "this is UTF-16", 'save it as "CSV UTF-8"'),
-    (b"PK\x03\x04", "this is a workbook or another archive", "save the sheet as CSV"),
-    (b"\xd0\xcf\x11\xe0", "this is a workbook", "save the sheet as CSV"),
+    (b"PK\x03\x04", "this is a workbook or another archive", _CONVERT),
+    (b"\xd0\xcf\x11\xe0", "this is a workbook", _CONVERT),
     (b"\x1f\x8b", "this is compressed", "unpack it: gzip -d"),
-    (b"%PDF", "this is a PDF", "save the sheet as CSV"),
-    (b"{", "these are JSON lines", "a session is CSV"),
+    (b"%PDF", "this is a PDF", "have the sheet that it was printed from, and save it as CSV"),
+    (b"{", "these are JSON lines", "a session is CSV: is this an output? Then name its session"),
 )
 _SIGNS = ((";", "semicolons"), ("\t", "tabs"), ("|", "bars"))
 
@@ -691,8 +683,6 @@ class _Names:
                 later = [n for n in self._all.get((what, refusal.text), []) if n > record.line]
                 if later:
                     return f"it is declared in line {later[0]}, after this one: move that row up"
-            if refusal.remedy == "declare it before":
-                return "declare it in a row before this one, or mend the name"
         return ""
 
 

@@ -55,6 +55,14 @@ def brief(findings: Sequence[Finding]) -> str:
     return summary([each for each in findings if each.severity != "note"])
 
 
+def say_brief(prog: str, session: Session | str | Path | bytes) -> None:
+    """Say on standard error in one line what looks wrong in a session, if anything does."""
+    found = brief(lint_session(session))
+    if found:
+        said = f"lint of the session: {found} (plantbal-desk lint SESSION says more)"
+        print(f"{prog}: {said}", file=sys.stderr)
+
+
 HELP = (
     """
 SESSION is a file; without it standard input is read. Each finding is a line on standard output,

@@ -13,7 +13,7 @@ from statistics import median_low
 
 from plantbal.amounts import tonnes_text
 from plantbal.faults import Place, Refusal
-from plantbal.lintbook import Book, Fact, Reported, day_number, day_text
+from plantbal.lintbook import Book, Fact, Reported, day_text
 from plantbal.schema import schema
 from plantbal.session import ENV, LIMITS
 from plantbal.topology import classes_of, degrees_of_freedom
@@ -215,7 +215,8 @@ def _refused(book: Book, left_out: Sequence[Refusal]) -> Iterator[Finding]:
         yield Finding("refused", f"{text}: {whole}", 'save it as "CSV UTF-8", with commas', place)
     else:
         what = _one_line(first.what)
-        yield Finding("refused", f"{text}; the first, {what}", first.remedy, place)
+        text += f": {what}" if count == 1 else f"; the first, {what}"
+        yield Finding("refused", text, first.remedy, place)
 
 
 def _whole_file(book: Book) -> str:
@@ -276,7 +277,8 @@ def _missing_dips(book: Book) -> Iterator[Finding]:
         for name, days in reported.undipped.items():
             period = reported.period
             what = " and none ".join(
-                f"of its {'last day' if day == period.last else 'eve'}, {day_text(day)}"
+                f"of {'the last day of' if day == period.last else 'the day before'} {period.name}, "
+                f"{day_text(day)}"
                 for day in days
             )
             text = f"tank {name} has no value in {period.name}: it has no dip {what}"
@@ -319,7 +321,7 @@ def _in_no_period(book: Book) -> Iterator[Finding]:
             (
                 fact,
                 f"{_called(fact)} is of {day_text(fact.first)}, neither the last day of a period "
-                "nor the eve of one, so it counts nowhere",
+                "nor the day before one, so it counts nowhere",
                 "it does no harm",
             )
             for fact in unused
@@ -350,9 +352,11 @@ def _after_report(book: Book) -> Iterator[Finding]:
                 late[period.name].append(fact)
     for name, facts in late.items():
         line = min(fact.changed for fact in facts)
-        rows = "1 row of a fact comes" if len(facts) == 1 else f"rows of {len(facts)} facts come"
-        text = f"{rows} after the last report of {name}, which is made without"
-        remedy = f"put `report,{name}` after them"
+        one = len(facts) == 1
+        rows = "1 row of a fact comes" if one else f"rows of {len(facts)} facts come"
+        them = "it" if one else "them"
+        text = f"{rows} after the last report of {name}, which is made without {them}"
+        remedy = f"put `report,{name}` after {them}"
         yield Finding("after-report", text, remedy, _place(book, line), period=name)
 
 
@@ -385,7 +389,8 @@ def _not_reported(book: Book) -> Iterator[Finding]:
             count[period.name] += fact.kind != "dip" or fact.first == period.last
     for name, facts in count.items():
         if facts and name not in book.reported:
-            text = f"{name} has {facts} facts, and no report is asked for"
+            some = "1 fact" if facts == 1 else f"{facts} facts"
+            text = f"{name} has {some}, and no report is asked for"
             yield Finding(
                 "not-reported", text, f"add `report,{name}`", _place(book, None), period=name
             )
@@ -413,7 +418,11 @@ def _one_sided(book: Book) -> Iterator[Finding]:
         if number >= MOST_GUESSES:
             others = []
         near = difflib.get_close_matches(unit, others, n=1, cutoff=0.8)
-        remedy = f"did you mean {near[0]}?" if near else "mend the end of a stream, or add one"
+        remedy = "mend the end of a stream, or add one"
+        if not into[unit] and not out_of[unit]:
+            remedy = "mend the end of a stream, add one, or leave the unit out"
+        if near:
+            remedy = f"did you mean {near[0]}?"
         yield Finding("one-sided", text, remedy, _place(book, book.lines.get(unit)), unit)
 
 
@@ -520,7 +529,8 @@ def _magnitudes(book: Book) -> Iterator[Finding]:
             text = (
                 f"{_called(fact)} is {_tonnes(fact.grams)}, {times} the median, {_tonnes(middle)}"
             )
-            said.append((fact, text, "look for another unit, or a point at another place"))
+            remedy = "look for another unit of measure, or a decimal point at another place"
+            said.append((fact, text, remedy))
     yield from _of_facts(book, "magnitude", said)
 
 
@@ -584,7 +594,7 @@ def _squared(variance: int, value: int) -> str:
             value**2, LIMITS["most_row_variance"]
         ):
             return f"if {variance:,} {unit} is the standard deviation, write its square, {square}"
-    return "a variance is the square of a standard deviation in grams"
+    return "write the square of its standard deviation in grams"
 
 
 def _large(fact: Fact, value: int, what: str) -> str:
@@ -608,7 +618,9 @@ def _densities(book: Book) -> Iterator[Finding]:
         if fact.kind == "dip" and fact.density not in DENSITIES:
             text = f"{_called(fact)} has a density of {fact.density:,} g per cubic metre"
             grams = next((s for s in (1000, 10, 100) if fact.density * s in DENSITIES), 0)
-            remedy = f"did you mean {fact.density * grams}?" if grams else "water has 1000000"
+            remedy = "water has 1000000: look for a digit too many or too few"
+            if grams:
+                remedy = f"did you mean {fact.density * grams}?"
             said.append((fact, text, remedy))
     yield from _of_facts(book, "density", said)
 
@@ -678,10 +690,17 @@ def _critical(book: Book) -> Iterator[Finding]:
     lacks = [str(dof) for dof in range(most - 1, least - 1, -1) if dof not in there]
     tests = [test for test in ("measure", "nodal") if (test, 0) not in book.critical]
     if most and (lacks or tests):
-        parts = [f"of {_some(lacks)} degrees of freedom"] if lacks else []
-        parts += [f"of `{test}`" for test in tests]
-        text = f"critical values {' and '.join(parts)} aren't there, which an elimination asks for"
-        remedy = f"`plantbal-desk critical 0.05 {least}-{most}` writes those of the global test"
+        degrees = "degree" if lacks == ["1"] else "degrees"
+        parts = [f"for {_some(lacks)} {degrees} of freedom"] if lacks else []
+        parts += [f"for `{test}`" for test in tests]
+        text = f"an elimination asks for critical values {' and '.join(parts)}, which aren't there"
+        numbers = sorted(map(int, lacks))
+        if numbers and numbers[-1] - numbers[0] == len(numbers) - 1 > 0:
+            lacks = [f"{numbers[0]}-{numbers[-1]}"]
+        words = " ".join(["critical 0.05", *lacks])
+        words += "".join(f" --{test} N" for test in tests)
+        remedy = f"`plantbal-desk {words}` writes them"
+        remedy += ", N being the number of such tests" if tests else ""
         yield Finding("no-elimination", text, remedy, _place(book, line))
 
 

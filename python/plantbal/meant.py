@@ -5,6 +5,7 @@ from __future__ import annotations
 import calendar
 import datetime
 import re
+from collections.abc import Sequence
 from decimal import Decimal, InvalidOperation
 
 Scale = tuple[str, int, str]
@@ -54,7 +55,7 @@ def whole_meant(text: str) -> tuple[int, str] | None:
     return int(exact), odd
 
 
-def number_meant(text: str, low: int, high: int, scale: Scale | None = None) -> str:
+def number_meant(text: str, low: int, high: int, scales: Sequence[Scale] = ()) -> str:
     """Return what was probably meant by a text that is no whole number of a range, or nothing.
 
     Parameters
@@ -63,25 +64,29 @@ def number_meant(text: str, low: int, high: int, scale: Scale | None = None) -> 
         The field.
     low, high : int
         The range, both ends included.
-    scale : tuple, optional
-        A greater unit, how many of the number's own it has, and what these are called: a number with
-        decimals is probably of the greater one.
+    scales : sequence of tuple
+        Greater units, how many of the number's own each has, and what these are called: a number with
+        decimals is probably of the first one in which it is in the range.
     """
     found = whole_meant(text)
     if found is not None:
         number, odd = found
-        if low <= number <= high:
-            return "" if str(number) == text else f"write {number}, {odd}"
-        return ""
+        if not low <= number <= high:
+            return ""
+        for greater, count, own in scales if odd == "without the point" else ():
+            if low <= number * count <= high:  # to whole tonnes one writes a point, to grams none
+                many = number * count
+                return f"write {many} if it is in {greater}, and {number} if it is in {own}"
+        return "" if str(number) == text else f"write {number}, {odd}"
     plain = text.strip(_SPACES)
     if re.fullmatch(r"[-+]?([0-9]+|[0-9]{1,3}(\.[0-9]{3})+),[0-9]+", plain):
         plain = plain.replace(".", "").replace(",", ".")
     exact = _exact(plain)
-    if exact is not None and scale is not None:
-        greater, count, own = scale
-        many = exact * count
-        if many == int(many) and low <= many <= high:
-            return f"if {text.strip()} is in {greater}, write {int(many)}, in {own}"
+    for greater, count, own in scales if exact is not None else ():
+        assert exact is not None
+        scaled = exact * count
+        if scaled == int(scaled) and low <= scaled <= high:
+            return f"if {text.strip()} is in {greater}, write {int(scaled)}, in {own}"
     if re.fullmatch(r"[0-9]{4}-[0-9]{2}-[0-9]{2}", plain):
         return "a day stands there: are the fields in their order?"
     if re.fullmatch(r"-?[0-9][0-9.,]* ?(kg|t|g|mm|cm|m3|m|l|ml)", plain):

@@ -149,13 +149,36 @@ def _near(name: str, names: Iterable[str]) -> str:
     return f"did you mean {near}?" if near else ""
 
 
+_DECLARE = "declare it in a row before this one, or mend the name"
+_ANOTHER = "begin another session, with the plant's rows again"
+
+
+def _of_no_kind(first: str) -> str:
+    """Return what to do about a row by its first field, which is no kind, or nothing."""
+    plain = first.strip()
+    if plain.startswith(("#", "//", "%")):
+        return "a session has no comments: take the line out"
+    if plain != first and plain in _ROWS:
+        return f"take the space beside {plain!r} out"
+    if "," in first and first.split(",")[0] in _ROWS:
+        return "the whole row stands between double quotes: take them out"
+    if not first:
+        return "a row begins with its kind: take the comma in front out, or the row"
+    if first in schema().output:
+        return "plantbal writes rows of this kind, and reads none: is this an output?"
+    return ""
+
+
 # A unit that people think in, how many of the column's own it has, and what these are called.
 _SCALES = {
-    "grams": ("tonnes", 1_000_000, "grams"),
-    "value": ("whole units", 1000, "thousandths"),
-    "density": ("tonnes in a cubic metre", 1_000_000, "grams in a cubic metre"),
-    "mm": ("metres", 1000, "millimetres"),
-    "ml": ("cubic metres", 1_000_000, "millilitres"),
+    "grams": [("tonnes", 1_000_000, "grams")],
+    "value": [("ones, as tables have it", 1000, "thousandths")],
+    "density": [
+        ("tonnes per cubic metre", 1_000_000, "grams per cubic metre"),
+        ("kilograms per cubic metre", 1000, "grams per cubic metre"),
+    ],
+    "mm": [("metres", 1000, "millimetres")],
+    "ml": [("cubic metres", 1_000_000, "millilitres")],
 }
 
 
@@ -164,7 +187,7 @@ def _number_remedy(column: Column, text: str) -> str:
     low, high = column.low or 0, column.high or 0
     if low == high:
         return f"write {low}: a plain stream has no variance"
-    meant = number_meant(text, low, high, _SCALES.get(column.name))
+    meant = number_meant(text, low, high, _SCALES.get(column.name, ()))
     if meant.startswith("write "):
         return meant
     if not text and column.name == "grams":
@@ -345,7 +368,8 @@ class Session:
         rows = _ROWS.get(record[0])
         if rows is None:
             words = sorted(_ROWS)
-            remedy = _near(record[0], words) or f"a row begins with one of {', '.join(words)}"
+            remedy = _of_no_kind(record[0]) or _near(record[0], words)
+            remedy = remedy or f"a row begins with one of {', '.join(words)}"
             self._refuse(
                 1, record, f"there is no kind of row {record[0]!r}", "kind", record[0], remedy
             )
@@ -456,16 +480,19 @@ class Session:
                 10,
                 record,
                 f"period {self._closed[0][2]} is closed, and the plant can't change any more",
-                remedy="declare the plant before the first close",
+                remedy="put it before the first close row, if no report that went out changes by it; "
+                "else begin a new session with the changed plant",
             )
 
     def _judge_room(self, record: tuple[str, ...], nodes: bool, arcs: bool) -> None:
         """Refuse a unit, tank or stream beyond the limits."""
         if nodes and len(self._nodes) >= LIMITS["most_units_and_tanks"]:
-            self._refuse(13, record, f"{len(self._nodes):,} units and tanks are there")
+            what = f"{len(self._nodes):,} units and tanks are there, and no more may be"
+            self._refuse(13, record, what, remedy="join units between which nothing is measured")
         if arcs and len(self._streams) + len(self._tables) >= LIMITS["most_streams"]:
             count = len(self._streams) + len(self._tables)
-            self._refuse(13, record, f"{count:,} streams and tanks are there")
+            what = f"{count:,} streams and tanks are there, and no more may be"
+            self._refuse(13, record, what, remedy="split the plant into two sessions")
 
     def _judge_unit(self, record: tuple[str, ...], values: dict[str, str]) -> Callable[[], None]:
         name = values["name"]
@@ -501,18 +528,19 @@ class Session:
             )
         self._judge_sealed(record)
         if len(table) >= LIMITS["most_points"]:
-            self._refuse(13, record, f"the table of {tank} has {len(table):,} points")
+            what = f"the table of {tank} has {len(table):,} points, and no more may be"
+            self._refuse(13, record, what, remedy="leave points out that lie on a line")
         return lambda: table.append((mm, ml))
 
     def _table(self, record: tuple[str, ...], tank: str) -> list[tuple[int, int]]:
         """Return the table of a tank, or refuse a record that names none."""
         if tank not in self._tables:
-            what = (
-                f"{tank} is no tank"
-                if tank in self._nodes or tank in self._streams
-                else (f"there is no tank {tank}")
-            )
-            other = "name a tank" if what.startswith(f"{tank} is") else "declare it before"
+            what, other = f"there is no tank {tank}", _DECLARE
+            if tank in self._nodes:
+                what = f"{tank} is a unit, not a tank"
+                other = "name a tank, or declare it by a tank row in place of its unit row"
+            elif tank in self._streams:
+                what, other = f"{tank} is a stream, not a tank", "name the tank at one of its ends"
             remedy = _near(tank, self._tables) or other
             self._refuse(6, record, what, "tank", tank, remedy)
         return self._tables[tank]
@@ -521,12 +549,10 @@ class Session:
         name, kind = values["name"], record[4]
         for end in ("from", "to"):
             if values[end] != ENV and values[end] not in self._nodes:
-                what = f"there is no unit or tank {values[end]}"
+                what, other = f"there is no unit or tank {values[end]}", _DECLARE
                 if values[end] in self._streams:
-                    what = f"{values[end]} is a stream, and no unit or tank"
-                other = (
-                    "name a unit or tank" if values[end] in self._streams else "declare it before"
-                )
+                    what = f"{values[end]} is a stream, not a unit or tank"
+                    other = "name the unit or tank at which it ends"
                 remedy = _near(values[end], [ENV, *self._nodes]) or other
                 self._refuse(6, record, what, end, values[end], remedy)
         self._judge_name(record, name)
@@ -568,13 +594,14 @@ class Session:
         if place and self._ordered[place - 1][1] >= first:
             other = self._ordered[place - 1][2]
             what = f"it shares a day with period {other}"
-            remedy = "no day may be in two periods: cut one of them"
+            remedy = "no day may be in two periods: end one before the other begins"
             self._refuse(9, record, what, "first", values["first"], remedy)
         if last - first >= LIMITS["most_days_of_period"]:
             what = f"it has {last - first + 1} days, and at most {LIMITS['most_days_of_period']} may be"
             self._refuse(12, record, what, "last", values["last"], "split it")
         if len(self._periods) >= LIMITS["most_periods"]:
-            self._refuse(13, record, f"{len(self._periods):,} periods are there")
+            what = f"{len(self._periods):,} periods are there, and no more may be"
+            self._refuse(13, record, what, remedy=_ANOTHER)
 
         def store() -> None:
             self._periods[name] = Period(name, first, last)
@@ -585,7 +612,7 @@ class Session:
     def _period(self, record: tuple[str, ...], name: str) -> Period:
         """Return the period of a name, or refuse a record that names none."""
         if name not in self._periods:
-            remedy = _near(name, self._periods) or "declare it before"
+            remedy = _near(name, self._periods) or _DECLARE
             self._refuse(6, record, f"there is no period {name}", "period", name, remedy)
         return self._periods[name]
 
@@ -649,13 +676,14 @@ class Session:
         kind = self._streams.get(fact.place)
         wanted = {"reading": "metered", "transfer": "batch"}.get(fact.kind)
         if wanted is not None and kind != wanted:
-            has = {
-                "metered": "readings",
-                "batch": "transfers",
-                "plain": "neither readings nor transfers",
+            remedy = {
+                "metered": "a metered stream has readings: write a reading for each of its days",
+                "batch": "a batch stream has transfers: write a transfer row with its days",
+                "plain": "a plain stream has no facts: declare it as metered or batch, or leave "
+                "this row out",
             }[kind or ""]
             what = f"{fact.place} is a {kind} stream"
-            self._refuse(9, record, what, "stream", fact.place, f"a {kind} stream has {has}")
+            self._refuse(9, record, what, "stream", fact.place, remedy)
         if closed is not None:
             what = f"it touches period {closed}, which is closed"
             self._refuse(11, record, what, remedy="write `late,` before the row")
@@ -665,17 +693,20 @@ class Session:
         if stream not in self._streams:
             what = f"there is no stream {stream}"
             if stream in self._nodes:
-                what = f"{stream} is a {self._nodes[stream]}, and no stream"
-            other = "name a stream" if stream in self._nodes else "declare it before"
+                what = f"{stream} is a {self._nodes[stream]}, not a stream"
+            other = {
+                "tank": "name a stream, or write a dip row: a tank has dips",
+                "unit": "name a stream that leads to it or from it",
+            }.get(self._nodes.get(stream, ""), _DECLARE)
             remedy = _near(stream, self._streams) or other
             self._refuse(6, record, what, "stream", stream, remedy)
 
     def _judge_full(self, record: tuple[str, ...]) -> None:
         if len(self._facts) >= LIMITS["most_facts"]:
-            what = f"{len(self._facts):,} readings, transfers and dips are there"
-            self._refuse(
-                13, record, what, remedy="begin another session, with the plant's rows again"
+            what = (
+                f"{len(self._facts):,} readings, transfers and dips are there, and no more may be"
             )
+            self._refuse(13, record, what, remedy=_ANOTHER)
 
     def _keep(self, identity: str, fact: _Fact) -> Callable[[], None]:
         def store() -> None:

@@ -5,6 +5,7 @@ from __future__ import annotations
 import csv
 import datetime
 import io
+import shutil
 from collections.abc import Callable
 from decimal import Decimal
 from fractions import Fraction
@@ -869,3 +870,15 @@ def test_empty_template(say: Desk, tmp_path: Path) -> None:
     assert said.status == 1 and "there is no stream: write the rows" in said.err
     assert say("template", "refinery", tmp_path / "plant.ods").status == 1
     assert say("template", "bakery", path).status == 2
+
+
+def test_lint_of_the_session(say: Desk, tmp_path: Path) -> None:
+    """What of a converted session is accepted and looks wrong is said in a line."""
+    folder = tmp_path / "refinery"
+    shutil.copytree(example("refinery_workbook"), folder)
+    assert say("convert", folder, "--out", tmp_path / "day.csv").err == ""
+    dips = folder / "dips.csv"
+    dips.write_text(dips.read_text(encoding="utf-8").replace("TK_DIESEL,2024-05-01,7095,842\n", ""))
+    said = say("convert", folder, "--out", tmp_path / "day.csv")
+    assert said.status == 0
+    assert "lint of the session: " in said.err and "missing-dip" in said.err

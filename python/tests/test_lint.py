@@ -85,12 +85,12 @@ CASES = [
     (
         "refused",
         changed("unit,MILL\n", "unit,MILL\nUnit,KILN\n"),
-        "1 row is refused, and the report of d1 is made without it; the first, Unit KILN",
+        "1 row is refused, and the report of d1 is made without it: Unit KILN",
     ),
     (
         "refused",
         changed("report,d1\n", "report,d1\nreport,d2\n"),
-        "1 row is refused; the first, report d2: there is no period d2",
+        "1 row is refused: report d2: there is no period d2",
     ),
     ("refused", GOOD.replace(",", ";"), "fields have semicolons between them: save it"),
     ("refused", GOOD.replace(",", "\t"), "fields have tabs between them"),
@@ -117,12 +117,12 @@ CASES = [
     (
         "missing-dip",
         changed("dip,s0,SILO,2024-02-29,", "dip,s0,SILO,2024-03-01,"),
-        "tank SILO has no value in d1: it has no dip of its eve, 2024-02-29",
+        "tank SILO has no value in d1: it has no dip of the day before d1, 2024-02-29",
     ),
     (
         "missing-dip",
         changed("dip,s2,SILO,2024-03-02,", "dip,s2,SILO,2024-03-03,"),
-        "no dip of its last day, 2024-03-02",
+        "no dip of the last day of d1, 2024-03-02",
     ),
     (
         "no-period",
@@ -253,12 +253,12 @@ CASES = [
     (
         "no-elimination",
         changed("critical,global,1,3841\n", ""),
-        "critical values of 1 degrees of freedom aren't there",
+        "an elimination asks for critical values for 1 degree of freedom, which aren't there",
     ),
     (
         "no-elimination",
         changed("critical,measure,3841\n", ""),
-        "critical values of `measure` aren't there",
+        "an elimination asks for critical values for `measure`, which aren't there",
     ),
     (
         "no-transfer",
@@ -268,14 +268,14 @@ CASES = [
     (
         "unused-dip",
         changed("dip,s2", "dip,s1,SILO,2024-03-01,3000,1250000,100000000000000\ndip,s2"),
-        "dip s1 of SILO is of 2024-03-01, neither the last day of a period nor the eve of one",
+        "dip s1 of SILO is of 2024-03-01, neither the last day of a period nor the day before one",
     ),
     (
         "not-reported",
         changed("period,d1", "period,d3,2024-03-03,2024-03-03\nperiod,d1").replace(
             "report,d1", "reading,f3,FEED,2024-03-03,1200000000,100000000000000\nreport,d1"
         ),
-        "d3 has 1 facts, and no report is asked for",
+        "d3 has 1 fact, and no report is asked for",
     ),
 ]
 

@@ -49,7 +49,10 @@ OF_SESSIONS = {
     "empty": (b"", "it has no row; write the session's rows into it"),
     "no row": (b"\n\n", "it has no row; write the session's rows into it"),
     "JSON lines": (JSON, "these are JSON lines; a session is CSV"),
-    "workbook": (WORKBOOK, "workbook or another archive; save the sheet as CSV"),
+    "workbook": (
+        WORKBOOK,
+        "workbook or another archive; a plant's workbook becomes a session by plantbal-desk convert",
+    ),
     "garbage": (GARBAGE, "there is no such kind of row"),
     "text": (b"hello, world\n", "there is no such kind of row"),
     "a report": (REPORT, "plantbal writes rows of this kind, and reads none: is this an output?"),
@@ -129,7 +132,9 @@ OF_CHECKS = but(
 )
 # What is turned into tables may be a check's rows.
 OF_TURNS = but(OF_REPORTS, refused_rows_alone="", a_check="", a_no="")
-OF_OUTPUTS = but(OF_REPORTS, refused_rows_alone="this isn't the output of .*: run the session again")
+OF_OUTPUTS = but(
+    OF_REPORTS, refused_rows_alone="this isn't the output of .*: run the session again"
+)
 NO_TAGS = "there is no column 'tag': give the table of tags first"
 OF_TAGS = {
     **ABSENT,
@@ -151,7 +156,10 @@ OF_WORKBOOKS = {
     "folder": (FOLDER, "there is no CSV file in this folder: write streams.csv"),
     "empty": (b"", NO_SHEET),
     "garbage": (GARBAGE, 'this is no text: save it as "CSV UTF-8" or as xlsx'),
-    "workbook": (WORKBOOK, "this is no xlsx workbook|this workbook can't be read|there is no sheet"),
+    "workbook": (
+        WORKBOOK,
+        "this is no xlsx workbook|this workbook can't be read|there is no sheet",
+    ),
     "a session": (SESSION, NO_SHEET),
     "a report": (REPORT, NO_SHEET),
     "semicolons": (SESSION.replace(b",", b";"), NO_SHEET),

@@ -261,6 +261,13 @@ def test_finding(program: Path, monkeypatch: pytest.MonkeyPatch, tmp_path: Path)
         find_program()
 
 
+def test_check_says_which_block_is_the_last(say: Desk) -> None:
+    said = say("check", example("heat_exchanger_suspect.out.csv"))
+    assert said.out == (
+        "yes: day2, round 0; a later block of this period follows\nyes: day2, round 1\n"
+    )
+
+
 # The desk's own commands, and the mistakes of each.
 
 

@@ -105,7 +105,7 @@ MISTAKES = [
     (("period", "x", "1.3.2024", "2024-03-01"), 5, "write 2024-03-01 or 2024-01-03"),
     (("period", "x", "2024-02-30", "2024-03-01"), 5, "FIRST is '2024-02-30'"),
     (("reading", "f2", "FED", "2024-03-02", "1", "1"), 6, "did you mean FEED?"),
-    (("dip", "d", "MILL", "2024-03-02", "1", "1", "1"), 6, "MILL is no tank"),
+    (("dip", "d", "MILL", "2024-03-02", "1", "1", "1"), 6, "MILL is a unit, not a tank"),
     (("report", "april"), 6, "there is no period april"),
     (("unit", "MILL"), 7, "MILL is a unit already"),
     (("reading", "f2", "FEED", "2024-03-01", "1", "1"), 7, "FEED has a reading of 2024-03-01"),

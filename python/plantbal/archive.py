@@ -1,0 +1,242 @@
+"""Puts a month into a bundle: its session, its output, a summary, a manifest and digests."""
+
+from __future__ import annotations
+
+import argparse
+import datetime
+import os
+import re
+import sys
+from pathlib import Path
+
+from plantbal.bundle import (
+    MANIFEST,
+    OUTPUT,
+    SESSION,
+    SUMMARY,
+    VERSION,
+    DIGESTS,
+    Manifest,
+    digest,
+    digests_text,
+    packed,
+)
+from plantbal.faults import Fault, Place, ProgramFault, read_bytes
+from plantbal.files import write_bytes
+from plantbal.held import Ledger
+from plantbal.lintbook import day_text
+from plantbal.output import Output, parse_report
+from plantbal.program import STATUSES, call, find_program
+from plantbal.progress import Progress
+from plantbal.runwords import words_of
+from plantbal.summary import summary_text
+
+HELP = """
+SESSION is a file; `-` is standard input. The program is run, and the bundle is written by rename:
+
+  session.csv    the session, byte for byte
+  output.csv     what the program writes of it
+  summary.txt    what a person has to know, and the flows of the period in tonnes
+  manifest.json  the period, its days, the time, the words, the program's digest and version,
+                 and the digest of each file
+  SHA256SUMS     the digests of all these, for `sha256sum --check`
+
+The same session, words, program and time give the same bytes. The time is that of --time, else that
+of the variable SOURCE_DATE_EPOCH, else now. A bundle that is there already isn't written over.
+
+The status is 1 if a person has to look (a row is refused, a report isn't converged, a global test
+rejects), and 2 to 6 as the program's. The bundle is written all the same, if there is a report.
+
+examples:
+  plantbal-desk archive plant.csv --period 2024-04
+  plantbal-desk audit plant_2024-04.zip
+"""
+_TIME = "%Y-%m-%dT%H:%M:%SZ"
+
+
+def program_of(path: Path) -> dict[str, str]:
+    """Return the digest of a program, with its version and commit where a build record has them."""
+    found = {"sha256": digest(path.read_bytes()), "version": "unknown", "commit": "commit unknown"}
+    record = path.parent.parent / "share" / "plantbal" / "BUILD"
+    if record.is_file():
+        text = record.read_text(encoding="utf-8", errors="replace")
+        if found["sha256"] in text:
+            said = dict(re.findall(r"^([a-z0-9 ]+): (.*)$", text, re.M))
+            found["version"] = said.get("version", "unknown")
+            found["commit"] = f"commit {said.get('commit', 'unknown')}"
+    return found
+
+
+def time_of(text: str | None) -> str:
+    """Return the time of a bundle, in UTC and whole seconds.
+
+    Raises
+    ------
+    Fault
+        If the text is no time.
+    """
+    if text is None:
+        epoch = os.environ.get("SOURCE_DATE_EPOCH")
+        if epoch is not None and not epoch.isdecimal():
+            raise Fault(f"SOURCE_DATE_EPOCH is {epoch!r}", remedy="it is a number of seconds")
+        zone = datetime.timezone.utc
+        now = datetime.datetime.fromtimestamp(int(epoch), zone) if epoch else None
+        return (now or datetime.datetime.now(zone)).strftime(_TIME)
+    try:
+        return datetime.datetime.strptime(text, _TIME).strftime(_TIME)
+    except ValueError as error:
+        remedy = "write it as 2024-05-02T06:00:00Z, in UTC"
+        raise Fault(f"--time is {text!r}", text=text, remedy=remedy) from error
+
+
+def manifest_of(
+    ledger: Ledger,
+    output: Output,
+    files: dict[str, bytes],
+    *,
+    plant: str,
+    period: str,
+    made: str,
+    words: str,
+    program: dict[str, str],
+    desk: str,
+) -> Manifest:
+    """Return the manifest of files: what follows from them is computed from them."""
+    days = ledger.periods[period]
+    return Manifest(
+        archive=VERSION,
+        plant=plant,
+        period=period,
+        first=day_text(days.first),
+        last=day_text(days.last),
+        made=made,
+        words=words,
+        program=program,
+        desk=desk,
+        reports=[f"{block.period}, round {block.round}" for block in output.blocks_in_order],
+        refused=sum(row["row"] == "refused" for row in output.rows),
+        files={name: digest(data) for name, data in sorted(files.items())},
+    )
+
+
+def period_of(output: Output, wanted: str | None) -> str:
+    """Return the period that is archived: that which is named, or the one that is reported last.
+
+    Raises
+    ------
+    Fault
+        If there is no report of it.
+    """
+    reported = list(dict.fromkeys(block.period for block in output.blocks_in_order))
+    if not reported:
+        remedy = "add the row report,PERIOD to the session"
+        raise Fault("there is no report, so nothing can be archived", remedy=remedy)
+    if wanted is None:
+        return output.blocks_in_order[-1].period
+    if wanted not in reported:
+        remedy = f"there are reports of {', '.join(reported)}"
+        raise Fault(f"there is no report of the period {wanted}", text=wanted, remedy=remedy)
+    return wanted
+
+
+def bundle_files(session: bytes, output: bytes, stated: Manifest) -> dict[str, bytes]:
+    """Return the files of a bundle; plant, period, time, words, program and desk are stated."""
+    ledger, report = Ledger(SESSION, session), parse_report(output.decode("utf-8"), OUTPUT)
+    files = {SESSION: session, OUTPUT: output}
+    said = {
+        "plant": stated.plant,
+        "period": stated.period,
+        "made": stated.made,
+        "words": stated.words,
+        "desk": stated.desk,
+    }
+    first = manifest_of(ledger, report, files, program=stated.program, **said)
+    files[SUMMARY] = summary_text(first, ledger, report).encode("utf-8")
+    whole = manifest_of(ledger, report, files, program=stated.program, **said)
+    files[MANIFEST] = whole.to_json()
+    files[DIGESTS] = digests_text(files)
+    return files
+
+
+def add_arguments(parser: argparse.ArgumentParser) -> None:
+    """Add the words of the command."""
+    parser.add_argument("session", metavar="SESSION")
+    parser.add_argument("--period", metavar="NAME", help="without it the one reported last")
+    parser.add_argument("--plant", metavar="NAME", help="without it the name of the file")
+    parser.add_argument("--out", metavar="FILE", help="without it PLANT_PERIOD.zip")
+    parser.add_argument(
+        "--time", metavar="TIME", help="such as 2024-05-02T06:00:00Z; now without it"
+    )
+    parser.add_argument("--gap", metavar="N", type=int, default=10, help="10 without it")
+    parser.add_argument("--sweeps", metavar="N", type=int, default=5000, help="5,000 without it")
+    parser.add_argument("--no-tests", action="store_true", help="make no tests")
+    parser.add_argument(
+        "--eliminate", metavar="N", type=int, default=0, help="at most N rounds of elimination"
+    )
+    parser.add_argument("--program", metavar="PATH", help="the program")
+
+
+def _write(path: str, data: bytes) -> bool:
+    """Write a bundle, unless it is there with the same bytes; return whether it was written.
+
+    Raises
+    ------
+    Fault
+        If it is there with other bytes.
+    """
+    target = Path(path)
+    if target.exists():
+        if target.read_bytes() == data:
+            return False
+        what = "it is there already, with other bytes, and an archive isn't written over"
+        raise Fault(what, place=Place(file=path), remedy="name another file by --out")
+    write_bytes(target, data)
+    return True
+
+
+def run(options: argparse.Namespace) -> int:
+    """Run the session, write the bundle, and return the status."""
+    import plantbal
+
+    if options.session == "-" and sys.stdin.isatty():
+        print("reading standard input, up to Ctrl-D", file=sys.stderr)
+    made = time_of(options.time)
+    source, session = read_bytes(options.session)
+    words = words_of(
+        tests=not options.no_tests,
+        eliminate=options.eliminate,
+        gap=options.gap,
+        sweeps=options.sweeps,
+    )
+    program = find_program(options.program)
+    try:
+        with Progress(options.prog, session) as progress:
+            status, written = call(words, session, program=program, watch=progress.watch())
+    except ProgramFault as fault:
+        print(f"{options.prog}: {source}: {fault}", file=sys.stderr)
+        return fault.status if fault.status in STATUSES else 1
+    output = parse_report(written.decode("utf-8"), f"the output of {source}", status)
+    period = period_of(output, options.period)
+    stem = "plant" if options.session == "-" else Path(options.session).name.split(".")[0]
+    plant = options.plant or stem
+    stated = Manifest(
+        archive=VERSION,
+        plant=plant,
+        period=period,
+        first="",
+        last="",
+        made=made,
+        words=" ".join(words),
+        program=program_of(program),
+        desk=plantbal.__version__,
+        reports=[],
+        refused=0,
+        files={},
+    )
+    files = bundle_files(session, written, stated)
+    path = options.out or f"{re.sub('[^A-Za-z0-9_.-]', '_', plant)}_{period}.zip"
+    state = "" if _write(path, packed(files)) else ", as it was before"
+    for line in output.why:
+        print(f"{options.prog}: {line}", file=sys.stderr)
+    print(f"{options.prog}: {period} is archived in {path}{state}", file=sys.stderr)
+    return 0 if output.ok else 1

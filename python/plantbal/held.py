@@ -1,0 +1,371 @@
+"""A report held against its session: what each `report` row saw, computed from the facts, and what
+the output says of it."""
+
+from __future__ import annotations
+
+from collections.abc import Iterator
+from dataclasses import dataclass, field
+
+from plantbal.lintbook import Book, Fact, Stream
+from plantbal.records import Record, read_records
+from plantbal.schema import schema
+from plantbal.session import Period
+from plantbal.topology import Arc
+
+MOST_VALUE, MOST_VARIANCE = 10**15, 10**22
+
+
+@dataclass(frozen=True, slots=True)
+class Measured:
+    """What the facts of a period give a stream.
+
+    Attributes
+    ----------
+    arc : Arc
+        The stream.
+    value, variance : int or None
+        Its value in grams and the variance, if it has them.
+    lines : tuple of int
+        The lines of the facts.
+    """
+
+    arc: Arc
+    value: int | None
+    variance: int | None
+    lines: tuple[int, ...] = ()
+
+    @property
+    def over(self) -> bool:
+        """Whether a report can't be made with it."""
+        return abs(self.value or 0) > MOST_VALUE or (self.variance or 0) > MOST_VARIANCE
+
+    def facts(self) -> str:
+        """Return in words where its facts stand."""
+        if not self.lines:
+            return "no fact of the session"
+        first, last = min(self.lines), max(self.lines)
+        where = (
+            f"line {first}"
+            if first == last
+            else f"{len(self.lines)} facts, lines {first} to {last}"
+        )
+        return f"the session ({where})"
+
+
+@dataclass(frozen=True, slots=True)
+class Seen:
+    """What an accepted `report` row of a session saw.
+
+    Attributes
+    ----------
+    period : Period
+        The period.
+    line : int
+        Its line.
+    nodes : list of str
+        The nodes in their order.
+    streams : dict of str to Measured
+        The streams in their order.
+    critical : dict of (str, int) to int
+        The critical values by their test and its degrees of freedom; 0 if these aren't asked.
+    """
+
+    period: Period
+    line: int
+    nodes: list[str]
+    streams: dict[str, Measured]
+    critical: dict[tuple[str, int], int]
+
+    @property
+    def over(self) -> str:
+        """The first stream whose total is beyond the limits, or nothing."""
+        return next((name for name, each in self.streams.items() if each.over), "")
+
+
+@dataclass
+class Ledger(Book):
+    """A session's accepted rows, and what each of its `report` rows saw.
+
+    Attributes
+    ----------
+    seen : list of Seen
+        What the `report` rows saw, in their order.
+    closed : dict of str to int
+        The closed periods, and the lines of their `close` rows.
+    """
+
+    seen: list[Seen] = field(default_factory=list)
+    closed: dict[str, int] = field(default_factory=dict)
+    values: dict[tuple[str, int], int] = field(default_factory=dict)
+    _by_day: dict[tuple[bool, int], list[Fact]] = field(default_factory=dict)
+
+    def _take(self, row: list[str], line: int) -> None:
+        if row[0] == "critical":
+            self.values[row[1], int(row[2]) if row[1] == "global" else 0] = int(row[-1])
+        elif row[0] == "close":
+            self.closed[row[1]] = line
+        super()._take(row, line)
+
+    def _take_report(self, name: str, line: int) -> None:
+        super()._take_report(name, line)
+        period = self.periods[name]
+        facts: dict[str, list[Fact]] = {stream: [] for stream in self.streams}
+        for fact in self._touching(period):
+            facts[fact.of].append(fact)
+        streams = {
+            stream: self._measured(each, period, facts[stream])
+            for stream, each in self.streams.items()
+        }
+        self.seen.append(Seen(period, line, list(self.nodes), streams, dict(self.values)))
+
+    def _take_fact(self, row: list[str], line: int) -> None:
+        super()._take_fact(row, line)
+        fact = self.facts[row[1]]
+        self._by_day.setdefault((fact.kind == "transfer", fact.first), []).append(fact)
+
+    def _touching(self, period: Period) -> Iterator[Fact]:
+        """Give the live facts of a period's days and of the day before the first."""
+        longest = schema().limits["most_days_of_transfer"]
+        for transfer, first in ((False, period.first - 1), (True, period.first - longest)):
+            for day in range(first, period.last + 1):
+                for fact in self._by_day.get((transfer, day), ()):
+                    if not fact.struck and fact.last >= period.first - 1:
+                        yield fact
+
+    def _measured(self, stream: Stream, period: Period, facts: list[Fact]) -> Measured:
+        """Return what the facts of a stream give it in a period."""
+        if stream.kind == "tank":
+            return self._tank(stream, period, facts)
+        found = [fact for fact in facts if fact.last >= period.first]
+        lines = tuple(fact.line for fact in found)
+        days = period.last - period.first + 1
+        if stream.kind == "plain" or (stream.kind == "metered" and len(found) < days):
+            return Measured(stream.arc, None, None, lines)
+        grams = sum(share(fact.grams, fact, period) for fact in found)
+        variance = stream.base + sum(share(fact.variance, fact, period) for fact in found)
+        return Measured(stream.arc, grams, variance, lines)
+
+    def _tank(self, stream: Stream, period: Period, facts: list[Fact]) -> Measured:
+        dips = {fact.first: fact for fact in facts}
+        opening, closing = dips.get(period.first - 1), dips.get(period.last)
+        lines = tuple(dip.line for dip in (opening, closing) if dip)
+        if opening is None or closing is None:
+            return Measured(stream.arc, None, None, lines)
+        grams = self.content(closing) - self.content(opening)
+        variance = stream.base + opening.variance + closing.variance
+        return Measured(stream.arc, grams, variance, lines)
+
+
+def share(total: int, fact: Fact, period: Period) -> int:
+    """Return a period's part of a fact's total, which is spread evenly over the fact's days."""
+    days = fact.last - fact.first + 1
+    before = max(0, period.first - fact.first)
+    upto = min(days, period.last - fact.first + 1)
+    return total * upto // days - total * before // days
+
+
+# ---- what an output says
+
+
+@dataclass
+class Answer:
+    """What an output says of one `report` row: the records of its blocks, or an `over` row.
+
+    Attributes
+    ----------
+    period : str
+        The period.
+    blocks : list of list of Record
+        The records of each block; none if the total of a stream is beyond the limits.
+    over : Record or None
+        The `over` row.
+    taken : list of str
+        The streams that were taken, in their order.
+    """
+
+    period: str
+    blocks: list[list[Record]] = field(default_factory=list)
+    over: Record | None = None
+    taken: list[str] = field(default_factory=list)
+
+
+def answers_of(data: bytes) -> list[Answer]:
+    """Return what an output says of each report that was asked for, in order."""
+    found: list[Answer] = []
+    inside = False
+    for record in read_records(data):
+        fields = (*record.fields, "", "", "", "")
+        if fields[0] == "report":
+            if fields[2] == "0" or not found:
+                found.append(Answer(fields[1]))
+            found[-1].blocks.append([record])
+        elif fields[0] == "over":
+            found.append(Answer(fields[1], over=record))
+        elif fields[0] == "taken" and found:
+            found[-1].taken.append(fields[3])
+        elif inside:
+            found[-1].blocks[-1].append(record)
+        inside = fields[0] == "report" or (inside and fields[0] != "end")
+    return found
+
+
+def columns_of(record: Record) -> dict[str, str]:
+    """Return the fields of a row by its columns."""
+    row = schema().output[record.fields[0]]
+    short = row.without and len(record.fields) == len(row.older) + 1
+    return dict(zip(row.older if short else row.names, record.fields[1:]))
+
+
+@dataclass(frozen=True, slots=True)
+class Differs:
+    """A place at which a report isn't that of its session.
+
+    Attributes
+    ----------
+    line : int
+        The line of the output; 0 if it is none.
+    text : str
+        What is said there, and what the session gives.
+    """
+
+    line: int
+    text: str
+
+
+def grams(number: int | None) -> str:
+    """Return an amount as it is said; a stream without one isn't measured."""
+    return "none" if number is None else f"{number:,}"
+
+
+def number_of(text: str) -> int | None:
+    """Return the whole number of a field, or nothing where it is empty or none."""
+    try:
+        return int(text) if text else None
+    except ValueError:
+        return None
+
+
+def block_differs(block: list[Record], seen: Seen, taken: list[str]) -> Iterator[Differs]:
+    """Give the places at which a block isn't of what its `report` row saw.
+
+    Parameters
+    ----------
+    block : list of Record
+        The block.
+    seen : Seen
+        What the row saw.
+    taken : list of str
+        The streams that were taken before the block, so that they count as not measured.
+    """
+    nodes = [record for record in block if record.fields[0] == "node"]
+    streams = [record for record in block if record.fields[0] == "stream"]
+    for record, name in zip(nodes, seen.nodes):
+        said = columns_of(record).get("name", "")
+        if said != name:
+            yield Differs(record.line, f"node {said} stands where the session has {name}")
+    if len(nodes) != len(seen.nodes):
+        what = f"the block has {len(nodes)} nodes, and the session {len(seen.nodes)}"
+        yield Differs(block[0].line, what)
+    for record, (name, measured) in zip(streams, seen.streams.items()):
+        yield from _stream_differs(record, name, measured, name in taken)
+    if len(streams) != len(seen.streams):
+        what = f"the block has {len(streams)} streams, and the session {len(seen.streams)}"
+        yield Differs(block[0].line, f"{what} with its tanks")
+    yield from _critical_differ(block, seen)
+
+
+def _stream_differs(
+    record: Record, name: str, measured: Measured, taken: bool
+) -> Iterator[Differs]:
+    """Give the columns of a stream row that aren't those of the session."""
+    row = columns_of(record)
+    arc = measured.arc
+    ends = (row.get("name"), row.get("from"), row.get("to"))
+    if ends != (name, arc.from_, arc.to):
+        said = f"{ends[0]} from {ends[1]} to {ends[2]}"
+        what = f"stream {said} stands where the session has {name} from {arc.from_} to {arc.to}"
+        yield Differs(record.line, what)
+        return
+    for column, found, unit in (
+        ("value", measured.value, " g"),
+        ("variance", measured.variance, " g2"),
+    ):
+        found = None if taken else found
+        stated = number_of(row.get(column, ""))
+        if column == "variance" and (row.get("value") == "") != (found is None):
+            continue  # the value said it
+        if stated != found:
+            why = "it was taken out" if taken else f"{measured.facts()} gives {grams(found)}"
+            end = "" if taken or found is None else unit
+            what = f"the {column} of {name} is {grams(stated)}{unit if stated is not None else ''}"
+            yield Differs(record.line, f"{what}, and {why}{end}")
+
+
+def _critical_differ(block: list[Record], seen: Seen) -> Iterator[Differs]:
+    """Give the test rows whose critical value isn't that of the session."""
+    dof = 0
+    for record in block:
+        kind = record.fields[0]
+        row = columns_of(record) if kind in schema().output else {}
+        if kind == "solved":
+            dof = number_of(row.get("dof", "")) or 0
+        if kind in ("global", "nodal", "measure"):
+            found = seen.critical.get((kind, dof if kind == "global" else 0))
+            stated = number_of(row.get("critical", ""))
+            if stated != found:
+                of = f"at {dof} degrees of freedom" if kind == "global" else "of these tests"
+                name = row.get("node") or row.get("stream") or ""
+                what = f"the critical value of the {kind} test{' of ' + name if name else ''} is"
+                yield Differs(
+                    record.line,
+                    f"{what} {grams(stated)}, and that of the session {of} is {grams(found)}",
+                )
+
+
+def refused_differ(output: bytes, ledger: Ledger) -> Iterator[Differs]:
+    """Give the refused rows that an output has and the rules don't, or the reverse."""
+    stated = {}
+    for record in read_records(output):
+        if record.fields[0] == "refused" and len(record.fields) > 2:
+            stated[number_of(record.fields[1])] = (record.line, record.fields[2])
+    found = {each.place.record: each for each in ledger.refused}
+    for number, (line, code) in stated.items():
+        if number not in found:
+            yield Differs(line, f"record {number} is said to be refused, and by the rules it isn't")
+        elif str(found[number].code) != code:
+            what = f"record {number} is said to be refused with code {code}"
+            yield Differs(line, f"{what}, and by the rules the code is {found[number].code}")
+    for number, refusal in found.items():
+        if number not in stated:
+            what = f"line {refusal.place.line} of the session is refused ({refusal.word})"
+            yield Differs(0, f"{what}, and the output doesn't say so")
+
+
+@dataclass(frozen=True, slots=True)
+class Pair:
+    """A report that a session asks for, and what an output says of it."""
+
+    seen: Seen
+    answer: Answer
+
+    def differ(self) -> Iterator[Differs]:
+        """Give the places at which the answer isn't that of the session."""
+        name, over = self.seen.period.name, self.seen.over
+        if self.answer.period != name:
+            lines = [block[0].line for block in self.answer.blocks]
+            line = lines[0] if lines else getattr(self.answer.over, "line", 0)
+            what = f"this is a report of {self.answer.period}, and the session asks for {name} here"
+            yield Differs(line, f"{what} (line {self.seen.line} of the session)")
+            return
+        if self.answer.over is not None:
+            stated = self.answer.over.fields[2] if len(self.answer.over.fields) > 2 else ""
+            if stated != over:
+                what = f"the total of {stated} is said to be beyond the limits"
+                rule = f"that of {over} is" if over else "by the session none is"
+                yield Differs(self.answer.over.line, f"{what}, and {rule}")
+            return
+        if over:
+            what = f"there is a report, and by the session the total of {over} is beyond the limits"
+            yield Differs(self.answer.blocks[0][0].line, what)
+        for number, block in enumerate(self.answer.blocks):
+            yield from block_differs(block, self.seen, self.answer.taken[:number])
