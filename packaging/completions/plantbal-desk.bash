@@ -67,6 +67,7 @@ _plantbal_desk() {
         book:--year) :; return ;;
         book:--density) :; return ;;
         book:--error) :; return ;;
+        book:--session) _plantbal_files -f; return ;;
         book:--eliminate) :; return ;;
         book:--gap) :; return ;;
         book:--sweeps) :; return ;;
@@ -162,7 +163,7 @@ _plantbal_desk() {
             _plantbal_more 'new add show amend strike report close status next'
             return
         fi
-        _plantbal_words '-h --help --program --locale --missing --skip --limits --book --who --why --strike --anyway --year --dry-run --density --error --no-tests --eliminate --gap --sweeps --all --plant --first' ;;
+        _plantbal_words '-h --help --program --locale --missing --skip --limits --book --who --why --strike --anyway --year --dry-run --density --error --session --no-tests --eliminate --gap --sweeps --all --plant --first' ;;
     template)
         if [[ $here != -* ]]; then
             _plantbal_files -f

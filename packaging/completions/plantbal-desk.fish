@@ -93,6 +93,7 @@ complete -c plantbal-desk -n '__fish_seen_subcommand_from book' -l year -x -d 'w
 complete -c plantbal-desk -n '__fish_seen_subcommand_from book' -l dry-run -d 'say it, and book nothing'
 complete -c plantbal-desk -n '__fish_seen_subcommand_from book' -l density -x -d 'another density: 862'
 complete -c plantbal-desk -n '__fish_seen_subcommand_from book' -l error -x -d 'another error: 0.2 t'
+complete -c plantbal-desk -n '__fish_seen_subcommand_from book' -l session -r -F -d 'write the session that asks for the reports too'
 complete -c plantbal-desk -n '__fish_seen_subcommand_from book' -l no-tests -d 'make no tests'
 complete -c plantbal-desk -n '__fish_seen_subcommand_from book' -l eliminate -x -d 'at most N rounds'
 complete -c plantbal-desk -n '__fish_seen_subcommand_from book' -l gap -x -d '10 without it'

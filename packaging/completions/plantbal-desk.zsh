@@ -126,6 +126,7 @@ _plantbal_desk() {
             '--dry-run[say it, and book nothing]'
             '--density=[another density\: 862]:TEXT:'
             '--error=[another error\: 0.2 t]:TEXT:'
+            '--session=[write the session that asks for the reports too]:FILE:_files'
             '--no-tests[make no tests]'
             '--eliminate=[at most N rounds]:N:'
             '--gap=[10 without it]:N:'

@@ -12,6 +12,7 @@ from conftest import Desk, text_of
 
 from plantbal.book.meters import decimal, error_text, read_meters
 from plantbal.cells import Error
+from plantbal.program import call
 
 __all__ = ["fixture_book"]
 
@@ -414,6 +415,15 @@ def test_report_close_and_late(book: Type, tmp_path: Path) -> None:
     assert "as it was" in book("report", "2024-04").out
     assert book("report", "2024-03").err.endswith("in this book: the periods are 2024-04\n")
     assert "no period is open" in book("report").err
+
+
+def test_the_session_of_a_report(book: Type, tmp_path: Path) -> None:
+    """Run by itself it gives the report, so that it can be put into a bundle."""
+    book("report", "2024-04", "--session", tmp_path / "april.session.csv")
+    asked = text_of(tmp_path / "april.session.csv")
+    assert asked == text_of(tmp_path / "mill/2024.csv") + "report,2024-04\nhistory,2024-04\n"
+    _, output = call(["run", "--tests"], asked.encode())
+    assert output.decode() == text_of(tmp_path / "mill/reports/2024-04.csv")
 
 
 def test_status(book: Type, tmp_path: Path) -> None:

@@ -11,6 +11,7 @@ from plantbal.book.said import counted, lacks
 from plantbal.book.store import METERS, REPORTS, Action, Book
 from plantbal.book.years import Years
 from plantbal.faults import Fault
+from plantbal.files import write_text
 from plantbal.output import Output, parse_report
 from plantbal.program import call
 
@@ -21,6 +22,9 @@ def add_arguments(parser: argparse.ArgumentParser) -> None:
     """Add the words of the command."""
     parser.add_argument(
         "periods", metavar="PERIOD", nargs="*", help="the periods; all open ones without it"
+    )
+    parser.add_argument(
+        "--session", metavar="FILE", help="write the session that asks for the reports too"
     )
     add_program(parser)
 
@@ -51,10 +55,15 @@ def report_of(options: argparse.Namespace, text: str, period: str) -> tuple[str,
         words += ["--eliminate", str(options.eliminate)]
     if not options.no_tests:
         words.append("--tests")
-    asked = f"{text}report,{period}\nhistory,{period}\n"
+    asked = text + rows_asking(period)
     status, output = call(words, asked.encode("ascii"), program=options.program)
     written = output.decode("ascii")
     return written, parse_report(written, f"the report of {period}", status)
+
+
+def rows_asking(period: str) -> str:
+    """Return the rows that ask for the report of a period and its history."""
+    return f"report,{period}\nhistory,{period}\n"
 
 
 def state_of(output: Output, period: str) -> str:
@@ -145,4 +154,10 @@ def run(options: argparse.Namespace) -> int:
             history = f", with {counted(edits, 'edit')}" if edits else ""
             print(f"{name}: {book.path(file_of(name))}{history}" + ("" if new else ", as it was"))
             status = status if output.ok else 1
+        if options.session:
+            texts = {years.of_period(name).name: "" for name in periods}
+            if len(texts) > 1:
+                raise Fault("these periods are of several years", remedy="name those of one year")
+            text = book.text(f"{next(iter(texts))}.csv")
+            write_text(options.session, text + "".join(map(rows_asking, periods)))
     return status
