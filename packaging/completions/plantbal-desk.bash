@@ -88,7 +88,14 @@ _plantbal_desk() {
         chart:--session) _plantbal_files -f; return ;;
         chart:--out) _plantbal_files -f; return ;;
         page:--title) :; return ;;
+        page:--plant) :; return ;;
         page:--session) _plantbal_files -f; return ;;
+        page:--eliminate) :; return ;;
+        page:--program) _plantbal_files -f; return ;;
+        page:--out) _plantbal_files -f; return ;;
+        page:--xlsx) _plantbal_files -f; return ;;
+        page:--pdf) _plantbal_files -f; return ;;
+        page:--seconds) :; return ;;
         fleet:--out) _plantbal_files -d; return ;;
         fleet:--date) :; return ;;
         fleet:--engine) _plantbal_words 'parallel dask'; return ;;
@@ -207,7 +214,7 @@ _plantbal_desk() {
             _plantbal_files -f
             return
         fi
-        _plantbal_words '-h --help --title --session' ;;
+        _plantbal_words '-h --help --title --plant --session --run --eliminate --program --out --xlsx --pdf --seconds' ;;
     fleet)
         if [[ $here != -* ]]; then
             _plantbal_files -d

@@ -204,7 +204,15 @@ _plantbal_desk() {
             '-h[show this help message and exit]'
             '--help[show this help message and exit]'
             '--title=[the heading of the page]:TEXT:'
-            '--session=[the session\: its refused rows come in sentences, with what lint warns of]:SESSION:_files'
+            '--plant=[what the plant is called]:TEXT:'
+            '--session=[the session of the output]:SESSION:_files'
+            '--run[run the file, a session]'
+            '--eliminate=[with --run, at most N rounds of it]:N:'
+            '--program=[the program, with --run]:PATH:_files'
+            '--out=[the page]:FILE:_files'
+            '--xlsx=[a workbook]:FILE:_files'
+            '--pdf=[a PDF on A4]:FILE:_files'
+            '--seconds=[for drawings, 10 without it]:N:'
             '1:word:(page)'
             '*:OUTPUT:_files'
         ) ;;
@@ -258,7 +266,7 @@ _plantbal_desk() {
             '-h[show this help message and exit]'
             '--help[show this help message and exit]'
             '--version[write the version and end]'
-            "1:word:((run\:'run a session, and say what has to be looked at' lint\:'say what of a session is accepted and looks wrong' explain\:'say of each refused row what is wrong with it' check\:'check a report, of CSV or of JSON lines' archive\:'put a month into a bundle with digests' audit\:'say whether a bundle, or a report and its session, holds' report\:'turn a report into CSV, SQLite or a workbook' solve\:'reconcile by scipy what sweeps don'\''t come near' convert\:'a session from a plant'\''s workbook' book\:'keep a plant'\''s book, a session a year' template\:'an empty workbook for convert' from-spreadsheet\:'a session from daily readings and tags' tables\:'tables of flows, classes, suspects, imbalances' uncertainty\:'how good each flow is, and the meters that it rests on' draw\:'draw a report or a design' chart\:'chart the periods of a session' page\:'one page for a browser' fleet\:'run a folder of sessions' critical\:'critical values as rows of a session' from-scipy\:'another program'\''s figures in the form of a report' schema\:'the rows of sessions and outputs as data'))"
+            "1:word:((run\:'run a session, and say what has to be looked at' lint\:'say what of a session is accepted and looks wrong' explain\:'say of each refused row what is wrong with it' check\:'check a report, of CSV or of JSON lines' archive\:'put a month into a bundle with digests' audit\:'say whether a bundle, or a report and its session, holds' report\:'turn a report into CSV, SQLite or a workbook' solve\:'reconcile by scipy what sweeps don'\''t come near' convert\:'a session from a plant'\''s workbook' book\:'keep a plant'\''s book, a session a year' template\:'an empty workbook for convert' from-spreadsheet\:'a session from daily readings and tags' tables\:'tables of flows, classes, suspects, imbalances' uncertainty\:'how good each flow is, and the meters that it rests on' draw\:'draw a report or a design' chart\:'chart the periods of a session' page\:'the month'\''s statement\: a page, a workbook, a PDF' fleet\:'run a folder of sessions' critical\:'critical values as rows of a session' from-scipy\:'another program'\''s figures in the form of a report' schema\:'the rows of sessions and outputs as data'))"
         ) ;;
     esac
     _arguments -s : $specifications

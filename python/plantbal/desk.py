@@ -70,7 +70,7 @@ COMMANDS: tuple[Command, ...] = (
     Command("uncertainty", "uncertainty", "how good each flow is, and the meters that it rests on"),
     Command("draw", "picture", "draw a report or a design"),
     Command("chart", "chart", "chart the periods of a session"),
-    Command("page", "page", "one page for a browser"),
+    Command("page", "page.command", "the month's statement: a page, a workbook, a PDF"),
     Command("fleet", "fleet.command", "run a folder of sessions", takes_words=True),
     Command("critical", "critical", "critical values as rows of a session"),
     Command("from-scipy", "foreign", "another program's figures in the form of a report"),

@@ -17,22 +17,29 @@ OUTPUT is what plantbal wrote, as CSV or as JSON lines; without it standard inpu
 report is drawn, or, where there is none, the last design. The picture is SVG, and goes to standard
 output, or to the file of --out.
 
-Units are boxes, tanks are cylinders with what they gained, `env` is left open. Colours of streams:
-redundant green, nonredundant orange, observable blue, unobservable grey and dotted, a suspect (its
-measurement test rejects, or it was taken) red. With --mark the certificate of a stream is shown: the
-parts of its cut or cycle are drawn thick, and the units of the cut's side are filled. A plant of 300
-streams takes a second or two, one of 2,000 some minutes.
+Units are boxes, tanks are cylinders with what they gained, `env` is left open. Arrows are as wide as
+their tonnes. Streams: redundant green, with a full dot; nonredundant brown and dashed, with a ring;
+observable blue and dashed, with a triangle; unobservable grey and dotted, with a question mark, and
+without a figure; red with a `!` is a suspect (its measurement test rejects, and so does the global
+test), or what was taken. With --mark the certificate of a stream is shown: the parts of its cut or
+cycle are drawn thick, and the units of the cut's side are filled. A plant of 300 streams takes a
+second or two, one of 2,000 some minutes.
 
 examples:
   plantbal run < day.csv | plantbal-desk draw --mark KEROSENE > day.svg
 """
+# Each has at least 4.5 to 1 on white, and a sign, so that none is told by its colour alone.
 COLOURS = {
-    "redundant": "#2e7d32",
-    "nonredundant": "#e08000",
-    "observable": "#1565c0",
-    "unobservable": "#808080",
+    "redundant": "#1b5e20",
+    "nonredundant": "#7d4200",
+    "observable": "#0d47a1",
+    "unobservable": "#505a66",
 }
-SUSPECT = "#d00000"
+SIGNS = {"redundant": "●", "nonredundant": "○", "observable": "△", "unobservable": "?"}
+STYLES = {"nonredundant": "dashed", "observable": "dashed", "unobservable": "dotted"}
+SUSPECT, SUSPECT_SIGN = "#a3001b", "!"
+# Arrows are as wide as their tonnes, between these.
+THINNEST, WIDEST = 1.2, 6.0
 # Above this many streams Graphviz is asked for its fast layout: its best one of 300 takes a minute.
 MANY = 100
 FAST = {"splines": "line", "nslimit": 1, "nslimit1": 1, "mclimit": 0.1}
@@ -80,6 +87,8 @@ class Picture:
         names = list(nodes) + [end for stream in streams for end in (stream["from"], stream["to"])]
         self.nodes = [name for name in dict.fromkeys(names) if name != "env"]
         self.tanks = {s["name"]: s for s in streams if s["name"] == s["from"]}
+        found = [s for s in streams if "flow" in s and s["class"] != "unobservable"]
+        self.widest = max((abs(int(s["flow"])) for s in found), default=0)
         self.side: set[str] = set()
         self.parts: set[str] = set()
 
@@ -105,6 +114,25 @@ class Picture:
         """Return the colour of a stream."""
         return SUSPECT if stream["name"] in self.suspects else COLOURS[stream["class"]]
 
+    def label(self, stream: Values) -> str:
+        """Return a stream's name after its sign, and its tonnes if it has a figure to book."""
+        sign = SUSPECT_SIGN if stream["name"] in self.suspects else SIGNS[stream["class"]]
+        if "flow" not in stream or stream["class"] == "unobservable":
+            return f"{sign} {stream['name']}"
+        return f"{sign} {stream['name']}\n{tonnes_text(stream['flow'])} t"
+
+    def width(self, stream: Values) -> float:
+        """Return the width of a stream: it grows with its tonnes."""
+        if "flow" not in stream or stream["class"] == "unobservable" or not self.widest:
+            return THINNEST
+        return round(THINNEST + (WIDEST - THINNEST) * abs(int(stream["flow"])) / self.widest, 2)
+
+    def legend(self) -> str:
+        """Return what the signs mean, of the classes that are there."""
+        there = {stream["class"] for stream in self.streams}
+        said = [f"{sign} {name}" for name, sign in SIGNS.items() if name in there]
+        return "    ".join([*said, *([f"{SUSPECT_SIGN} suspect"] if self.suspects else [])])
+
     def node(self, name: str) -> str:
         """Return the line of a unit or a tank; a tank's stream is drawn as the tank itself."""
         shape, label = "box", name
@@ -112,7 +140,7 @@ class Picture:
         if name in self.tanks:
             tank = self.tanks[name]
             shape = "cylinder"
-            label = name + (f"\n{tonnes_text(tank['flow'])} t" if "flow" in tank else "")
+            label = "\n" + self.label(tank)  # below the lid
             look["color"] = self.colour(tank)
             look["penwidth"] = 4 if name in self.parts else 1.5
         if name in self.side:
@@ -135,17 +163,15 @@ class Picture:
                 lines.append(f"  {quoted(ends[-1])} {attributes(shape='point', **look)}")
             else:
                 ends.append(stream[place])
-        label = stream["name"]
-        if "flow" in stream and stream["class"] != "unobservable":
-            label += f"\n{tonnes_text(stream['flow'])} t"
-        dotted = {"style": "dotted"} if stream["class"] == "unobservable" else {}
+        style = STYLES.get(stream["class"])
+        width = self.width(stream)
         said = attributes(
             id_=self.id_of(stream["name"]),
-            label=label,
+            label=self.label(stream),
             color=self.colour(stream),
             fontcolor=self.colour(stream),
-            penwidth=4 if stream["name"] in self.parts else 1.2,
-            **dotted,
+            penwidth=max(4, width) if stream["name"] in self.parts else width,
+            **({"style": style} if style else {}),
         )
         lines.append(f"  {quoted(ends[0])} -> {quoted(ends[1])} {said}")
         return lines
@@ -154,7 +180,12 @@ class Picture:
         """Return the text for Graphviz."""
         fast: dict[str, object] = dict(FAST) if len(self.streams) > MANY else {}
         graph = attributes(
-            rankdir="LR", label=self.title, labelloc="t", fontname="Helvetica", **fast
+            rankdir="LR",
+            label=f"{self.title}\n{self.legend()}",
+            labelloc="t",
+            fontname="Helvetica",
+            pad=0.2,
+            **fast,
         )
         lines = [
             "digraph plant {",
@@ -172,7 +203,10 @@ class Picture:
 def picture_of(block: Block, prefix: str = "") -> Picture:
     """Return the picture of a round."""
     nodes = [node["name"] for node in block.nodes]
-    return Picture(block.title, block.streams, nodes, block.suspects() + block.taken, prefix)
+    # where the global test doesn't reject, that of one meter counts for nothing
+    rejected = block.whole is not None and block.whole["verdict"] == "reject"
+    suspects = block.suspects() if rejected else []
+    return Picture(block.title, block.streams, nodes, suspects + block.taken, prefix)
 
 
 def chosen(rows: list[Values], period: str | None, number: int | None) -> Picture:

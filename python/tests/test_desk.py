@@ -62,7 +62,7 @@ def test_public_names() -> None:
     for name in plantbal.__all__:
         value = getattr(plantbal, name)
         assert name == "__version__" or value.__doc__
-    for path in sorted((TOP / "python" / "plantbal").glob("*.py")):
+    for path in sorted((TOP / "python" / "plantbal").rglob("*.py")):
         tree = ast.parse(path.read_text(encoding="utf-8"))
         assert ast.get_docstring(tree), path
         for node in ast.walk(tree):

@@ -229,6 +229,7 @@ def _stopped_by_sigterm() -> Iterator[None]:
         return
 
     def stop(*_: object) -> None:
+        """Stop the night as Ctrl-C does."""
         raise KeyboardInterrupt
 
     before = signal.signal(signal.SIGTERM, stop)

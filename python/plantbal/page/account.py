@@ -1,0 +1,270 @@
+"""Makes the statement of an output's rows, with what its session says."""
+
+from __future__ import annotations
+
+from collections.abc import Iterable, Mapping, Sequence
+from dataclasses import dataclass, replace
+from decimal import Decimal
+from typing import TYPE_CHECKING
+
+from plantbal.page.ledger import Asked, Dips, Ledger
+from plantbal.page.statement import (
+    Account,
+    Edit,
+    Line,
+    Refused,
+    Report,
+    Round,
+    Statement,
+    Tank,
+    Worth,
+)
+from plantbal.page.verdict import Lost, Verdict, names_of, verdict_of
+from plantbal.report import Block, Values, blocks_of, designs_of
+
+if TYPE_CHECKING:
+    from plantbal.lintrules import Finding
+
+
+# What lint finds that a verdict tells: a meter or a tank without a value, and facts too late.
+LATE = "after-report"
+TOLD = ("missing-reading", "missing-dip", LATE)
+
+
+def _pair(row: Values, low: str, high: str) -> tuple[int, int] | None:
+    return (int(row[low]), int(row[high])) if row.get(low) and row.get(high) else None
+
+
+def line_of(row: Values, statistic: str = "", mark: str = "", worth: Worth | None = None) -> Line:
+    """Return the line of a `stream` or a `class` row."""
+    observable = row["class"] != "unobservable"
+    return Line(
+        name=row["name"],
+        from_=row["from"],
+        to=row["to"],
+        class_=row["class"],
+        value=int(row["value"]) if row.get("value") else None,
+        variance=int(row["variance"]) if row.get("variance") else None,
+        flow=int(row["flow"]) if row.get("flow") and observable else None,
+        bounds=_pair(row, "lo", "hi"),
+        least=_pair(row, "least_lo", "least_hi"),
+        shape=row["shape"],
+        side=row["side"],
+        parts=row["parts"],
+        statistic=Decimal(statistic) / 1000 if statistic else None,
+        mark=mark,
+        worth=worth,
+    )
+
+
+def tanks_of(lines: Iterable[Line], dips: Mapping[str, Dips]) -> list[Tank]:
+    """Return the tanks among the lines of a round."""
+    into: dict[str, int | None] = {}
+    out: dict[str, int | None] = {}
+    found = list(lines)
+    for line in found:
+        if line.is_tank:
+            continue
+        for sums, end in ((into, line.to), (out, line.from_)):
+            before = sums.get(end, 0)
+            sums[end] = None if before is None or line.flow is None else before + line.flow
+    none = Dips(None, None)
+    return [
+        Tank(
+            line,
+            dips.get(line.name, none).opening,
+            into.get(line.name, 0),
+            out.get(line.name, 0),
+            dips.get(line.name, none).closing,
+        )
+        for line in found
+        if line.is_tank
+    ]
+
+
+def round_of(
+    block: Block, asked: Asked | None, worth: Mapping[str, Worth], lost: Lost, stop: str = ""
+) -> Round:
+    """Return a round.
+
+    Parameters
+    ----------
+    block : Block
+        Its rows.
+    asked : Asked or None
+        The row of the session that asked for it.
+    worth : mapping
+        How good its flows are, by the streams.
+    lost : Lost
+        How many rows were refused before it.
+    stop : str
+        Why the elimination ended after it.
+    """
+    statistics = {row["stream"]: row["low"] for row in block.measure}
+    # A test of one meter counts under a global test that rejects, and if no row lacks in the plant.
+    rejected = block.whole is not None and block.whole["verdict"] == "reject"
+    suspects = block.suspects() if rejected and not lost.lacking else []
+    marks = {name: "suspect" for name in suspects} | {name: "taken" for name in block.taken}
+    lines = [
+        line_of(
+            row, statistics.get(row["name"], ""), marks.get(row["name"], ""), worth.get(row["name"])
+        )
+        for row in block.streams
+    ]
+    dips = asked.dips if asked is not None else {}
+    said = verdict_of(block, lost, suspects, lines, stop)
+    return Round(block, lines, tanks_of(lines, dips), said)
+
+
+@dataclass
+class _Gathered:
+    """Reports as they come, with how many rows were refused before each."""
+
+    period: str
+    blocks: list[Block]
+    over: str
+    lost: Lost
+    stop: str = ""
+
+
+def _gather(rows: list[Values]) -> list[_Gathered]:
+    """Return the reports of an output in order."""
+    blocks = iter(blocks_of(rows))
+    found: list[_Gathered] = []
+    lost = Lost()
+    for row in rows:
+        if row["row"] == "refused":
+            lost = lost.plus(row["word"])
+        elif row["row"] == "over":
+            found.append(_Gathered(row["period"], [], row["stream"], lost))
+        elif row["row"] == "report":
+            block = next(blocks)
+            if row["round"] == "0" or not found:
+                found.append(_Gathered(row["period"], [], "", lost))
+            found[-1].blocks.append(block)
+        elif row["row"] == "stop" and found:
+            found[-1].stop = row["reason"]
+    return found
+
+
+def _edits_of(rows: list[Values]) -> dict[str, list[Edit]]:
+    """Return the edits that the last history of each period has."""
+    found: dict[str, list[Edit]] = {}
+    period = ""
+    for row in rows:
+        if row["row"] == "history":
+            period = row["period"]
+            found[period] = []
+        elif row["row"] == "edit":
+            edit = Edit(int(row["at"]), row["word"], row["id"], row["reason"])
+            found.setdefault(period, []).append(edit)
+    return found
+
+
+def _states_of(rows: list[Values]) -> dict[str, str]:
+    return {row["period"]: row["state"] for row in rows if row["row"] == "history"}
+
+
+def _with_changes(ledger: Ledger, period: str) -> list[Edit]:
+    """Return the edits of a period as the session has them."""
+    return [
+        Edit(c.record, c.word, c.fact.id if c.fact else "", c.reason, c)
+        for c in ledger.changes_of(period)
+    ]
+
+
+def _order(statement: Statement) -> tuple[bool, str, int]:
+    """Periods stand by their days, or, if these aren't known, as their last reports do."""
+    days = statement.days
+    return (days is None, days[1] if days else "", statement.number)
+
+
+def account_of(
+    rows: list[Values],
+    *,
+    ledger: Ledger | None = None,
+    refused: Sequence[Refused] = (),
+    findings: Sequence[Finding] = (),
+    worth: Mapping[tuple[int, str], Worth] | None = None,
+) -> Account:
+    """Return all that a page shows of an output.
+
+    Parameters
+    ----------
+    rows : list of dict
+        The rows of the output.
+    ledger : Ledger, optional
+        The session.
+    refused : sequence of Refused
+        The refused rows.
+    findings : sequence of Finding
+        What lint finds in the session; notes are left out.
+    worth : mapping, optional
+        How good each flow is, by the number of its block and its name.
+    """
+    by_block: dict[int, dict[str, Worth]] = {}
+    for (number, name), value in (worth or {}).items():
+        by_block.setdefault(number, {})[name] = value
+    by_period: dict[str, list[Report]] = {}
+    for number, some in enumerate(_gather(rows)):
+        asked = ledger.reports[number] if ledger is not None else None
+        rounds = []
+        for block in some.blocks:
+            stop = some.stop if block is some.blocks[-1] else ""
+            good = by_block.get(block.number, {})
+            rounds.append(round_of(block, asked, good, some.lost, stop))
+        report = Report(some.period, rounds, some.over, asked)
+        by_period.setdefault(some.period, []).append(report)
+    edits, states = _edits_of(rows), _states_of(rows)
+    for period in states:
+        by_period.setdefault(period, [Report(period, [])])
+    wanted = [each for each in findings if each.severity != "note"]
+    statements = [
+        _statement(number, period, reports, edits, states, ledger, wanted)
+        for number, (period, reports) in enumerate(by_period.items())
+    ]
+    statements = [
+        replace(statement, number=number)
+        for number, statement in enumerate(sorted(statements, key=_order))
+    ]
+    return Account(
+        statements=statements,
+        designs=[[line_of(row) for row in design] for design in designs_of(rows)],
+        refused=list(refused),
+        findings=wanted,
+        ledger=ledger,
+    )
+
+
+def _statement(
+    number: int,
+    period: str,
+    reports: list[Report],
+    edits: Mapping[str, list[Edit]],
+    states: Mapping[str, str],
+    ledger: Ledger | None,
+    findings: Iterable[Finding],
+) -> Statement:
+    """Return the statement of a period."""
+    days, state, changes = None, states.get(period, ""), edits.get(period, [])
+    if ledger is not None:
+        days = ledger.days(period)
+        state = "closed" if ledger.is_closed(period) else "open"
+        changes = _with_changes(ledger, period)
+    last = reports[-1].last
+    said = last.verdict if last is not None else _without_report(period, reports[-1].over)
+    wanted = [each for each in findings if each.period == period and each.code in TOLD]
+    if wanted:
+        names = [each.name for each in wanted if each.code != LATE]
+        have = "has" if len(names) == 1 else "have"
+        what = f"{names_of(names, 2)} {have} no value" if names else "facts come after the report"
+        said = said.but(what, [f"{each.text}." for each in wanted])
+    return Statement(number, period, days, state, reports, changes, said)
+
+
+def _without_report(period: str, over: str) -> Verdict:
+    """Return what is said of a period without a report."""
+    if over:
+        why = f"The total of {over} is beyond the limits: look for a digit too many in its facts."
+        return Verdict("bad", "No report", [why])
+    return Verdict("plain", "No report", [f"The row report,{period} asks for one."])

@@ -1,0 +1,235 @@
+"""Makes the month's statement: one page for a browser that needs no network, a workbook, a PDF."""
+
+from __future__ import annotations
+
+import argparse
+import sys
+from dataclasses import dataclass
+from pathlib import Path
+from typing import TYPE_CHECKING
+
+from plantbal.faults import Fault, InputFault, Place, read_bytes
+from plantbal.files import write_text
+from plantbal.page.account import account_of
+from plantbal.page.head import Origin
+from plantbal.page.ledger import Ledger
+from plantbal.page.reading import check_rows
+from plantbal.page.render import render
+from plantbal.page.statement import Prepared, Refused, Worth
+from plantbal.report import Values, blocks_of, read_rows
+from plantbal.schema import schema
+
+if TYPE_CHECKING:
+    from plantbal.explain import Told
+    from plantbal.output import Output
+
+HELP = """
+OUTPUT is what plantbal wrote, as JSON lines or as CSV; without it standard input is read. The
+page goes to standard output, or to the file of --out. If --session names the session, the page
+has the days of periods, whether they are open, the opening and closing of tanks, edits with
+before and after, refused rows in sentences, and what lint warns of. With --run the file is the
+session itself, and it is run first, with its tests; then standard error and the status say what
+they say of plantbal-desk run.
+
+Each period has a verdict in words, its tanks and streams with measured value, adjustment and what
+is booked, and a drawing. Choose a row or an arrow: its cut or cycle is marked. Above 60 streams
+what lies within two steps of the chosen stream is drawn. If Graphviz needs longer than --seconds,
+the page comes without drawings and says so.
+
+--xlsx writes the tables as a workbook, --pdf the page on A4 by chromium. If one of them is named,
+the page itself is written only where --out says.
+
+examples:
+  plantbal run --tests < may.csv | plantbal-desk page --title May --session may.csv > may.html
+  plantbal-desk page may.csv --run --out may.html --pdf may.pdf --xlsx may.xlsx
+"""
+# A meter with a smaller share of a variance isn't named.
+LEAST_SHARE = 0.005
+
+
+@dataclass(frozen=True)
+class Source:
+    """What a page is made of.
+
+    Attributes
+    ----------
+    rows : list of dict
+        The rows of the output.
+    name : str
+        What the output is called.
+    session : tuple of str and bytes, or None
+        What the session is called, and its bytes.
+    """
+
+    rows: list[Values]
+    name: str = "output"
+    session: tuple[str, bytes] | None = None
+
+
+def worth_of(rows: list[Values]) -> tuple[dict[tuple[int, str], Worth], str]:
+    """Return how good the flows of each period's last round are, or why that isn't known.
+
+    Returns
+    -------
+    tuple of dict and str
+        The worth by the number of the block and the name of the stream; and why there is none,
+        empty if there is.
+    """
+    from plantbal.uncertainty import uncertainty_of
+
+    last = {block.period: block for block in blocks_of(rows)}
+    try:
+        table = uncertainty_of(last.values())
+    except Fault as fault:
+        return {}, str(fault)
+    found = {}
+    for row in table.itertuples():
+        gain = None if row.gain != row.gain else float(row.gain)
+        meters = [(row.first, row.first_share), (row.second, row.second_share)]
+        meters.append((row.third, row.third_share))
+        named = ", ".join(
+            f"{name} {100 * share:.0f} %" for name, share in meters if name and share >= LEAST_SHARE
+        )
+        found[row.block, row.name] = Worth(float(row.sd), gain, named)
+    return found, ""
+
+
+def refused_of(rows: list[Values]) -> list[Refused]:
+    """Return the refused rows of an output."""
+    codes = schema().refusals
+    found = []
+    for row in rows:
+        if row["row"] == "refused":
+            code = codes.get(int(row["code"]))
+            found.append(Refused(int(row["at"]), row["word"], code.remedy if code else ""))
+    return found
+
+
+def prepare(source: Source) -> Prepared:
+    """Return all that a page shows.
+
+    Raises
+    ------
+    InputFault
+        Where a row can't be shown, or the output is that of another session.
+    """
+    check_rows(source.rows, source.name)
+    refused = refused_of(source.rows)
+    worth, why = worth_of(source.rows)
+    if source.session is None:
+        account = account_of(source.rows, refused=refused, worth=worth)
+        return Prepared(account, why_no_worth=why)
+    from plantbal.explain import explain_bytes, same_refusals
+    from plantbal.lintrules import SEVERITIES, find
+
+    name, data = source.session
+    ledger = Ledger(name, data)
+    told: list[Told] = []
+    if refused or ledger.refused:
+        explanation = explain_bytes(name, data)
+        same_refusals(explanation, source.rows, source.name, name)
+        told = [*explanation.whole, *explanation.rows]
+    ledger.check_output(source.rows, source.name)
+    findings = sorted(
+        (each for each in find(ledger) if each.code != "refused"),
+        key=lambda each: (SEVERITIES.index(each.severity), each.place.line or 0),
+    )
+    account = account_of(
+        source.rows, ledger=ledger, refused=refused, findings=findings, worth=worth
+    )
+    return Prepared(account, told, why)
+
+
+def page(
+    rows: list[Values],
+    *,
+    session: tuple[str, bytes] | None = None,
+    title: str = "",
+    origin: Origin = Origin(),
+    seconds: float = 10,
+) -> str:
+    """Return the page of an output.
+
+    Parameters
+    ----------
+    rows : list of dict
+        The rows of the output.
+    session : tuple of str and bytes, optional
+        What the session is called, and its bytes.
+    title : str
+        The heading.
+    origin : Origin
+        The plant, and the program.
+    seconds : float
+        How long the layout of drawings may take.
+    """
+    prepared = prepare(Source(rows, "output", session))
+    return render(prepared, title=title, origin=origin, seconds=seconds)
+
+
+def add_arguments(parser: argparse.ArgumentParser) -> None:
+    """Add the words of the command."""
+    parser.add_argument("output", metavar="OUTPUT", nargs="?", default="-")
+    parser.add_argument("--title", metavar="TEXT", default="", help="the heading of the page")
+    parser.add_argument("--plant", metavar="TEXT", default="", help="what the plant is called")
+    parser.add_argument("--session", metavar="SESSION", help="the session of the output")
+    parser.add_argument("--run", action="store_true", dest="runs", help="run the file, a session")
+    parser.add_argument(
+        "--eliminate", metavar="N", type=int, default=0, help="with --run, at most N rounds of it"
+    )
+    parser.add_argument("--program", metavar="PATH", help="the program, with --run")
+    parser.add_argument("--out", metavar="FILE", help="the page")
+    parser.add_argument("--xlsx", metavar="FILE", help="a workbook")
+    parser.add_argument("--pdf", metavar="FILE", help="a PDF on A4")
+    parser.add_argument(
+        "--seconds", metavar="N", type=float, default=10, help="for drawings, 10 without it"
+    )
+
+
+def _source(options: argparse.Namespace) -> tuple[Source, Output | None, Path | None]:
+    """Return what the page is made of, the output if it was run, and the program."""
+    if not options.runs:
+        if options.eliminate or options.program:
+            word = "--eliminate" if options.eliminate else "--program"
+            raise Fault(f"{word} is of a run", remedy="say --run too, and the session as the file")
+        name = "standard input" if options.output == "-" else options.output
+        rows = read_rows(options.output)
+        session = None if options.session is None else read_bytes(options.session)
+        return Source(rows, name, session), None, None
+    if options.session is not None:
+        place = Place(file=options.session)
+        raise InputFault("--run takes the session as its file", place=place, remedy="say it once")
+    from plantbal.program import find_program, run as run_program
+
+    session = read_bytes(options.output)
+    program = find_program(options.program)
+    output = run_program(session[1], eliminate=options.eliminate, program=program)
+    return Source(output.rows, f"the output of {session[0]}", session), output, program
+
+
+def run(options: argparse.Namespace) -> int:
+    """Write the page, the workbook and the PDF."""
+    source, output, program = _source(options)
+    prepared = prepare(source)
+    plant = options.plant
+    if not plant and source.session is not None and source.session[0] != "standard input":
+        plant = Path(source.session[0]).stem
+    origin = Origin(plant, source.session[0] if source.session else "", program)
+    if options.out or options.pdf or not options.xlsx:
+        text = render(prepared, title=options.title, origin=origin, seconds=options.seconds)
+        if options.out or not options.pdf:
+            write_text(options.out or "-", text)
+        if options.pdf:
+            from plantbal.page.paper import print_pdf
+
+            print_pdf(text, options.pdf)
+    if options.xlsx:
+        from plantbal.page.sheets import write_workbook
+
+        write_workbook(options.xlsx, prepared.account, prepared.told, origin)
+    why = output.why if output is not None else []
+    if output is None and prepared.account.is_empty:
+        why = [f"{source.name}: there is no report"]
+    for line in why:
+        print(f"{options.prog}: {line}", file=sys.stderr)
+    return 1 if why else 0

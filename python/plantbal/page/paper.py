@@ -1,0 +1,80 @@
+"""A page on paper, by chromium."""
+
+from __future__ import annotations
+
+import shutil
+import subprocess
+import tempfile
+from pathlib import Path
+
+from plantbal.faults import Fault, ToolMissing
+from plantbal.files import replacing
+
+BROWSERS = ("chromium", "chromium-browser", "google-chrome")
+SECONDS = 120
+
+
+def browser() -> str:
+    """Return the browser.
+
+    Raises
+    ------
+    ToolMissing
+        Where there is none.
+    """
+    for name in BROWSERS:
+        found = shutil.which(name)
+        if found is not None:
+            return found
+    raise ToolMissing("`chromium`", "chromium")
+
+
+def in_browser(page: Path, *words: str, seconds: float = SECONDS) -> bytes:
+    """Open a page in a browser without a window, and return what it writes.
+
+    Parameters
+    ----------
+    page : Path
+        The page.
+    *words : str
+        What the browser is to do.
+    seconds : float
+        How long it may take.
+    """
+    with tempfile.TemporaryDirectory(ignore_cleanup_errors=True) as profile:
+        command = [
+            browser(),
+            "--headless",
+            "--no-sandbox",
+            "--disable-gpu",
+            "--disable-dev-shm-usage",
+            "--hide-scrollbars",
+            f"--user-data-dir={profile}",
+            *words,
+            page.resolve().as_uri(),
+        ]
+        try:
+            done = subprocess.run(
+                command,
+                stdout=subprocess.PIPE,
+                stderr=subprocess.DEVNULL,
+                timeout=seconds,
+                check=True,
+            )
+        except subprocess.TimeoutExpired as error:
+            raise Fault(f"the browser isn't done after {seconds:g} s") from error
+        except subprocess.CalledProcessError as error:
+            raise Fault(f"the browser ended with the status {error.returncode}") from error
+    return done.stdout
+
+
+def print_pdf(text: str, path: str | Path) -> None:
+    """Write a page as a PDF on A4, whole or not at all."""
+    with tempfile.TemporaryDirectory() as folder, replacing(path) as made:
+        page = Path(folder) / "page.html"
+        page.write_text(text, encoding="utf-8")
+        printed = Path(folder) / "page.pdf"
+        in_browser(page, f"--print-to-pdf={printed}", "--no-pdf-header-footer")
+        if not printed.is_file():
+            raise Fault("the browser wrote no PDF")
+        made.write_bytes(printed.read_bytes())

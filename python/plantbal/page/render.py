@@ -1,0 +1,284 @@
+"""An account as HTML, by the templates of the package."""
+
+from __future__ import annotations
+
+import re
+from collections.abc import Iterable, Sequence
+from math import log10, sqrt
+from typing import TYPE_CHECKING, Any
+
+from plantbal.amounts import tonnes_text
+from plantbal.faults import ToolMissing
+from plantbal.lintbook import Fact, day_text
+from plantbal.page.drawing import KINDS, Draftsman
+from plantbal.page.head import Origin, days_text, head_of
+from plantbal.page.ledger import Ledger
+from plantbal.page.spark import spark
+from plantbal.page.statement import Account, Line, Prepared, Round, Statement, Worth
+from plantbal.page.verdict import thousandths
+
+if TYPE_CHECKING:
+    from jinja2 import Environment
+
+    from plantbal.explain import Told
+
+# Of long lists so many are shown, and so many without a click.
+MOST, FEW = 100, 5
+# Of a certificate so many letters are shown: in a large plant each may have thousands of members.
+MOST_LETTERS = 1_000
+# Grams: an amount of so many has nine digits of tonnes.
+HUGE = 10**14
+# A name isn't wider than so many letters.
+LONGEST = 14
+
+
+def tonnes(grams: int | None) -> str:
+    """Return grams as tonnes; nothing if there are none."""
+    return "" if grams is None else tonnes_text(grams)
+
+
+def signed(grams: int | None) -> str:
+    """Return grams as tonnes with their sign."""
+    text = tonnes(grams)
+    return f"+{text}" if grams is not None and grams > 0 and text.strip("0.,") else text
+
+
+def decimal(number: float | None, places: int, plus: bool = False) -> str:
+    """Return a number with so many decimals."""
+    if number is None:
+        return ""
+    text = f"{number:{'+' if plus else ''},.{places}f}"
+    return text[1:] if float(text.replace(",", "")) == 0 and text[0] in "+-" else text
+
+
+def plus_minus(worth: Worth | None) -> str:
+    """Return a standard deviation in tonnes, by three digits that say something."""
+    if worth is None:
+        return ""
+    size = worth.deviation / 1e6
+    places = 3 if size < 1e-9 else min(3, max(0, 2 - int(log10(size) // 1)))
+    return f"{size:,.{places}f}"
+
+
+def end_of(pair: tuple[int, int] | None, which: int) -> str:
+    """Return an end of bounds in tonnes, rounded outward."""
+    return "" if pair is None else tonnes_text(pair[which], toward=("down", "up")[which])
+
+
+def soft(name: str) -> Any:
+    """Return a name that, if it is long, may be broken after its marks or where it has none."""
+    from markupsafe import Markup, escape
+
+    if len(name) <= LONGEST:
+        return escape(name)
+    pieces = re.findall(rf"[^-_.]{{1,{LONGEST}}}[-_.]*|[-_.]+", name)
+    return Markup("<wbr>").join(escape(piece) for piece in pieces)
+
+
+def day_spans(days: tuple[str, str] | None) -> Any:
+    """Return the days of a period, none of them broken."""
+    from markupsafe import Markup
+
+    if days is None:
+        return ""
+    each = Markup('<span class="day">{}</span>')
+    return Markup("<span>{}</span>").format(
+        Markup(" to ").join(each.format(day) for day in dict.fromkeys(days))
+    )
+
+
+def _some(text: str, kind: str) -> Any:
+    """Return the names of a list, no sign parted from its name, and how many more there are."""
+    from markupsafe import Markup, escape
+
+    shown = text
+    if len(text) > MOST_LETTERS:
+        shown = text[: text.rfind(" ", 0, MOST_LETTERS)] if " " in text[:MOST_LETTERS] else text
+    more = text.count(" ") - shown.count(" ")
+    names = str(escape(shown)).replace(" ", "</span> <span>")
+    rest = f" … and {more:,} more" if more else ""
+    return Markup(f'<span class="{kind}"><span>{names}</span></span>{rest}')
+
+
+def certificate(line: Line) -> Any:
+    """Return the certificate of a stream's class; of a long one the beginning."""
+    from markupsafe import Markup
+
+    side = Markup(" round {}").format(_some(line.side, "side")) if line.side else ""
+    return Markup("{}{}: {}").format(line.shape, side, _some(line.parts, "parts"))
+
+
+def is_huge(lines: Iterable[Line]) -> bool:
+    """Say whether some amount has so many digits that its column is wide."""
+    amounts = [amount for line in lines for amount in (line.value, line.flow) if amount is not None]
+    return any(abs(amount) >= HUGE for amount in amounts)
+
+
+def sign_of(line: Line) -> str:
+    """Return the sign of a stream: of its class, or that it is suspect or taken out."""
+    return {"suspect": "!", "taken": "×"}.get(line.mark) or KINDS[line.class_].sign
+
+
+def fact_text(fact: Fact | None, ledger: Ledger | None) -> str:
+    """Return the values of a fact."""
+    if fact is None:
+        return ""
+    deviation = f" ± {tonnes_text(round(sqrt(fact.variance)))} t"
+    if fact.kind != "dip":
+        return f"{tonnes_text(fact.grams)} t{deviation}"
+    level = f"{fact.mm:,} mm at {fact.density / 1e6:.3f} t/m³"
+    return f"{level}{deviation}" + (f" ({tonnes(ledger.content(fact))} t)" if ledger else "")
+
+
+def fact_days(fact: Fact) -> str:
+    """Return the days of a fact."""
+    return days_text((day_text(fact.first), day_text(fact.last)))
+
+
+def marked(told: Told) -> Any:
+    """Return the row of a refusal with the field at fault marked."""
+    from markupsafe import Markup, escape
+
+    if told.mark is None:
+        return escape(told.row)
+    begin, count = told.mark
+    front, middle, rest = (
+        told.row[:begin],
+        told.row[begin : begin + count],
+        told.row[begin + count :],
+    )
+    return (
+        escape(front) + Markup("<mark>") + escape(middle or "␣") + Markup("</mark>") + escape(rest)
+    )
+
+
+def lines_text(under: Sequence[Told]) -> str:
+    """Return the lines of rows that follow from another."""
+    numbers = [str(told.line) for told in under[:12]]
+    more = f" and {len(under) - 12} more" if len(under) > 12 else ""
+    return ", ".join(numbers) + more
+
+
+def marks(lines: Iterable[Line]) -> dict[str, Any]:
+    """Return what a legend has to explain."""
+    some = list(lines)
+    return {
+        "classes": {line.class_ for line in some},
+        "suspect": any(line.mark == "suspect" for line in some),
+        "taken": any(line.mark == "taken" for line in some),
+    }
+
+
+def statistic(statement: Statement) -> str:
+    """Return the statistic of a period's report."""
+    last = statement.report.last
+    return thousandths(last.block.solved["low"]) if last and last.block.solved else ""
+
+
+def critical(statement: Statement) -> str:
+    """Return the critical value of a period's global test."""
+    last = statement.report.last
+    return thousandths(last.block.whole["critical"]) if last and last.block.whole else ""
+
+
+def by_name(found: Round | None) -> dict[str, Line]:
+    """Return the streams of a round by their names."""
+    return {line.name: line for line in found.lines} if found else {}
+
+
+def environment() -> Environment:
+    """Return the templates with their filters."""
+    try:
+        from jinja2 import Environment, PackageLoader, StrictUndefined
+    except ImportError as error:
+        raise ToolMissing("jinja2", "python3-jinja2") from error
+    made = Environment(
+        loader=PackageLoader("plantbal.page"),
+        autoescape=True,
+        undefined=StrictUndefined,
+        trim_blocks=True,
+        lstrip_blocks=True,
+    )
+    made.filters.update(
+        t=tonnes,
+        signed=signed,
+        dec=decimal,
+        pm=plus_minus,
+        end=end_of,
+        sign=sign_of,
+        soft=soft,
+        day_spans=day_spans,
+        kind_sign=lambda name: KINDS[name].sign,
+        f=lambda number: f"{number:.1f}",
+        fact=fact_text,
+        days=fact_days,
+        from_to=days_text,
+        is_huge=is_huge,
+        certificate=certificate,
+        some=_some,
+        marked=marked,
+        lines=lines_text,
+        marks=marks,
+        statistic=statistic,
+        critical=critical,
+        by_name=by_name,
+        spark=spark,
+    )
+    return made
+
+
+def render(
+    prepared: Prepared,
+    *,
+    title: str = "",
+    origin: Origin = Origin(),
+    seconds: float = 10,
+) -> str:
+    """Return the page of an account.
+
+    Parameters
+    ----------
+    prepared : Prepared
+        What it shows.
+    title : str
+        Its heading.
+    origin : Origin
+        Where it comes from.
+    seconds : float
+        How long the layout of its drawings may take; 0 is none.
+    """
+    account = prepared.account
+    rounds = [each.report.last.lines for each in account.statements if each.report.last]
+    draftsman = Draftsman([*rounds, *account.designs], seconds)
+    drawings = {
+        each.number: draftsman.draw(each.report.last.lines if each.report.last else [])
+        for each in account.statements
+    }
+    designs = account.designs[-1:] if not rounds else []
+    return (
+        environment()
+        .get_template("page.html.j2")
+        .render(
+            title=title or default_title(account, origin),
+            head=head_of(account, origin),
+            told=prepared.told,
+            why_no_worth=prepared.why_no_worth,
+            refused=account.refused,
+            statements=account.statements,
+            drawings=drawings,
+            designs=[(lines, draftsman.draw(lines)) for lines in designs],
+            findings=account.findings,
+            is_empty=account.is_empty,
+            ledger=account.ledger,
+            kinds=KINDS,
+            most=MOST,
+            few=FEW,
+            has_worth=any(line.worth for lines in rounds for line in lines),
+        )
+    )
+
+
+def default_title(account: Account, origin: Origin) -> str:
+    """Return the heading of a page that nobody gave one."""
+    period = account.statements[-1].period if len(account.statements) == 1 else ""
+    return " ".join(part for part in (origin.plant, period) if part) or "plantbal"

@@ -1,0 +1,274 @@
+"""The month's statement as data: the page, the workbook and the drawing show its figures."""
+
+from __future__ import annotations
+
+from collections.abc import Sequence
+from dataclasses import dataclass, field
+from decimal import Decimal
+from math import sqrt
+from typing import TYPE_CHECKING
+
+from plantbal.page.ledger import Asked, Change, Ledger
+from plantbal.page.verdict import Verdict
+from plantbal.report import Block
+
+if TYPE_CHECKING:
+    from plantbal.explain import Told
+    from plantbal.lintrules import Finding
+
+
+@dataclass(frozen=True, slots=True)
+class Worth:
+    """How good a reconciled flow is.
+
+    Attributes
+    ----------
+    deviation : float
+        Its standard deviation in grams.
+    gain : float or None
+        By which part it is less than the meter's; None of a stream without a meter.
+    contributors : str
+        The meters that contribute most.
+    """
+
+    deviation: float
+    gain: float | None = None
+    contributors: str = ""
+
+
+@dataclass(frozen=True, slots=True)
+class Line:
+    """A stream in a round of a report; a tank's line is what its content gained.
+
+    Attributes
+    ----------
+    name, from_, to, class_ : str
+        Its name, its ends and its class.
+    value, variance : int or None
+        What was measured, in grams; None if nothing was.
+    flow : int or None
+        The flow to book, in grams; None of an unobservable stream, which has no figure to book.
+    bounds, least : tuple of int or None
+        The bounds of the arithmetic.
+    shape, side, parts : str
+        The certificate of its class.
+    statistic : Decimal or None
+        The statistic of its measurement test, at least.
+    mark : str
+        ``suspect`` if its test rejects, under a global test that rejects; ``taken`` if it was
+        taken out.
+    worth : Worth or None
+        How good the flow is, if that is known.
+    """
+
+    name: str
+    from_: str
+    to: str
+    class_: str
+    value: int | None = None
+    variance: int | None = None
+    flow: int | None = None
+    bounds: tuple[int, int] | None = None
+    least: tuple[int, int] | None = None
+    shape: str = ""
+    side: str = ""
+    parts: str = ""
+    statistic: Decimal | None = None
+    mark: str = ""
+    worth: Worth | None = None
+
+    @property
+    def is_tank(self) -> bool:
+        """Whether it is a tank's."""
+        return self.name == self.from_
+
+    @property
+    def adjustment(self) -> int | None:
+        """The flow less the value, in grams."""
+        return None if self.value is None or self.flow is None else self.flow - self.value
+
+    @property
+    def percent(self) -> float | None:
+        """The adjustment in percent of the value."""
+        if self.adjustment is None or not self.value:
+            return None
+        return 100 * self.adjustment / abs(self.value)
+
+    @property
+    def deviations(self) -> float | None:
+        """The adjustment in standard deviations of the measurement."""
+        if self.adjustment is None or not self.variance:
+            return None
+        return self.adjustment / sqrt(self.variance)
+
+
+@dataclass(frozen=True, slots=True)
+class Tank:
+    """A tank over a period, in grams; None is what isn't known.
+
+    Attributes
+    ----------
+    line : Line
+        What its content gained.
+    opening, measured : int or None
+        What it held by its dips at the beginning and at the end.
+    into, out : int or None
+        What flowed in and out, by the flows to book.
+    """
+
+    line: Line
+    opening: int | None
+    into: int | None
+    out: int | None
+    measured: int | None
+
+    @property
+    def closing(self) -> int | None:
+        """What it holds in the end by the books: the opening and what it gained."""
+        if self.opening is None or self.line.flow is None:
+            return None
+        return self.opening + self.line.flow
+
+
+@dataclass(frozen=True, slots=True)
+class Round:
+    """A round of a report: the streams by their kind, and what is said of the whole."""
+
+    block: Block
+    lines: list[Line]
+    tanks: list[Tank]
+    verdict: Verdict
+
+    @property
+    def streams(self) -> list[Line]:
+        """The streams with a figure to book, those to be looked at first."""
+        some = [line for line in self.lines if not line.is_tank and line.flow is not None]
+        return sorted(some, key=lambda line: _rank(line))
+
+    @property
+    def unobservable(self) -> list[Line]:
+        """The streams without a figure to book."""
+        return [line for line in self.lines if line.flow is None]
+
+
+@dataclass(frozen=True, slots=True)
+class Report:
+    """A report: its rounds, or the stream whose total is beyond the limits."""
+
+    period: str
+    rounds: list[Round]
+    over: str = ""
+    asked: Asked | None = None
+
+    @property
+    def last(self) -> Round | None:
+        """The last round."""
+        return self.rounds[-1] if self.rounds else None
+
+
+@dataclass(frozen=True, slots=True)
+class Edit:
+    """An edit that touches a period; the change is there if the session is."""
+
+    record: int
+    word: str
+    id: str
+    reason: str
+    change: Change | None = None
+
+
+@dataclass(frozen=True, slots=True)
+class Statement:
+    """What there is to say of a period.
+
+    Attributes
+    ----------
+    number : int
+        Its number on the page, counted from 0.
+    period : str
+        The period.
+    days : tuple of str or None
+        Its first and its last day.
+    state : str
+        ``open`` or ``closed``; empty if that isn't known.
+    reports : list of Report
+        Its reports, of which the last one counts.
+    edits : list of Edit
+        The edits that touch it.
+    verdict : Verdict
+        What is said of it in words.
+    """
+
+    number: int
+    period: str
+    days: tuple[str, str] | None
+    state: str
+    reports: list[Report]
+    edits: list[Edit]
+    verdict: Verdict
+
+    @property
+    def report(self) -> Report:
+        """The report that counts."""
+        return self.reports[-1]
+
+    @property
+    def older(self) -> list[Report]:
+        """The reports before it."""
+        return self.reports[:-1]
+
+
+@dataclass(frozen=True, slots=True)
+class Refused:
+    """A refused row, as the session's text or as its code alone says it."""
+
+    record: int
+    word: str
+    remedy: str
+    told: Told | None = None
+
+
+@dataclass(frozen=True)
+class Account:
+    """All that a page shows.
+
+    Attributes
+    ----------
+    statements : list of Statement
+        The periods in the order of their last days, or of their reports.
+    designs : list of list of Line
+        The designs.
+    refused : list of Refused
+        The refused rows.
+    findings : sequence of Finding
+        What lint warns of.
+    ledger : Ledger or None
+        The session.
+    """
+
+    statements: list[Statement]
+    designs: list[list[Line]] = field(default_factory=list)
+    refused: list[Refused] = field(default_factory=list)
+    findings: Sequence[Finding] = ()
+    ledger: Ledger | None = None
+
+    @property
+    def is_empty(self) -> bool:
+        """Whether nothing was asked for: there is neither a period nor a design."""
+        return not (self.statements or self.designs)
+
+
+@dataclass(frozen=True)
+class Prepared:
+    """An account, its refused rows in sentences, and why there is no ± if there is none."""
+
+    account: Account
+    told: Sequence[Told] = field(default_factory=list)
+    why_no_worth: str = ""
+
+
+def _rank(line: Line) -> tuple[int, float]:
+    """Return the place of a stream: suspects first, by their statistics, then as they stand."""
+    if line.mark == "suspect":
+        return 0, -float(line.statistic or 0)
+    return (1, 0.0) if line.mark == "taken" else (2, 0.0)

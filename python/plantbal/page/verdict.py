@@ -1,0 +1,228 @@
+"""What a report says as a whole, in words."""
+
+from __future__ import annotations
+
+from collections.abc import Sequence
+from dataclasses import dataclass, field, replace
+from typing import TYPE_CHECKING
+
+from plantbal.report import Block
+
+if TYPE_CHECKING:
+    from plantbal.page.statement import Line
+
+# The sign that stands before each level, so that none is told by its colour alone.
+SIGNS = {"good": "✓", "plain": "–", "look": "!", "bad": "✗"}
+STOPS = {
+    "accepted": "the rest is accepted",
+    "undecided": "its ends don't decide the global test",
+    "nocritical": "there is no critical value for so few degrees of freedom",
+    "notest": "nothing is left to test",
+    "nosuspect": "no measurement test rejects any more",
+    "spent": "as many were taken out as were asked for",
+}
+
+
+@dataclass(frozen=True, slots=True)
+class Verdict:
+    """What a reader has to know first.
+
+    Attributes
+    ----------
+    level : str
+        ``good``: it can be booked; ``plain``: nothing speaks against it, and nothing was tested;
+        ``look``: a person has to look; ``bad``: it isn't to be booked.
+    headline : str
+        The same in a few words.
+    reasons : list of str
+        Why, in sentences.
+    """
+
+    level: str
+    headline: str
+    reasons: list[str] = field(default_factory=list)
+
+    @property
+    def sign(self) -> str:
+        """The sign of its level."""
+        return SIGNS[self.level]
+
+    def but(self, what: str, more: Sequence[str]) -> Verdict:
+        """Return it with something that wants a look: in a few words, and in sentences."""
+        if self.level not in ("good", "plain"):
+            return replace(self, reasons=[*self.reasons, *more])
+        joined = "but" if self.level == "good" else "and"
+        return Verdict("look", f"{self.headline}, {joined} {what}", [*self.reasons, *more])
+
+
+@dataclass(frozen=True, slots=True)
+class Lost:
+    """The rows that were refused before a report.
+
+    Attributes
+    ----------
+    lacking : int
+        How many may lack in it.
+    passed : int
+        How many are there already, or touch a closed period: nothing of the plant lacks by them.
+    """
+
+    lacking: int = 0
+    passed: int = 0
+
+    def plus(self, word: str) -> Lost:
+        """Return it with one more refused row."""
+        if word in ("duplicate", "closed"):
+            return replace(self, passed=self.passed + 1)
+        return replace(self, lacking=self.lacking + 1)
+
+    @property
+    def reasons(self) -> list[str]:
+        """The same in sentences."""
+        said = []
+        if self.lacking:
+            rows = count_of(self.lacking, "row was refused", "rows were refused")
+            it = "it" if self.lacking == 1 else "them"
+            said.append(f"{rows} before this report, which was made without {it}: mend {it} first.")
+        if self.passed:
+            rows = count_of(self.passed, "row was refused", "rows were refused")
+            said.append(f"{rows} as being there already, or as touching a closed period.")
+        return said
+
+
+def thousandths(text: str) -> str:
+    """Return thousandths as a decimal number."""
+    return f"{int(text) / 1000:,.3f}" if text else ""
+
+
+def names_of(names: Sequence[str], most: int = 5) -> str:
+    """Return names as a text, such as ``A, B and C``."""
+    shown = list(names[:most])
+    if len(names) > most:
+        return f"{', '.join(shown)} and {len(names) - most} more"
+    return shown[0] if len(shown) == 1 else f"{', '.join(shown[:-1])} and {shown[-1]}"
+
+
+def count_of(number: int, one: str, many: str) -> str:
+    """Return a number with its noun."""
+    return f"1 {one}" if number == 1 else f"{number:,} {many}"
+
+
+def verdict_of(
+    block: Block, lost: Lost, suspects: Sequence[str], lines: Sequence[Line], stop: str = ""
+) -> Verdict:
+    """Return what is said of a round.
+
+    Parameters
+    ----------
+    block : Block
+        The round.
+    lost : Lost
+        The rows that were refused before it.
+    suspects : sequence of str
+        The streams whose test rejects, if that counts.
+    lines : sequence of Line
+        Its streams.
+    stop : str
+        Why the elimination ended after it.
+    """
+    if not block.ended or block.solved is None:
+        return Verdict(
+            "bad", "The report is cut off", ["Its last rows lack: run the session again."]
+        )
+    level, headline = _headline(block, lost.lacking, suspects)
+    reasons = lost.reasons
+    if block.solved["state"] != "converged":
+        reasons.append(
+            f"The arithmetic didn't converge in {block.solved['k']} sweeps: the bounds are wider "
+            "than asked for. Allow more sweeps, or use plantbal-desk solve."
+        )
+    if block.taken:
+        ended = f": {STOPS[stop]}" if stop in STOPS else ""
+        were = "was" if len(block.taken) == 1 else "were"
+        reasons.append(f"The meter of {names_of(block.taken)} {were} taken out{ended}.")
+    reasons.append(_tests(block))
+    if block.whole is not None and block.whole["verdict"] == "reject":
+        reasons.append(_suspects(block, lost.lacking, suspects))
+    reasons += _of_lines(lines)
+    return Verdict(level, headline, reasons)
+
+
+def _of_lines(lines: Sequence[Line]) -> list[str]:
+    """Return the greatest adjustment, and which streams have no figure, as sentences."""
+    said = []
+    moved = {line.name: line.deviations for line in lines if line.deviations}
+    if moved:
+        name = max(moved, key=lambda each: abs(moved[each] or 0))
+        said.append(
+            f"The greatest adjustment is that of {name}: {moved[name]:+,.2f} standard deviations."
+        )
+    without = [line.name for line in lines if line.flow is None]
+    if without:
+        have, them = ("has", "it") if len(without) == 1 else ("have", "them")
+        said.append(f"{names_of(without)} {have} no figure to book: nothing determines {them}.")
+    return said
+
+
+def _headline(block: Block, lacking: int, suspects: Sequence[str]) -> tuple[str, str]:
+    """Return the level and the headline of a round that isn't cut off."""
+    assert block.solved is not None
+    verdict = block.whole["verdict"] if block.whole else ""
+    if block.solved["state"] != "converged":
+        return "bad", "Not converged: not to be booked"
+    if lacking:
+        return "bad", f"{count_of(lacking, 'row', 'rows')} refused: not to be booked"
+    if verdict == "reject":
+        return "look", f"Look at {suspects[0]}" if suspects else "Rejected: look at the meters"
+    if verdict == "accept" and block.taken:
+        return "look", f"Accepted without {names_of(block.taken)}"
+    if verdict == "accept":
+        return "good", "Accepted"
+    if verdict == "undecided":
+        return "look", "The global test is undecided"
+    return "plain", "Not tested"
+
+
+def _tests(block: Block) -> str:
+    """Return what the global test says, as a sentence."""
+    assert block.solved is not None
+    solved = block.solved
+    low, high = thousandths(solved["low"]), thousandths(solved["high"])
+    between = f"between {low} and {high}" if high else f"at least {low}"
+    degrees = count_of(int(solved["dof"]), "degree", "degrees")
+    if block.whole is None:
+        return (
+            f"No tests were made (run with --tests). The statistic is {between} at {degrees} of "
+            f"freedom; with true variances it is {solved['dof']} on the average."
+        )
+    critical = thousandths(block.whole["critical"])
+    return {
+        "accept": f"The meters fit together: the statistic is {between} at {degrees} of freedom, "
+        f"and up to {critical} is accepted.",
+        "reject": f"No balanced flows fit these meters: the statistic is {between} at {degrees} of "
+        f"freedom, and up to {critical} is accepted.",
+        "undecided": f"The statistic is {between}, and {critical} lies between: ask for a smaller "
+        "gap.",
+        "nocritical": f"There is no critical value for {degrees} of freedom, so nothing is accepted "
+        f"or rejected. The statistic is {between}.",
+        "notest": "No meter is checked by another: there is nothing to test.",
+    }[block.whole["verdict"]]
+
+
+def _suspects(block: Block, lacking: int, suspects: Sequence[str]) -> str:
+    """Return which meters a test that rejects points at."""
+    if lacking:
+        return "Which meter is off can't be said while rows of the plant lack."
+    if not suspects:
+        return "No single meter explains it: several may be off, or a stream or a ticket may lack."
+    low = {row["stream"]: thousandths(row["low"]) for row in block.measure}
+    critical = {row["stream"]: thousandths(row["critical"]) for row in block.measure}
+    first = suspects[0]
+    said = (
+        f"The first to look at is {first}: without its measurement the statistic falls by at least "
+        f"{low[first]}, where {critical[first]} is critical."
+    )
+    if len(suspects) > 1:
+        more = len(suspects) - 1
+        said += f" The tests of {count_of(more, 'other meter', 'other meters')} reject as well."
+    return said

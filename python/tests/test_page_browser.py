@@ -1,0 +1,225 @@
+"""The month's statement in a browser: choices, widths, and how it looks. Without chromium these fail."""
+
+from __future__ import annotations
+
+import os
+import re
+from collections.abc import Callable
+from pathlib import Path
+
+import pytest
+from conftest import TOP, Desk, example, text_of
+from pages import PAPER, Asked, ask, ask_all, difference, kept_form, on_paper, paper_shot, shot
+from PIL import Image
+from test_page import page_of
+
+from plantbal.page.command import page
+from plantbal.report import Values, parse_rows
+
+PICTURES = TOP / "python/tests/pictures"
+SHOWN = TOP / "docs/pictures/concentrator_page.png"
+REFINERY = ("refinery_day.out.csv", "refinery_day.csv")
+CONCENTRATOR = ("concentrator/tested.out.csv", "concentrator/session.csv")
+
+# ---- choices
+
+MARKED = (
+    "[...document.querySelectorAll('g.part, g.side')].map(g => g.id + ' ' + g.className.baseVal)"
+)
+
+
+def marked(found: object) -> str:
+    """The marked parts of a drawing, a line each, without the classes of colours."""
+    assert isinstance(found, list)
+    kinds = r" (redundant|nonredundant|observable|unobservable|tank|chosen)(?= |$)"
+    return "".join(f"{re.sub(kinds, '', each)}\n" for each in sorted(found))
+
+
+@pytest.mark.parametrize(
+    "click",
+    [
+        "document.querySelector('tr[data-stream=KEROSENE]').click()",
+        "document.querySelector('[data-arrow=KEROSENE] path').dispatchEvent("
+        "new MouseEvent('click', {bubbles: true}))",
+    ],
+    ids=["row", "arrow"],
+)
+def test_choice(click: str, tmp_path: Path) -> None:
+    """A row and an arrow of kerosene mark the streams of its cut, the units of its side, and its row."""
+    rows = "[...document.querySelectorAll('tr.chosen, tr.member')].map(row => row.dataset.stream)"
+    says = "document.querySelector('.certificate').textContent"
+    found = ask(page_of(*REFINERY), f"({click}, [{MARKED}, {rows}, {says}])", tmp_path)
+    assert isinstance(found, list)
+    assert marked(found[0]) == text_of(example("refinery_day.marked"))
+    assert len(found[1]) == 11 and {"KEROSENE", "TK_BITUMEN", "TRUCKS"} <= set(found[1])
+    assert found[2].startswith("KEROSENE, redundant: cut round CDU VDU SPLITTER TK_BITUMEN: -TK_")
+
+
+def test_escape(tmp_path: Path) -> None:
+    """Esc takes the mark away."""
+    keys = "document.dispatchEvent(new KeyboardEvent('keydown', {key: 'Escape'}))"
+    click = "document.querySelector('tr[data-stream=KEROSENE]').click()"
+    assert ask(page_of(*REFINERY), f"({click}, {keys}, {MARKED})", tmp_path) == []
+
+
+def test_folded_period(tmp_path: Path) -> None:
+    """A link of the index opens its period."""
+    opened = "(location.hash = '#p0', unfold(), document.getElementById('p0').open)"
+    assert ask(page_of(*CONCENTRATOR), opened, tmp_path) is True
+
+
+def test_sorting(tmp_path: Path) -> None:
+    """A head sorts: adjustments by their size, names as words."""
+    click = "document.querySelectorAll('#p0 table.sortable th')[{}].click()"
+    names = (
+        "[...document.querySelectorAll('table.streams tbody tr')].map(row => row.dataset.stream)"
+    )
+    questions = (
+        f"({click.format(5)}, {names})",
+        f"({click.format(0)}, {click.format(0)}, {names})",
+    )
+    found = ask(page_of(*REFINERY), f"[{', '.join(questions)}]", tmp_path)
+    assert isinstance(found, list)
+    assert found[0][:3] == ["CHARGE", "KEROSENE", "DIESEL"]
+    assert found[1][:3] == ["BITUMEN", "CHARGE", "DIESEL"]
+
+
+def chain(count: int) -> list[Values]:
+    """A report of a chain of units, with a branch to the outside at each."""
+    rows = [f"report,p,0,{count + 1},{2 * count},10,5000", "node,env,0"]
+    rows += [f"node,u{number},0" for number in range(count)]
+    for number in range(count):
+        end = f"u{number + 1}" if number + 1 < count else "env"
+        for name, to in ((f"s{number}", end), (f"b{number}", "env")):
+            rows.append(f"stream,{name},u{number},{to},5,4,nonredundant,5,1,9,1,9,cycle,,+{name}")
+    rows += ["solved,1,converged,0,0,1,0,1", "end,p,0"]
+    return parse_rows("chain", "\n".join(rows) + "\n")
+
+
+def test_neighbourhood(tmp_path: Path) -> None:
+    """In a large plant the choice of a row draws what lies within two steps of its stream."""
+    made = page(chain(100))
+    assert 'data-near="' in made
+    click = "document.querySelector('tr[data-stream=s50]').click()"
+    arrows = "[...document.querySelectorAll('svg.plant g.edge')].map(g => g.dataset.arrow).sort()"
+    said = "document.querySelector('.near').textContent"
+    found = ask(made, f"({click}, [{arrows}, {MARKED}, {said}])", tmp_path)
+    assert found == [
+        "b49 b50 b51 b52 s48 s49 s50 s51 s52".split(),
+        ["p0-stream-s50 edge nonredundant part chosen"],
+        "s50",
+    ]
+
+
+# ---- widths
+
+
+def wide() -> list[Values]:
+    """A report with the longest names and the greatest amounts, all of them suspects."""
+    text = text_of(example("concentrator/tested.out.csv"))
+    long = {
+        "FILTERED": "FILTERED_WITHOUT.BREAKS-ABCDEFGH",
+        "TAILS": "T" * 32,
+        "GRINDING": "GRINDINGMILLWITHOUTANYSIGNINITXX",
+        "FLOTATION": "FLOTATION-BANK-OF-CELLS-NUMBER-1",
+    }
+    for name, other in long.items():
+        text = re.sub(rf"\b{name}\b", other, text)
+    text = re.sub(
+        r"(?<=,)(\d{10,12})(?=,)", lambda found: found[1] + "0" * (15 - len(found[1])), text
+    )
+    return parse_rows("wide", text)
+
+
+WIDTHS = {"1280": (1280, False), "800": (800, False), "390": (390, False), "A4": (PAPER, True)}
+SAMPLES: dict[str, Callable[[], str]] = {
+    "refinery": lambda: page_of(*REFINERY),
+    "concentrator": lambda: page_of(*CONCENTRATOR),
+    "edits": lambda: page_of("month_end.out.csv", "month_end.csv"),
+    "refused": lambda: page_of("badly_typed.out.csv", "badly_typed.csv"),
+    "wide": lambda: page(wide()),
+}
+
+
+def fits(made: str, width: str) -> Asked:
+    """The question which texts of a page reach beyond it, with all that is folded opened."""
+    pixels, paper = WIDTHS[width]
+    unfold = "document.querySelectorAll('details').forEach(each => { each.open = true })"
+    beyond = (
+        "[document.documentElement.scrollWidth, "
+        "[...document.querySelectorAll('td, th, p, li, dd, pre, svg.spark, h1, h2')].filter(each =>"
+        " !each.closest('.canvas') && getComputedStyle(each.closest('thead') || each).position !== "
+        f"'absolute' && each.getBoundingClientRect().right > {pixels} + 1)"
+        ".slice(0, 3).map(each => each.textContent)]"
+    )
+    style = "body { padding: 0 !important }" if paper else ""
+    return Asked(on_paper(made) if paper else made, f"({unfold}, {beyond})", pixels, style)
+
+
+def test_fits(tmp_path: Path) -> None:
+    """Nothing reaches beyond the page on any width, and no column is cut on paper."""
+    cases = [(name, width) for name in SAMPLES for width in WIDTHS]
+    found = ask_all([fits(SAMPLES[name](), width) for name, width in cases], tmp_path)
+    assert dict(zip(cases, found)) == {case: [WIDTHS[case[1]][0], []] for case in cases}
+
+
+# ---- how it looks
+
+LOOKS: dict[str, tuple[tuple[str, str], int]] = {
+    "refinery_1280": (REFINERY, 1280),
+    "refinery_800": (REFINERY, 800),
+    "refinery_390": (REFINERY, 390),
+    "refinery_a4": (REFINERY, 0),
+    "concentrator_1280": (CONCENTRATOR, 1280),
+    "concentrator_a4": (CONCENTRATOR, 0),
+}
+# The part of a picture that may differ; a column that lacks is more than this.
+MOST_APART = 0.01
+
+
+@pytest.mark.parametrize("name", LOOKS)
+def test_looks(name: str, tmp_path: Path) -> None:
+    """The page looks as in the picture that is kept, of nearly the same size.
+
+    With PLANTBAL_PICTURES=write the pictures are made anew: look at them before they are kept.
+    """
+    files, width = LOOKS[name]
+    made = page_of(*files)
+    picture = shot(made, tmp_path, width, 5000) if width else paper_shot(made, tmp_path)
+    kept = PICTURES / f"{name}.png"
+    if os.environ.get("PLANTBAL_PICTURES") == "write":
+        PICTURES.mkdir(exist_ok=True)
+        small = kept_form(picture).quantize(96, Image.Quantize.FASTOCTREE)
+        small.save(kept, optimize=True)
+        if name == "concentrator_1280":
+            SHOWN.write_bytes(kept.read_bytes())
+    reference = Image.open(kept).convert("RGB")
+    small = kept_form(picture)
+    assert small.width == reference.width
+    assert abs(small.height - reference.height) <= 0.02 * reference.height
+    box = (0, 0, small.width, min(small.height, reference.height))
+    assert difference(small.crop(box), reference.crop(box)) < MOST_APART
+
+
+def test_picture_of_the_guide() -> None:
+    assert SHOWN.read_bytes() == (PICTURES / "concentrator_1280.png").read_bytes()
+
+
+def test_a_column_that_lacks_shows(tmp_path: Path) -> None:
+    """The pictures are compared closely enough to see that a column isn't there."""
+    hidden = "<style>td.booked { visibility: hidden }</style></head>"
+    made = page_of(*REFINERY).replace("</head>", hidden)
+    small = kept_form(shot(made, tmp_path, 1280, 5000))
+    reference = Image.open(PICTURES / "refinery_1280.png").convert("RGB")
+    assert small.size == reference.size and difference(small, reference) > MOST_APART
+
+
+def test_pdf(say: Desk, tmp_path: Path) -> None:
+    """The PDF has pages of A4, and nothing goes to standard output."""
+    path = tmp_path / "may.pdf"
+    found = say("page", "--pdf", path, "--session", example(REFINERY[1]), example(REFINERY[0]))
+    assert (found.status, found.out) == (0, "")
+    data = path.read_bytes()
+    sizes = re.findall(rb"/MediaBox \[0 0 ([0-9.]+) ([0-9.]+)\]", data)
+    assert data.startswith(b"%PDF") and len(sizes) == 2
+    assert {(round(float(w)), round(float(h))) for w, h in sizes} == {(595, 842)}
