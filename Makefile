@@ -20,8 +20,9 @@ UNITS = $(PREFIX)/lib/systemd/system
 PYTHON_FOLDER = $(if $(filter /usr/local,$(PREFIX)),$(shell $(PYTHON) -c 'import sys; print("python%d.%d" % sys.version_info[:2])'),python3)
 LIBRARY = lib/$(PYTHON_FOLDER)/dist-packages
 
-PROGRAM_DOCUMENTS = README.md CHANGELOG.md docs/GUIDE.md docs/MONTH_END.md docs/FORMAT.md docs/DEFINITIONS.md docs/STATEMENT.md docs/ASSURANCE.md docs/DECISIONS.md
-DESK_DOCUMENTS = docs/PYTHON.md docs/OPERATIONS.md
+PROGRAM_DOCUMENTS = README.md CHANGELOG.md docs/GUIDE.md docs/FORMAT.md docs/DEFINITIONS.md docs/STATEMENT.md docs/ASSURANCE.md docs/DECISIONS.md
+DESK_DOCUMENTS = docs/MONTH_END.md docs/PYTHON.md docs/OPERATIONS.md
+WORKBOOKS = examples/month_end examples/refinery_workbook
 
 .PHONY: install install-program install-desk deb check-packages clean
 
@@ -55,6 +56,9 @@ install-desk:
 	install -D -m 644 packaging/completions/plantbal-desk.zsh $(SHARE)/zsh/vendor-completions/_plantbal-desk
 	install -D -m 644 packaging/completions/plantbal-desk.fish $(SHARE)/fish/vendor_completions.d/plantbal-desk.fish
 	install -D -m 644 -t $(SHARE)/doc/python3-plantbal $(DESK_DOCUMENTS) examples/heat_exchanger.ipynb
+	find $(WORKBOOKS) -type f | sort | while read -r file; do \
+	    install -D -m 644 "$$file" "$(SHARE)/doc/python3-plantbal/$$file"; \
+	done
 	install -D -m 755 packaging/nightly $(DESTDIR)$(LIBEXEC)/nightly
 	install -d $(DESTDIR)$(UNITS)
 	for unit in packaging/*.service packaging/*.timer; do \

@@ -4,7 +4,7 @@ from __future__ import annotations
 
 import shlex
 
-from words import Command, Option, Value
+from words import Command, Option, Value, flat
 
 MADE = "Made by packaging/derived write: change that, or the words themselves."
 
@@ -257,4 +257,5 @@ def fish(command: Command) -> str:
 
 def files(command: Command) -> dict[str, str]:
     """Return the text of each completion of a command, by the file's name."""
-    return {f"{command.word}.{shell.__name__}": shell(command) for shell in (bash, zsh, fish)}
+    offered = flat(command)
+    return {f"{command.word}.{shell.__name__}": shell(offered) for shell in (bash, zsh, fish)}

@@ -386,15 +386,35 @@ def option_items(command: words.Command) -> list[str]:
     return lines
 
 
+def parsers_below(parser: argparse.ArgumentParser) -> list[argparse.ArgumentParser]:
+    """Return the parsers of the words of a parser, in order."""
+    return [
+        below
+        for action in parser._actions
+        if isinstance(action, argparse._SubParsersAction)
+        for below in action.choices.values()
+    ]
+
+
+def subcommand_lines(command: words.Command, parser: argparse.ArgumentParser) -> list[str]:
+    """Return what a page says of a subcommand, and of its inner words after it."""
+    lines = [
+        f".SS {raw(parser.prog.removeprefix('plantbal-desk '))}",
+        *synopsis(parser),
+        ".PP",
+        *prose(parser.description or ""),
+    ]
+    lines += option_items(command)
+    if parser.epilog:
+        lines += [".PP", *prose(parser.epilog)]
+    for inner, below in zip(command.inner, parsers_below(parser)):
+        lines += subcommand_lines(inner, below)
+    return lines
+
+
 def desk_page() -> str:
     """Return the page plantbal-desk(1)."""
     parser, command = words.desk_parser(), words.desk()
-    subparsers = {
-        name: below
-        for action in parser._actions
-        if isinstance(action, argparse._SubParsersAction)
-        for name, below in action.choices.items()
-    }
     lines = head(
         "plantbal-desk",
         1,
@@ -408,17 +428,8 @@ def desk_page() -> str:
         *prose(parser.description or ""),
     ]
     lines += [".SH OPTIONS", *option_items(command), ".SH SUBCOMMANDS"]
-    for inner in command.inner:
-        below = subparsers[inner.word]
-        lines += [
-            f".SS {raw(inner.word)}",
-            *synopsis(below),
-            ".PP",
-            *prose(below.description or ""),
-        ]
-        lines += option_items(inner)
-        if below.epilog:
-            lines += [".PP", *prose(below.epilog)]
+    for inner, below in zip(command.inner, parsers_below(parser)):
+        lines += subcommand_lines(inner, below)
     if parser.epilog:
         lines += [".SH EXIT STATUS AND EXAMPLES", *prose(parser.epilog)]
     lines += [".SH ENVIRONMENT", *item("PLANTBAL", "The program, if it isn't on the path.")]

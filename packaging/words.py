@@ -190,3 +190,19 @@ def desk_parser() -> argparse.ArgumentParser:
 def desk() -> Command:
     """Return the words of plantbal-desk, as its parser has them."""
     return command_of("plantbal-desk", "", desk_parser())
+
+
+def flat(command: Command) -> Command:
+    """Return a command whose subcommands have no inner words: these are offered as values of theirs."""
+    inner = []
+    for word in command.inner:
+        if word.inner:
+            options = {option.names: option for each in word.inner for option in each.options}
+            values = [value for each in word.inner for value in each.values]
+            kinds = {value.kind: value for value in values if value.kind in ("file", "folder")}
+            first = Value("COMMAND", tuple(each.word for each in word.inner))
+            word = Command(
+                word.word, word.about, tuple(options.values()), (first, *kinds.values())
+            )
+        inner.append(word)
+    return Command(command.word, command.about, command.options, command.values, tuple(inner))

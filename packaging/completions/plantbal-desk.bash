@@ -26,7 +26,7 @@ _plantbal_desk() {
     fi
     for ((at = 1; at < COMP_CWORD; at++)); do
         case ${COMP_WORDS[at]} in
-        run|lint|explain|check|archive|audit|report|solve|convert|template|from-spreadsheet|tables|uncertainty|draw|chart|page|fleet|critical|from-scipy|schema) word=${COMP_WORDS[at]}; break ;;
+        run|lint|explain|check|archive|audit|report|solve|convert|book|template|from-spreadsheet|tables|uncertainty|draw|chart|page|fleet|critical|from-scipy|schema) word=${COMP_WORDS[at]}; break ;;
         esac
     done
     case $word:$before in
@@ -57,6 +57,22 @@ _plantbal_desk() {
         convert:--locale) :; return ;;
         convert:--missing) :; return ;;
         convert:--skip) :; return ;;
+        book:--program) _plantbal_files -f; return ;;
+        book:--locale) :; return ;;
+        book:--missing) :; return ;;
+        book:--skip) :; return ;;
+        book:--book) _plantbal_files -d; return ;;
+        book:--who) :; return ;;
+        book:--why) :; return ;;
+        book:--year) :; return ;;
+        book:--density) :; return ;;
+        book:--error) :; return ;;
+        book:--session) _plantbal_files -f; return ;;
+        book:--eliminate) :; return ;;
+        book:--gap) :; return ;;
+        book:--sweeps) :; return ;;
+        book:--plant) _plantbal_files -f; return ;;
+        book:--first) :; return ;;
         from-spreadsheet:--decimal) _plantbal_words 'point comma'; return ;;
         from-spreadsheet:--date) :; return ;;
         from-spreadsheet:--missing) :; return ;;
@@ -66,6 +82,7 @@ _plantbal_desk() {
         draw:--period) :; return ;;
         draw:--round) :; return ;;
         draw:--mark) :; return ;;
+        draw:--out) _plantbal_files -f; return ;;
         chart:--most) :; return ;;
         chart:--stream) :; return ;;
         chart:--session) _plantbal_files -f; return ;;
@@ -147,6 +164,13 @@ _plantbal_desk() {
             return
         fi
         _plantbal_words '-h --help --out --locale --missing --skip --limits --design' ;;
+    book)
+        if [[ $here != -* ]]; then
+            _plantbal_files -f
+            _plantbal_more 'new add show amend strike report close status next'
+            return
+        fi
+        _plantbal_words '-h --help --program --locale --missing --skip --limits --book --who --why --strike --anyway --year --dry-run --density --error --session --no-tests --eliminate --gap --sweeps --all --plant --first' ;;
     template)
         if [[ $here != -* ]]; then
             _plantbal_files -f
@@ -178,7 +202,7 @@ _plantbal_desk() {
             _plantbal_files -f
             return
         fi
-        _plantbal_words '-h --help --period --round --mark --dot' ;;
+        _plantbal_words '-h --help --period --round --mark --dot --out' ;;
     chart)
         if [[ $here != -* ]]; then
             _plantbal_files -f
@@ -207,7 +231,7 @@ _plantbal_desk() {
         _plantbal_words '-h --help --period --change --without-least' ;;
     schema)
         _plantbal_words '-h --help' ;;
-    *) _plantbal_words 'run lint explain check archive audit report solve convert template from-spreadsheet tables uncertainty draw chart page fleet critical from-scipy schema -h --help --version' ;;
+    *) _plantbal_words 'run lint explain check archive audit report solve convert book template from-spreadsheet tables uncertainty draw chart page fleet critical from-scipy schema -h --help --version' ;;
     esac
 }
 

@@ -5,7 +5,7 @@ _plantbal_desk() {
     local -a specifications
     local word at
     for ((at = 2; at < CURRENT; at++)); do
-        case $words[at] in run|lint|explain|check|archive|audit|report|solve|convert|template|from-spreadsheet|tables|uncertainty|draw|chart|page|fleet|critical|from-scipy|schema) word=$words[at]; break ;; esac
+        case $words[at] in run|lint|explain|check|archive|audit|report|solve|convert|book|template|from-spreadsheet|tables|uncertainty|draw|chart|page|fleet|critical|from-scipy|schema) word=$words[at]; break ;; esac
     done
     case $word in
     run)
@@ -108,6 +108,36 @@ _plantbal_desk() {
             '1:word:(convert)'
             '*:WORKBOOK:_files'
         ) ;;
+    book)
+        specifications=(
+            '-h[show this help message and exit]'
+            '--help[show this help message and exit]'
+            '--program=[the program]:PATH:_files'
+            '--locale=[whose numbers and days\: de]:NAME:'
+            '--missing=[a further text that stands for a missing figure]:TEXT:'
+            '--skip=[a column to leave out]:HEAD:'
+            '--limits[errors are limits\: half is taken]'
+            '--book=[the book'\''s folder]:FOLDER:_files -/'
+            '--who=[who does it, for the journal\: the login]:NAME:'
+            '--why=[the reason]:TEXT:'
+            '--strike[strike facts that aren'\''t in the workbook any more]'
+            '--anyway[also if its report wants a look before it is booked]'
+            '--year=[whose plant it is; the last without it]:YEAR:'
+            '--dry-run[say it, and book nothing]'
+            '--density=[another density\: 862]:TEXT:'
+            '--error=[another error\: 0.2 t]:TEXT:'
+            '--session=[write the session that asks for the reports too]:FILE:_files'
+            '--no-tests[make no tests]'
+            '--eliminate=[at most N rounds]:N:'
+            '--gap=[10 without it]:N:'
+            '--sweeps=[5,000 without it]:N:'
+            '--all[closed periods too]'
+            '--plant=[another plant; plant.csv without it]:WORKBOOK:_files'
+            '--first=[its first day; January 1st without it]:DAY:'
+            '1:word:(book)'
+            '2:COMMAND:(new add show amend strike report close status next)'
+            '*:WORKBOOK:_files'
+        ) ;;
     template)
         specifications=(
             '-h[show this help message and exit]'
@@ -154,6 +184,7 @@ _plantbal_desk() {
             '--round=[the round to draw, 0 for the one before any meter was taken]:N:'
             '--mark=[the stream whose cut or cycle is marked]:STREAM:'
             '--dot[write the text for Graphviz in place of SVG]'
+            '--out=[the picture]:FILE:_files'
             '1:word:(draw)'
             '*:OUTPUT:_files'
         ) ;;
@@ -235,7 +266,7 @@ _plantbal_desk() {
             '-h[show this help message and exit]'
             '--help[show this help message and exit]'
             '--version[write the version and end]'
-            "1:word:((run\:'run a session, and say what has to be looked at' lint\:'say what of a session is accepted and looks wrong' explain\:'say of each refused row what is wrong with it' check\:'check a report, of CSV or of JSON lines' archive\:'put a month into a bundle with digests' audit\:'say whether a bundle, or a report and its session, holds' report\:'turn a report into CSV, SQLite or a workbook' solve\:'reconcile by scipy what sweeps don'\''t come near' convert\:'a session from a plant'\''s workbook' template\:'an empty workbook for convert' from-spreadsheet\:'a session from daily readings and tags' tables\:'tables of flows, classes, suspects, imbalances' uncertainty\:'how good each flow is, and the meters that it rests on' draw\:'draw a report or a design' chart\:'chart the periods of a session' page\:'the month'\''s statement\: a page, a workbook, a PDF' fleet\:'run a folder of sessions' critical\:'critical values as rows of a session' from-scipy\:'another program'\''s figures in the form of a report' schema\:'the rows of sessions and outputs as data'))"
+            "1:word:((run\:'run a session, and say what has to be looked at' lint\:'say what of a session is accepted and looks wrong' explain\:'say of each refused row what is wrong with it' check\:'check a report, of CSV or of JSON lines' archive\:'put a month into a bundle with digests' audit\:'say whether a bundle, or a report and its session, holds' report\:'turn a report into CSV, SQLite or a workbook' solve\:'reconcile by scipy what sweeps don'\''t come near' convert\:'a session from a plant'\''s workbook' book\:'keep a plant'\''s book, a session a year' template\:'an empty workbook for convert' from-spreadsheet\:'a session from daily readings and tags' tables\:'tables of flows, classes, suspects, imbalances' uncertainty\:'how good each flow is, and the meters that it rests on' draw\:'draw a report or a design' chart\:'chart the periods of a session' page\:'the month'\''s statement\: a page, a workbook, a PDF' fleet\:'run a folder of sessions' critical\:'critical values as rows of a session' from-scipy\:'another program'\''s figures in the form of a report' schema\:'the rows of sessions and outputs as data'))"
         ) ;;
     esac
     _arguments -s : $specifications

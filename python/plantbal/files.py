@@ -63,7 +63,7 @@ def replacing(path: str | Path) -> Iterator[Path]:
         umask = os.umask(0)
         os.umask(umask)
         made.chmod(0o666 & ~umask)
-        with made.open("rb") as file:
+        with made.open("rb+") as file:
             os.fsync(file.fileno())
         os.replace(made, target)
     except OSError as error:  # the disk is full, or a folder has the name

@@ -5,16 +5,17 @@ from __future__ import annotations
 
 import argparse
 import subprocess
-import sys
 from collections.abc import Iterable
 
 from plantbal.amounts import tonnes_text
 from plantbal.faults import Fault, ToolMissing
+from plantbal.files import write_bytes
 from plantbal.report import Block, Values, blocks_of, designs_of, read_rows
 
 HELP = """
 OUTPUT is what plantbal wrote, as CSV or as JSON lines; without it standard input is read. The last
-report is drawn, or, where there is none, the last design. The picture goes to standard output as SVG.
+report is drawn, or, where there is none, the last design. The picture is SVG, and goes to standard
+output, or to the file of --out.
 
 Units are boxes, tanks are cylinders with what they gained, `env` is left open. Arrows are as wide as
 their tonnes. Streams: redundant green, with a full dot; nonredundant brown and dashed, with a ring;
@@ -253,6 +254,7 @@ def add_arguments(parser: argparse.ArgumentParser) -> None:
     parser.add_argument(
         "--dot", action="store_true", help="write the text for Graphviz in place of SVG"
     )
+    parser.add_argument("--out", metavar="FILE", default="-", help="the picture")
 
 
 def run(options: argparse.Namespace) -> int:
@@ -261,5 +263,5 @@ def run(options: argparse.Namespace) -> int:
     if options.mark is not None:
         picture.mark(options.mark)
     dot = picture.dot()
-    sys.stdout.buffer.write(dot.encode() if options.dot else svg(dot))
+    write_bytes(options.out, dot.encode() if options.dot else svg(dot))
     return 0

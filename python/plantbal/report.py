@@ -5,6 +5,7 @@ from __future__ import annotations
 import csv
 import io
 import json
+import re
 import sys
 from collections.abc import Iterable
 from dataclasses import dataclass, field
@@ -14,6 +15,8 @@ from plantbal.faults import InputFault, Place, read_text
 from plantbal.memory import uncollected
 from plantbal.schema import Row, schema
 
+# A field with a power of ten; no name has a plus sign.
+_POWER = re.compile(r"(?<=,)-?[0-9]+(?:\.[0-9]+)?[eE]\+[0-9]+(?=[,\r\n])")
 # A row by its columns; `row` has its kind. A stream of an older report lacks its least bounds.
 Values = dict[str, str]
 _AS_WRITTEN = "give the file as plantbal wrote it: this one was cut off, or edited"
@@ -120,6 +123,15 @@ def parse_rows(source: str, text: str) -> list[Values]:
     if text.startswith("{"):
         lines = enumerate(text.splitlines(), 1)
         return [_row_of_json(source, number, line) for number, line in lines if line]
+    powers = _POWER.search(text)
+    if powers:
+        raise InputFault(
+            f"{powers.group()} stands here, as a spreadsheet writes long numbers",
+            place=Place(file=source, line=text.count("\n", 0, powers.start()) + 1),
+            text=powers.group(),
+            remedy="take the file as plantbal wrote it; plantbal-desk report FILE --out FILE.xlsx "
+            "makes a workbook of it",
+        )
     csv.field_size_limit(sys.maxsize)
     reader = csv.reader(io.StringIO(text, newline=""))
     keys = {kind: ("row", *row.names) for kind, row in schema().output.items()}

@@ -8,7 +8,7 @@ from pathlib import Path
 from typing import Any
 
 from plantbal.cells import GRAMS, VOLUMES
-from plantbal.conversion import SHEETS
+from plantbal.conversion_tables import SHEETS
 from plantbal.faults import Fault, ToolMissing
 from plantbal.files import replacing
 

@@ -140,6 +140,10 @@ FAULTY = [
     ("unit,U\n", "line 1, column 1: plantbal writes no row of the kind 'unit': this is a session"),
     ("report;p\n", "save it with commas"),
     ("report,p,0,1,0,10,5000\nnode,env\n", "line 2: a node row has 3 columns, this one has 2"),
+    (
+        "report,p,0,2,1,10,5000\nnode,env,0\nnode,U,1.5E+12\n",
+        "line 3: 1.5E+12 stands here, as a spreadsheet writes long numbers: take the file as",
+    ),
     ('{"row":"end"}\n', "line 1: the keys of the row end are period, round, row"),
     ('{"row":"end"\n', "line 1, column 13: no JSON object"),
     ('{"row":"unit"}\n', "its \"row\" is 'unit'"),

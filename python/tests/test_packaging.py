@@ -75,6 +75,8 @@ def test_bash_completes_plantbal_desk() -> None:
     assert said_by_bash("plantbal-desk", "fleet", "--engine", "") == ["dask", "parallel"]
     assert said_by_bash("plantbal-desk", "fleet", "--j") == ["--jobs"]
     assert "flows" in said_by_bash("plantbal-desk", "tables", "fl")
+    assert said_by_bash("plantbal-desk", "book", "am") == ["amend"]
+    assert said_by_bash("plantbal-desk", "book", "close", "--any") == ["--anyway"]
     assert "/etc/hostname" in said_by_bash("plantbal-desk", "run", "/etc/host")
 
 
@@ -98,6 +100,7 @@ def test_completions_are_read_by_their_shells(command: str) -> None:
         ("plantbal-desk fl", {"fleet"}),
         ("plantbal-desk fleet --engine d", {"dask"}),
         ("plantbal-desk tables cl", {"classes"}),
+        ("plantbal-desk book am", {"amend"}),
     ],
 )
 def test_fish_completes(typed: str, wanted: set[str]) -> None:

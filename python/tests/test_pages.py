@@ -8,13 +8,14 @@ from pathlib import Path
 import pytest
 from conftest import TOP, text_of
 
-PAGES = [("docs/MONTH_END.md", "examples/month_end")]
+# Each page, the folder in a copy of which it is typed, and the other folders that it speaks of.
+PAGES = [("docs/MONTH_END.md", "examples/month_end", ["examples/refinery_workbook"])]
 
 
-@pytest.mark.parametrize("page, folder", PAGES, ids=[page for page, _ in PAGES])
-def test_typed_again(program: Path, page: str, folder: str) -> None:
+@pytest.mark.parametrize("page, folder, others", PAGES, ids=[page for page, *_ in PAGES])
+def test_typed_again(program: Path, page: str, folder: str, others: list[str]) -> None:
     done = subprocess.run(
-        [TOP / ".ci/typed", TOP / page, TOP / folder, program],
+        [TOP / ".ci/typed", TOP / page, TOP / folder, program, *(TOP / each for each in others)],
         capture_output=True,
         text=True,
         check=True,

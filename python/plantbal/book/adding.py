@@ -1,0 +1,261 @@
+"""Adds a workbook to a book: what is new, what is changed, and nothing twice."""
+
+from __future__ import annotations
+
+import argparse
+import calendar
+import datetime
+import sys
+from pathlib import Path
+
+from plantbal.book.changes import Changes, compare, gone, strayed
+from plantbal.book.ledger import FACT_KINDS, PLANT_KINDS, Fact, Ledger, rows_text
+from plantbal.book.meters import meters_of, meters_text, read_meters
+from plantbal.book.reading import add_reading, converted, raise_all
+from plantbal.book.said import FIRST, added, changed, counted, doubts, lacking
+from plantbal.book.store import METERS, PLANT, Action, Book
+from plantbal.book.years import Years
+from plantbal.conversion_facts import Converter
+from plantbal.faults import Fault, Refusal
+from plantbal.records import text_of
+from plantbal.session import Period
+
+
+def add_arguments(parser: argparse.ArgumentParser) -> None:
+    """Add the words of the command."""
+    parser.add_argument("workbook", metavar="WORKBOOK")
+    parser.add_argument("--why", metavar="TEXT", help="the reason of what is changed or struck")
+    parser.add_argument(
+        "--strike", action="store_true", help="strike facts that aren't in the workbook any more"
+    )
+    parser.add_argument("--anyway", action="store_true", help="strike also most of what is booked")
+    parser.add_argument("--year", metavar="YEAR", help="whose plant it is; the last without it")
+    parser.add_argument("--dry-run", action="store_true", help="say it, and book nothing")
+    add_reading(parser)
+
+
+def run(options: argparse.Namespace) -> int:
+    """Add a workbook, and say what that was."""
+    book = Book(options.book)
+    name = Path(options.workbook).name
+    with book.opened():
+        years = Years(book)
+        year = years.named(options.year)
+        meters = read_meters(book.path(METERS))
+        work = converted(options, year.plant, meters)
+        facts = [Fact.of(row) for row in work.session if row[0] in (*FACT_KINDS, "late")]
+        raise_all(options.prog, years.outside(facts))
+        plant = put_plant(year, work)
+        put_periods(years, work, facts)
+        changes = changes_of(options, years, work, facts)
+        check_reasons(options, changes)
+        reasons = Reasons(options.why or "")
+        changes.put(reasons, options.strike)
+
+        action = Action(f"add {name}", reasons.said(), options.who)
+        for ledger in years.used:
+            action.add(ledger)
+        if plant and year is years.last:
+            action.written[PLANT] = rows_text(year.plant)
+        found = meters | {meter.name: meter for meter in meters_of(work)}
+        if meters_text(found.values()) != meters_text(meters.values()):
+            action.written[METERS] = meters_text(found.values())
+
+        lines = [added(ledger) for ledger in years.used]
+        lines += changed(changes, name, options.strike)
+        for ledger in years.used:
+            lines += doubts(book.text(f"{ledger.name}.csv"), ledger.added_text())
+            lines += lacking(ledger, facts, found)
+        print("\n".join([*lines, *work.notes]))
+        if options.dry_run:
+            print("nothing is booked, as --dry-run says")
+        elif action.appended or action.written:
+            book.do(action)
+    return 0
+
+
+def changes_of(
+    options: argparse.Namespace, years: Years, work: Converter, facts: list[Fact]
+) -> Changes:
+    """Return what a workbook changes.
+
+    Raises
+    ------
+    Fault
+        If a ticket has the id of another one, or most of what is booked would be struck.
+    """
+    changes = compare(years, facts)
+    raise_all(options.prog, list(strayed(years, changes, facts)))
+    if work.sheets["readings"] or options.strike:
+        changes.gone = gone(years, work, facts)
+    there = changes.same + len(changes.changed) + len(changes.stale)
+    if options.strike and len(changes.gone) > there and not options.anyway:
+        raise Fault(
+            f"{len(changes.gone):,} of {len(changes.gone) + there:,} facts that are booked aren't "
+            f"in {Path(options.workbook).name}",
+            remedy="is it a part of the workbook? Single facts are struck by plantbal-desk book "
+            "strike; --anyway strikes all of them",
+        )
+    return changes
+
+
+def _may_ask() -> bool:
+    """Say whether somebody sits at a terminal."""
+    return sys.stdin.isatty()
+
+
+class Reasons:
+    """The reasons of changes: that of ``--why``, or those that are typed.
+
+    Parameters
+    ----------
+    why : str
+        The reason of all changes; empty if each is asked for.
+
+    Attributes
+    ----------
+    given : dict of str to str
+        The reasons that were asked for, by the ids of facts.
+    """
+
+    def __init__(self, why: str) -> None:
+        self.why = why
+        self.given: dict[str, str] = {}
+
+    def __call__(self, identity: str, said: str) -> str:
+        """Return the reason of a change; an empty answer is the reason before."""
+        if self.why:
+            self.given[identity] = self.why
+        before = next(reversed(self.given.values()), "")
+        while identity not in self.given:
+            offer = f" [{before}]" if before else ""
+            try:
+                typed = input(f"{said}. Why?{offer} ").strip() or before
+            except EOFError:
+                raise Fault("a reason is wanted, and none came", remedy="say --why TEXT") from None
+            if typed:
+                self.given[identity] = typed
+        return self.given[identity]
+
+    def said(self) -> str:
+        """Return the reasons, each once."""
+        return "; ".join(dict.fromkeys(self.given.values()))
+
+
+def check_reasons(options: argparse.Namespace, changes: Changes) -> None:
+    """Refuse changes if there is no reason for them, and nobody to ask.
+
+    Raises
+    ------
+    Fault
+        If it is so.
+    """
+    lines = [change.said() for change in [*changes.changed, *changes.left]]
+    if options.strike:
+        lines += [f"{fact.id}: {fact.said()} is struck" for _, fact in changes.gone]
+    if options.why or not lines or _may_ask():
+        return
+    lines = list(dict.fromkeys(lines))
+    print("\n".join(lines[:FIRST]))
+    are = "is" if len(lines) == 1 else "are"
+    what = f"{counted(len(lines), 'fact')} {are} booked otherwise"
+    raise Fault(what, remedy='say why: --why "typed a digit short"; nothing is booked')
+
+
+# ---- the plant and the periods
+
+
+def put_plant(ledger: Ledger, work: Converter) -> int:
+    """Put what is new of the plant to a ledger, and return how many rows are.
+
+    Raises
+    ------
+    Fault
+        If something of it is otherwise in the book, or a period is closed already.
+    """
+    if not work.sheets["streams"] and not work.sheets["rows"]:
+        return 0
+    there = set(ledger.plant)
+    names = {row[1]: row for row in ledger.plant if row[0] not in ("strap", "critical")}
+    count = 0
+    for row in work.session:
+        if row[0] not in PLANT_KINDS or row in there:
+            continue
+        if row[1] in names and row[0] != "strap":
+            was = text_of(names[row[1]])
+            raise Fault(
+                f"{row[1]} is {text_of(row)} in the workbook and {was} in {ledger.name}.csv",
+                text=text_of(row),
+                remedy="what is declared stays to the end of a year: begin the next one by "
+                "plantbal-desk book next YEAR --plant WORKBOOK",
+            )
+        try:
+            ledger.put(*row)
+        except Refusal as refusal:
+            refusal.remedy = (
+                "what is new of the plant comes before the first close, or with the next year: "
+                "plantbal-desk book next YEAR --plant WORKBOOK"
+            )
+            raise
+        count += 1
+    return count
+
+
+def put_periods(years: Years, work: Converter, facts: list[Fact]) -> None:
+    """Declare the periods that a workbook names, or else the months of its facts.
+
+    Raises
+    ------
+    Fault
+        If one is otherwise in the book, or goes over the end of a year.
+    """
+    if work.sheets["periods"] or work.sheets["rows"]:
+        for row in work.session:
+            if row[0] == "period":
+                _put_period(years, row[1], *map(datetime.date.fromisoformat, row[2:]))
+        return
+    days = {fact.first for fact in facts if fact.kind == "reading"}
+    days = days or {fact.first for fact in facts if fact.kind == "transfer"}
+    for day in sorted(days):
+        ledger = years.of_day(day)
+        if ledger is None or any(_within(period, day) for period in ledger.session.periods):
+            continue
+        first = day.replace(day=1)
+        last = day.replace(day=calendar.monthrange(day.year, day.month)[1])
+        _put_period(years, f"{day:%Y-%m}", first, last)
+
+
+def _within(period: Period, day: datetime.date) -> bool:
+    return period.first <= day.toordinal() <= period.last
+
+
+def _put_period(years: Years, name: str, first: datetime.date, last: datetime.date) -> None:
+    ledger = years.of_day(last)
+    if ledger is None or years.of_day(first) is not ledger:
+        raise Fault(
+            f"the period {name} goes from {first} to {last}, and isn't within a year of this book",
+            text=name,
+            remedy="cut it where the year ends, or begin the next: plantbal-desk book next",
+        )
+    others = [span.name for span in years.spans if name in span.periods]
+    if others and ledger.name not in others:
+        raise Fault(
+            f"{others[0]} has a period {name} already",
+            text=name,
+            remedy=f"give it another name, such as {ledger.name}-{name}",
+        )
+    there = ledger.periods.get(name)
+    if there is None:
+        try:
+            ledger.put("period", name, str(first), str(last))
+        except Refusal as refusal:
+            refusal.remedy += ", or write the periods into a sheet periods"
+            raise
+    elif (there.first, there.last) != (first.toordinal(), last.toordinal()):
+        day = datetime.date.fromordinal
+        raise Fault(
+            f"the period {name} goes from {first} to {last} in the workbook, "
+            f"and from {day(there.first)} to {day(there.last)} in the book",
+            text=name,
+            remedy="mend the sheet periods",
+        )

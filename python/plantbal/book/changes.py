@@ -1,0 +1,202 @@
+"""What a workbook changes in a book: facts that are new, changed, moved or gone."""
+
+from __future__ import annotations
+
+from collections.abc import Callable, Iterable, Iterator
+from dataclasses import dataclass, field, replace
+
+from plantbal.book.ledger import Fact, Ledger
+from plantbal.book.years import Years
+from plantbal.conversion_facts import Converter
+from plantbal.faults import Fault
+from plantbal.session import Period
+
+
+@dataclass(frozen=True)
+class Change:
+    """A fact that is booked, and what the workbook has in its place.
+
+    Attributes
+    ----------
+    ledger : Ledger
+        The year.
+    old, new : Fact
+        The fact as it is booked, and as it is in the workbook.
+    """
+
+    ledger: Ledger
+    old: Fact
+    new: Fact
+
+    @property
+    def moved(self) -> bool:
+        """Whether its stream or its days are others, which no amendment can change."""
+        return self.old.slot != self.new.slot
+
+    def said(self) -> str:
+        """Return what changes."""
+        if self.moved:
+            days = [f"{fact.place} {_days(fact)} {fact.said()}" for fact in (self.old, self.new)]
+            return f"{self.old.id}: {days[0]} becomes {days[1]}"
+        if self.old.values == self.new.values:
+            return f"{self.old.id}: its error {self.old.error()} becomes {self.new.error()}"
+        return f"{self.old.id}: {self.old.said()} becomes {self.new.said()}"
+
+
+def _days(fact: Fact) -> str:
+    return str(fact.first) if fact.first == fact.last else f"{fact.first} to {fact.last}"
+
+
+@dataclass
+class Changes:
+    """What a workbook changes.
+
+    Attributes
+    ----------
+    new : list of (Ledger, Fact)
+        Facts that aren't booked.
+    changed : list of Change
+        Facts that are booked otherwise.
+    left : list of Change
+        Tickets that are booked in a year which their days in the workbook don't touch.
+    gone : list of (Ledger, Fact)
+        Facts that are booked and might stand in the workbook, and don't.
+    stale : list of Change
+        Facts that a command has amended or struck, and that the workbook has as they were before.
+    same : int
+        How many are booked as they stand there.
+    """
+
+    new: list[tuple[Ledger, Fact]] = field(default_factory=list)
+    changed: list[Change] = field(default_factory=list)
+    left: list[Change] = field(default_factory=list)
+    gone: list[tuple[Ledger, Fact]] = field(default_factory=list)
+    stale: list[Change] = field(default_factory=list)
+    same: int = 0
+
+    def put(self, reason: Callable[[str, str], str], strike: bool) -> None:
+        """Put the rows to the ledgers.
+
+        Parameters
+        ----------
+        reason : callable
+            Returns the reason of a change, by the fact's id and what changes.
+        strike : bool
+            Whether facts that are gone are struck.
+        """
+        for ledger, fact in self.gone if strike else ():
+            ledger.put("strike", fact.id, reason(fact.id, f"{fact.id} is struck"))
+        for change in self.left:
+            change.ledger.put("strike", change.old.id, reason(change.old.id, change.said()))
+        for change in self.changed:
+            why = reason(change.old.id, change.said())
+            if change.moved:
+                change.ledger.put("strike", change.old.id, why)
+                self.new.append((change.ledger, change.new))
+            else:
+                change.ledger.put(*change.new.amendment(change.old.id, why))
+        for ledger, fact in self.new:
+            ledger.put_fact(replace(fact, id=ledger.free(fact.id)))
+
+
+def compare(years: Years, facts: list[Fact]) -> Changes:
+    """Return what facts change; what is gone isn't looked for."""
+    found = Changes()
+    own = frozenset(fact.id for fact in facts)
+    scope = {ledger.name: ledger for ledger, _ in scope_of(years, facts)}
+    for fact in facts:
+        ledgers = years.of_fact(fact)
+        for ledger in ledgers:
+            if fact.kind == "transfer":
+                old = ledger.ticket(fact.id, own)
+            else:
+                old = ledger.on(fact.place, fact.first)
+            was = old or ledger.lost(fact, own)
+            if old is not None and old.says(fact):
+                found.same += 1
+            elif was is not None and _before(years, ledger, was, fact):
+                found.stale.append(Change(ledger, was, fact))
+            elif old is None:
+                found.new.append((ledger, fact))
+            else:
+                found.changed.append(Change(ledger, old, fact))
+        if fact.kind == "transfer":
+            names = [ledger.name for ledger in ledgers]
+            booked = [(each, each.ticket(fact.id, own)) for each in [*ledgers, *scope.values()]]
+            twins = [twin for each, old in booked if old for twin in years.twins(each, old)]
+            left = {ledger.name: Change(ledger, old, fact) for ledger, old in twins}
+            found.left += [change for name, change in left.items() if name not in names]
+    return found
+
+
+def _before(years: Years, ledger: Ledger, was: Fact, fact: Fact) -> bool:
+    """Say whether a fact says what one said before a command amended or struck it."""
+    for number, before in reversed(ledger.edits.get(was.id, [])):
+        if number not in years.typed[ledger.name]:
+            return False
+        if before.says(fact):
+            return True
+    return False
+
+
+def scope_of(years: Years, facts: list[Fact]) -> list[tuple[Ledger, Period]]:
+    """Return the periods of which a workbook has readings or, if it has none, other facts."""
+    days = {fact.first for fact in facts if fact.kind == "reading"}
+    days = days or {fact.first for fact in facts}
+    ledgers = {ledger.name: ledger for ledger in map(years.of_day, days) if ledger is not None}
+    return [
+        (ledger, period)
+        for ledger in ledgers.values()
+        for period in ledger.periods.values()
+        if any(period.first <= day.toordinal() <= period.last for day in days)
+    ]
+
+
+def strayed(years: Years, changes: Changes, facts: list[Fact]) -> Iterator[Fault]:
+    """Give what is to be said of tickets that have the id of one of another period."""
+    scope = scope_of(years, facts)
+    for change in [*changes.changed, *changes.left]:
+        if change.moved and not any(_touches(change.old, period) for _, period in scope):
+            old = change.old
+            yield Fault(
+                f"{change.new.id}: the book has a ticket of this id already, of {old.place} on "
+                f"{_days(old)}",
+                text=change.new.id,
+                remedy=f"give it another id, such as {change.new.first:%Y-%m}-{change.new.id}",
+            )
+
+
+def gone(years: Years, work: Converter, facts: list[Fact]) -> list[tuple[Ledger, Fact]]:
+    """Return the facts that are booked and might stand in a workbook, and don't.
+
+    These are, in the periods of which the workbook has readings (or, if it has none, other facts):
+    the readings of the streams that have a column in it, the dips if it has a sheet of dips, and
+    the tickets if it has a sheet of these. One that is booked in two years is given for both.
+    """
+    scope = scope_of(years, facts)
+    own = frozenset(fact.id for fact in facts)
+    slots = {(fact.place, fact.first) for fact in facts if fact.kind != "transfer"}
+    found: dict[tuple[str, str], tuple[Ledger, Fact]] = {}
+    for ledger in {ledger.name: ledger for ledger, _ in scope}.values():
+        kept = {fact.id for fact in (ledger.ticket(each, own) for each in own) if fact is not None}
+        for fact in ledger.facts.values():
+            there = fact.id in kept or (fact.place, fact.first) in slots
+            if there or not _in_sheets(work, fact):
+                continue
+            if any(_touches(fact, period) for _, period in scope):
+                for twin, same in years.twins(ledger, fact):
+                    found[twin.name, same.id] = twin, same
+    return list(found.values())
+
+
+def _in_sheets(work: Converter, fact: Fact) -> bool:
+    """Say whether a workbook has a sheet in which a fact might stand."""
+    if fact.kind == "reading":
+        return bool(work.sheets["readings"]) and fact.place in work.listed
+    return bool(work.sheets["dips" if fact.kind == "dip" else "tickets"])
+
+
+def _touches(fact: Fact, period: Period) -> bool:
+    eve = 1 if fact.kind == "dip" else 0
+    first, last = fact.first.toordinal(), fact.last.toordinal()
+    return first <= period.last and last >= period.first - eve

@@ -1,0 +1,92 @@
+"""Keeps a plant's book: a folder with a session a year, its reports, and a journal."""
+
+from __future__ import annotations
+
+import argparse
+import importlib
+import sys
+from collections.abc import Sequence
+from dataclasses import dataclass
+from typing import Protocol, cast
+
+HELP = """
+The book is the present folder, or that of --book. It has
+  plant.csv     the rows of the plant, with which the next year begins
+  meters.csv    tags, units, densities and errors of meters and gauges
+  2024.csv      the session of a year; rows are only added to it
+  reports/      the last report of each period, with its history
+  journal.csv   a line an action: when, who, what, why, and which rows it added
+
+A command is done as a whole or not at all, at whatever moment it is stopped; what was begun is
+finished by the next command. Two commands at a time wait for each other.
+
+examples:
+  plantbal-desk book new 2024 plant.xlsx
+  plantbal-desk book add april.xlsx
+  plantbal-desk book show FI-302 2024-04-16 2024-04-19
+  plantbal-desk book amend FI-302 2024-04-18 "12188 t" --why "typed a digit short"
+  plantbal-desk book report 2024-04
+  plantbal-desk book close 2024-04
+  plantbal-desk book next 2025
+"""
+
+
+class Handler(Protocol):
+    """What does the work of a command on a book."""
+
+    def add_arguments(self, parser: argparse.ArgumentParser) -> None:
+        """Add the words of the command."""
+
+    def run(self, options: argparse.Namespace) -> int:
+        """Do the work, and return the status."""
+
+
+@dataclass(frozen=True)
+class Inner:
+    """A command on a book: its word, its module or a part of it, and one line on it."""
+
+    word: str
+    home: str
+    about: str
+
+    def handler(self) -> Handler:
+        """Return what does its work."""
+        module, _, part = self.home.partition(":")
+        found = importlib.import_module(f"plantbal.book.{module}")
+        return cast(Handler, getattr(found, part) if part else found)
+
+
+COMMANDS: Sequence[Inner] = (
+    Inner("new", "beginning", "make a book of a plant's workbook"),
+    Inner("add", "adding", "add a workbook: what is new, and what is changed, with its reason"),
+    Inner("show", "showing", "show what is booked of a stream or tank"),
+    Inner("amend", "editing:AMEND", "give a fact another value, with a reason"),
+    Inner("strike", "editing:STRIKE", "take a fact out, with a reason"),
+    Inner("report", "reporting", "write the reports of periods"),
+    Inner("close", "editing:CLOSE", "close a period with its report"),
+    Inner("status", "overview", "say what is open, what lacks, and how full the year is"),
+    Inner("next", "following", "begin the next year"),
+)
+
+
+def add_arguments(parser: argparse.ArgumentParser) -> None:
+    """Add the words of the command."""
+    words = parser.add_subparsers(metavar="COMMAND", required=True)
+    for inner in COMMANDS:
+        handler = inner.handler()
+        made = words.add_parser(inner.word, help=inner.about, description=handler.__doc__)
+        handler.add_arguments(made)
+        made.add_argument("--book", metavar="FOLDER", default=".", help="the book's folder")
+        made.add_argument(
+            "--who", metavar="NAME", default="", help="who does it, for the journal: the login"
+        )
+        made.set_defaults(inner=handler.run)
+
+
+def run(options: argparse.Namespace) -> int:
+    """Do what the inner word says."""
+    try:
+        status: int = options.inner(options)
+    finally:
+        sys.stdout.flush()  # before what is said of a fault
+    return status

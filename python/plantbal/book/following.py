@@ -1,0 +1,162 @@
+"""Begins the next year: its plant, the dips of the eve, and what else touches both years go over.
+
+It is refused unless each tank holds the same at the end of one year and as the other begins, to the
+gram.
+"""
+
+from __future__ import annotations
+
+import argparse
+import datetime
+from dataclasses import replace
+from pathlib import Path
+
+from plantbal.amounts import tonnes_of
+from plantbal.book.beginning import check_year, classes_of, plant_of
+from plantbal.book.contents import contents_of
+from plantbal.book.ledger import Fact, Ledger, plain, rows_text
+from plantbal.book.meters import meters_text, read_meters
+from plantbal.book.naming import day_of
+from plantbal.book.reading import add_reading
+from plantbal.book.said import counted
+from plantbal.book.store import METERS, PLANT, Action, Book
+from plantbal.book.years import Years, calendar_year, periods_of
+from plantbal.faults import Fault, InputFault, Place, Refusal
+from plantbal.records import read_records
+
+_DAY = datetime.timedelta(1)
+
+
+def add_arguments(parser: argparse.ArgumentParser) -> None:
+    """Add the words of the command."""
+    parser.add_argument("year", metavar="YEAR", help="the next year, such as 2025")
+    parser.add_argument("--plant", metavar="WORKBOOK", help="another plant; plant.csv without it")
+    parser.add_argument("--first", metavar="DAY", help="its first day; January 1st without it")
+    parser.add_argument("--program", metavar="PATH", help="the program")
+    add_reading(parser)
+
+
+def run(options: argparse.Namespace) -> int:
+    """Begin the next year."""
+    check_year(options.year)
+    book = Book(options.book)
+    with book.opened():
+        if options.year in book.years:
+            print(f"{options.year}.csv is there already")
+            return 0
+        old = Years(book).last
+        if options.year <= old.name:
+            what = f"{options.year} doesn't come after {old.name}, the last year"
+            raise Fault(what, text=options.year, remedy="say a later one")
+        first = first_day(options, book.text(f"{old.name}.csv"), old)
+        action = Action(f"next {options.year}", who=options.who)
+        new = begun(options, book, action, first)
+        contents = carry(old, new, first - _DAY, options.program)
+        classes = classes_of(new.plant, options.program) if options.plant else []
+        action.written[f"{new.name}.csv"] = rows_text(new.session)
+        action.rows = [f"{new.name}: 1 to {new.count}"]
+        book.do(action)
+    lines = [f"{new.name}.csv: from {first} on; {counted(len(new.plant), 'row')} of the plant"]
+    lines += classes
+    lines += [
+        f"{name}: {plain(tonnes_of(grams))} t at the end of {first - _DAY} and as the opening"
+        for name, grams in contents.items()
+    ]
+    lines += [
+        f"{name}: no dip of {first - _DAY}, so it has no opening yet"
+        for name, kind in new.session.nodes.items()
+        if kind == "tank" and name not in contents
+    ]
+    print("\n".join(lines))
+    return 0
+
+
+def first_day(options: argparse.Namespace, text: str, old: Ledger) -> datetime.date:
+    """Return the first day of the next year: the one after the last period of the year before it.
+
+    Raises
+    ------
+    Fault
+        If it is another one than is wanted.
+    """
+    eve = max((last for _, last in periods_of(text).values()), default=None)
+    if eve is None:
+        raise Fault(f"{old.name} has no period yet", remedy="add its workbooks first")
+    year = calendar_year(options.year)
+    first = eve + _DAY
+    wanted = first if year is None else datetime.date(year, 1, 1)
+    wanted = day_of(options.first, options.locale) or wanted
+    if wanted != first:
+        raise Fault(
+            f"the last period of {old.name} ends on {eve}, and {options.year} begins on {wanted}",
+            remedy=f"add what lies between to {old.name} first, or say --first {first}",
+        )
+    return first
+
+
+def begun(
+    options: argparse.Namespace, book: Book, action: Action, first: datetime.date
+) -> Ledger:
+    """Return the next year with its plant alone, and have an action write another plant.
+
+    Raises
+    ------
+    Fault
+        If a row of the plant is refused, or is none.
+    """
+    file, text = str(book.path(PLANT)), book.text(PLANT)
+    if options.plant:
+        rows, meters = plant_of(options, options.plant)
+        kept = read_meters(book.path(METERS)) | {meter.name: meter for meter in meters}
+        file, text = options.plant, rows_text(rows)
+        action.what += f" {Path(options.plant).name}"
+        action.written = {PLANT: text, METERS: meters_text(kept.values())}
+    new = Ledger.read(options.year, file, text, first, datetime.date.max)
+    for record in read_records(text.encode("utf-8")):
+        if record.fields not in new.plant:
+            place = Place(file=file, line=record.line)
+            raise InputFault(f"a row {record.fields[0]} is none of a plant", place=place)
+    return new
+
+
+def carry(old: Ledger, new: Ledger, eve: datetime.date, program: str | None) -> dict[str, int]:
+    """Put to a year what goes over from the one before it, and return the contents of its tanks.
+
+    Raises
+    ------
+    Fault
+        If what a tank holds at the end of one year isn't what it holds as the other begins.
+    """
+    tanks = {name for name, kind in new.session.nodes.items() if kind == "tank"}
+    dips = [fact for fact in old.facts.values() if fact.kind == "dip" and fact.first == eve]
+    later = [fact for fact in old.facts.values() if fact.last > eve]
+    for fact in [*dips, *later]:
+        if fact.place in tanks or fact.place in new.session.streams:
+            # A ticket has its own id again, by which workbooks call it.
+            own = old.origin(fact) if fact.kind == "transfer" else fact.id
+            _put(new, replace(fact, id=own))
+    closing = contents_of(old.plant, dips, program)
+    opening = contents_of(new.plant, [dip for dip in dips if dip.place in tanks], program)
+    for name, grams in closing.items():
+        if grams != opening.get(name, 0):
+            raise _other(old, new, name, grams, opening.get(name))
+    return opening
+
+
+def _put(new: Ledger, fact: Fact) -> None:
+    try:
+        new.put(*fact.row())
+    except Refusal as refusal:
+        raise Fault(
+            f"{fact.id} doesn't go over: {refusal.said}", text=fact.id, remedy=refusal.remedy
+        ) from refusal
+
+
+def _other(old: Ledger, new: Ledger, name: str, closing: int, opening: int | None) -> Fault:
+    """Return what is to be said of a tank whose contents would change."""
+    said = f"{name} holds {plain(tonnes_of(closing))} t as {old.name} ends"
+    if opening is None:
+        what = f"{said}, and isn't in the plant of {new.name}"
+        return Fault(what, text=name, remedy="book where it went as a transfer, or keep the tank")
+    what = f"{said}, and by the other table {plain(tonnes_of(opening))} t as {new.name} begins"
+    return Fault(what, text=name, remedy="keep its table, or give the tank another name")

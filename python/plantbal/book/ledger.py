@@ -1,0 +1,349 @@
+"""A year's session as a ledger: its plant, its periods, and its facts with their last values."""
+
+from __future__ import annotations
+
+import datetime
+import re
+from collections import defaultdict
+from collections.abc import Iterable, Iterator, Sequence
+from dataclasses import dataclass, replace
+from decimal import Decimal
+from math import isqrt
+
+from plantbal.amounts import tonnes_of
+from plantbal.faults import Fault, InputFault, Place, Refusal
+from plantbal.memory import uncollected
+from plantbal.records import read_records, text_of, without_empty_end
+from plantbal.session import Period, Session, period_days
+
+PLANT_KINDS = ("unit", "tank", "strap", "stream", "critical")
+FACT_KINDS = ("reading", "transfer", "dip")
+_DAY = datetime.timedelta(1)
+_AGAIN = re.compile(r"\.[0-9]+$")  # how the id ends of what was struck and came again
+# The codes of a fact that touches a closed period, and of one that is too many.
+_CLOSED, _FULL = 11, 13
+
+
+@dataclass(frozen=True)
+class Fact:
+    """A reading, a transfer or a dip.
+
+    Attributes
+    ----------
+    kind, id, place : str
+        What it is, its id, and its stream or tank.
+    first, last : date
+        Its days; of a reading and of a dip both are its day.
+    values : tuple of int
+        Its grams, or its level in mm and its density in g/m3.
+    variance : int
+        Its variance in squared grams.
+    """
+
+    kind: str
+    id: str
+    place: str
+    first: datetime.date
+    last: datetime.date
+    values: tuple[int, ...]
+    variance: int
+
+    @classmethod
+    def of(cls, row: Sequence[str]) -> Fact:
+        """Return the fact of a row of a session, with ``late`` in front of it or without."""
+        kind, identity, place, *rest = row[1:] if row[0] == "late" else row
+        count = 2 if kind == "transfer" else 1
+        days = [datetime.date.fromisoformat(text) for text in rest[:count]]
+        *values, variance = map(int, rest[count:])
+        return cls(kind, identity, place, days[0], days[-1], tuple(values), variance)
+
+    def row(self) -> tuple[str, ...]:
+        """Return it as a row of a session."""
+        days = [self.first, self.last] if self.kind == "transfer" else [self.first]
+        return (
+            self.kind,
+            self.id,
+            self.place,
+            *map(str, days),
+            *map(str, self.values),
+            str(self.variance),
+        )
+
+    def amendment(self, identity: str, reason: str) -> tuple[str, ...]:
+        """Return the row that gives the fact of an id these values."""
+        return ("amend", identity, *map(str, self.values), str(self.variance), reason)
+
+    @property
+    def slot(self) -> tuple[str, str, datetime.date, datetime.date]:
+        """What an amendment doesn't change: its kind, stream or tank, and days."""
+        return self.kind, self.place, self.first, self.last
+
+    def says(self, other: Fact) -> bool:
+        """Say whether another fact says the same, whatever its id."""
+        return replace(self, id="") == replace(other, id="")
+
+    def said(self) -> str:
+        """Return what it says: `12,188 t`, or `6,560 mm at 1,250 kg/m3`."""
+        if self.kind == "dip":
+            density = plain(Decimal(self.values[1]) / 1000)
+            return f"{self.values[0]:,} mm at {density} kg/m3"
+        return f"{plain(tonnes_of(self.values[0]))} t"
+
+    def error(self) -> str:
+        """Return its standard deviation: `182.82 t`."""
+        root = Decimal(isqrt(self.variance * 10**6)).scaleb(-9)
+        return f"{plain(round(root, 3))} t"
+
+
+def rows_text(rows: Iterable[Sequence[str]]) -> str:
+    """Return rows as they stand in a session."""
+    return "".join(text_of(tuple(row)) + "\n" for row in rows)
+
+
+def plain(number: Decimal) -> str:
+    """Return a number with commas between thousands, and without zeros at its end."""
+    text = f"{number:,f}"
+    return text.rstrip("0").rstrip(".") if "." in text else text
+
+
+class Ledger:
+    """A year of a book.
+
+    Parameters
+    ----------
+    name : str
+        The year's name.
+    first, last : date
+        Its first and its last day.
+
+    Attributes
+    ----------
+    session : Session
+        Its rows.
+    plant : list of tuple of str
+        The rows that declare the plant.
+    facts : dict of str to Fact
+        The facts that aren't struck, by their ids, with their last values.
+    struck : dict of str to Fact
+        Those that are.
+    edits : dict of str to list of (int, Fact)
+        Of each fact that was amended or struck the numbers of these rows, and what it was before.
+    added : list of tuple of str
+        The rows that were put after those that were read.
+    """
+
+    def __init__(self, name: str, first: datetime.date, last: datetime.date) -> None:
+        self.name = name
+        self.first = first
+        self.last = last
+        self.session = Session()
+        self.plant: list[tuple[str, ...]] = []
+        self.facts: dict[str, Fact] = {}
+        self.struck: dict[str, Fact] = {}
+        self.edits: dict[str, list[tuple[int, Fact]]] = {}
+        self.added: list[tuple[str, ...]] = []
+        self.count = 0
+        self._slots: dict[tuple[str, datetime.date], str] = {}
+        self._lost: dict[tuple[str, datetime.date], list[Fact]] = {}
+        self._latest: defaultdict[datetime.date, int] = defaultdict(int)
+        self._latest_dip: defaultdict[datetime.date, int] = defaultdict(int)
+
+    @classmethod
+    def read(
+        cls, name: str, file: str, text: str, first: datetime.date, last: datetime.date
+    ) -> Ledger:
+        """Return the ledger of a year's session.
+
+        Parameters
+        ----------
+        name : str
+            The year's name.
+        file : str
+            The file, for what is said of it.
+        text : str
+            The session.
+        first, last : date
+            The year's first and last day.
+
+        Raises
+        ------
+        Fault
+            If the program would refuse a row, or the last line is cut.
+        """
+        ledger = cls(name, first, last)
+        if text and not text.endswith("\n"):
+            place = Place(file=file, line=len(text.splitlines()))
+            remedy = "was it changed by hand? Take back what was changed"
+            raise InputFault("its last line has no end", place=place, remedy=remedy)
+        with uncollected():
+            for record in read_records(text.encode("utf-8")):
+                place = Place(file=file, line=record.line, record=record.number)
+                ledger.count = record.number
+                try:
+                    ledger._take(record.fields, place)
+                except Refusal as refusal:
+                    refusal.remedy += "; rows of a book are written by its commands alone"
+                    raise
+        ledger.added.clear()
+        return ledger
+
+    # ---- rows
+
+    def put(self, *fields: str) -> None:
+        """Add a row.
+
+        Raises
+        ------
+        Refusal
+            If the program would refuse it.
+        """
+        self.count += 1
+        try:
+            self._take(fields, None)
+        except Refusal:
+            self.count -= 1
+            raise
+
+    def put_fact(self, fact: Fact) -> bool:
+        """Add a fact, and return whether it comes late."""
+        try:
+            self.put(*fact.row())
+        except Refusal as refusal:
+            if refusal.code == _FULL:
+                refusal.remedy = "begin another part of the year: plantbal-desk book next"
+            if refusal.code != _CLOSED:
+                raise
+            self.put("late", *fact.row())
+            return True
+        return False
+
+    def _take(self, fields: Sequence[str], place: Place | None) -> None:
+        fields = without_empty_end(tuple(fields))
+        self.session.row(*fields, place=place)
+        if not fields:
+            return
+        self.added.append(fields)
+        kind = fields[1] if fields[0] == "late" else fields[0]
+        if kind in PLANT_KINDS:
+            self.plant.append(fields)
+        elif kind in FACT_KINDS:
+            self._keep(Fact.of(fields))
+        elif kind == "amend":
+            fact = self.facts[fields[1]]
+            self.edits.setdefault(fact.id, []).append((self.count, fact))
+            *values, variance = map(int, fields[2:-1])
+            self._keep(replace(fact, values=tuple(values), variance=variance))
+        elif kind == "strike":
+            fact = self.facts.pop(fields[1])
+            self.struck[fact.id] = fact
+            self.edits.setdefault(fact.id, []).append((self.count, fact))
+            self._touch(fact)
+            if fact.kind != "transfer":
+                del self._slots[fact.place, fact.first]
+                self._lost.setdefault((fact.place, fact.first), []).append(fact)
+
+    def _keep(self, fact: Fact) -> None:
+        self.facts[fact.id] = fact
+        if fact.kind != "transfer":
+            self._slots[fact.place, fact.first] = fact.id
+        self._touch(fact)
+
+    def _touch(self, fact: Fact) -> None:
+        if fact.kind == "dip":
+            self._latest_dip[fact.first] = self.count
+            return
+        day = fact.first
+        while day <= fact.last:
+            self._latest[day] = self.count
+            day += _DAY
+
+    def added_text(self) -> str:
+        """Return the rows that were added, as they stand in the file."""
+        return rows_text(self.added)
+
+    def added_said(self) -> str:
+        """Return which rows were added, by their numbers."""
+        first = self.count - len(self.added) + 1
+        return f"{self.name}: {first}" + (f" to {self.count}" if self.count > first else "")
+
+    # ---- what is there
+
+    @property
+    def periods(self) -> dict[str, Period]:
+        """The periods by their names, in the order of their days."""
+        found = sorted(self.session.periods, key=lambda period: period.first)
+        return {period.name: period for period in found}
+
+    @property
+    def sealed(self) -> bool:
+        """Whether a period is closed, so that the plant can't change any more."""
+        return any(period.closed for period in self.session.periods)
+
+    def on(self, place: str, day: datetime.date) -> Fact | None:
+        """Return the reading or the dip of a day, or None."""
+        found = self._slots.get((place, day))
+        return self.facts[found] if found is not None else None
+
+    def ticket(self, identity: str, others: frozenset[str] = frozenset()) -> Fact | None:
+        """Return the transfer of a ticket; if it was struck, the one that was booked in its place.
+
+        Parameters
+        ----------
+        identity : str
+            The ticket's id.
+        others : frozenset of str
+            Ids that are those of other tickets.
+        """
+        chain = self._chain(identity, others)
+        return next((fact for fact in chain if fact.id in self.facts), None)
+
+    def _chain(self, identity: str, others: frozenset[str]) -> Iterator[Fact]:
+        """Give the transfers that were booked for a ticket one after the other, struck or not."""
+        for name in self._names(identity):
+            if name == identity or name not in others:
+                fact = self.facts.get(name) or self.struck.get(name)
+                if fact is None:
+                    return
+                if fact.kind == "transfer":
+                    yield fact
+
+    def origin(self, fact: Fact) -> str:
+        """Return the id of a transfer's ticket, which another had before it if that was struck."""
+        for identity, before in self.struck.items():
+            if before.kind == "transfer" and _AGAIN.search(fact.id):
+                if any(each.id == fact.id for each in self._chain(identity, frozenset())):
+                    return identity
+        return fact.id
+
+    def lost(self, fact: Fact, others: frozenset[str] = frozenset()) -> Fact | None:
+        """Return the struck fact that says the same as a fact, or None."""
+        if fact.kind == "transfer":
+            found = [each for each in self._chain(fact.id, others) if each.id in self.struck]
+        else:
+            found = self._lost.get((fact.place, fact.first), [])
+        return next((each for each in reversed(found) if each.says(fact)), None)
+
+    def free(self, identity: str) -> str:
+        """Return an id for a fact that was struck and comes again, or this id if it is free."""
+        for name in self._names(identity):
+            if name not in self.facts and name not in self.struck:
+                return name
+        raise Fault(f"there is no free id for {identity}")
+
+    @staticmethod
+    def _names(identity: str) -> Iterator[str]:
+        yield identity
+        for number in range(2, 10_000):
+            end = f".{number}"
+            yield identity[: 32 - len(end)] + end
+
+    def touched(self, period: Period) -> int:
+        """Return the number of the last row that a report of a period depends on."""
+        first, last = period_days(period)
+        numbers = [self._latest_dip.get(first - _DAY, 0), self._latest_dip.get(last, 0)]
+        day = first
+        while day <= last:
+            numbers.append(self._latest.get(day, 0))
+            day += _DAY
+        return max(numbers)
+

@@ -1,0 +1,147 @@
+"""What a session can't hold of the plant: tags, units, densities, errors of meters and gauges.
+
+It stands in `meters.csv`, a row a stream or tank, with numbers as in English.
+"""
+
+from __future__ import annotations
+
+import csv
+import io
+from collections.abc import Iterable
+from dataclasses import dataclass
+from fractions import Fraction
+from pathlib import Path
+
+from plantbal.cells import DENSITIES, GRAMS, VOLUMES, Error, Reader
+from plantbal.conversion_plant import Plant, Stream, Tank
+from plantbal.workbook import Cell, Sheet, read_csv
+
+HEADS = ("name", "tag", "unit", "density", "error")
+_LONGEST = 60
+
+
+@dataclass(frozen=True)
+class Meter:
+    """A row of `meters.csv`: a stream, or a tank.
+
+    Attributes
+    ----------
+    name, tag, unit : str
+        The stream or tank, its tag, and the unit of its figures.
+    density : Fraction or None
+        Its density in g/m3.
+    error : Error or None
+        The error of its meter or gauge.
+    cell : Cell or None
+        Where its name stands.
+    """
+
+    name: str
+    tag: str = ""
+    unit: str = ""
+    density: Fraction | None = None
+    error: Error | None = None
+    cell: Cell | None = None
+
+    def row(self) -> tuple[str, ...]:
+        """Return it as a row of the file."""
+        density = ""
+        if self.density is not None:
+            density = decimal(self.density / DENSITIES["kg/m3"]) + " kg/m3"
+        return self.name, self.tag, self.unit, density, error_text(self.error)
+
+
+def decimal(number: Fraction) -> str:
+    """Return a fraction that has an end as a decimal number, exactly."""
+    places = 0
+    while number.denominator != 1 and places < _LONGEST:
+        number, places = number * 10, places + 1
+    if number.denominator != 1:
+        raise ValueError(f"{number} has no end as a decimal number")
+    digits = f"{abs(int(number)):0{places + 1}d}"
+    text = digits[:-places] + "." + digits[-places:] if places else digits
+    return ("-" if number < 0 else "") + text
+
+
+def error_text(error: Error | None) -> str:
+    """Return an error as a sheet has it: `1.5 % or 10 t`."""
+    if error is None:
+        return ""
+    parts = []
+    if error.share:
+        parts.append(f"{decimal(error.share * 100)} %")
+    if error.mm:
+        parts.append(f"{decimal(error.mm)} mm")
+    if error.grams or not parts:
+        parts.append(f"{decimal(error.grams / GRAMS['t'])} t")
+    return " or ".join(parts)
+
+
+def meters_of(plant: Plant) -> list[Meter]:
+    """Return the rows of the streams and tanks of a workbook."""
+    found = [
+        Meter(each.name, each.tag, each.unit, each.density, each.error)
+        for each in plant.streams.values()
+    ]
+    tanks = plant.tanks.values()
+    return found + [Meter(each.name, density=each.density, error=each.error) for each in tanks]
+
+
+def meters_text(meters: Iterable[Meter]) -> str:
+    """Return the file of meters."""
+    out = io.StringIO()
+    writer = csv.writer(out, lineterminator="\n")
+    writer.writerow(HEADS)
+    writer.writerows(meter.row() for meter in meters)
+    return out.getvalue()
+
+
+def read_meters(path: Path) -> dict[str, Meter]:
+    """Return the meters of a book by the names of their streams and tanks.
+
+    Raises
+    ------
+    Fault
+        If a cell can't be read.
+    """
+    sheet = read_csv(path) if path.is_file() else Sheet(str(path), path.stem, [])
+    reader = Reader("en")
+    found = {}
+    for cells in list(sheet.rows())[1:]:
+        row = dict(zip(HEADS, cells))
+        row = {head: row.get(head, Cell(sheet, cells[0].line, 0, None)) for head in HEADS}
+        unit = reader.unit(row["unit"], GRAMS | VOLUMES, "")
+        density = reader.density(row["density"])
+        error = None
+        if not reader.is_missing(row["error"]):
+            error = reader.error(row["error"], density, level=True)
+        name = row["name"].text
+        found[name] = Meter(name, row["tag"].text, unit, density, error, row["name"])
+    return found
+
+
+def taken(
+    plant: Iterable[tuple[str, ...]], meters: dict[str, Meter]
+) -> tuple[list[Stream], list[Tank]]:
+    """Return the streams and tanks of a plant's rows, with what `meters.csv` has of them."""
+    nowhere = Cell(Sheet("", "", [], is_csv=True), 0, 0, None)
+    streams, tanks = [], {}
+    for kind, name, *rest in plant:
+        meter = meters.get(name, Meter(name))
+        if kind == "stream":
+            streams.append(
+                Stream(
+                    name,
+                    meter.tag,
+                    rest[2],
+                    meter.unit,
+                    meter.density,
+                    meter.error,
+                    meter.cell or nowhere,
+                )
+            )
+        elif kind == "tank":
+            tanks[name] = Tank(name, meter.error, meter.density)
+        elif kind == "strap":
+            tanks[name].points.append((int(rest[0]), int(rest[1])))
+    return streams, list(tanks.values())

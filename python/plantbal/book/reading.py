@@ -1,0 +1,141 @@
+"""How a workbook that is added to a book is read; what it lacks of the plant is the book's."""
+
+from __future__ import annotations
+
+import argparse
+import sys
+from collections.abc import Iterator, Sequence
+from dataclasses import replace
+from pathlib import Path
+
+from plantbal.book.meters import Meter, taken
+from plantbal.cells import MISSING, Reader, check_locale
+from plantbal.conversion import Conversion
+from plantbal.conversion_facts import Converter
+from plantbal.conversion_tables import SHEETS
+from plantbal.faults import Fault, InputFault
+from plantbal.memory import uncollected
+from plantbal.workbook import Sheet, read_workbook
+
+_PLANT = ("units", "tanks", "straps", "critical")
+_FIRST = 12  # faults that are said; the others are counted
+
+
+def add_reading(parser: argparse.ArgumentParser) -> None:
+    """Add the words that say how a workbook is read."""
+    parser.add_argument("--locale", metavar="NAME", default="", help="whose numbers and days: de")
+    parser.add_argument(
+        "--missing",
+        metavar="TEXT",
+        action="append",
+        default=[],
+        help="a further text that stands for a missing figure",
+    )
+    parser.add_argument(
+        "--skip", metavar="HEAD", action="append", default=[], help="a column to leave out"
+    )
+    parser.add_argument("--limits", action="store_true", help="errors are limits: half is taken")
+
+
+def sheets_of(path: str) -> list[Sheet]:
+    """Return the sheets of a workbook; a CSV file of another name is one of readings."""
+    sheets = read_workbook(path)
+    if len(sheets) == 1 and sheets[0].is_csv and not Path(path).is_dir():
+        name = sheets[0].name.strip().casefold()
+        if not any(name.startswith(kind) for kind in SHEETS):
+            sheets[0].name = "readings"
+    return sheets
+
+
+def reader_of(options: argparse.Namespace) -> Reader:
+    """Return how the cells of a workbook are read."""
+    words = MISSING | {word.casefold() for word in options.missing}
+    return Reader(check_locale(options.locale), words, 2 if options.limits else 1)
+
+
+def say_faults(prog: str, found: Conversion, then: str) -> None:
+    """Say what is wrong with a workbook on standard error, and raise.
+
+    Raises
+    ------
+    Fault
+        If something is wrong.
+    """
+    if found.ok:
+        return
+    for line in found.said():
+        print(f"{prog}: {line}", file=sys.stderr)
+    raise _together(found.faults, then)
+
+
+def raise_all(prog: str, faults: Sequence[Fault]) -> None:
+    """Say what is wrong with facts on standard error, and raise.
+
+    Raises
+    ------
+    Fault
+        If something is wrong.
+    """
+    for fault in faults[:_FIRST]:
+        print(f"{prog}: {fault}", file=sys.stderr)
+    if faults:
+        raise _together(faults, "nothing is booked")
+
+
+def _together(faults: Sequence[Fault], then: str) -> Fault:
+    """Return faults that have been said as one."""
+    return Fault(f"{len(faults):,} fault{'' if len(faults) == 1 else 's'}, and {then}")
+
+
+def converted(
+    options: argparse.Namespace, plant: list[tuple[str, ...]], meters: dict[str, Meter]
+) -> Converter:
+    """Return what a workbook holds; what it lacks of the plant is the book's.
+
+    Raises
+    ------
+    Fault
+        If something is wrong with it, which has been said.
+    """
+    with uncollected():
+        work = Converter(sheets_of(options.workbook), reader_of(options), tuple(options.skip))
+        work.whole = False
+        _read_plant(work, plant, meters)
+        work.read_facts()
+        edits = list(_edits(work))
+        if not edits:
+            work.read_rows()
+        work.say_rounded()
+    work.faults += [*work.session.refused, *edits]
+    found = Conversion(work.session, work.faults, work.notes)
+    say_faults(options.prog, found, "nothing is booked")
+    return work
+
+
+def _read_plant(
+    work: Converter, plant: list[tuple[str, ...]], meters: dict[str, Meter]
+) -> None:
+    """Have a workbook's plant read, or take the book's; without tanks or tables these are its."""
+    streams, tanks = taken(plant, meters)
+    if not work.sheets["streams"]:
+        work.take_plant(plant, streams, tanks)
+        for sheet in [each for kind in _PLANT for each in work.sheets[kind]]:
+            what = "the sheet is passed over: without a sheet streams the plant is the book's"
+            work.notes.append(f"{sheet.place()} {what}")
+        return
+    if not work.sheets["tanks"]:
+        rows = [row for row in plant if row[0] == "tank"]
+        work.take_tanks(rows, [replace(tank, points=[]) for tank in tanks])
+    work.read_plant()
+    if not work.sheets["straps"]:
+        work.take_straps(row for row in plant if row[0] == "strap")
+
+
+def _edits(work: Converter) -> Iterator[Fault]:
+    """Give what is to be said of rows that a book has its own commands for."""
+    for sheet in work.sheets["rows"]:
+        for cells in sheet.rows():
+            if cells[0].text in ("amend", "strike", "close"):
+                remedy = f"take it out, and type plantbal-desk book {cells[0].text}"
+                what = f"a row {cells[0].text} stands in a sheet rows"
+                yield InputFault(what, place=cells[0].place(), remedy=remedy)

@@ -1,0 +1,163 @@
+"""Writes the reports of periods, each with the history of its edits, and says what to look at."""
+
+from __future__ import annotations
+
+import argparse
+from decimal import Decimal
+
+from plantbal.book.ledger import Ledger, plain
+from plantbal.book.meters import read_meters
+from plantbal.book.said import counted, lacks
+from plantbal.book.store import METERS, REPORTS, Action, Book
+from plantbal.book.years import Years
+from plantbal.faults import Fault
+from plantbal.files import write_text
+from plantbal.output import Output, parse_report
+from plantbal.program import call
+
+_MOST = 5  # suspects that are named
+
+
+def add_arguments(parser: argparse.ArgumentParser) -> None:
+    """Add the words of the command."""
+    parser.add_argument(
+        "periods", metavar="PERIOD", nargs="*", help="the periods; all open ones without it"
+    )
+    parser.add_argument(
+        "--session", metavar="FILE", help="write the session that asks for the reports too"
+    )
+    add_program(parser)
+
+
+def add_program(parser: argparse.ArgumentParser) -> None:
+    """Add the words that say how the program is run."""
+    parser.add_argument("--no-tests", action="store_true", help="make no tests")
+    parser.add_argument("--eliminate", metavar="N", type=int, default=0, help="at most N rounds")
+    parser.add_argument("--gap", metavar="N", type=int, default=10, help="10 without it")
+    parser.add_argument("--sweeps", metavar="N", type=int, default=5000, help="5,000 without it")
+    parser.add_argument("--program", metavar="PATH", help="the program")
+
+
+def report_of(options: argparse.Namespace, text: str, period: str) -> tuple[str, Output]:
+    """Return the report of a period with its history, as the program writes it, and as tables.
+
+    Parameters
+    ----------
+    options : Namespace
+        The words of the command.
+    text : str
+        The session.
+    period : str
+        The period.
+    """
+    words = ["run", "--gap", str(options.gap), "--sweeps", str(options.sweeps)]
+    if options.eliminate:
+        words += ["--eliminate", str(options.eliminate)]
+    if not options.no_tests:
+        words.append("--tests")
+    asked = text + rows_asking(period)
+    status, output = call(words, asked.encode("ascii"), program=options.program)
+    written = output.decode("ascii")
+    return written, parse_report(written, f"the report of {period}", status)
+
+
+def rows_asking(period: str) -> str:
+    """Return the rows that ask for the report of a period and its history."""
+    return f"report,{period}\nhistory,{period}\n"
+
+
+def state_of(output: Output, period: str) -> str:
+    """Return what a report says as a whole, in a line."""
+    block = output.blocks_in_order[-1] if output.blocks_in_order else None
+    if block is None or block.solved is None:
+        return f"{period}: no report: {'; '.join(output.why)}"
+    said = block.solved["state"]
+    if block.taken:
+        said += f" after {', '.join(block.taken)} was taken out"
+    if block.whole is None:
+        return f"{period}: {said}"
+    said += {
+        "accept": ", accepted by the global test",
+        "reject": ", rejected by the global test",
+        "undecided": ", the global test is undecided",
+        "nocritical": ", no global test: no critical value for its degrees of freedom",
+        "notest": ", no global test: nothing tests it",
+    }[block.whole["verdict"]]
+    if block.whole["critical"]:
+        low = Decimal(block.solved["low"]) / 1000
+        most = Decimal(block.whole["critical"]) / 1000
+        said += f": {plain(low)}, where {plain(most)} is the most"
+    return f"{period}: {said}"
+
+
+def suspects_of(output: Output) -> list[str]:
+    """Return the suspects of a report that is rejected, in a line."""
+    block = output.blocks_in_order[-1] if output.blocks_in_order else None
+    if block is None or block.whole is None or block.whole["verdict"] != "reject":
+        return []
+    low = {row["stream"]: Decimal(row["low"]) / 1000 for row in block.measure}
+    names = [f"{name} {plain(low[name])}" for name in block.suspects()]
+    if not names:
+        return []
+    more = f" and {len(names) - _MOST:,} more" if len(names) > _MOST else ""
+    return [f"{block.period}: suspects: {', '.join(names[:_MOST])}{more}"]
+
+
+def file_of(period: str) -> str:
+    """Return the name of a period's report in its book."""
+    return f"{REPORTS}/{period}.csv"
+
+
+def keep(book: Book, action: Action, ledger: Ledger, period: str, text: str, closed: bool) -> bool:
+    """Have an action write a report, and keep the one before it if its period was closed then.
+
+    Returns
+    -------
+    bool
+        Whether it is another than the one that is there.
+    """
+    name = file_of(period)
+    before = book.text(name)
+    if before == text:
+        return False
+    if before and closed:
+        number = 1
+        while book.path(f"{REPORTS}/{period}.{number}.csv").exists():
+            number += 1
+        action.written[f"{REPORTS}/{period}.{number}.csv"] = before
+    action.written[name] = text
+    action.rows.append(f"{ledger.name}: up to {ledger.count}")
+    return True
+
+
+def run(options: argparse.Namespace) -> int:
+    """Write the reports."""
+    book = Book(options.book)
+    status = 0
+    with book.opened():
+        years = Years(book)
+        meters = read_meters(book.path(METERS))
+        periods = options.periods or years.open_periods()
+        if not periods:
+            raise Fault("no period is open", remedy="name the periods whose reports are wanted")
+        for name in periods:
+            ledger = years.of_period(name)
+            text, output = report_of(options, book.text(f"{ledger.name}.csv"), name)
+            action = Action(f"report {name}", who=options.who)
+            new = keep(book, action, ledger, name, text, ledger.periods[name].closed)
+            if new:
+                book.do(action)
+            print(state_of(output, name))
+            for line in [*suspects_of(output), *lacks(ledger, ledger.periods[name], meters)]:
+                print(line)
+            edits = len([row for row in output.rows if row["row"] == "edit"])
+            history = f", with {counted(edits, 'edit')}" if edits else ""
+            print(f"{name}: {book.path(file_of(name))}{history}" + ("" if new else ", as it was"))
+            status = status if output.ok else 1
+        if options.session:
+            texts = {years.of_period(name).name: "" for name in periods}
+            if len(texts) > 1:
+                raise Fault("these periods are of several years", remedy="name those of one year")
+            text = book.text(f"{next(iter(texts))}.csv")
+            write_text(options.session, text + "".join(map(rows_asking, periods)))
+    return status

@@ -1,0 +1,139 @@
+"""What commands on a book say: what was added and changed, and which days lack."""
+
+from __future__ import annotations
+
+import datetime
+from collections import Counter
+from collections.abc import Iterable
+
+from plantbal.book.changes import Changes
+from plantbal.book.ledger import PLANT_KINDS, Fact, Ledger
+from plantbal.book.meters import Meter
+from plantbal.conversion_facts import days_of, spans
+from plantbal.lint import lint_session
+from plantbal.lintrules import RULES
+from plantbal.session import Period, period_days
+
+FIRST = 12  # things of which each is shown; the others are counted
+_NEW = {"period": "period", "reading": "reading", "transfer": "ticket", "dip": "dip"}
+_ODD = {"magnitude", "small-deviation", "large-deviation", "density", "near-names"}
+_EDITED = {"amend": "amended", "strike": "struck", "close": "closed"}
+
+
+def counted(count: int, word: str) -> str:
+    """Return how many of something there are: `1 fact`, `1,200 facts`."""
+    return f"{count:,} {word}{'' if count == 1 else 's'}"
+
+
+def listed(names: list[str]) -> str:
+    """Return names with commas, of many the first."""
+    more = f" and {len(names) - FIRST:,} more" if len(names) > FIRST else ""
+    return ", ".join(names[:FIRST]) + more
+
+
+def added(ledger: Ledger) -> str:
+    """Return what was added to a ledger, in a line."""
+    counts = Counter(row[1] if row[0] == "late" else row[0] for row in ledger.added)
+    new = [counted(counts[kind], word) for kind, word in _NEW.items() if counts[kind]]
+    plant = sum(counts[kind] for kind in PLANT_KINDS)
+    new += [counted(plant, "row") + " of the plant"] if plant else []
+    late = sum(row[0] == "late" for row in ledger.added)
+    parts = [f"new: {', '.join(new)}"] if new else []
+    parts += [f"late: {late:,} of them"] if late else []
+    parts += [f"{word}: {counts[kind]:,}" for kind, word in _EDITED.items() if counts[kind]]
+    return f"{ledger.name}.csv: {'; '.join(parts) or 'nothing new'}"
+
+
+def changed(changes: Changes, name: str, struck: bool) -> list[str]:
+    """Return what a workbook changes, a line each, and what it leaves.
+
+    Parameters
+    ----------
+    changes : Changes
+        What it changes.
+    name : str
+        The workbook's name.
+    struck : bool
+        Whether facts that are gone are struck.
+    """
+    every = list(dict.fromkeys(each.said() for each in [*changes.changed, *changes.left]))
+    lines = every[:FIRST]
+    if len(every) > FIRST:
+        lines.append(f"{len(every) - FIRST:,} more are changed")
+    if changes.same:
+        are = "is" if changes.same == 1 else "are"
+        lines.append(f"{counted(changes.same, 'fact')} {are} booked already")
+    for change in changes.stale[:FIRST]:
+        old = change.old
+        booked = f"amended to {old.said()}" if old.id in change.ledger.facts else "struck"
+        lines.append(f"{old.id}: it stays {booked}; {name} has {change.new.said()} still")
+    if len(changes.stale) > FIRST:
+        lines.append(f"{len(changes.stale) - FIRST:,} more are kept as they were amended")
+    if changes.gone:
+        ids = ", ".join(fact.id for _, fact in changes.gone[:3])
+        ids += ", .." if len(changes.gone) > 3 else ""
+        are = "is" if len(changes.gone) == 1 else "are"
+        what = f"{counted(len(changes.gone), 'fact')} {are} booked and not in {name}: {ids}"
+        lines.append(f"{what}; struck" if struck else f"{what}; kept, and --strike takes them out")
+    return lines
+
+
+def doubts(before: str, added_rows: str) -> list[str]:
+    """Return what rows bring that looks wrong: another unit, an error of another size.
+
+    Parameters
+    ----------
+    before, added_rows : str
+        The session before them, and the rows.
+    """
+    if not added_rows:
+        return []
+    old, new = (_odd(text.encode("ascii")) for text in (before, before + added_rows))
+    return [f"look at it: {said}" for said in new if said not in old][:FIRST]
+
+
+def _odd(session: bytes) -> list[str]:
+    others = RULES.keys() - _ODD
+    return [f"{each.text}: {each.remedy}" for each in lint_session(session, ignore=others)]
+
+
+def lacking(ledger: Ledger, facts: Iterable[Fact], meters: dict[str, Meter]) -> list[str]:
+    """Return what lacks in the periods in which some facts are."""
+    days = {fact.first.toordinal() for fact in facts}
+    periods = ledger.periods.values()
+    found = [each for each in periods if any(each.first <= day <= each.last for day in days)]
+    return [line for period in found for line in lacks(ledger, period, meters)]
+
+
+def lacks(ledger: Ledger, period: Period, meters: dict[str, Meter]) -> list[str]:
+    """Return which readings and dips a period lacks, those of the same days in a line."""
+    first, last = period_days(period)
+    days = days_of(first, last)
+    eve = first - datetime.timedelta(1)
+    groups: dict[tuple[str, str], list[str]] = {}
+    for name, kind in ledger.session.streams.items():
+        if kind == "metered":
+            _group(groups, "reading", ledger, name, meters, days)
+    for name, kind in ledger.session.nodes.items():
+        if kind == "tank":
+            _group(groups, "dip", ledger, name, meters, [eve, last])
+    return [
+        f"{period.name}: no {kind} of {listed(names)} on {when}"
+        for (kind, when), names in groups.items()
+    ]
+
+
+def _group(
+    groups: dict[tuple[str, str], list[str]],
+    kind: str,
+    ledger: Ledger,
+    name: str,
+    meters: dict[str, Meter],
+    days: list[datetime.date],
+) -> None:
+    """Put a stream or a tank to those that lack a reading or a dip on the same days."""
+    missing = [day for day in days if ledger.on(name, day) is None]
+    if missing:
+        tag = meters[name].tag if name in meters else ""
+        said = f"{tag} ({name})" if tag else name
+        groups.setdefault((kind, spans(missing)), []).append(said)

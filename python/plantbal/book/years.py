@@ -1,0 +1,215 @@
+"""The years of a book: from which day to which each goes, and their ledgers."""
+
+from __future__ import annotations
+
+import datetime
+import re
+from collections import defaultdict
+from collections.abc import Iterable
+from dataclasses import dataclass
+
+from plantbal.book.ledger import Fact, Ledger
+from plantbal.book.store import Book
+from plantbal.faults import Fault
+
+_DAY = datetime.timedelta(1)
+# Before the first period of a year may stand days of the year before it, such as the 26th of
+# December, but no others: so a year that is typed wrong is told.
+_BEFORE = datetime.timedelta(31)
+_TYPED = ("amend ", "strike ")
+
+
+@dataclass(frozen=True)
+class Span:
+    """The days of a year.
+
+    Attributes
+    ----------
+    name : str
+        The year's name.
+    first, last : date
+        Its first and its last day.
+    periods : dict of str to bool
+        Its periods, and whether each is closed.
+    """
+
+    name: str
+    first: datetime.date
+    last: datetime.date
+    periods: dict[str, bool]
+
+
+def calendar_year(name: str) -> int | None:
+    """Return the calendar year that a name is, or None if it is another name."""
+    return int(name) if len(name) == 4 else None
+
+
+def periods_of(text: str) -> dict[str, tuple[bool, datetime.date]]:
+    """Return the periods that a session declares: whether each is closed, and its last day.
+
+    Only rows of these two kinds are read, so that a book of many years is looked through quickly.
+    """
+    found: dict[str, tuple[bool, datetime.date]] = {}
+    for line in text.split("\n"):
+        if line.startswith(("period,", "close,")):
+            kind, name, *days = line.rstrip("\r,").split(",")
+            last = datetime.date.fromisoformat(days[1]) if kind == "period" else found[name][1]
+            found[name] = kind == "close", last
+    return found
+
+
+def spans_of(book: Book) -> list[Span]:
+    """Return the days of each year, in order.
+
+    A year begins on the day after the last period of the year before it, and goes up to the next.
+    The last year ends with the calendar year if its name is one.
+    """
+    names = book.years
+    found: list[Span] = []
+    for at, name in enumerate(names):
+        year = calendar_year(name)
+        periods = periods_of(book.text(f"{name}.csv"))
+        if found:
+            first = found[-1].last + _DAY
+        else:
+            first = datetime.date.min if year is None else datetime.date(year, 1, 1) - _BEFORE
+        if at + 1 < len(names):
+            last = max((last for _, last in periods.values()), default=first)
+        else:
+            last = datetime.date.max if year is None else datetime.date(year, 12, 31)
+        closed = {period: closed for period, (closed, _) in periods.items()}
+        found.append(Span(name, first, last, closed))
+    return found
+
+
+class Years:
+    """The ledgers of a book, each read when it is first wanted.
+
+    Parameters
+    ----------
+    book : Book
+        The book, which has been opened.
+
+    Attributes
+    ----------
+    spans : list of Span
+        The years and their days.
+    typed : dict of str to set of int
+        Of each year the rows that the commands `amend` and `strike` have written.
+    """
+
+    def __init__(self, book: Book) -> None:
+        self.book = book
+        self.spans = spans_of(book)
+        self.typed: defaultdict[str, set[int]] = defaultdict(set)
+        self._ledgers: dict[str, Ledger] = {}
+        for line in book.journal():
+            if line.what.startswith(_TYPED):
+                for name, number in re.findall(r"([^ ;]+): ([0-9]+)", line.rows):
+                    self.typed[name].add(int(number))
+
+    def __getitem__(self, name: str) -> Ledger:
+        """Return the ledger of a year."""
+        if name not in self._ledgers:
+            span = next(span for span in self.spans if span.name == name)
+            file = f"{name}.csv"
+            self._ledgers[name] = Ledger.read(
+                name, str(self.book.path(file)), self.book.text(file), span.first, span.last
+            )
+        return self._ledgers[name]
+
+    @property
+    def used(self) -> list[Ledger]:
+        """The ledgers that were read, in order."""
+        return [self._ledgers[span.name] for span in self.spans if span.name in self._ledgers]
+
+    @property
+    def last(self) -> Ledger:
+        """The last year's ledger."""
+        return self[self.spans[-1].name]
+
+    def named(self, name: str | None) -> Ledger:
+        """Return the ledger of a year by its name, or the last one without a name.
+
+        Raises
+        ------
+        Fault
+            If there is no such year.
+        """
+        names = [span.name for span in self.spans]
+        if name is None:
+            return self.last
+        if name not in names:
+            raise Fault(f"there is no year {name}", text=name, remedy=f"say {', '.join(names)}")
+        return self[name]
+
+    def all(self) -> list[Ledger]:
+        """Return all ledgers."""
+        return [self[span.name] for span in self.spans]
+
+    def of_day(self, day: datetime.date) -> Ledger | None:
+        """Return the ledger of the year that has a day, or None."""
+        for span in self.spans:
+            if span.first <= day <= span.last:
+                return self[span.name]
+        return None
+
+    def of_fact(self, fact: Fact) -> list[Ledger]:
+        """Return the ledgers that a fact belongs to: two, if it touches two years."""
+        found = []
+        for span in self.spans:
+            eve = fact.kind == "dip" and fact.last + _DAY == span.first
+            if eve or (fact.first <= span.last and fact.last >= span.first):
+                found.append(self[span.name])
+        return found
+
+    def twins(self, ledger: Ledger, fact: Fact) -> list[tuple[Ledger, Fact]]:
+        """Return a fact of a ledger in each year that it stands in, under its id there."""
+        found = []
+        for other in self.of_fact(fact):
+            if fact.kind == "transfer":
+                twin = other.ticket(ledger.origin(fact))
+            else:
+                twin = other.on(fact.place, fact.first)
+            if twin is not None and twin.slot == fact.slot:
+                found.append((other, twin))
+        return found or [(ledger, fact)]
+
+    def of_period(self, name: str) -> Ledger:
+        """Return the ledger that has a period.
+
+        Raises
+        ------
+        Fault
+            If there is no such period.
+        """
+        for span in self.spans:
+            if name in span.periods:
+                return self[span.name]
+        names = [period for span in self.spans for period in span.periods]
+        remedy = f"the periods are {', '.join(names)}" if names else "add a workbook first"
+        raise Fault(f"there is no period {name} in this book", text=name, remedy=remedy)
+
+    def open_periods(self) -> list[str]:
+        """Return the periods that aren't closed, in the order in which they were declared."""
+        return [
+            name for span in self.spans for name, closed in span.periods.items() if not closed
+        ]
+
+    def outside(self, facts: Iterable[Fact]) -> list[Fault]:
+        """Return what is to be said of facts that belong to no year."""
+        faults = []
+        for fact in facts:
+            if self.of_fact(fact):
+                continue
+            last = self.spans[-1]
+            if fact.first > last.last:
+                what = f"{fact.id}: {fact.first} comes after {last.name}"
+                year = fact.first.year
+                remedy = f"mend the day, or begin the next year: plantbal-desk book next {year}"
+            else:
+                first = self.spans[0]
+                what = f"{fact.id}: {fact.first} is before {first.name}, the book's first year"
+                remedy = "mend the day"
+            faults.append(Fault(what, text=str(fact.first), remedy=remedy))
+        return faults

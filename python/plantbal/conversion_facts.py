@@ -1,0 +1,268 @@
+"""The other facts of a workbook, its periods, and what has to be said of them."""
+
+from __future__ import annotations
+
+import calendar
+import datetime
+import difflib
+from collections.abc import Iterable
+from decimal import Decimal
+
+from plantbal.cells import GRAMS, VOLUMES, Reader, rounded_down
+from plantbal.conversion_readings import Readings
+from plantbal.conversion_tables import Row
+from plantbal.faults import InputFault, Place
+from plantbal.schema import Column, schema
+from plantbal.session import period_days
+from plantbal.workbook import Cell, Sheet
+
+
+class Converter(Readings):
+    """Reads the sheets one after the other, and keeps what is wrong.
+
+    Parameters
+    ----------
+    sheets : list of Sheet
+        The workbook.
+    reader : Reader
+        How its cells are written.
+    skip : tuple of str
+        Heads of columns of readings to leave out.
+    """
+
+    def __init__(self, sheets: list[Sheet], reader: Reader, skip: tuple[str, ...] = ()) -> None:
+        super().__init__(sheets, reader, skip)
+        self.dips: dict[str, dict[datetime.date, Cell]] = {}
+        self.tickets: list[tuple[datetime.date, datetime.date, Cell]] = []
+
+    def read_estimates(self) -> None:
+        """Read estimates, which stand for readings that lack."""
+        for row in self.rows("estimates", facts=True):
+            cell = row["stream"] if self.reader.is_missing(row["tag"]) else row["tag"]
+            day = self._day(row["day"])
+            stream = self.named(cell, "tag")
+            if stream is None:
+                continue
+            with self.kept():
+                density = self.reader.density(row["density"]) or stream.density
+                unit = self.reader.unit(row["unit"], GRAMS | VOLUMES, stream.unit or "t")
+                grams = self.reader.grams(row["amount"], unit, density, "amount")
+                error = self.reader.error(row["error"], density)
+                if day is not None:
+                    self._book(stream, day, grams, error, row["amount"])
+
+    def read_tickets(self) -> None:
+        """Read the tickets of batches."""
+        for row in self.rows("tickets", facts=True):
+            stream = self.named(row["stream"], "stream")
+            first = self._day(row["first"])
+            last = first if self.reader.is_missing(row["last"]) else self._day(row["last"])
+            if stream is None:
+                continue
+            with self.kept():
+                density = self.reader.density(row["density"]) or stream.density
+                unit = self.reader.unit(row["unit"], GRAMS | VOLUMES, stream.unit or "t")
+                grams = self.reader.grams(row["amount"], unit, density, "amount")
+                if not self.reader.is_missing(row["error"]):
+                    error = self.reader.error(row["error"], density)
+                elif stream.error is not None:
+                    error = stream.error
+                else:
+                    remedy = "write one here, or in the sheet streams"
+                    raise self.reader.fault(
+                        row["error"], "the ticket has no error", remedy, "error"
+                    )
+                if first is None or last is None:
+                    continue
+                fields = [row.text("id"), stream.name, str(first), str(last), str(grams)]
+                cells = {
+                    "id": row["id"],
+                    "stream": row["stream"],
+                    "first": row["first"],
+                    "last": row["last"],
+                    "grams": row["amount"],
+                    "variance": row["error"],
+                }
+                if self.put(["transfer", *fields, str(error.variance(grams))], cells):
+                    self.tickets.append((first, last, row["id"]))
+
+    def read_dips(self) -> None:
+        """Read the dips of tanks."""
+        for row in self.rows("dips", facts=True):
+            day = self._day(row["day"])
+            name = row.text("tank")
+            if name in self.bad:
+                continue
+            with self.kept():
+                self._dip(row, day, name)
+
+    def _dip(self, row: Row, day: datetime.date | None, name: str) -> None:
+        tank = self.tanks.get(name)
+        if tank is None:
+            near = difflib.get_close_matches(name, self.tanks, n=1)
+            remedy = f"did you mean {near[0]}?" if near else "write it into the sheet tanks"
+            raise self.reader.fault(row["tank"], f"there is no tank {name!r}", remedy, "tank")
+        mm = self.reader.level(row["level"])
+        density = self.reader.density(row["density"]) or tank.density
+        if density is None:
+            remedy = "write one, such as 862 (kg/m3), here or in the sheet tanks"
+            raise self.reader.fault(row["density"], "the dip has no density", remedy, "density")
+        error = tank.error
+        if not self.reader.is_missing(row["error"]):
+            error = self.reader.error(row["error"], density, level=True)
+        if error is None:
+            remedy = "write the gauge's, such as `3 mm`, here or in the sheet tanks"
+            raise self.reader.fault(row["error"], "the dip has no error", remedy, "error")
+        if day is None:
+            return
+        days = self.dips.setdefault(name, {})
+        if day in days:
+            other = str(days[day].place()).rstrip(":")
+            what = f"{name} has a dip of {day} already ({other})"
+            raise self.reader.fault(row["level"], what, "leave one of both out")
+        whole = self.reader.whole(row["density"], density)
+        variance = error.variance(0, tank.slope(mm, density))
+        cells = {"mm": row["level"], "density": row["density"], "day": row["day"]}
+        fields = [f"{name}_{day}", name, str(day), str(mm), str(whole), str(variance)]
+        if self.put(["dip", *fields], cells):
+            days[day] = row["level"]
+
+    def read_facts(self) -> None:
+        """Read all facts, and the periods: before them if they have a sheet."""
+        if self.sheets["periods"]:
+            self.read_periods()
+        self.read_readings()
+        self.read_estimates()
+        self.read_tickets()
+        self.read_dips()
+        if not self.sheets["periods"]:
+            self.read_periods()
+
+    # ---- periods
+
+    def read_periods(self) -> None:
+        """Declare the periods: those of their sheet, or the calendar months."""
+        if self.sheets["periods"]:
+            for row in self.rows("periods"):
+                days = self._day(row["first"]), self._day(row["last"])
+                cells = {"name": row["name"], "first": row["first"], "last": row["last"]}
+                if None not in days:
+                    self.put(["period", row.text("name"), str(days[0]), str(days[1])], cells)
+            return
+        days_read = {day for days in self.days.values() for day in days}
+        if not days_read:
+            days_read = {first for first, _, _ in self.tickets}
+        for year, month in sorted({(day.year, day.month) for day in days_read}):
+            first = datetime.date(year, month, 1)
+            last = first.replace(day=calendar.monthrange(year, month)[1])
+            self.session.period(f"{year}-{month:02}", first, last)
+
+    def read_rows(self) -> None:
+        """Read rows of a session as they are, with numbers and days as a spreadsheet left them."""
+        for sheet in self.sheets["rows"]:
+            for cells in sheet.rows():
+                with self.kept():
+                    columns = self._columns_of(cells)
+                    texts = [cells[0].text]
+                    for at, cell in enumerate(cells[1:], 1):
+                        column = columns[at - 1] if at <= len(columns) else None
+                        texts.append(self._field(cell, column))
+                    names = [column.name for column in columns]
+                    self.put(texts, {"kind": cells[0]} | dict(zip(names, cells[1:])))
+
+    def _columns_of(self, cells: list[Cell]) -> tuple[Column, ...]:
+        """Return the columns of a row of a session, as far as its kind and words say them."""
+        texts = [cell.text for cell in cells]
+        for row in schema().session:
+            if row.kind == texts[0] and len(row.columns) + 1 == len(texts):
+                if all(c.type != "word" or t in c.words for c, t in zip(row.columns, texts[1:])):
+                    return row.columns
+        return ()
+
+    def _field(self, cell: Cell, column: Column | None) -> str:
+        """Return a field of a session's row."""
+        if column is not None and cell.value is not None:
+            if column.type == "number":
+                number = self.reader.number(cell, column.label)
+                return f"{number:f}" if number != int(number) else str(int(number))
+            if column.type == "date":
+                return str(self.reader.day(cell, column.label))
+        return f"{cell.value:f}" if isinstance(cell.value, Decimal) else cell.text
+
+    # ---- what is said
+
+    def check_days(self) -> None:
+        """Say which days lack, and which facts stand in no period."""
+        periods = {period.name: period_days(period) for period in self.session.periods}
+        inside = {day for first, last in periods.values() for day in days_of(first, last)}
+        for name, (first, last) in periods.items():
+            self._missing_readings(name, days_of(first, last))
+            self._missing_dips(name, first, last)
+        outside = [c for days in self.days.values() for d, c in days.items() if d not in inside]
+        outside += [
+            cell for a, b, cell in self.tickets if not any(x in inside for x in days_of(a, b))
+        ]
+        if outside:
+            first_cell = str(outside[0].place()).rstrip(":")
+            what = f"{len(outside)} figures stand in no period, the first in {first_cell}"
+            self.notes.append(what)
+
+    def check_whole(self) -> None:
+        """Keep a fault if there is nothing to report."""
+        if self.sheets["rows"] or self.faults or (self.session.periods and self.streams):
+            return
+        place = Place(file=next((s.file for k in self.sheets.values() for s in k), ""))
+        what, remedy = "there is no period", "write readings, or a sheet periods"
+        if not self.streams:
+            what, remedy = "there is no stream", "write the rows of the sheet streams"
+        self.faults.append(InputFault(what, place=place, remedy=remedy))
+
+    def say_rounded(self) -> None:
+        """Say what was rounded."""
+        for sheet, (count, cell, most) in self.reader.rounded.items():
+            where = str(cell.place()).rstrip(":")
+            self.notes.append(
+                f"{sheet}: {count} figures were rounded to whole grams or other whole units, "
+                f"by at most {rounded_down(most, 3)} of one, the first in {where}"
+            )
+
+    def _missing_readings(self, period: str, days: list[datetime.date]) -> None:
+        for stream in self.streams.values():
+            if stream.kind != "metered":
+                continue
+            read = self.days.get(stream.name, {})
+            lacks = [day for day in days if day not in read]
+            if len(lacks) == len(days):
+                self.notes.append(f"{period}: no reading of {stream.said}")
+            elif lacks:
+                self.notes.append(
+                    f"{period}: no reading of {stream.said} on {spans(lacks)}, so its other "
+                    "readings are left aside; an estimate with a wide error keeps them"
+                )
+
+    def _missing_dips(self, period: str, first: datetime.date, last: datetime.date) -> None:
+        for name in self.tanks:
+            dips = self.dips.get(name, {})
+            eve = first - datetime.timedelta(1)
+            lacks = [day for day in (eve, last) if day not in dips]
+            if lacks:
+                self.notes.append(f"{period}: no dip of {name} on {spans(lacks)}")
+
+
+def days_of(first: datetime.date, last: datetime.date) -> list[datetime.date]:
+    """Return the days from the first to the last."""
+    return [first + datetime.timedelta(at) for at in range((last - first).days + 1)]
+
+
+def spans(days: Iterable[datetime.date]) -> str:
+    """Return days as a list, those that follow each other as `first to last`."""
+    found: list[list[datetime.date]] = []
+    for day in days:
+        if found and (day - found[-1][-1]).days == 1:
+            found[-1].append(day)
+        else:
+            found.append([day])
+    texts = [
+        f"{span[0]} to {span[-1]}" if len(span) > 2 else ", ".join(map(str, span)) for span in found
+    ]
+    return ", ".join(texts)
