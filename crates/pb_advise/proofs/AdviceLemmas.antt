@@ -42,7 +42,7 @@ other_bare costs chosen j k t on both =
     let other : k ≢ j = λ z. cc (sym mine.1 ∙ ap (λ (i : ℕ). get_or chosen i false) z ∙ on) in
     and_from (unmeasured k t) (not (k == j)) mine.0 (not_from_false (k == j) (ne_eqb k j other))
 
-shows : (g : ProcessGraph) (costs : List ℤ) (chosen : List Bool) (meter : Meter) → IsAdvisedChoice g costs chosen
+pub shows : (g : ProcessGraph) (costs : List ℤ) (chosen : List Bool) (meter : Meter) → IsAdvisedChoice g costs chosen
     → get_or chosen meter.stream false ≡ true → IsMeter g costs chosen meter → IsShown g costs chosen meter
 shows g costs chosen meter advised on is =
     let ss = g.streams in
@@ -89,13 +89,18 @@ of_mapped f P (x ∷ xs) all = (all.0, of_mapped f P xs all.1)
 pub all_marked : (chosen : List Bool) → AllByRecursion (λ (j : ℕ). get_or chosen j false ≡ true) (streams_of chosen)
 all_marked chosen = listed_marked 0 chosen chosen (λ k. ap (λ (n : ℕ). get_or chosen n false) (omega arith))
 
+-- each meter is of a chosen stream
+pub of_chosen : (chosen : List Bool) (meters : List Meter) → metered_streams meters ≡ streams_of chosen
+    → AllByRecursion (λ (m : Meter). get_or chosen m.stream false ≡ true) meters
+of_chosen chosen meters named =
+    of_mapped (λ (m : Meter). m.stream) (λ (j : ℕ). get_or chosen j false ≡ true) meters
+    (subst (λ (l : List ℕ). AllByRecursion (λ (j : ℕ). get_or chosen j false ≡ true) l) (sym named) (all_marked chosen))
+
 pub cheapest_is : CheapestLaw
 cheapest_is g costs advice is are advice_is =
     let chosen = advice_is.chosen in
     let advised = advice_is.advised in
-    let marked : AllByRecursion (λ (m : Meter). get_or chosen m.stream false ≡ true) advice.meter =
-    of_mapped (λ (m : Meter). m.stream) (λ (j : ℕ). get_or chosen j false ≡ true) advice.meter
-    (subst (λ (l : List ℕ). AllByRecursion (λ (j : ℕ). get_or chosen j false ≡ true) l) (sym advice_is.named) (all_marked chosen)) in
+    let marked = of_chosen chosen advice.meter advice_is.named in
     let shown : ShowsChoice g costs chosen advice = record {
       choice = advised.choice;
       named = advice_is.named;

@@ -12,3 +12,4 @@ mod PathLemmas
 mod MeterLemmas
 mod AdviceLemmas
 mod SomeLemmas
+mod FormLemmas

@@ -1,6 +1,7 @@
 -- Statement. The advice: the cheapest choice that suffices, with a cycle for each of its streams that shows why it needs a meter.
-use Rattle.std.specs.Prelude.{◌≡◌, ◌≢◌, ◌↔◌, ℕ, ◌+◌, ℤ, ◌≤ℤ◌, int_le, int_lt, nat_lt, Bool, true, false, ◌&&◌, ◌||◌, List, [], ◌∷◌, map, Some, slice_get, get_or}
+use Rattle.std.specs.Prelude.{◌≡◌, ◌≢◌, ◌↔◌, ℕ, ◌+◌, ◌*◌, ◌<◌, ℤ, pos, ◌≤ℤ◌, int_le, int_lt, nat_lt, Bool, true, false, ◌&&◌, ◌||◌, List, [], ◌∷◌, length, map, Some, slice_get, get_or, All}
 use Rattle.std.specs.List.{AllByRecursion}
+use Rattle.pb_limits.specs.Limits.{most_streams}
 use Rattle.pb_integers.specs.Sums.{item}
 use Rattle.pb_graph.specs.declared.records.Stream.{Stream}
 use Rattle.pb_graph.specs.declared.records.Step.{Step}
@@ -8,9 +9,10 @@ use Rattle.pb_graph.specs.ProcessGraph.{ProcessGraph, is_measured}
 use Rattle.pb_graph.specs.Walk.{ends_of, unmeasured, Reaches}
 use Rattle.pb_graph.specs.Path.{IsPath}
 use Rattle.pb_graph.specs.Certificates.{GoesRound}
+use Rattle.pb_graph.specs.WellFormed.{IsStep}
 use Rattle.pb_advise.specs.declared.advice.Meter.{Meter}
 use Rattle.pb_advise.specs.declared.advice.Advice.{Advice}
-use Rattle.pb_advise.specs.Choice.{IsChoice, Suffices, stays_unmeasured, cost_of}
+use Rattle.pb_advise.specs.Choice.{IsChoice, Suffices, IsCost, most_cost, stays_unmeasured, cost_of}
 
 -- The order in which unmeasured streams are taken: by falling cost, and the earlier first among those that cost the same. Whether
 -- stream k, which is unmeasured, comes before stream j.
@@ -19,8 +21,8 @@ precedes costs j k stream =
     unmeasured k stream && (int_lt (item costs j) (item costs k) || (int_le (item costs j) (item costs k) && nat_lt k j))
 
 -- The advised choice: an unmeasured stream is chosen exactly when a walk of streams that precede it joins its ends. So the streams
--- that stay unmeasured are a spanning forest of the greatest cost (Kruskal 1956; Madron, Process Plant Performance, chapter 4: the
--- unmeasured streams of a minimal set of meters are a spanning tree).
+-- that stay unmeasured are a spanning forest of the greatest cost (Kruskal 1956; Madron, Process Plant Performance, chooses meters by
+-- such a tree).
 pub record IsAdvisedChoice (graph : ProcessGraph) (costs : List ℤ) (chosen : List Bool) : Type 0 where
   pub choice : IsChoice graph chosen
   pub decided : (j : ℕ) (stream : Stream) → slice_get graph.streams j ≡ Some stream → is_measured stream ≡ false
@@ -83,3 +85,15 @@ pub record IsCheapest (graph : ProcessGraph) (costs : List ℤ) (advice : Advice
   pub shows : ShowsChoice graph costs chosen advice
   pub suffices : Suffices graph chosen
   pub least : (other : List Bool) → IsChoice graph other → Suffices graph other → advice.total ≤ℤ cost_of costs other
+
+-- a meter speaks of streams of the graph alone, and its cost is a cost
+pub record IsMeterWithin (graph : ProcessGraph) (meter : Meter) : Type 0 where
+  pub stream : meter.stream < length graph.streams
+  pub cost : IsCost meter.cost
+  pub steps : All (IsStep graph) meter.steps
+
+-- The form of an advice: what those who write it stand on.
+pub record IsAdviceWithin (graph : ProcessGraph) (advice : Advice) : Type 0 where
+  pub meters : All (IsMeterWithin graph) advice.meter
+  pub least : pos 0 ≤ℤ advice.total
+  pub most : advice.total ≤ℤ pos (most_streams * most_cost)

@@ -1,6 +1,6 @@
 // What is proved of the definitions alone. The functions are empty: the contract of each is a law.
 
-ghost use Rattle.pb_advise.specs.Laws.{CheapestLaw, CostLimitLaw, CyclesLaw, OneAdviceLaw, SomeAdviceLaw, SufficesLaw};
+ghost use Rattle.pb_advise.specs.Laws.{AdviceFormLaw, CheapestLaw, CostLimitLaw, CyclesLaw, OneAdviceLaw, SomeAdviceLaw, SufficesLaw};
 
 /// The constant of the greatest cost is the number of its definition.
 pub fn cost_limit_law()
@@ -30,4 +30,9 @@ pub fn one_advice_law()
 /// A graph has an advice at any costs.
 pub fn some_advice_law()
     ensures { SomeAdviceLaw }
+{}
+
+/// An advice speaks of streams of its graph alone, and its numbers are within their ranges.
+pub fn advice_form_law()
+    ensures { AdviceFormLaw }
 {}

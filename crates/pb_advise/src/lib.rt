@@ -13,6 +13,7 @@ mod order;
 
 pub use advice::{Advice, Meter, advise};
 pub use laws::{
-    cheapest_law, cost_limit_law, cycles_law, one_advice_law, some_advice_law, suffices_law,
+    advice_form_law, cheapest_law, cost_limit_law, cycles_law, one_advice_law, some_advice_law,
+    suffices_law,
 };
 pub use limits::MOST_COST;
