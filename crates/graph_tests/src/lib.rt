@@ -1,6 +1,8 @@
-//! Tests of the graph, its groups, its forest, its points and its classes, by their public names alone.
+//! Tests of the graph, its groups, its forest, its points, its classes and its advice, by their public names alone.
 #![tactic(auto)]
 
+#[cfg(test)]
+mod advise;
 #[cfg(test)]
 mod classify;
 #[cfg(test)]

@@ -1,0 +1,15 @@
+mod AcyclicLemmas
+mod ExchangeLemmas
+mod CostLemmas
+mod MeteredLemmas
+mod LeastLemmas
+mod RoundLemmas
+mod CycleLemmas
+mod PrecedesLemmas
+mod OrderLemmas
+mod MarkLemmas
+mod PathLemmas
+mod MeterLemmas
+mod AdviceLemmas
+mod SomeLemmas
+mod FormLemmas

@@ -1,0 +1,4 @@
+// The greatest cost of a meter.
+
+/// The greatest cost of a meter, in whatever unit.
+pub const MOST_COST: i64 = 1_000_000_000_000;
