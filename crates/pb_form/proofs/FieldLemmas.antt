@@ -1,0 +1,55 @@
+-- What a field says fits its column.
+use Rattle.std.specs.Prelude.{◌&&◌, ◌==◌, bytes_eq, int_le, map, position, Some, None, Option, if◌then◌else◌}
+use Rattle.std.proofs.Common.{◌≡◌, ◌∙◌, ◌<◌, ◌≤◌, ◌≤ℤ◌, ◌+◌, ℕ, ℤ, Bool, true, false, List, [], ◌∷◌, ◌++◌, length, take, get_or, refl, sym, ap, arith, add-one}
+use Rattle.std.proofs.lemmas.Int.{ints}
+use Rattle.std.proofs.lemmas.List.Quantifiers.{position-Some}
+use Rattle.std.proofs.lemmas.List.{map-append}
+use Rattle.std.proofs.lemmas.Slice.Eq.{bytes_eq-Decides}
+use Rattle.std.proofs.Math.Seq.{take-suc}
+use Rattle.pb_rows.specs.Number.{within}
+use Rattle.pb_form.specs.Columns.{Column}
+use Rattle.pb_form.specs.Seen.{column_seen}
+use Rattle.pb_form.specs.declared.column.Column as coded
+use Rattle.pb_form.specs.Holds as holds
+use Rattle.pb_form.specs.Value.{Value, Word}
+use Rattle.pb_form.specs.Writing.{FitEach, Fits, FitsIn, IsFirst, word_at}
+
+-- the word at the place of a field among words is the field
+pub word_found : (words : List (List ℕ)) (field : List ℕ) (place : ℕ) → position (bytes_eq field) words ≡ Some place → word_at words place ≡ field
+word_found words field place found =
+    let at = position-Some (bytes_eq field) words place [] found in
+    sym ((bytes_eq-Decides field (word_at words place)).0 at.1)
+
+-- so a word that was found fits
+pub word_fits : (words : List (List ℕ)) (field : List ℕ) (place : ℕ) (optional : Bool) → position (bytes_eq field) words ≡ Some place
+    → (optional && (length field == 0)) ≡ false → FitsIn (holds.Word words) optional (Word place)
+word_fits words field place optional found told = rw (word_found words field place found) (found, told)
+
+-- a number that passes lies within its range
+pub number_fits : (lo hi z : ℤ) (number : Option ℤ) → within lo hi number ≡ Some z → (lo ≤ℤ z) × (z ≤ℤ hi)
+number_fits lo hi z None passes = cc passes
+number_fits lo hi z (Some n) passes = by (int_le lo n) refl (int_le n hi) refl passes
+  where
+    by : (a : Bool) → int_le lo n ≡ a → (b : Bool) → int_le n hi ≡ b → (if a && b then Some n else None) ≡ Some z → (lo ≤ℤ z) × (z ≤ℤ hi)
+    by true low true high is =
+        let same : n ≡ z = cc is in
+        let least : lo ≤ℤ n = grind (arith, ints) in
+        let most : n ≤ℤ hi = grind (arith, ints) in
+        rw (← same) (least, most)
+    by true low false high is = cc is
+    by false low b high is = cc is
+
+-- one more value fits
+pub fit_last : (columns : List Column) (values : List Value) (column : Column) (value : Value) → FitEach columns values → Fits column value
+    → FitEach (columns ++ column ∷ []) (values ++ value ∷ [])
+fit_last [] [] column value fit fits = (fits, tt)
+fit_last [] (other ∷ values) column value fit fits = absurd fit
+fit_last (first ∷ columns) [] column value fit fits = absurd fit
+fit_last (first ∷ columns) (other ∷ values) column value fit fits = (fit.0, fit_last columns values column value fit.1 fits)
+
+-- the same of the columns of the code
+pub fit_more : (columns : List coded.Column) (values : List Value) (i : ℕ) (d : coded.Column) (value : Value) → i < length columns
+    → FitEach (map column_seen (take i columns)) values → Fits (column_seen (get_or columns i d)) value
+    → FitEach (map column_seen (take (i + 1) columns)) (values ++ value ∷ [])
+fit_more columns values i d value there fit fits =
+    rw (add-one i, take-suc columns i d there, map-append) (fit_last (map column_seen (take i columns)) values (column_seen (get_or columns i d)) value fit fits)

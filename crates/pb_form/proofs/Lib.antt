@@ -1,0 +1,12 @@
+mod ListLemmas
+mod KeptLemmas
+mod ReadingLemmas
+mod TellingLemmas
+mod TableLemmas
+mod DayLemmas
+mod WritingLemmas
+mod FieldLemmas
+mod OneRecordLemmas
+mod JsonLemmas
+mod TextLemmas
+mod DaySaysLemmas

@@ -1,0 +1,19 @@
+-- Statement
+pub mod Holds
+pub mod Columns
+pub mod Value
+pub mod Values
+pub mod Field
+pub mod Reading
+pub mod Writing
+pub mod Telling
+pub mod Json
+pub mod SessionRows
+pub mod Words
+pub mod OutputRows
+pub mod Laws
+-- Inside
+pub mod Seen
+pub mod Kept
+pub mod Given
+pub mod Told

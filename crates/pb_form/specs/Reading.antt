@@ -1,0 +1,70 @@
+-- Statement. A row read by its columns: the value of each field, or the first fault in one order of faults.
+use Rattle.std.specs.Prelude.{ℕ, zero, suc, ◌-◌, ◌%◌, ◌==◌, ◌&&◌, nat_le, nat_lt, not, Bool, List, [], ◌∷◌, ◌++◌, length, drop, Result, Ok, Err, if◌then◌else◌}
+use Rattle.pb_form.specs.Columns.{Column, Schema}
+use Rattle.pb_form.specs.Field.{field_read}
+use Rattle.pb_form.specs.Value.{Value}
+use Rattle.pb_form.specs.declared.fault.FormFault.{FormFault}
+use Rattle.pb_form.specs.declared.fault.FormFault.TheVariants.{Kind, Fields, Name, Number, Date, Word}
+
+-- the order of faults
+abbrev pub order_of : FormFault → ℕ
+order_of Kind = 0
+order_of Fields = 1
+order_of Name = 2
+order_of Number = 3
+order_of Date = 4
+order_of Word = 5
+
+-- the first of two faults
+abbrev pub sooner : FormFault → FormFault → FormFault
+sooner one other = if nat_lt (order_of other) (order_of one) then other else one
+
+-- the values of two parts of a row, or the first fault of either
+abbrev pub joined : Result (List Value) FormFault → Result (List Value) FormFault → Result (List Value) FormFault
+joined (Ok front) (Ok rest) = Ok (front ++ rest)
+joined (Ok front) (Err fault) = Err fault
+joined (Err fault) (Ok rest) = Err fault
+joined (Err fault) (Err other) = Err (sooner fault other)
+
+-- the one value of a field, or its fault
+abbrev pub one_read : Result Value FormFault → Result (List Value) FormFault
+one_read (Ok value) = Ok (value ∷ [])
+one_read (Err fault) = Err fault
+
+-- the value of each field by its column, or the first fault of the fields
+abbrev pub fields_read : List Column → List (List ℕ) → Result (List Value) FormFault
+fields_read (column ∷ columns) (field ∷ fields) = joined (one_read (field_read column field)) (fields_read columns fields)
+fields_read columns fields = Ok []
+
+-- n columns: those that are left of a tail, and then those of the tail, over and over
+abbrev pub repeated : List Column → List Column → ℕ → List Column
+repeated tail rest zero = []
+repeated tail (column ∷ rest) (suc n) = column ∷ repeated tail rest n
+repeated (column ∷ tail) [] (suc n) = column ∷ repeated (column ∷ tail) tail n
+repeated [] [] (suc n) = []
+
+-- what the fields behind the columns of a schema say, by the columns of its tail, over and over
+abbrev pub tail_read : Schema → List (List ℕ) → Result (List Value) FormFault
+tail_read schema fields =
+    fields_read (repeated schema.tail [] (length fields - length schema.columns)) (drop (length schema.columns) fields)
+
+-- n fields are some turns of a tail
+abbrev pub are_turns : List Column → ℕ → Bool
+are_turns tail n = if length tail == 0 then n == 0 else n % length tail == 0
+
+-- a row of a schema has this number of fields: one a column, and some turns of the tail
+abbrev pub has_count : Schema → ℕ → Bool
+has_count schema n = nat_le (length schema.columns) n && are_turns schema.tail (n - length schema.columns)
+
+-- the values of the first part of a row, unless either part has a fault
+abbrev pub before : Result (List Value) FormFault → Result (List Value) FormFault → Result (List Value) FormFault
+before (Ok values) (Ok rest) = Ok values
+before (Ok values) (Err fault) = Err fault
+before (Err fault) (Ok rest) = Err fault
+before (Err fault) (Err other) = Err (sooner fault other)
+
+-- The value of each column of a schema in the fields of a row, or their first fault: their number, or the first of the faults of
+-- the single fields, those of the tail among them.
+abbrev pub row_read : Schema → List (List ℕ) → Result (List Value) FormFault
+row_read schema fields =
+    if has_count schema (length fields) then before (fields_read schema.columns fields) (tail_read schema fields) else Err Fields

@@ -1,0 +1,143 @@
+-- Statement. The rows of a session: the columns of each kind.
+use Rattle.std.specs.Prelude.{ℕ, pos, neg_ℤ, List, [], ◌∷◌, Option, Some, None, Result, Ok, Err, codes, map, slice_get}
+use Rattle.pb_limits.specs.Limits.{most_critical, most_density, most_freedom, most_grams, most_level, most_row_variance, most_volume}
+use Rattle.pb_form.specs.Columns.{Column, Schema, column, word_column}
+use Rattle.pb_form.specs.Holds.{Holds, Name, Reason, Number, Date}
+use Rattle.pb_form.specs.Telling.{schema_told}
+use Rattle.pb_form.specs.declared.fault.FormFault.{FormFault}
+use Rattle.pb_form.specs.declared.fault.FormFault.TheVariants as fault
+use Rattle.pb_form.specs.declared.session.SessionKind.{SessionKind}
+use Rattle.pb_form.specs.declared.session.SessionKind.TheVariants as kind
+
+-- the base variance of a tank, or of a metered or batch stream, in squared grams; a plain stream has none
+abbrev pub base_variance : Holds
+base_variance = Number (pos 1) (pos most_row_variance)
+
+abbrev pub no_variance : Holds
+no_variance = Number (pos 0) (pos 0)
+
+-- the variance of a measurement, in squared grams
+abbrev pub row_variance : Holds
+row_variance = Number (pos 0) (pos most_row_variance)
+
+-- grams, either way
+abbrev pub either_grams : Holds
+either_grams = Number (neg_ℤ (pos most_grams)) (pos most_grams)
+
+-- a level, in millimetres
+abbrev pub level_range : Holds
+level_range = Number (pos 0) (pos most_level)
+
+-- a volume, in millilitres
+abbrev pub volume_range : Holds
+volume_range = Number (pos 0) (pos most_volume)
+
+-- a density, in grams per cubic metre
+abbrev pub density_range : Holds
+density_range = Number (pos 1) (pos most_density)
+
+-- degrees of freedom
+abbrev pub freedom_range : Holds
+freedom_range = Number (pos 1) (pos most_freedom)
+
+-- a critical value, in thousandths
+abbrev pub critical_range : Holds
+critical_range = Number (pos 0) (pos most_critical)
+
+-- the columns of a stream of a kind, which has this word and this base variance
+abbrev pub stream_columns : List ℕ → Holds → List Column
+stream_columns word base =
+    word_column (codes "row") (codes "stream") ∷ column (codes "name") Name ∷ column (codes "from") Name ∷ column (codes "to") Name
+    ∷ word_column (codes "word") word ∷ column (codes "base") base ∷ []
+
+-- the columns of a fact behind its word
+abbrev pub reading_columns : List Column
+reading_columns =
+    column (codes "id") Name ∷ column (codes "stream") Name ∷ column (codes "day") Date ∷ column (codes "grams") either_grams
+    ∷ column (codes "variance") row_variance ∷ []
+
+abbrev pub transfer_columns : List Column
+transfer_columns =
+    column (codes "id") Name ∷ column (codes "stream") Name ∷ column (codes "first") Date ∷ column (codes "last") Date
+    ∷ column (codes "grams") either_grams ∷ column (codes "variance") row_variance ∷ []
+
+abbrev pub dip_columns : List Column
+dip_columns =
+    column (codes "id") Name ∷ column (codes "tank") Name ∷ column (codes "day") Date ∷ column (codes "mm") level_range
+    ∷ column (codes "density") density_range ∷ column (codes "variance") row_variance ∷ []
+
+-- the columns of a late fact: the word `late`, and the fact's own
+abbrev pub late_columns : List ℕ → List Column → List Column
+late_columns word columns = word_column (codes "row") (codes "late") ∷ word_column (codes "word") word ∷ columns
+
+-- The columns of each kind.
+abbrev pub session_columns : SessionKind → List Column
+session_columns kind.Unit = word_column (codes "row") (codes "unit") ∷ column (codes "name") Name ∷ []
+session_columns kind.Tank =
+    word_column (codes "row") (codes "tank") ∷ column (codes "name") Name ∷ column (codes "base") base_variance ∷ []
+session_columns kind.Strap =
+    word_column (codes "row") (codes "strap") ∷ column (codes "tank") Name ∷ column (codes "mm") level_range
+    ∷ column (codes "ml") volume_range ∷ []
+session_columns kind.StreamMetered = stream_columns (codes "metered") base_variance
+session_columns kind.StreamBatch = stream_columns (codes "batch") base_variance
+session_columns kind.StreamPlain = stream_columns (codes "plain") no_variance
+session_columns kind.Period =
+    word_column (codes "row") (codes "period") ∷ column (codes "name") Name ∷ column (codes "first") Date
+    ∷ column (codes "last") Date ∷ []
+session_columns kind.CriticalGlobal =
+    word_column (codes "row") (codes "critical") ∷ word_column (codes "word") (codes "global") ∷ column (codes "dof") freedom_range
+    ∷ column (codes "value") critical_range ∷ []
+session_columns kind.CriticalNodal =
+    word_column (codes "row") (codes "critical") ∷ word_column (codes "word") (codes "nodal")
+    ∷ column (codes "value") critical_range ∷ []
+session_columns kind.CriticalMeasure =
+    word_column (codes "row") (codes "critical") ∷ word_column (codes "word") (codes "measure")
+    ∷ column (codes "value") critical_range ∷ []
+session_columns kind.Reading = word_column (codes "row") (codes "reading") ∷ reading_columns
+session_columns kind.Transfer = word_column (codes "row") (codes "transfer") ∷ transfer_columns
+session_columns kind.Dip = word_column (codes "row") (codes "dip") ∷ dip_columns
+session_columns kind.LateReading = late_columns (codes "reading") reading_columns
+session_columns kind.LateTransfer = late_columns (codes "transfer") transfer_columns
+session_columns kind.LateDip = late_columns (codes "dip") dip_columns
+session_columns kind.AmendAmount =
+    word_column (codes "row") (codes "amend") ∷ column (codes "id") Name ∷ column (codes "grams") either_grams
+    ∷ column (codes "variance") row_variance ∷ column (codes "reason") Reason ∷ []
+session_columns kind.AmendLevel =
+    word_column (codes "row") (codes "amend") ∷ column (codes "id") Name ∷ column (codes "mm") level_range
+    ∷ column (codes "density") density_range ∷ column (codes "variance") row_variance ∷ column (codes "reason") Reason ∷ []
+session_columns kind.Strike =
+    word_column (codes "row") (codes "strike") ∷ column (codes "id") Name ∷ column (codes "reason") Reason ∷ []
+session_columns kind.Close = word_column (codes "row") (codes "close") ∷ column (codes "period") Name ∷ []
+session_columns kind.Design = word_column (codes "row") (codes "design") ∷ []
+session_columns kind.Report = word_column (codes "row") (codes "report") ∷ column (codes "period") Name ∷ []
+session_columns kind.History = word_column (codes "row") (codes "history") ∷ column (codes "period") Name ∷ []
+
+-- the schema of each kind
+abbrev pub session_schema : SessionKind → Schema
+session_schema kind = record { columns = session_columns kind; tail = [] }
+
+-- all kinds
+abbrev pub session_kinds : List SessionKind
+session_kinds =
+    kind.Unit ∷ kind.Tank ∷ kind.Strap ∷ kind.StreamMetered ∷ kind.StreamBatch ∷ kind.StreamPlain ∷ kind.Period
+    ∷ kind.CriticalGlobal ∷ kind.CriticalNodal ∷ kind.CriticalMeasure ∷ kind.Reading ∷ kind.Transfer ∷ kind.Dip
+    ∷ kind.LateReading ∷ kind.LateTransfer ∷ kind.LateDip ∷ kind.AmendAmount ∷ kind.AmendLevel ∷ kind.Strike ∷ kind.Close
+    ∷ kind.Design ∷ kind.Report ∷ kind.History ∷ []
+
+-- the schemas of all kinds
+abbrev pub session_schemas : List Schema
+session_schemas = map session_schema session_kinds
+
+-- the kind at a place among all kinds
+abbrev pub kind_at : Option SessionKind → Result SessionKind FormFault
+kind_at (Some kind) = Ok kind
+kind_at None = Err fault.Kind
+
+-- the kind of a schema that a row is of
+abbrev pub kind_in : Result ℕ FormFault → Result SessionKind FormFault
+kind_in (Ok place) = kind_at (slice_get session_kinds place)
+kind_in (Err fault) = Err fault
+
+-- The kind of a row of a session, or why it has none.
+abbrev pub session_told : List (List ℕ) → Result SessionKind FormFault
+session_told fields = kind_in (schema_told session_schemas fields)

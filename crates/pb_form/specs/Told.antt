@@ -1,0 +1,20 @@
+-- Inside. The fault that a reading tells, and readings under way.
+use Rattle.std.specs.Prelude.{List, Option, Some, None, Result, Ok, Err}
+use Rattle.pb_form.specs.Reading.{sooner}
+use Rattle.pb_form.specs.Value.{Value}
+use Rattle.pb_form.specs.declared.fault.FormFault.{FormFault}
+
+-- the fault of a reading, if it has one
+abbrev pub fault_in : Result (List Value) FormFault → Option FormFault
+fault_in (Ok values) = None
+fault_in (Err fault) = Some fault
+
+-- the first of the faults so far and another one
+abbrev pub soonest : Option FormFault → FormFault → FormFault
+soonest None fault = fault
+soonest (Some first) fault = sooner first fault
+
+-- the values so far, unless there was a fault
+abbrev pub so_far : Option FormFault → List Value → Result (List Value) FormFault
+so_far None values = Ok values
+so_far (Some fault) values = Err fault

@@ -1,0 +1,37 @@
+//! The form of rows: what a column takes, which columns a kind of rows has, and rows read and written by them.
+//!
+//! A schema is the list of a kind's columns, the first of which holds the kind's word. A record is read by a schema to one value
+//! a column, or to its first fault in one order of faults; values are written by a schema to the one record that reads back as them.
+#![tactic(auto)]
+
+mod column;
+mod day;
+mod fault;
+mod field;
+mod fields;
+mod json;
+mod laws;
+mod output;
+mod reading;
+mod session;
+mod table;
+mod telling;
+mod value;
+mod words;
+mod writing;
+
+pub use column::{Column, Holds, Schema};
+pub use fault::FormFault;
+pub use fields::Fields;
+pub use json::write_json;
+pub use laws::one_record_law;
+pub use output::{OutputKind, output_schema, output_schemas};
+pub use reading::{read, read_columns};
+pub use session::{SessionKind, session_kind, session_schema, session_schemas};
+pub use telling::tell;
+pub use value::{ROOM, Value, Values};
+pub use words::{
+    CAUSE_WORDS, CLASS_WORDS, EDIT_WORDS, MEASURED_WORDS, PERIOD_WORDS, SHAPE_WORDS, STATE_WORDS,
+    STOP_WORDS, TEST_WORDS, UNREAD_WORDS, VERDICT_WORDS,
+};
+pub use writing::write;

@@ -1,0 +1,307 @@
+// The rows of an output: the columns of each kind.
+
+ghost use Rattle.std.specs.Prelude.{◌≡◌, ◌≤◌, length, map, slice_get};
+ghost use Rattle.pb_form.specs.OutputRows.{output_kinds, output_schema, output_schemas};
+ghost use Rattle.pb_form.specs.Seen.{schema_seen};
+
+use crate::column::{Column, Holds, Schema};
+use crate::table::{column, optional, schema, word};
+use crate::value::ROOM;
+use crate::words::{
+    CAUSE_WORDS, CLASS_WORDS, EDIT_WORDS, MEASURED_WORDS, PERIOD_WORDS, SHAPE_WORDS, STATE_WORDS,
+    STOP_WORDS, TEST_WORDS, UNREAD_WORDS, VERDICT_WORDS,
+};
+use pb_limits::{MOST_CRITICAL, MOST_FREEDOM, MOST_GAP, MOST_SWEEPS, MOST_VALUE, MOST_VARIANCE};
+
+/// The kinds of the rows of an output.
+#[derive(Clone, Copy, PartialEq, Eq, Debug)]
+pub enum OutputKind {
+    Refused,
+    Over,
+    Design,
+    Class,
+    History,
+    Edit,
+    Report,
+    Node,
+    Stream,
+    /// A stream as it was written before there were least bounds.
+    StreamBefore,
+    Solved,
+    Global,
+    Nodal,
+    Measure,
+    End,
+    Taken,
+    Stop,
+    Summary,
+    Yes,
+    No,
+    Unreadable,
+}
+
+// 2^126, the greatest of the numbers that aren't bounded by a plant's limits.
+const WIDEST: i128 = 85_070_591_730_234_615_865_843_651_857_942_052_864;
+
+// 2^120, the greatest price.
+const MOST_PRICE: i128 = 1_329_227_995_784_915_872_903_807_060_280_344_576;
+
+// 2^68 - 1, the greatest flow.
+const MOST_FLOW: i128 = 295_147_905_179_352_825_855;
+
+const NATURAL: Holds = Holds::Number {
+    lo: 0,
+    hi: 18_446_744_073_709_551_615,
+};
+
+const WIDE: Holds = Holds::Number {
+    lo: -WIDEST,
+    hi: WIDEST,
+};
+
+const ROUND: Holds = Holds::Number { lo: 0, hi: 20 };
+
+const GAP: Holds = Holds::Number {
+    lo: 1,
+    hi: MOST_GAP as i128,
+};
+
+const SWEEPS: Holds = Holds::Number {
+    lo: 0,
+    hi: MOST_SWEEPS as i128,
+};
+
+const PRICE: Holds = Holds::Number {
+    lo: -MOST_PRICE,
+    hi: MOST_PRICE,
+};
+
+const VALUE: Holds = Holds::Number {
+    lo: -(MOST_VALUE as i128),
+    hi: MOST_VALUE as i128,
+};
+
+const VARIANCE: Holds = Holds::Number {
+    lo: 1,
+    hi: MOST_VARIANCE,
+};
+
+const FLOW: Holds = Holds::Number {
+    lo: -MOST_FLOW,
+    hi: MOST_FLOW,
+};
+
+const GAP_NUMBER: Holds = Holds::Number {
+    lo: 0,
+    hi: 9_223_372_036_854_775_808,
+};
+
+const EXPONENT: Holds = Holds::Number { lo: 0, hi: 32 };
+
+const DOF: Holds = Holds::Number {
+    lo: 0,
+    hi: MOST_FREEDOM as i128,
+};
+
+const CRITICAL: Holds = Holds::Number {
+    lo: 0,
+    hi: MOST_CRITICAL as i128,
+};
+
+// The schemas of all kinds, in their order.
+static SCHEMAS: [Schema; 21] = [
+    schema!(
+        word!("row", "refused"),
+        column!("at", NATURAL),
+        column!("code", NATURAL),
+        column!("word", Holds::Word(CAUSE_WORDS))
+    ),
+    schema!(
+        word!("row", "over"),
+        column!("period", Holds::Name),
+        column!("stream", Holds::Name)
+    ),
+    schema!(
+        word!("row", "design"),
+        column!("nodes", NATURAL),
+        column!("streams", NATURAL)
+    ),
+    schema!(
+        word!("row", "class"),
+        column!("name", Holds::Name),
+        column!("from", Holds::Name),
+        column!("to", Holds::Name),
+        column!("measured", Holds::Word(MEASURED_WORDS)),
+        column!("class", Holds::Word(CLASS_WORDS)),
+        column!("shape", Holds::Word(SHAPE_WORDS)),
+        column!("side", Holds::Items),
+        column!("parts", Holds::Items)
+    ),
+    schema!(
+        word!("row", "history"),
+        column!("period", Holds::Name),
+        column!("state", Holds::Word(PERIOD_WORDS)),
+        column!("count", NATURAL)
+    ),
+    schema!(
+        word!("row", "edit"),
+        column!("at", NATURAL),
+        column!("word", Holds::Word(EDIT_WORDS)),
+        optional!("id", Holds::Name),
+        optional!("reason", Holds::Reason)
+    ),
+    schema!(
+        word!("row", "report"),
+        column!("period", Holds::Name),
+        column!("round", ROUND),
+        column!("nodes", WIDE),
+        column!("streams", WIDE),
+        column!("gap", GAP),
+        column!("sweeps", SWEEPS)
+    ),
+    schema!(
+        word!("row", "node"),
+        column!("name", Holds::Name),
+        column!("price", PRICE)
+    ),
+    schema!(
+        word!("row", "stream"),
+        column!("name", Holds::Name),
+        column!("from", Holds::Name),
+        column!("to", Holds::Name),
+        optional!("value", VALUE),
+        optional!("variance", VARIANCE),
+        column!("class", Holds::Word(CLASS_WORDS)),
+        column!("flow", FLOW),
+        optional!("lo", WIDE),
+        optional!("hi", WIDE),
+        optional!("least_lo", WIDE),
+        optional!("least_hi", WIDE),
+        column!("shape", Holds::Word(SHAPE_WORDS)),
+        column!("side", Holds::Items),
+        column!("parts", Holds::Items)
+    ),
+    schema!(
+        word!("row", "stream"),
+        column!("name", Holds::Name),
+        column!("from", Holds::Name),
+        column!("to", Holds::Name),
+        optional!("value", VALUE),
+        optional!("variance", VARIANCE),
+        column!("class", Holds::Word(CLASS_WORDS)),
+        column!("flow", FLOW),
+        optional!("lo", WIDE),
+        optional!("hi", WIDE),
+        column!("shape", Holds::Word(SHAPE_WORDS)),
+        column!("side", Holds::Items),
+        column!("parts", Holds::Items)
+    ),
+    schema!(
+        word!("row", "solved"),
+        column!("k", SWEEPS),
+        column!("state", Holds::Word(STATE_WORDS)),
+        column!("g", GAP_NUMBER),
+        column!("h", EXPONENT),
+        column!("dof", DOF),
+        column!("low", WIDE),
+        optional!("high", WIDE)
+    ),
+    schema!(
+        word!("row", "global"),
+        optional!("critical", CRITICAL),
+        column!("verdict", Holds::Word(VERDICT_WORDS))
+    ),
+    schema!(
+        word!("row", "nodal"),
+        column!("node", Holds::Name),
+        column!("net", WIDE),
+        column!("variance", WIDE),
+        optional!("critical", CRITICAL),
+        column!("verdict", Holds::Word(VERDICT_WORDS))
+    ),
+    schema!(
+        word!("row", "measure"),
+        column!("stream", Holds::Name),
+        column!("low", WIDE),
+        optional!("high", WIDE),
+        optional!("critical", CRITICAL),
+        column!("verdict", Holds::Word(VERDICT_WORDS))
+    ),
+    schema!(
+        word!("row", "end"),
+        column!("period", Holds::Name),
+        column!("round", ROUND)
+    ),
+    schema!(
+        word!("row", "taken"),
+        column!("period", Holds::Name),
+        column!("round", ROUND),
+        column!("stream", Holds::Name),
+        column!("low", WIDE)
+    ),
+    schema!(
+        word!("row", "stop"),
+        column!("period", Holds::Name),
+        column!("reason", Holds::Word(STOP_WORDS)),
+        column!("rounds", ROUND)
+    ),
+    schema!(
+        word!("row", "summary"),
+        column!("number", NATURAL),
+        column!("streams", NATURAL),
+        column!("rows", NATURAL),
+        column!("observable", NATURAL),
+        column!("unobservable", NATURAL),
+        column!("redundant", NATURAL),
+        column!("nonredundant", NATURAL),
+        column!("dof", NATURAL),
+        column!("state", Holds::Word(STATE_WORDS)),
+        column!("k", NATURAL),
+        column!("low", WIDE),
+        optional!("high", WIDE)
+    ),
+    schema!(
+        word!("row", "yes"),
+        column!("period", Holds::Name),
+        column!("round", ROUND)
+    ),
+    schema!(
+        word!("row", "no"),
+        column!("period", Holds::Name),
+        column!("round", ROUND),
+        column!("code", NATURAL),
+        column!("word", Holds::Word(TEST_WORDS)),
+        optional!("name", Holds::Name),
+        column!("stated", WIDE),
+        column!("found", WIDE)
+    ),
+    schema!(
+        word!("row", "unreadable"),
+        column!("at", NATURAL),
+        column!("code", NATURAL),
+        column!("word", Holds::Word(UNREAD_WORDS))
+    ),
+];
+
+/// The schemas of the kinds of an output, in the order of the kinds.
+pub fn output_schemas() -> &'static [Schema]
+    ensures { map schema_seen result.now ≡ output_schemas }
+{
+    &SCHEMAS
+}
+
+/// The schema of a kind.
+pub fn output_schema(kind: OutputKind) -> &'static Schema
+    ensures value { schema_seen result.now ≡ output_schema kind }
+    ensures few { length result.now.columns.now ≤ ROOM }
+{
+    let schemas = output_schemas();
+    &schemas[place_of(kind)]
+}
+
+// The place of a kind among all kinds.
+fn place_of(kind: OutputKind) -> usize
+    ensures { slice_get output_kinds result ≡ Some kind }
+{
+    kind as usize
+}

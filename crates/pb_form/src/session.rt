@@ -1,0 +1,229 @@
+// The rows of a session: the columns of each kind.
+
+ghost use Rattle.std.specs.Prelude.{◌≡◌, ◌≤◌, length, map, slice_get};
+ghost use Rattle.pb_form.specs.Seen.{schema_seen};
+ghost use Rattle.pb_form.specs.SessionRows.{session_kinds, session_schema, session_schemas, session_told};
+
+use crate::column::{Column, Holds, Schema};
+use crate::fault::FormFault;
+use crate::fields::Fields;
+use crate::table::{column, number, schema, word};
+use crate::telling::tell;
+use crate::value::ROOM;
+use pb_limits::{
+    MOST_CRITICAL, MOST_DENSITY, MOST_FREEDOM, MOST_GRAMS, MOST_LEVEL, MOST_ROW_VARIANCE,
+    MOST_VOLUME,
+};
+
+/// The kinds of the rows of a session.
+#[derive(Clone, Copy, PartialEq, Eq, Debug)]
+pub enum SessionKind {
+    Unit,
+    Tank,
+    Strap,
+    StreamMetered,
+    StreamBatch,
+    StreamPlain,
+    Period,
+    CriticalGlobal,
+    CriticalNodal,
+    CriticalMeasure,
+    Reading,
+    Transfer,
+    Dip,
+    LateReading,
+    LateTransfer,
+    LateDip,
+    AmendAmount,
+    AmendLevel,
+    Strike,
+    Close,
+    Design,
+    Report,
+    History,
+}
+
+// The kinds in the order of their schemas.
+static KINDS: [SessionKind; 23] = [
+    SessionKind::Unit,
+    SessionKind::Tank,
+    SessionKind::Strap,
+    SessionKind::StreamMetered,
+    SessionKind::StreamBatch,
+    SessionKind::StreamPlain,
+    SessionKind::Period,
+    SessionKind::CriticalGlobal,
+    SessionKind::CriticalNodal,
+    SessionKind::CriticalMeasure,
+    SessionKind::Reading,
+    SessionKind::Transfer,
+    SessionKind::Dip,
+    SessionKind::LateReading,
+    SessionKind::LateTransfer,
+    SessionKind::LateDip,
+    SessionKind::AmendAmount,
+    SessionKind::AmendLevel,
+    SessionKind::Strike,
+    SessionKind::Close,
+    SessionKind::Design,
+    SessionKind::Report,
+    SessionKind::History,
+];
+
+const BASE: Column = number!("base", 1, MOST_ROW_VARIANCE);
+
+const NO_BASE: Column = number!("base", 0, 0);
+
+const VARIANCE: Column = number!("variance", 0, MOST_ROW_VARIANCE);
+
+const GRAMS: Column = number!("grams", -(MOST_GRAMS as i128), MOST_GRAMS as i128);
+
+const MM: Column = number!("mm", 0, MOST_LEVEL as i128);
+
+const ML: Column = number!("ml", 0, MOST_VOLUME as i128);
+
+const DENSITY: Column = number!("density", 1, MOST_DENSITY as i128);
+
+const DOF: Column = number!("dof", 1, MOST_FREEDOM as i128);
+
+const VALUE: Column = number!("value", 0, MOST_CRITICAL as i128);
+
+const ID: Column = column!("id", Holds::Name);
+
+const NAME: Column = column!("name", Holds::Name);
+
+const TANK: Column = column!("tank", Holds::Name);
+
+const STREAM: Column = column!("stream", Holds::Name);
+
+const FROM: Column = column!("from", Holds::Name);
+
+const TO: Column = column!("to", Holds::Name);
+
+const PERIOD: Column = column!("period", Holds::Name);
+
+const REASON: Column = column!("reason", Holds::Reason);
+
+const DAY: Column = column!("day", Holds::Date);
+
+const FIRST: Column = column!("first", Holds::Date);
+
+const LAST: Column = column!("last", Holds::Date);
+
+// The schemas of all kinds, in their order.
+static SCHEMAS: [Schema; 23] = [
+    schema!(word!("row", "unit"), NAME),
+    schema!(word!("row", "tank"), NAME, BASE),
+    schema!(word!("row", "strap"), TANK, MM, ML),
+    schema!(
+        word!("row", "stream"),
+        NAME,
+        FROM,
+        TO,
+        word!("word", "metered"),
+        BASE
+    ),
+    schema!(
+        word!("row", "stream"),
+        NAME,
+        FROM,
+        TO,
+        word!("word", "batch"),
+        BASE
+    ),
+    schema!(
+        word!("row", "stream"),
+        NAME,
+        FROM,
+        TO,
+        word!("word", "plain"),
+        NO_BASE
+    ),
+    schema!(word!("row", "period"), NAME, FIRST, LAST),
+    schema!(
+        word!("row", "critical"),
+        word!("word", "global"),
+        DOF,
+        VALUE
+    ),
+    schema!(word!("row", "critical"), word!("word", "nodal"), VALUE),
+    schema!(word!("row", "critical"), word!("word", "measure"), VALUE),
+    schema!(word!("row", "reading"), ID, STREAM, DAY, GRAMS, VARIANCE),
+    schema!(
+        word!("row", "transfer"),
+        ID,
+        STREAM,
+        FIRST,
+        LAST,
+        GRAMS,
+        VARIANCE
+    ),
+    schema!(word!("row", "dip"), ID, TANK, DAY, MM, DENSITY, VARIANCE),
+    schema!(
+        word!("row", "late"),
+        word!("word", "reading"),
+        ID,
+        STREAM,
+        DAY,
+        GRAMS,
+        VARIANCE
+    ),
+    schema!(
+        word!("row", "late"),
+        word!("word", "transfer"),
+        ID,
+        STREAM,
+        FIRST,
+        LAST,
+        GRAMS,
+        VARIANCE
+    ),
+    schema!(
+        word!("row", "late"),
+        word!("word", "dip"),
+        ID,
+        TANK,
+        DAY,
+        MM,
+        DENSITY,
+        VARIANCE
+    ),
+    schema!(word!("row", "amend"), ID, GRAMS, VARIANCE, REASON),
+    schema!(word!("row", "amend"), ID, MM, DENSITY, VARIANCE, REASON),
+    schema!(word!("row", "strike"), ID, REASON),
+    schema!(word!("row", "close"), PERIOD),
+    schema!(word!("row", "design")),
+    schema!(word!("row", "report"), PERIOD),
+    schema!(word!("row", "history"), PERIOD),
+];
+
+/// The schemas of the kinds of a session, in the order of the kinds.
+pub fn session_schemas() -> &'static [Schema]
+    ensures { map schema_seen result.now ≡ session_schemas }
+{
+    &SCHEMAS
+}
+
+/// The schema of a kind.
+pub fn session_schema(kind: SessionKind) -> &'static Schema
+    ensures value { schema_seen result.now ≡ session_schema kind }
+    ensures few { length result.now.columns.now ≤ ROOM }
+{
+    let schemas = session_schemas();
+    &schemas[place_of(kind)]
+}
+
+// The place of a kind among all kinds.
+fn place_of(kind: SessionKind) -> usize
+    ensures { slice_get session_kinds result ≡ Some kind }
+{
+    kind as usize
+}
+
+/// The kind of a record of a session, or `Kind` or `Fields`.
+pub fn session_kind(fields: &Fields) -> Result<SessionKind, FormFault>
+    ensures { result ≡ session_told fields.now }
+{
+    let place = tell(session_schemas(), fields)?;
+    Ok(KINDS[place])
+}
