@@ -67,21 +67,32 @@ impl Case {
     fn with_fault(&self, word: Word, row: &Row) -> Result<Vec<u8>, AllocError> {
         let record = number(field(row, 1));
         let mut between = Vec::new(self.alloc);
-        match word {
-            Word::Field => self.append_changed(before(record), row, &mut between)?,
-            Word::Put | Word::Add => append_fields(row, 2, &mut between)?,
-            Word::Swap => {
-                self.append_record(record, &mut between)?;
-                self.append_record(before(record), &mut between)?;
-            }
-            _ => {}
-        }
+        self.append_between(word, row, record, &mut between)?;
         match word {
             Word::Whole => self.around(self.records.len(), 0, &between),
             Word::Add => self.around(before(record), 0, &between),
             Word::Swap => self.around(before(record), 2, &between),
             Word::Cut => self.around(record, self.records.len(), &between),
             _ => self.around(before(record), 1, &between),
+        }
+    }
+
+    // Appends what stands in place of the record of a number.
+    fn append_between(
+        &self,
+        word: Word,
+        row: &Row,
+        record: usize,
+        between: &mut Vec<u8>,
+    ) -> Result<(), AllocError> {
+        match word {
+            Word::Field => self.append_changed(before(record), row, between),
+            Word::Put | Word::Add => append_fields(row, 2, between),
+            Word::Swap => {
+                self.append_record(record, between)?;
+                self.append_record(before(record), between)
+            }
+            _ => Ok(()),
         }
     }
 
@@ -119,20 +130,25 @@ impl Case {
     ) -> Result<(), AllocError> {
         if place < self.records.len() {
             let mut changed = Row::new(self.alloc);
-            let whole = self.records.at(place);
-            for i in 0..whole.len() {
-                if i + 1 == number(field(row, 2)) {
-                    for k in 3..row.len() {
-                        changed.push(row.field(k))?;
-                    }
-                } else {
-                    changed.push(whole.field(i))?;
-                }
-            }
+            push_changed(self.records.at(place), row, &mut changed)?;
             append_fields(&changed, 0, bytes)?;
         }
         Ok(())
     }
+}
+
+// Pushes the fields of a record, and for the one that a row names those that it gives.
+fn push_changed(whole: &Row, row: &Row, changed: &mut Row) -> Result<(), AllocError> {
+    for i in 0..whole.len() {
+        if i + 1 == number(field(row, 2)) {
+            for k in 3..row.len() {
+                changed.push(row.field(k))?;
+            }
+        } else {
+            changed.push(whole.field(i))?;
+        }
+    }
+    Ok(())
 }
 
 // The place of a record by its number.

@@ -12,6 +12,11 @@ use std::io;
 
 fn main(rt: HostRuntime) -> io::Result<()> {
     let mut case = Case::new(rt.alloc());
+    answer_lines(&rt, &mut case)
+}
+
+// Answers each line of standard input.
+fn answer_lines(rt: &HostRuntime, case: &mut Case) -> io::Result<()> {
     let mut text = Vec::new(rt.alloc());
     for line in rt.lines(rt.alloc()) {
         case.line(line?.as_str().as_bytes(), &mut text)?;

@@ -77,17 +77,13 @@ fn run_in_memory(
 }
 
 fn outcome(alloc: Global, ends: Ends<'_>, input: Vec<u8>) -> Result<(Status, Vec<u8>), AllocError> {
+    let failing_takes = vec![in alloc; ends.failing_take]?;
+    let failing_puts = vec![in alloc; ends.failing_put]?;
+    let mut sink = MemSink::new(alloc, ends.room, ends.put.max(1), failing_puts)?;
     let words = words_of(alloc, ends.words)?;
-    let mut source = MemSource::new(input, ends.take.max(1), vec![in alloc; ends.failing_take]?);
-    let mut sink = MemSink::new(
-        alloc,
-        ends.room,
-        ends.put.max(1),
-        vec![in alloc; ends.failing_put]?,
-    )?;
+    let mut source = MemSource::new(input, ends.take.max(1), failing_takes);
     let status = run_in_memory(alloc, &words, &mut source, &mut sink);
-    let written = Vec::from_slice(alloc, sink.bytes())?;
-    Ok((status, written))
+    Ok((status, Vec::from_slice(alloc, sink.bytes())?))
 }
 
 // Runs over a copy of the input, and compares how that ends and what it writes.
@@ -100,8 +96,11 @@ fn gives(
     output: &str,
 ) -> Result<(), AllocError> {
     let (ended, written) = outcome(alloc, ends, Vec::from_slice(alloc, input)?)?;
-    assert_eq!(rt; ended, status, "{ends:?}, which gives {output}");
-    assert_eq!(rt; written.as_slice(), output.as_bytes(), "{ends:?}");
+    assert_eq!(rt;
+        (ended, written.as_slice()),
+        (status, output.as_bytes()),
+        "{ends:?}, which gives {output}"
+    );
     Ok(())
 }
 
@@ -217,10 +216,11 @@ fn writes_a_report_as_objects(rt: HostRuntime) -> Result<(), AllocError> {
 fn makes_a_summary(rt: HostRuntime) -> Result<(), AllocError> {
     let words: &[&str] = &["--summary", "make", "--number=1", "--streams", "3"];
     let (ended, made) = outcome(rt.alloc(), Ends { words, ..PLAIN }, Vec::new(rt.alloc()))?;
-    assert_eq!(rt; ended, Status::Done);
-    assert!(rt;
-        made.as_slice()
-            .starts_with("summary,1,3,99,0,0,3,0,2,".as_bytes())
+    let begins: &[u8] = b"summary,1,3,99,0,0,3,0,2,";
+    assert_eq!(rt;
+        (ended, made.as_slice().starts_with(begins)),
+        (Status::Done, true),
+        "the summary"
     );
     Ok(())
 }
@@ -251,9 +251,12 @@ fn makes_a_session(rt: HostRuntime) -> Result<(), AllocError> {
     let head =
         "unit,u1\nunit,u2\nstream,s1,env,u1,metered,1\nstream,s2,u1,u2,metered,1\nstream,s3,u2,env,metered,1\nperiod,m1,2024-01-01,2024-01-30\ncritical,nodal,3841\ncritical,measure,3841\nreading,r1,s1,2024-01-01,49792000000,62500000000000000\n";
     let (ended, made) = outcome(rt.alloc(), MAKE, Vec::new(rt.alloc()))?;
-    assert_eq!(rt; ended, Status::Done);
-    assert!(rt; made.as_slice().starts_with(head.as_bytes()));
-    assert_eq!(rt; rows_of(made.as_slice()), 99);
+    let is_begun = made.as_slice().starts_with(head.as_bytes());
+    assert_eq!(rt;
+        (ended, is_begun, rows_of(made.as_slice())),
+        (Status::Done, true, 99),
+        "the session"
+    );
     Ok(())
 }
 
@@ -278,8 +281,11 @@ fn run_of_made(alloc: Global) -> Result<(Status, Vec<u8>), AllocError> {
 #[test]
 fn runs_a_made_session(rt: HostRuntime) -> Result<(), AllocError> {
     let (ended, written) = run_of_made(rt.alloc())?;
-    assert_eq!(rt; ended, Status::Done);
-    assert!(rt; written.as_slice().starts_with("report,m1,".as_bytes()));
+    assert_eq!(rt;
+        (ended, written.as_slice().starts_with(b"report,m1,")),
+        (Status::Done, true),
+        "the run"
+    );
     Ok(())
 }
 
@@ -378,9 +384,8 @@ fn sure_run_of_two_meters(alloc: Global) -> Result<(Status, u64), AllocError> {
 
 #[test]
 fn runs_over_sure_ends(rt: HostRuntime) -> Result<(), AllocError> {
-    let (ended, count) = sure_run_of_two_meters(rt.alloc())?;
-    assert_eq!(rt; ended, Status::Done);
-    assert_eq!(rt; count, REPORT.len() as u64);
+    let ran = sure_run_of_two_meters(rt.alloc())?;
+    assert_eq!(rt; ran, (Status::Done, REPORT.len() as u64), "the run");
     Ok(())
 }
 
@@ -449,33 +454,48 @@ fn reports_a_contradiction(rt: HostRuntime) -> Result<(), AllocError> {
     )
 }
 
-/// As many line feeds as the limit give nothing; one byte more is too large.
-#[test]
-fn refuses_one_byte_too_many(rt: HostRuntime) -> Result<(), AllocError> {
+// How a run over that many line feeds ends, and whether it writes nothing.
+fn outcome_of_feeds(alloc: Global, count: usize) -> Result<(Status, bool), AllocError> {
     let ends = Ends {
         take: 1 << 20,
         ..PLAIN
     };
+    let (ended, written) = outcome(alloc, ends, vec![in alloc; b'\n'; count]?)?;
+    Ok((ended, written.is_empty()))
+}
+
+/// As many line feeds as the limit give nothing; one byte more is too large.
+#[test]
+fn refuses_one_byte_too_many(rt: HostRuntime) -> Result<(), AllocError> {
     for (count, status) in [
         (MOST_BYTES, Status::Done),
         (MOST_BYTES + 1, Status::TooLarge),
     ] {
-        let input = vec![in rt.alloc(); b'\n'; count]?;
-        let (ended, written) = outcome(rt.alloc(), ends, input)?;
-        assert_eq!(rt; ended, status, "at {count}");
-        assert!(rt; written.is_empty(), "at {count}");
+        let ended = outcome_of_feeds(rt.alloc(), count)?;
+        assert_eq!(rt; ended, (status, true), "at {count}");
     }
     Ok(())
 }
 
 // The report with some of its text replaced, or as it is if there is nothing to replace.
 fn report_with(alloc: Global, from: &str, to: &str) -> Result<Vec<u8>, AllocError> {
-    let text = if from.is_empty() {
-        String::from_str(alloc, REPORT)?
-    } else {
-        REPORT.replace(alloc, from, to)?
-    };
-    Ok(text.into_bytes())
+    if from.is_empty() {
+        return Vec::from_slice(alloc, REPORT.as_bytes());
+    }
+    Ok(REPORT.replace(alloc, from, to)?.into_bytes())
+}
+
+// Judges the report with some of its text replaced, and compares how that ends and what it writes.
+fn judges(
+    rt: &impl Abort,
+    alloc: Global,
+    from: &str,
+    to: &str,
+    status: Status,
+    output: &str,
+) -> Result<(), AllocError> {
+    let input = report_with(alloc, from, to)?;
+    gives(rt, alloc, CHECK, input.as_slice(), status, output)
 }
 
 /// One field of the report is another: the answer says the first test that fails, or which row can't be read.
@@ -569,8 +589,7 @@ fn judges_reports(rt: HostRuntime) -> Result<(), AllocError> {
         ),
     ];
     for (from, to, status, output) in cases {
-        let input = report_with(rt.alloc(), from, to)?;
-        gives(&rt, rt.alloc(), CHECK, input.as_slice(), status, output)?;
+        judges(&rt, rt.alloc(), from, to, status, output)?;
     }
     Ok(())
 }
@@ -682,8 +701,11 @@ fn own_judgement(alloc: Global) -> Result<(Status, Status, Vec<u8>), AllocError>
 #[test]
 fn own_reports_pass(rt: HostRuntime) -> Result<(), AllocError> {
     let (ran, checked, judgement) = own_judgement(rt.alloc())?;
-    assert_eq!(rt; ran, Status::Done);
-    assert_eq!(rt; checked, Status::Done);
-    assert!(rt; judgement.as_slice().starts_with("yes,m1,0\n".as_bytes()));
+    let passes = judgement.as_slice().starts_with(b"yes,m1,0\n");
+    assert_eq!(rt;
+        (ran, checked, passes),
+        (Status::Done, Status::Done, true),
+        "the run and its check"
+    );
     Ok(())
 }

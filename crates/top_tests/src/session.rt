@@ -7,7 +7,7 @@ ghost use Rattle.pb_elim.specs.Options.{AreOptions, most_rounds};
 use crate::inputs::joined;
 use pb_graph::Options;
 use pb_report::Form;
-use pb_rows::Rows;
+use pb_rows::{Row, Rows};
 use pb_session::Session;
 use std::alloc::Global;
 use std::test::Fail;
@@ -36,17 +36,30 @@ fn tested(eliminate: u32) -> Options
     }
 }
 
+// Whether a session refuses a row.
+fn is_refused(session: &mut Session, at: u32, row: &Row, out: &mut Vec<u8>) -> Result<bool, Fail> {
+    Ok(session.row(at, row, out)?)
+}
+
 // Takes rows one after the other, and counts those that are refused.
 fn take_all(session: &mut Session, rows: &Rows, out: &mut Vec<u8>) -> Result<u32, Fail> {
     let mut at = 0u32;
     let mut refused = 0u32;
     for i in 0..rows.len() {
         at = at.saturating_add(1);
-        if session.row(at, rows.at(i), out)? {
+        if is_refused(session, at, rows.at(i), out)? {
             refused = refused.saturating_add(1);
         }
     }
     Ok(refused)
+}
+
+// Writes the output of a session of rows, and counts the rows that are refused.
+fn write_by(alloc: Global, options: Options, rows: &Rows, out: &mut Vec<u8>) -> Result<u32, Fail>
+    requires { AreOptions options }
+{
+    let mut session = Session::new(alloc, options, Form::Csv);
+    take_all(&mut session, rows, out)
 }
 
 // The output of a session of several texts by any options, and how many of its records were refused.
@@ -54,9 +67,8 @@ fn output_by(alloc: Global, options: Options, texts: &[&[u8]]) -> Result<(Vec<u8
     requires { AreOptions options }
 {
     let rows = Rows::of(alloc, joined(alloc, texts)?.as_slice())?;
-    let mut session = Session::new(alloc, options, Form::Csv);
     let mut out = Vec::new(alloc);
-    let refused = take_all(&mut session, &rows, &mut out)?;
+    let refused = write_by(alloc, options, &rows, &mut out)?;
     Ok((out, refused))
 }
 
@@ -66,6 +78,12 @@ fn output(alloc: Global, gap: u32, texts: &[&[u8]]) -> Result<(Vec<u8>, u32), Fa
     requires gap_to { gap ≤ most_gap }
 {
     output_by(alloc, asked(gap), texts)
+}
+
+// Whether the output at a gap of 10 thousandths is this one, and how many of the records were refused.
+fn gives(alloc: Global, texts: &[&[u8]], want: &str) -> Result<(bool, u32), Fail> {
+    let (out, refused) = output(alloc, 10, texts)?;
+    Ok((out.as_slice() == want.as_bytes(), refused))
 }
 
 #[test]
@@ -94,8 +112,8 @@ fn writes_designs(rt: HostRuntime) -> Result<(), Fail> {
         ),
     ];
     for (text, want) in table {
-        let (out, _) = output(rt.alloc(), 10, &[text.as_bytes()])?;
-        assert!(rt; out.as_slice() == want.as_bytes(), "the output of {text}");
+        let (is_given, _) = gives(rt.alloc(), &[text.as_bytes()], want)?;
+        assert!(rt; is_given, "the output of {text}");
     }
     Ok(())
 }
@@ -137,9 +155,8 @@ fn writes_reports(rt: HostRuntime) -> Result<(), Fail> {
         ),
     ];
     for (text, want) in table {
-        let (out, refused) = output(rt.alloc(), 10, &[text.as_bytes()])?;
-        assert!(rt; out.as_slice() == want.as_bytes(), "the output of {text}");
-        assert_eq!(rt; refused, 0, "at {text}");
+        let given = gives(rt.alloc(), &[text.as_bytes()], want)?;
+        assert_eq!(rt; given, (true, 0), "the output of {text}");
     }
     Ok(())
 }
@@ -193,8 +210,7 @@ fn says_a_total_too_great(rt: HostRuntime) -> Result<(), Fail> {
     let (out, refused) = output_around(rt.alloc(), transfers.as_slice())?;
     let want: &[u8] =
         b"report,d1,0,2,2,10,5000\nnode,env,0\nnode,U,0\nstream,T,env,U,1000000000000000,1,nonredundant,1000000000000000,1000000000000000,1000000000000000,1000000000000000,1000000000000000,cycle,,+T +O\nstream,O,U,env,,,observable,1000000000000000,1000000000000000,1000000000000000,1000000000000000,1000000000000000,cut,U,+T -O\nsolved,0,converged,0,0,0,0,0\nend,d1,0\nover,d1,T\n";
-    assert!(rt; out.as_slice() == want);
-    assert_eq!(rt; refused, 0);
+    assert_eq!(rt; (out.as_slice() == want, refused), (true, 0), "the output");
     Ok(())
 }
 
@@ -251,20 +267,22 @@ fn answers_records(rt: HostRuntime) -> Result<(), Fail> {
         ("critical,global,2,3841\n", "", 0),
     ];
     for (record, want, refused) in table {
-        let (out, count) = output(rt.alloc(), 10, &[SIX_ROWS, record.as_bytes()])?;
-        assert!(rt; out.as_slice() == want.as_bytes(), "at {record}");
-        assert_eq!(rt; count, refused, "at {record}");
+        let given = gives(rt.alloc(), &[SIX_ROWS, record.as_bytes()], want)?;
+        assert_eq!(rt; given, (true, refused), "at {record}");
     }
     Ok(())
 }
 
-// How many nodes and how many periods the book of a session has after a text.
+// How many nodes and how many periods the book of a session has after rows.
+fn kept_of(session: &mut Session, rows: &Rows, out: &mut Vec<u8>) -> Result<(u32, u32), Fail> {
+    take_all(session, rows, out)?;
+    Ok((session.book().site().nodes(), session.book().periods()))
+}
+
 fn kept(alloc: Global, text: &[u8]) -> Result<(u32, u32), Fail> {
     let rows = Rows::of(alloc, text)?;
-    let mut out = Vec::new(alloc);
     let mut session = Session::new(alloc, asked(10), Form::Csv);
-    take_all(&mut session, &rows, &mut out)?;
-    Ok((session.book().site().nodes(), session.book().periods()))
+    kept_of(&mut session, &rows, &mut Vec::new(alloc))
 }
 
 #[test]
@@ -305,8 +323,7 @@ fn tests_two_meters(rt: HostRuntime) -> Result<(), Fail> {
     let want: &[u8] =
         b"report,d1,0,2,2,10,5000\nnode,env,0\nnode,U,-72057594038\nstream,A,env,U,102000000,1000000000000,redundant,101000000,100999997,101000002,100999998,101000001,cut,env,-A +B\nstream,B,U,env,100000000,1000000000000,redundant,101000000,100999998,101000003,100999999,101000002,cut,U,+A -B\nsolved,1,converged,2,0,1,1999,2000\nglobal,3841,accept\nnodal,U,2000000,2000000000000,,nocritical\nmeasure,A,1999,2000,,nocritical\nmeasure,B,1999,2000,,nocritical\nend,d1,0\n";
     let (out, refused) = output_by(rt.alloc(), tested(0), &[text])?;
-    assert!(rt; out.as_slice() == want);
-    assert_eq!(rt; refused, 0);
+    assert_eq!(rt; (out.as_slice() == want, refused), (true, 0), "the output");
     Ok(())
 }
 
@@ -470,8 +487,8 @@ fn writes_histories(rt: HostRuntime) -> Result<(), Fail> {
         ),
     ];
     for (rows, want) in table {
-        let (out, _) = output(rt.alloc(), 10, &[ONE_METER, rows.as_bytes()])?;
-        assert!(rt; out.as_slice() == want.as_bytes(), "the output of {rows}");
+        let (is_given, _) = gives(rt.alloc(), &[ONE_METER, rows.as_bytes()], want)?;
+        assert!(rt; is_given, "the output of {rows}");
     }
     Ok(())
 }
@@ -483,8 +500,10 @@ fn reports_as_the_edited_file(rt: HostRuntime) -> Result<(), Fail> {
     let plain = b"reading,r2,A,2024-03-01,131,7\nreport,d1\n";
     let (one, refused) = output(rt.alloc(), 10, &[ONE_METER, edited])?;
     let (other, _) = output(rt.alloc(), 10, &[ONE_METER, plain])?;
-    assert_eq!(rt; refused, 0);
-    assert!(rt; !one.is_empty());
-    assert!(rt; one == other);
+    assert_eq!(rt;
+        (refused, one.is_empty(), one == other),
+        (0, false, true),
+        "the output of the edited file"
+    );
     Ok(())
 }
