@@ -23,7 +23,8 @@ from math import isqrt
 
 UNREADABLE = "kind fields name number unknown duplicate word shape count env ended".split()
 MOST_BYTES = 67_108_864
-MOST_NODES, MOST_STREAMS, MOST_ROUND, MOST_SWEEPS = 1001, 2000, 20, 100_000
+MOST_NODES, MOST_STREAMS, MOST_FREEDOM = 1001, 2000, 2000
+MOST_ROUND, MOST_SWEEPS = 20, 100_000
 MOST_GAP, MOST_PRICE, MOST_VALUE, MOST_VARIANCE = 10**6, 2**120, 10**15, 10**22
 MOST_FLOW, MOST_CRITICAL, MOST = 2**68 - 1, 10**12, 2**126
 GRAM = 2**56  # what a price and a dual flow are parts of
@@ -535,7 +536,7 @@ def read_solved(block: Block, fields: list[str]) -> None:
     """Read a `solved` row."""
     block.k = number(fields[1], 0, MOST_SWEEPS)
     block.g, block.h = number(fields[3], 0, 2**63), number(fields[4], 0, 32)
-    block.dof = number(fields[5], 0, 2000)
+    block.dof = number(fields[5], 0, MOST_FREEDOM)
     block.low, block.high = number(fields[6], -MOST, MOST), option(fields[7], -MOST, MOST)
     block.state = fields[2]
     ask(block.state in ("converged", "unconverged"), 7)
