@@ -69,7 +69,7 @@ class Known:
             found |= {*path.partition(".")[0].split("/")}
             text = self.sources.text(path)
             found |= set(re.findall(r"^(?:pub )?([A-Za-z_][\w']*) :", text, re.M))
-            found |= set(re.findall(r"\bensures (\w+)", text))
+            found |= set(re.findall(r"\b(?:ensures|fn) (\w+)", text))
             found |= set(re.findall(r"^ +(?:pub(?:\([a-z]+\))? )?(\w+): ", text, re.M))
         for path in self.sources.files(r"crates/.*\.edit"):
             found.add(path.rpartition("/")[2].partition(".")[0])

@@ -10,6 +10,7 @@ import re
 from collections.abc import Callable
 from functools import cache
 
+from .answers import unreached
 from .rust import Function, functions
 from .sources import Sources, Unknown
 from .statement import page_of, repeated, short
@@ -94,6 +95,7 @@ FORMS: dict[str, Callable[[Sources], list[str]]] = {
     "unused_parameters": unused_parameters,
     "unreachable_places": unreachable,
     "functions_of_one_operator": one_operator,
+    "answers_that_nothing_reaches": unreached,
 }
 
 
