@@ -285,21 +285,38 @@ def types_given(sources: Sources) -> dict[str, set[str]]:
     return found
 
 
+def shows(answer: Answer, sites: list[str], asserted: str, made: str) -> bool:
+    """Return whether a test that makes a call shows an answer of it.
+
+    Parameters
+    ----------
+    sites : list of str
+        What stands after each call.
+    asserted, made : str, str
+        The test with the helpers that assert, and the other helpers that make the call.
+    """
+    if not answer.enum:
+        goes_on = any(site.startswith("?") for site in sites)
+        return goes_on or re.search(r"\bOk\(|\.is_ok\(", asserted + made) is not None
+    return names_answer(asserted if answer.enum in ("bool", "Option") else asserted + made, answer)
+
+
 def by_tests(texts: Texts, call: Call) -> None:
-    """Note which tests of a crate reach the answers of a call."""
+    """Note which tests of a crate reach the answers of a call, those first that have an answer as it is shown."""
+    found: dict[Answer, list[tuple[bool, str]]] = {answer: [] for answer in call.answers}
     for test, helpers in texts.tests.items():
-        by_helper = {one: texts.sites(one, call.function) for one in helpers}
-        sites = [site for some in by_helper.values() for site in some]
-        if not sites:
+        sites = {one: texts.sites(one, call.function) for one in helpers}
+        if not any(sites.values()):
             continue
-        told = [one for one in helpers if by_helper[one] or one.name.startswith("assert")]
-        named = "\n".join(one.body or "" for one in {test: None, **dict.fromkeys(told)})
-        for answer, reached in call.answers.items():
-            goes_on = any(site.startswith("?") for site in sites)
-            if answer.name == "Ok" and not answer.enum and (goes_on or re.search(r"\bOk\(|\.is_ok\(", named)):
-                reached.append(f"{texts.crate}::{test.name}")
-            elif answer.enum and names_answer(named, answer):
-                reached.append(f"{texts.crate}::{test.name}")
+        asserting = [one for one in helpers if one is test or one.name.startswith("assert")]
+        making = [one for one in helpers if sites[one] and one not in asserting]
+        asserted, made = ("".join(one.body or "" for one in some) for some in (asserting, making))
+        for answer, places in found.items():
+            if shows(answer, sum(sites.values(), []), asserted, made):
+                literal = bool(answer.enum) and answer.shown.rstrip(")") in asserted
+                places.append((not literal, f"{texts.crate}::{test.name}"))
+    for answer, places in found.items():
+        call.answers[answer] += [place for _, place in sorted(places, key=lambda it: it[0])]
 
 
 def by_cases(texts: Texts, call: Call, expected: str) -> None:

@@ -143,7 +143,7 @@ class Guide:
             names = [column["name"] for column in columns_of(row)]
             if sorted(seen[kind]) != sorted(names):
                 self.say(
-                    f"a {kind} row has the columns {', '.join(names)}, and all rows of the output"
+                    f"`{kind}` rows have the columns {', '.join(names)}, and all rows of the output"
                     f" say {', '.join(seen[kind])}"
                 )
 

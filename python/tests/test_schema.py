@@ -42,7 +42,7 @@ OTHERWISE = [
         "most_level = 100001",
         "MM is from 0",
     ),
-    (OUTPUT, 'column (codes "dof") dof_range', 'column (codes "free") dof_range', "a solved row has"),
+    (OUTPUT, 'column (codes "dof") dof_range', 'column (codes "free") dof_range', "`solved` rows have"),
     (SESSION, '(codes "row") (codes "dip")', '(codes "row") (codes "dips")', "no dips,ID"),
     (
         SESSION,
@@ -50,15 +50,16 @@ OTHERWISE = [
         '(codes "unit") ∷ column (codes "name") Name ∷ column (codes "to") Name ∷ []',
         "no unit,NAME,TO",
     ),
-    (SESSION, "session_columns kind.StreamBatch =", "session_columns kind.RiverBatch =", "RiverBatch"),
+    (SESSION, "kind.StreamBatch", "kind.RiverBatch", "RiverBatch isn't named"),
+    (SESSION, "session_columns kind.StreamBatch =", "session_columns kind.Strap =", "no equation"),
     (SESSION, 'column (codes "last") Date', 'column (codes "last") Time', "what is Time"),
     (SESSION, 'column (codes "last") Date', 'column (codes "last") λ', "what is this"),
     ("crates/pb_form/specs/Words.antt", 'codes "sealed"', 'codes "shut"', "10 shut"),
     (
         OUTPUT,
         '(codes "end") ∷ column (codes "period") Name ∷ column (codes "round") round_range ∷ []',
-        '(codes "end") ∷ column (codes "period") Name ∷ column (codes "gap") round_range ∷ []',
-        "a end row has",
+        '(codes "end") ∷ column (codes "period") Name ∷ column (codes "price") round_range ∷ []',
+        "`end` rows have",
     ),
     (
         OUTPUT,
@@ -72,7 +73,7 @@ OTHERWISE = [
         "| DOF | degrees of freedom | 1 | 3,000 |",
         "DOF is from",
     ),
-    (GUIDE, "| k | sweeps done", "| sweeps | sweeps done", "a solved row has"),
+    (GUIDE, "| k | sweeps done", "| sweeps | sweeps done", "`solved` rows have"),
     (GUIDE, "`strike,ID,REASON`", "`strike,ID`", "no strike,ID,REASON"),
 ]
 
