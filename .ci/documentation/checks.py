@@ -36,7 +36,7 @@ def stale(sources: Sources) -> list[str]:
 
 
 def heads(sources: Sources) -> list[str]:
-    """Return the files of definitions that say neither Statement nor Inside, or the wrong one of these."""
+    """Return the files of definitions that don't say, or say wrongly, what they are."""
     found = [
         f"{spec.path}: its first line says neither Statement nor Inside"
         for spec in sources.specs.values()

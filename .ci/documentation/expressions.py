@@ -23,7 +23,8 @@ LEVELS: list[dict[str, Callable[[Any, Any], Any]]] = [
 ]
 # An expression: its form, and what belongs to it.
 Expression = tuple[Any, ...]
-# A number, a text, a list, the fields of a record, a constructor, or a definition that lacks arguments.
+# A number, a text, a list, the fields of a record, a constructor, or a definition that lacks
+# arguments.
 Value = Any
 
 

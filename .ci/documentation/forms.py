@@ -1,7 +1,7 @@
 """Forms of the sources that are to become fewer: what there is of each, and how many there may be.
 
-.ci/at_most.txt has a number for each. `.ci/documents write` lowers a number to what there is and never raises it;
-`.ci/documents check` refuses more.
+.ci/at_most.txt has a number for each. `.ci/documents write` lowers a number to what there is and
+never raises it; `.ci/documents check` refuses more.
 """
 
 from __future__ import annotations
@@ -11,23 +11,22 @@ from collections.abc import Callable
 from functools import cache
 
 from .answers import unreached
-from .rust import Function, functions
+from .rust import Function, of_libraries
 from .sources import Sources, Unknown
 from .statement import page_of, repeated, short
 
 AT_MOST = ".ci/at_most.txt"
 # One operator over two operands, or before one.
-OPERAND = r"(?:\*|&)?(?:(?P<{0}>[a-z_][a-z_0-9]*)|[0-9][0-9_]*|[A-Z][A-Z_0-9]*)"
-ONE_OPERATOR = re.compile(
-    rf"(?:{OPERAND.format('left')} (?:[-+*/%&|^]|&&|\|\||[=!]=|[<>]=?|<<|>>) |[-!]){OPERAND.format('right')}"
-)
+OPERAND = r"[*&]?(?:([a-z_][a-z_0-9]*)|[0-9][0-9_]*|[A-Z][A-Z_0-9]*)"
+OPERATOR = r"[-+*/%&|^]|&&|\|\||[=!]=|[<>]=?|<<|>>"
+ONE_OPERATOR = re.compile(rf"(?:{OPERAND} (?:{OPERATOR}) |[-!]){OPERAND}")
 LAWS = re.compile(r"\s*(?:(?:\w+(?:\.|::))*\w+_laws?\([^;]*\);?\s*)*")
 
 
 @cache
 def working(sources: Sources) -> list[Function]:
-    """Return the functions that do something: none of tests, and no law, which cites other laws at the most."""
-    found = functions(sources, sources.code)
+    """Return the functions that do something: none of tests, and none that only cites laws."""
+    found = of_libraries(sources)
     return [one for one in found if one.body and not LAWS.fullmatch(one.body)]
 
 

@@ -1,4 +1,4 @@
-"""What docs/GUIDE.md says of rows and codes, held against the tables, and the parts of it that are made."""
+"""What docs/GUIDE.md says of rows and codes, and the parts of it that are made."""
 
 from __future__ import annotations
 
@@ -163,7 +163,7 @@ class Guide:
         by_kind: dict[str, Data],
         seen: dict[str, list[str]],
     ) -> None:
-        """Give columns what a row of a table says of them: their kinds, if it has several; names; words."""
+        """Give columns what a row of a table says: kinds if there are several, names, words."""
         wide = len(cells) == 3
         kinds = re.findall(r"`([a-z]+)`", cells[0]) if wide else own[:1]
         if wide and cells[0] == "all three":

@@ -1,7 +1,8 @@
 """The rows of a session and of an output as data: python/plantbal/schema.json.
 
-Kinds, columns, keys, ranges and words stand in the two tables of `pb_form` alone, the limits in `pb_limits`, and what they mean in
-words in docs/GUIDE.md. A form of a table that isn't known here ends with a sentence that names it.
+Kinds, columns, keys, ranges and words stand in the two tables of `pb_form` alone, the limits in
+`pb_limits`, and what they mean in words in docs/GUIDE.md. A form of a table that isn't known here
+ends with a sentence that names it.
 """
 
 from __future__ import annotations
@@ -103,7 +104,7 @@ def session(sources: Sources) -> list[Data]:
 
 
 def output(sources: Sources) -> list[Data]:
-    """Return the rows of an output; a second kind of a word is an older form, without some columns."""
+    """Return the rows of an output; a second kind of a word is an older form with fewer columns."""
     found: dict[str, Data] = {}
     for kind in kinds_of(sources, "pb_form.specs.OutputRows", "output"):
         row = found.get(kind.word)

@@ -1,4 +1,4 @@
-"""The schema: it follows from the sources, the guide says the same, and each shipped row fits it."""
+"""The schema follows from the sources, the guide says the same, and each shipped row fits it."""
 
 from __future__ import annotations
 
@@ -42,7 +42,7 @@ OTHERWISE = [
         "most_level = 100001",
         "MM is from 0",
     ),
-    (OUTPUT, 'column (codes "dof") dof_range', 'column (codes "free") dof_range', "`solved` rows have"),
+    (OUTPUT, '(codes "dof") dof_range', '(codes "free") dof_range', "`solved` rows have"),
     (SESSION, '(codes "row") (codes "dip")', '(codes "row") (codes "dips")', "no dips,ID"),
     (
         SESSION,
@@ -114,9 +114,10 @@ def test_columns_that_repeat() -> None:
 
 
 def test_columns_that_may_be_missing_at_the_end() -> None:
-    longer = 'session_columns kind.TankSince = session_columns kind.Tank ++ column (codes "since") Date ∷ []'
+    since = 'session_columns kind.Tank ++ column (codes "since") Date ∷ []'
+    strap = "session_columns kind.Strap ="
     found = sessions(
-        ("session_columns kind.Strap =", f"{longer}\nsession_columns kind.Strap ="),
+        (strap, f"session_columns kind.TankSince = {since}\n{strap}"),
         ("kind.Tank ∷ kind.Strap", "kind.Tank ∷ kind.TankSince ∷ kind.Strap"),
     )
     assert guide.pattern_of(row(found, "tank")) == "tank,NAME,BASEVAR"
