@@ -73,7 +73,7 @@ class Known:
 
     @cached_property
     def names(self) -> set[str]:
-        """These, and names of members, fields, clauses, modules, lemmas, tests, edits, scripts."""
+        """These; members, fields, clauses, lemmas, tests, modules, edits, scripts, what is used."""
         found = {*self.defined, *self.scripts}
         for spec in self.sources.specs.values():
             found |= {*spec.module.split("."), *(name for _, name in spec.imports.names.values())}
@@ -84,6 +84,8 @@ class Known:
             found |= {*path.partition(".")[0].split("/")}
             found |= set(re.findall(r"^(?:pub )?([A-Za-z_][\w']*) :", text, re.M))
             found |= set(re.findall(r"\b(?:ensures|fn) (\w+)", text))
+            for used in re.findall(r"^ *(?:pub )?use ([^;]*);", text, re.M):
+                found |= set(re.findall(r"\w+", used))
             found |= set(re.findall(r"^ +(?:pub(?:\([a-z]+\))? )?(\w+): ", text, re.M))
         for path in self.sources.files(r"crates/.*\.edit"):
             found.add(path.rpartition("/")[2].partition(".")[0])

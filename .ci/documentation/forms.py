@@ -33,7 +33,7 @@ def working(sources: Sources) -> list[Function]:
 def places(found: list[Function], pattern: str) -> list[str]:
     """Return each place of a pattern in bodies."""
     return [
-        f"{short(one.path)}: {one.called}: {text}"
+        f"{short(one.path)}:{one.line}: {one.called}: {text}"
         for one in found
         for text in re.findall(pattern, one.body or "")
     ]
@@ -52,7 +52,7 @@ def calls_for_clauses(sources: Sources) -> list[str]:
 def unused_parameters(sources: Sources) -> list[str]:
     """Return the parameters that a body doesn't use, but for those that a trait asks for."""
     return [
-        f"{short(one.path)}: {one.called}: {name}"
+        f"{short(one.path)}:{one.line}: {one.called}: {name}"
         for one in working(sources)
         for name, _ in one.parameters
         if name.startswith("_") and not one.trait
@@ -60,7 +60,7 @@ def unused_parameters(sources: Sources) -> list[str]:
 
 
 def unreachable(sources: Sources) -> list[str]:
-    """Return the places that are never come to."""
+    """Return the places that say that nothing reaches them."""
     return places(working(sources), r"unreachable!\(")
 
 
@@ -71,7 +71,7 @@ def one_operator(sources: Sources) -> list[str]:
         formed = ONE_OPERATOR.fullmatch((one.body or "").strip())
         names = {name for name, _ in one.parameters}
         if formed and not one.trait and {x for x in formed.groups() if x} <= names:
-            found.append(f"{short(one.path)}: {one.called}: {(one.body or '').strip()}")
+            found.append(f"{short(one.path)}:{one.line}: {one.called}: {(one.body or '').strip()}")
     return found
 
 

@@ -233,13 +233,15 @@ def schema(sources: Sources) -> tuple[Data, list[str]]:
     return data, guide.complaints
 
 
-def contents_of(text: str, least: int = 2) -> list[str]:
-    """Return the headings of a text as a list of links, from those of this depth on, two deep."""
-    lines = []
-    for marks, heading in re.findall(rf"^({'#' * least}#?) (.*)$", text, re.M):
-        anchor = re.sub(r"[^a-z0-9 _-]", "", heading.lower()).replace(" ", "-")
-        lines.append(f"{'  ' * (len(marks) - least)}- [{heading}](#{anchor})")
-    return lines
+def anchor_of(heading: str) -> str:
+    """Return what a link calls a heading."""
+    return "#" + re.sub(r"[^a-z0-9 _-]", "", heading.lower()).replace(" ", "-")
+
+
+def contents_of(text: str) -> list[str]:
+    """Return the headings of a text as a list of links."""
+    headings = re.findall(r"^##(#?) (.*)$", text, re.M)
+    return [f"{'  ' * len(deep)}- [{title}]({anchor_of(title)})" for deep, title in headings]
 
 
 def keys(sources: Sources) -> list[str]:

@@ -8,7 +8,7 @@ from collections.abc import Iterator
 from dataclasses import dataclass, field
 from functools import cache
 
-from .guide import contents_of
+from .guide import anchor_of, contents_of
 from .rust import Function, functions_in, item_of
 from .sources import Definition, Imports, Sources, Spec, Unknown, imports
 
@@ -282,6 +282,17 @@ def chapters(sources: Sources, page: Page) -> list[tuple[str, list[Reached]]]:
     return found
 
 
+def in_words(sources: Sources, crates: set[str]) -> list[str]:
+    """Return a line on where docs/DEFINITIONS.md has crates in words, if it has them."""
+    headings = re.findall(r"^## (.*)$", sources.text("docs/DEFINITIONS.md"), re.M)
+    links = [
+        f"[{heading.partition(' (')[0]}](DEFINITIONS.md{anchor_of(heading)})"
+        for heading in headings
+        if crates & set(re.findall(r"`(\w+)`", heading))
+    ]
+    return ["", f"In words: {', '.join(links)}."] if links else []
+
+
 def code_block(language: str, text: str) -> list[str]:
     """Return a text as a block of code."""
     return [f"```{language}", text.rstrip(), "```"]
@@ -305,7 +316,7 @@ def body_of(sources: Sources, page: Page) -> list[str]:
         lines += ["", f"In `{short(part.path)}`:", "", *page.here(part)]
         lines += code_block("rust", part.text)
     for layer, files in chapters(sources, page):
-        lines += ["", f"## {layer}"]
+        lines += ["", f"## {layer}", *in_words(sources, {spec.crate for spec, _ in files})]
         for reached in files:
             spec, definitions = reached
             head = re.sub(r"^-- (?:Statement\. |Inside\. )?", "", spec.head)
