@@ -27,8 +27,7 @@ def main(words: list[str]) -> int:
             print(f"documents: {line}")
         return 1 if found else 0
     if len(words) == 2 and words[0] == "list" and words[1] in forms.FORMS:
-        for line in forms.FORMS[words[1]](Sources()):
-            print(line)
+        print("\n".join(forms.FORMS[words[1]](Sources())))
         return 0
     print(f"{__doc__}\nThe forms: {', '.join(forms.FORMS)}.", file=sys.stderr)
     return 2

@@ -9,10 +9,12 @@ from dataclasses import dataclass, field
 from functools import cache
 
 from .guide import anchor_of, contents_of
-from .rust import Function, functions_in, item_of
+from .rust import Function, functions_in, item_of, of_libraries
 from .sources import Definition, Imports, Sources, Spec, Unknown, imports
 
 STATEMENT = "docs/STATEMENT.md"
+# What README.md promises beside the contract of `run`: laws over the same words.
+LAWS = ("run_text_law", "check_text_law", "own_reports_law", "edited_file_law", "decided_law")
 WORD = re.compile(r"[A-Za-z_][A-Za-z0-9_']*(?:\.[A-Za-z_][A-Za-z0-9_']*)*")
 # A function with a body in a block, with its comment.
 BODY = re.compile(r"\n(?:    //[^\n]*\n)*    (?:pub )?fn [^\n]*\{\n.*?\n    \}", re.S)
@@ -181,14 +183,29 @@ def ends(sources: Sources, run: Function) -> Iterator[Part]:
                 yield Part(path, block, imports(text))
 
 
+def laws(sources: Sources) -> Iterator[Part]:
+    """Return the laws that stand beside the contract of `run`."""
+    for name in LAWS:
+        found = [one for one in of_libraries(sources) if one.called == name and one.public]
+        if len(found) != 1:
+            raise Unknown(f"{len(found)} laws have the name {name}")
+        text = sources.text(found[0].path)
+        above = text.splitlines()[: found[0].line - 1]
+        begin = len(above)
+        while above[begin - 1].startswith("///"):
+            begin -= 1
+        shown = [*above[begin:], found[0].head, found[0].contract]
+        yield Part(found[0].path, "\n".join(shown), imports(text))
+
+
 @dataclass
 class Page:
     """What the page shows.
 
     Attributes
     ----------
-    run, ends : Part, list of Part
-        The contract of `run`, and what it takes.
+    run, ends, laws : Part, list of Part, list of Part
+        The contract of `run`, what it takes, and the laws beside it.
     reach : Reach
         What these reach.
     files : list
@@ -199,6 +216,7 @@ class Page:
 
     run: Part
     ends: list[Part]
+    laws: list[Part]
     reach: Reach
     files: list[Reached]
     repeated: dict[str, list[str]]
@@ -206,7 +224,7 @@ class Page:
     def renamed(self) -> dict[str, list[str]]:
         """Return the names of the page that are defined nowhere on it, with where they come."""
         found: dict[str, list[str]] = {name: [at] for name, at in self.reach.unknown.items()}
-        for part in [self.run, *self.ends, *map(part_of, self.files)]:
+        for part in [self.run, *self.ends, *self.laws, *map(part_of, self.files)]:
             for word in dict.fromkeys(it.partition(".")[0] for it in words_in(part.text)):
                 module, name = part.imports.names.get(word, ("", word))
                 if name != word and ".pb_" in module:
@@ -238,11 +256,11 @@ class Page:
 def page_of(sources: Sources) -> Page:
     """Return the page."""
     function, run = contract(sources)
-    taken = list(ends(sources, function))
+    taken, beside = list(ends(sources, function)), list(laws(sources))
     reach = Reach(sources)
-    for part in [run, *taken]:
+    for part in [run, *taken, *beside]:
         reach.words(part.text, part.imports)
-    return Page(run, taken, reach, reach.files(), repeated(sources))
+    return Page(run, taken, beside, reach, reach.files(), repeated(sources))
 
 
 @cache
@@ -286,7 +304,7 @@ def in_words(sources: Sources, crates: set[str]) -> list[str]:
     """Return a line on where docs/DEFINITIONS.md has crates in words, if it has them."""
     headings = re.findall(r"^## (.*)$", sources.text("docs/DEFINITIONS.md"), re.M)
     links = [
-        f"[{heading.partition(' (')[0]}](DEFINITIONS.md{anchor_of(heading)})"
+        f"[{re.sub(r' [(]`.*?`[)]', '', heading)}](DEFINITIONS.md{anchor_of(heading)})"
         for heading in headings
         if crates & set(re.findall(r"`(\w+)`", heading))
     ]
@@ -303,6 +321,15 @@ def paragraph(text: str) -> list[str]:
     return textwrap.wrap(text, 120, break_long_words=False, break_on_hyphens=False)
 
 
+def shown(page: Page, parts: list[Part]) -> list[str]:
+    """Return parts of code, each with its file."""
+    lines = []
+    for part in parts:
+        lines += ["", f"In `{short(part.path)}`:", "", *page.here(part)]
+        lines += code_block("rust", part.text)
+    return lines
+
+
 def body_of(sources: Sources, page: Page) -> list[str]:
     """Return the page without its head."""
     lines = ["## The contract of `run`", "", f"In `{short(page.run.path)}`:", ""]
@@ -312,9 +339,14 @@ def body_of(sources: Sources, page: Page) -> list[str]:
         " of the words. The traits say what every source and every sink keeps to; the blocks after"
         " them, what a contract sees of those that `main` hands over, and of words."
     )
-    for part in page.ends:
-        lines += ["", f"In `{short(part.path)}`:", "", *page.here(part)]
-        lines += code_block("rust", part.text)
+    lines += shown(page, page.ends)
+    lines += ["", "## Laws beside it", ""]
+    lines += paragraph(
+        "These functions do nothing. What their contracts say is proved of the words above and below:"
+        " that each input has one text, that one's own reports pass a check, that a report after edits"
+        " is that of the edited file, and that the decided tests of measurements are right."
+    )
+    lines += shown(page, page.laws)
     for layer, files in chapters(sources, page):
         lines += ["", f"## {layer}", *in_words(sources, {spec.crate for spec, _ in files})]
         for reached in files:
@@ -344,14 +376,14 @@ def document(sources: Sources) -> str:
         ),
         "",
         *paragraph(
-            "The program is proved to meet the contract of `pb_cli::run`. Whoever reads that"
-            " contract must believe that its words mean what they should. These are all of them:"
-            f" {count} definitions in {len(page.files)} files, by the layers of their crates from"
-            f" the program down, and after them the {len(page.reach.types)} types and constants of"
-            " the code that they speak of. Words that aren't here are those of the toolchain's"
-            f" libraries: {libraries}. Nothing else of the repository has to be read to know what"
-            " is claimed: bodies, invariants, lemmas and the contracts below `run` only serve to"
-            " prove it."
+            "The program is proved to meet the contract of `pb_cli::run`, and beside it stand a few"
+            " laws. Whoever reads these must believe that their words mean what they should. These"
+            f" are all of them: {count} definitions in {len(page.files)} files, by the layers of"
+            f" their crates from the program down, and after them the {len(page.reach.types)} types"
+            " and constants of the code that they speak of. Words that aren't here are those of the"
+            f" toolchain's libraries: {libraries}. Nothing else of the repository has to be read to"
+            " know what is claimed: bodies, invariants, lemmas and the other contracts only serve"
+            " to prove it."
         ),
         "",
         "## Contents",

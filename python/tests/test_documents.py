@@ -122,10 +122,12 @@ def test_imports() -> None:
     assert found.home("four") is None
 
 
-def test_page_says_what_the_ends_are() -> None:
+def test_page_has_the_ends_and_the_laws() -> None:
     page = statement.document(SAME)
     for shown in ("trait Source {", "trait Sink {", "Model for StdSource", "Model for Words {"):
         assert shown in page
+    for law in ("OwnReportsLaw", "EditedFileLaw", "DecidedLaw"):
+        assert f"ensures {{ {law} }}" in page and f"\n{law} = " in page
     assert "self.reader" not in page
 
 
