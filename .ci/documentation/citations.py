@@ -38,8 +38,8 @@ PATH = re.compile(r"[A-Za-z0-9_.*-]+(?:/[A-Za-z0-9_.*-]+)*/?")
 # A word in the place of which a name is to be put, and a folder of what tools make.
 OPEN = re.compile(r"(?:^|[/.])(?:[A-Z]+|\.\.|out)(?:[/.]|$)")
 NAME = re.compile(r"[A-Za-z_][A-Za-z0-9_']*(?:(?:::|\.)[A-Za-z_][A-Za-z0-9_']*)*")
-# The crates of the kit that documents speak of, and the folders of modules.
-KIT = {"csv", "jiff", "jiff_core", "clap", "serde_json", "indexmap", "thiserror", "std", *PARTS}
+# The crates of the kit that documents speak of: what is theirs isn't looked up.
+KIT = {"csv", "jiff", "jiff_core", "clap", "serde_json", "indexmap", "thiserror", "std"}
 
 
 def quotes(sources: Sources, path: str) -> Iterator[tuple[int, str]]:
@@ -62,7 +62,7 @@ class Known:
     @cached_property
     def defined(self) -> set[str]:
         """Crates and definitions; functions, types, constants and variants of the code."""
-        found = {*self.sources.crates, *KIT}
+        found = {*self.sources.crates, *KIT, *PARTS}
         for spec in self.sources.specs.values():
             found |= set(spec.names)
         for path in self.sources.code:
@@ -152,7 +152,8 @@ def missing(sources: Sources) -> list[str]:
                 if not known.has_path(quoted):
                     found.append(f"{path}:{line}: there is no `{quoted}`")
             elif inner and is_name(quoted):
-                if not known.names.issuperset(re.split(r"::|\.", quoted)):
+                words = re.split(r"::|\.", quoted)
+                if words[0] not in KIT and not known.names.issuperset(words):
                     found.append(f"{path}:{line}: `{quoted}` is no name of the sources")
     return found + not_defined(sources, known) + conformance(sources)
 

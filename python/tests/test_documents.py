@@ -127,7 +127,7 @@ def test_page_has_the_ends_and_the_laws() -> None:
     for shown in ("trait Source {", "trait Sink {", "Model for StdSource", "Model for Words {"):
         assert shown in page
     for law in ("OwnReportsLaw", "EditedFileLaw", "DecidedLaw"):
-        assert f"ensures {{ {law} }}" in page and f"\n{law} = " in page
+        assert f"ensures {{ {law} }}" in page and f"\n{law} =" in page
     assert "self.reader" not in page
 
 
