@@ -1,5 +1,5 @@
 -- What a record says by a schema fits its columns.
-use Rattle.std.specs.Prelude.{◌&&◌, ◌==◌, bytes_eq, nat_le, position, Some, Result, Ok, if◌then◌else◌}
+use Rattle.std.specs.Prelude.{◌&&◌, ◌==◌, bytes_eq, nat_le, position, Some, Result, Ok, Err, if◌then◌else◌}
 use Rattle.std.proofs.Common.{◌≡◌, ◌≤◌, ℕ, Bool, true, false, List, [], ◌∷◌, length, refl, subst, sym, arith}
 use Rattle.std.proofs.lemmas.Bool.{and_parts}
 use Rattle.std.proofs.lemmas.Bool.Decides.{nat_tests}

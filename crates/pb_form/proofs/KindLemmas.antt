@@ -72,9 +72,9 @@ other_word a b = false
 
 -- two lists of columns have other words, or another number of columns
 abbrev differ : List Column → List Column → Bool
-differ (a ∷ as) (b ∷ bs) = other_word a.holds b.holds || differ as bs
+differ (a ∷ xs) (b ∷ ys) = other_word a.holds b.holds || differ xs ys
 differ [] [] = false
-differ as bs = true
+differ xs ys = true
 
 same_word : (a b field : List ℕ) → bytes_eq field a ≡ true → bytes_eq field b ≡ true → not (bytes_eq a b) ≡ false
 same_word a b field one other =
@@ -100,16 +100,16 @@ no_other_word (holds.Number lo hi) b field one other = refl
 no_other_word holds.Date b field one other = refl
 no_other_word holds.Items b field one other = refl
 
-alike : (as bs : List Column) (fields : List (List ℕ)) → length fields ≡ length as → length fields ≡ length bs → agrees as fields ≡ true → agrees bs fields ≡ true
-    → differ as bs ≡ false
+alike : (xs ys : List Column) (fields : List (List ℕ)) → length fields ≡ length xs → length fields ≡ length ys → agrees xs fields ≡ true → agrees ys fields ≡ true
+    → differ xs ys ≡ false
 alike [] [] fields m n one other = refl
-alike [] (b ∷ bs) fields m n one other = absurd (omega (arith, m, n))
-alike (a ∷ as) [] fields m n one other = absurd (omega (arith, m, n))
-alike (a ∷ as) (b ∷ bs) [] m n one other = absurd (omega (arith, m))
-alike (a ∷ as) (b ∷ bs) (field ∷ fields) m n one other =
-    let x = and_parts (has_word a.holds field) (agrees as fields) one in
-    let y = and_parts (has_word b.holds field) (agrees bs fields) other in
-    rw (no_other_word a.holds b.holds field x.0 y.0, alike as bs fields (omega (arith, m)) (omega (arith, n)) x.1 y.1) refl
+alike [] (b ∷ ys) fields m n one other = absurd (omega (arith, m, n))
+alike (a ∷ xs) [] fields m n one other = absurd (omega (arith, m, n))
+alike (a ∷ xs) (b ∷ ys) [] m n one other = absurd (omega (arith, m))
+alike (a ∷ xs) (b ∷ ys) (field ∷ fields) m n one other =
+    let x = and_parts (has_word a.holds field) (agrees xs fields) one in
+    let y = and_parts (has_word b.holds field) (agrees ys fields) other in
+    rw (no_other_word a.holds b.holds field x.0 y.0, alike xs ys fields (omega (arith, m)) (omega (arith, n)) x.1 y.1) refl
 
 -- a record of two schemas
 of_both : (a b : Schema) (fields : List (List ℕ)) → a.tail ≡ [] → b.tail ≡ [] → is_of fields a ≡ true → is_of fields b ≡ true → differ a.columns b.columns ≡ false
