@@ -10,3 +10,4 @@ mod OneRecordLemmas
 mod JsonLemmas
 mod TextLemmas
 mod DaySaysLemmas
+mod RowTextLemmas

@@ -5,7 +5,6 @@ use Rattle.pb_form.specs.Field.{field_read}
 use Rattle.pb_form.specs.Holds.{Holds}
 use Rattle.pb_form.specs.Holds as holds
 use Rattle.pb_form.specs.Value as value
-use Rattle.pb_form.specs.Writing.{word_at}
 use Rattle.pb_form.specs.declared.value.Value as coded
 use Rattle.pb_form.specs.declared.value.Value.TheVariants as given
 
@@ -33,8 +32,3 @@ pub record AddsValue (column : Column) (said : value.Value) (old new : List (Lis
   pub field : List ℕ
   pub says : field_read column field ≡ Ok said
   pub added : new ≡ old ++ field ∷ []
-
--- the word at a place among those that a column takes
-abbrev pub word_of : Holds → ℕ → List ℕ
-word_of (holds.Word words) place = word_at words place
-word_of takes place = []

@@ -6,12 +6,14 @@ pub mod Values
 pub mod Field
 pub mod Reading
 pub mod Writing
+pub mod Texts
 pub mod Telling
 pub mod Json
 pub mod SessionRows
 pub mod Words
 pub mod OutputRows
 pub mod Laws
+pub mod OutputLaws
 -- Inside
 pub mod Seen
 pub mod Kept

@@ -2,8 +2,9 @@
 
 ghost use Rattle.std.specs.Prelude.{◌≡◌, ◌∷◌, ◌++◌, [], length, map, All, IsUtf8, IfOk, OnOk};
 ghost use Rattle.pb_rows.specs.Number.{whole_text};
-ghost use Rattle.pb_form.specs.Given.{AddsValue, value_as, values_as, word_of};
+ghost use Rattle.pb_form.specs.Given.{AddsValue, value_as, values_as};
 ghost use Rattle.pb_form.specs.Seen.{column_seen, holds_seen, schema_seen};
+ghost use Rattle.pb_form.specs.Texts.{word_of};
 ghost use Rattle.pb_form.specs.Writing.{FitEach, Fits, Writes};
 
 use crate::column::{Column, Holds, Schema};
@@ -46,7 +47,7 @@ fn push_value(alloc: Global, column: &Column, value: Value, row: &mut Row) -> Re
 }
 
 // The word at a place among those of a column.
-fn word_of(holds: &Holds, place: usize) -> &'static str
+pub(crate) fn word_of(holds: &Holds, place: usize) -> &'static str
     ensures { result.now ≡ word_of (holds_seen holds.now) place }
 {
     match holds {
@@ -56,7 +57,7 @@ fn word_of(holds: &Holds, place: usize) -> &'static str
 }
 
 // Appends the text of a number.
-fn push_number(alloc: Global, number: i128, row: &mut Row) -> Result<(), AllocError>
+pub(crate) fn push_number(alloc: Global, number: i128, row: &mut Row) -> Result<(), AllocError>
     ensures { OnOk result (row.new ≡ row.old ++ whole_text number ∷ []) }
 {
     let text = whole_bytes(alloc, number)?;

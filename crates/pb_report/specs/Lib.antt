@@ -1,8 +1,8 @@
 -- Statement
 pub mod Row
-pub mod Json
 pub mod Form
 pub mod Names
+pub mod Places
 pub mod Rows
 pub mod Refusal
 pub mod Over
@@ -14,6 +14,5 @@ pub mod Study
 pub mod History
 pub mod Summary
 -- Inside
-pub mod Columns
 pub mod Output
 pub mod Pieces

@@ -1,7 +1,7 @@
 //! The rows of a session's output: refused records, the classes of a design, reports, histories of periods, and summaries.
 //!
 //! Each call appends whole rows to `out`, in a form. After want of memory `out` is as it was.
-//! A row is made as a value, its columns with their keys, and one function writes rows in a form.
+//! A row is a kind and its values, one for each column of the kind; pb_form has the columns, and one function writes rows in a form.
 #![tactic(auto)]
 
 mod block;
@@ -12,17 +12,22 @@ mod history;
 mod output;
 mod over;
 mod parts;
+mod places;
 mod refused;
-mod row;
 mod study;
 mod summary;
+mod values;
 mod verdicts;
 
 pub use design::write_design;
 pub use form::{Form, write_row};
 pub use history::{HistoryRow, HistoryWord, Period, write_history};
 pub use over::write_over;
+pub use places::{
+    Shape, class_place, edit_place, gap_met, placed_class, placed_edit, placed_shape, placed_stop,
+    placed_truth, placed_verdict, shape_place, stop_place, truth_place, verdict_place,
+    witness_shape, word_tables_law,
+};
 pub use refused::write_refused;
-pub use row::OutputRow;
 pub use study::write_study;
 pub use summary::write_summary;
