@@ -30,7 +30,7 @@ pub use output::{OutputKind, output_schema, output_schemas};
 pub use reading::{read, read_columns};
 pub use session::{SessionKind, session_kind, session_schema, session_schemas};
 pub use telling::tell;
-pub use texts::{output_rows_law, write_output, write_output_json};
+pub use texts::{output_rows_law, output_record, write_output_json};
 pub use value::{ROOM, Value, Values};
 pub use words::{
     CAUSE_WORDS, CLASS_WORDS, EDIT_WORDS, MEASURED_WORDS, PERIOD_WORDS, SHAPE_WORDS, STATE_WORDS,

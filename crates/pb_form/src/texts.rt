@@ -18,7 +18,7 @@ use std::alloc::{AllocError, Global};
 
 /// The record of a row of an output: the text of each value, of which the first is the kind's word. If they fit their columns, it
 /// reads back as them.
-pub fn write_output(alloc: Global, kind: OutputKind, values: &[Value]) -> Result<Row, AllocError>
+pub fn output_record(alloc: Global, kind: OutputKind, values: &[Value]) -> Result<Row, AllocError>
     requires { length values.now ≡ length (output_columns kind) }
     ensures fields { IfOk result (λ row. row
         ≡ texts_of (output_columns kind) (values_as (output_columns kind) values.now)) }

@@ -14,5 +14,6 @@ pub mod Study
 pub mod History
 pub mod Summary
 -- Inside
+pub mod Given
 pub mod Output
 pub mod Pieces

@@ -1,16 +1,8 @@
 -- Inside. What is written so far, and what is still to be written.
 use Rattle.std.specs.Prelude.{◌≡◌, ◌++◌, ℕ, List}
-use Rattle.pb_form.specs.Given.{values_as}
-use Rattle.pb_form.specs.OutputRows.{output_columns}
-use Rattle.pb_form.specs.declared.output.OutputKind.{OutputKind}
-use Rattle.pb_form.specs.declared.value.Value.{Value}
 use Rattle.pb_report.specs.declared.form.Form.{Form}
 use Rattle.pb_report.specs.Form.{text_in}
 use Rattle.pb_report.specs.Row.{OutputRow}
-
--- the row of a kind with these values
-abbrev pub given_row : OutputKind → List Value → OutputRow
-given_row kind values = record { kind = kind; values = values_as (output_columns kind) values }
 
 -- the rows written so far, as a text in a form
 pub record OutputText : Type 0 where
