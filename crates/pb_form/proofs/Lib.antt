@@ -9,5 +9,5 @@ mod FieldLemmas
 mod OneRecordLemmas
 mod JsonLemmas
 mod TextLemmas
-mod DaySaysLemmas
+mod DayTextLemmas
 mod RowTextLemmas

@@ -5,30 +5,33 @@ use Rattle.std.proofs.lemmas.Bool.{ne_eqb}
 use Rattle.std.proofs.lemmas.Int.{ints}
 use Rattle.std.proofs.lemmas.List.{length-map}
 use Rattle.std.proofs.Math.Seq.{drop-cons}
+use Rattle.pb_rows.specs.Date.{day_of}
 use Rattle.pb_rows.specs.Name.{is_name}
 use Rattle.pb_rows.specs.Number.{number, whole_text, within}
 use Rattle.pb_rows.specs.Reason.{is_reason}
-use Rattle.pb_rows.specs.Texts.{HaveOneNumberText}
+use Rattle.pb_rows.specs.Texts.{HaveOneDateText, HaveOneNumberText}
 use Rattle.pb_rows.specs.Written.{begins_with_word}
 use Rattle.pb_form.specs.Columns.{Column, Schema}
-use Rattle.pb_form.specs.Field.{field_read, held_in}
+use Rattle.pb_form.specs.Days.{day_text}
+use Rattle.pb_form.specs.Field.{held_in}
 use Rattle.pb_form.specs.Given.{text_as, value_as, values_as}
 use Rattle.pb_form.specs.Holds.{Holds}
 use Rattle.pb_form.specs.Holds as holds
-use Rattle.pb_form.specs.OutputLaws.{OutputTextLaw, OutputWordLaw}
+use Rattle.pb_form.specs.TextLaws.{OutputWordLaw, TextLaw}
 use Rattle.pb_form.specs.OutputRows.{output_columns, output_schema}
 use Rattle.pb_form.specs.Reading.{fields_read, joined, one_read}
 use Rattle.pb_form.specs.Seen.{column_seen, holds_seen, schema_seen}
 use Rattle.pb_form.specs.Texts.{texts_of, value_text}
 use Rattle.pb_form.specs.Value.{Value, Missing}
 use Rattle.pb_form.specs.Value as value
-use Rattle.pb_form.specs.Writing.{FitEach, FitsIn, word_at}
+use Rattle.pb_form.specs.Writing.{FitEach, FitsIn, Writes, word_at}
 use Rattle.pb_form.specs.declared.column.Column as coded_column
 use Rattle.pb_form.specs.declared.column.Schema as coded_schema
 use Rattle.pb_form.specs.declared.fault.FormFault.{FormFault}
 use Rattle.pb_form.specs.declared.output.OutputKind.{OutputKind}
 use Rattle.pb_form.specs.declared.output.OutputKind.TheVariants as kind
 use Rattle.pb_form.specs.declared.value.Value as coded
+use Rattle.pb_form.proofs.DayTextLemmas.{day_reads}
 use Rattle.pb_form.proofs.WritingLemmas.{whole_row}
 
 -- a text is the text of its value, whatever the column takes
@@ -114,41 +117,36 @@ not_empty false text some = refl
 le_true : (a b : ℤ) → a ≤ℤ b → int_le a b ≡ true
 le_true a b h = grind (arith, ints)
 
--- no column takes a date
-abbrev pub takes_no_date : Holds → Bool
-takes_no_date holds.Date = false
-takes_no_date takes = true
+some_date : (text : List ℕ) (day : ℤ) → day_of text ≡ Some day → (length text == 0) ≡ false
+some_date [] day reads = cc reads
+some_date (byte ∷ text) day reads = ne_eqb (length (byte ∷ text)) 0 (λ same. absurd (omega (arith, same)))
 
-abbrev pub have_no_date : List Column → Bool
-have_no_date [] = true
-have_no_date (column ∷ columns) = takes_no_date column.holds && have_no_date columns
-
-one_back : HaveOneNumberText → (takes : Holds) (optional : Bool) (v : Value) → takes_no_date takes ≡ true → FitsIn takes optional v
+one_back : HaveOneNumberText → HaveOneDateText → (takes : Holds) (optional : Bool) (v : Value) → FitsIn takes optional v
     → (if optional && (length (value_text takes v) == 0) then Ok Missing else held_in takes (value_text takes v)) ≡ ok_value v
-one_back numbers takes optional Missing dateless fit = rw fit refl
-one_back numbers (holds.Word words) optional (value.Word place) dateless fit = not_left optional (word_at words place) _ _ fit.1 (rw fit.0 refl)
-one_back numbers holds.Name optional (value.Name text) dateless fit = not_left optional text _ _ (not_empty optional text (some_name text fit)) (rw fit refl)
-one_back numbers holds.Reason optional (value.Reason text) dateless fit = not_left optional text _ _ (not_empty optional text (some_reason text fit)) (rw fit refl)
-one_back numbers (holds.Number lo hi) optional (value.Number z) dateless fit =
+one_back numbers dates takes optional Missing fit = rw fit refl
+one_back numbers dates (holds.Word words) optional (value.Word place) fit =
+    not_left optional (word_at words place) (held_in (holds.Word words) (word_at words place)) (value.Word place) fit.1 (rw fit.0 refl)
+one_back numbers dates holds.Name optional (value.Name text) fit =
+    not_left optional text (held_in holds.Name text) (value.Name text) (not_empty optional text (some_name text fit)) (rw fit refl)
+one_back numbers dates holds.Reason optional (value.Reason text) fit =
+    not_left optional text (held_in holds.Reason text) (value.Reason text) (not_empty optional text (some_reason text fit)) (rw fit refl)
+one_back numbers dates (holds.Number lo hi) optional (value.Number z) fit =
     let reads = numbers.read z in
-    not_left optional (whole_text z) _ _ (not_empty optional (whole_text z) (some_number (whole_text z) z reads)) (rw (reads, le_true lo z fit.0, le_true z hi fit.1) refl)
-one_back numbers holds.Items optional (value.Items text) dateless fit = not_left optional text _ _ fit refl
-one_back numbers holds.Date optional v dateless fit = cc dateless
-one_back numbers takes optional v dateless fit = absurd fit
+    not_left optional (whole_text z) (held_in (holds.Number lo hi) (whole_text z)) (value.Number z) (not_empty optional (whole_text z) (some_number (whole_text z) z reads))
+    (rw (reads, le_true lo z fit.0, le_true z hi fit.1) refl)
+one_back numbers dates holds.Date optional (value.Date day) fit =
+    let reads = day_reads dates day fit in
+    not_left optional (day_text day) (held_in holds.Date (day_text day)) (value.Date day) (not_empty optional (day_text day) (some_date (day_text day) day reads)) (rw reads refl)
+one_back numbers dates holds.Items optional (value.Items text) fit = not_left optional text (held_in holds.Items text) (value.Items text) fit refl
+one_back numbers dates takes optional v fit = absurd fit
 
-and_parts : (a b : Bool) → (a && b) ≡ true → (a ≡ true) × (b ≡ true)
-and_parts true b is = (refl, is)
-and_parts false b is = cc is
-
-all_back : HaveOneNumberText → (columns : List Column) (values : List Value) → have_no_date columns ≡ true → FitEach columns values
-    → fields_read columns (texts_of columns values) ≡ Ok values
-all_back numbers [] [] dateless fit = refl
-all_back numbers [] (v ∷ values) dateless fit = absurd fit
-all_back numbers (column ∷ columns) [] dateless fit = absurd fit
-all_back numbers (column ∷ columns) (v ∷ values) dateless fit =
-    let parts = and_parts (takes_no_date column.holds) (have_no_date columns) dateless in
-    let first = one_back numbers column.holds column.optional v parts.0 fit.0 in
-    let rest = all_back numbers columns values parts.1 fit.1 in
+all_back : HaveOneNumberText → HaveOneDateText → (columns : List Column) (values : List Value) → FitEach columns values → fields_read columns (texts_of columns values) ≡ Ok values
+all_back numbers dates [] [] fit = refl
+all_back numbers dates [] (v ∷ values) fit = absurd fit
+all_back numbers dates (column ∷ columns) [] fit = absurd fit
+all_back numbers dates (column ∷ columns) (v ∷ values) fit =
+    let first = one_back numbers dates column.holds column.optional v fit.0 in
+    let rest = all_back numbers dates columns values fit.1 in
     rw (first, rest) refl
 
 fit_count : (columns : List Column) (values : List Value) → FitEach columns values → length values ≡ length columns
@@ -157,34 +155,15 @@ fit_count [] (v ∷ values) fit = absurd fit
 fit_count (column ∷ columns) [] fit = absurd fit
 fit_count (column ∷ columns) (v ∷ values) fit = ap suc (fit_count columns values fit.1)
 
--- no kind of an output has a column of dates
-no_dates : (k : OutputKind) → have_no_date (output_columns k) ≡ true
-no_dates kind.Refused = refl
-no_dates kind.Over = refl
-no_dates kind.Design = refl
-no_dates kind.Class = refl
-no_dates kind.History = refl
-no_dates kind.Edit = refl
-no_dates kind.Report = refl
-no_dates kind.Node = refl
-no_dates kind.Stream = refl
-no_dates kind.StreamBefore = refl
-no_dates kind.Solved = refl
-no_dates kind.Global = refl
-no_dates kind.Nodal = refl
-no_dates kind.Measure = refl
-no_dates kind.End = refl
-no_dates kind.Taken = refl
-no_dates kind.Stop = refl
-no_dates kind.Summary = refl
-no_dates kind.Yes = refl
-no_dates kind.No = refl
-no_dates kind.Unreadable = refl
+pub texts_back : HaveOneNumberText → HaveOneDateText → TextLaw
+texts_back numbers dates schema values fit =
+    whole_row schema (texts_of schema.columns values) values (count_texts schema.columns values (fit_count schema.columns values fit)) (all_back numbers dates schema.columns values fit)
 
-pub rows_back : HaveOneNumberText → OutputTextLaw
-rows_back numbers k values fit =
-    let count = count_texts (output_columns k) values (fit_count (output_columns k) values fit) in
-    whole_row (output_schema k) (texts_of (output_columns k) values) values count (all_back numbers (output_columns k) values (no_dates k) fit)
+-- so a record that has them writes the values
+pub written_back : {E : Type 0} → TextLaw → (schema : Schema) (values : List Value) (result : Result (List (List ℕ)) E) → FitEach schema.columns values
+    → IfOk result (λ row. row ≡ texts_of schema.columns values) → IfOk result (λ row. Writes schema values row)
+written_back law schema values (Ok row) fit is = subst (λ (fields : List (List ℕ)). Writes schema values fields) (sym is) (law schema values fit)
+written_back law schema values (Err error) fit is = tt
 
 -- the first field of each kind is a word
 pub rows_begin : OutputWordLaw

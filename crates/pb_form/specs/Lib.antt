@@ -6,6 +6,7 @@ pub mod Values
 pub mod Field
 pub mod Reading
 pub mod Writing
+pub mod Days
 pub mod Texts
 pub mod Telling
 pub mod Json
@@ -13,7 +14,7 @@ pub mod SessionRows
 pub mod Words
 pub mod OutputRows
 pub mod Laws
-pub mod OutputLaws
+pub mod TextLaws
 -- Inside
 pub mod Seen
 pub mod Kept

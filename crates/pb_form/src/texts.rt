@@ -1,55 +1,23 @@
-// Rows of an output, each field by the text of its value.
+// Fields that are the texts of values.
 
-ghost use Rattle.std.specs.Prelude.{◌≡◌, ◌∷◌, ◌++◌, [], length, map, All, IsUtf8, IfOk, OnOk, OnErr};
+ghost use Rattle.std.specs.Prelude.{◌≡◌, ◌∷◌, ◌++◌, [], length, map, All, IsUtf8, IfOk, OnOk};
+ghost use Rattle.pb_rows.specs.Number.{whole_text};
 ghost use Rattle.pb_form.specs.Given.{value_as, values_as};
-ghost use Rattle.pb_form.specs.Json.{record_line};
-ghost use Rattle.pb_form.specs.OutputLaws.{OutputTextLaw, OutputWordLaw};
-ghost use Rattle.pb_form.specs.OutputRows.{output_columns};
 ghost use Rattle.pb_form.specs.Seen.{column_seen, holds_seen};
-ghost use Rattle.pb_form.specs.Texts.{texts_of, value_text};
+ghost use Rattle.pb_form.specs.Texts.{texts_of, value_text, word_of};
 
-use crate::column::Column;
-use crate::json::write_json;
-use crate::output::{OutputKind, output_schema};
+use crate::column::{Column, Holds};
+use crate::day::push_day;
 use crate::value::Value;
-use crate::writing::{push_number, word_of};
-use pb_rows::{Row, number_text_law};
+use pb_rows::{Row, whole_bytes};
 use std::alloc::{AllocError, Global};
 
-/// The record of a row of an output: the text of each value, of which the first is the kind's word. If they fit their columns, it
-/// reads back as them.
-pub fn output_record(alloc: Global, kind: OutputKind, values: &[Value]) -> Result<Row, AllocError>
-    requires { length values.now ≡ length (output_columns kind) }
-    ensures fields { IfOk result (λ row. row
-        ≡ texts_of (output_columns kind) (values_as (output_columns kind) values.now)) }
-    ensures each { IfOk result (λ row. length row ≡ length (output_columns kind)) }
-    ensures texts { IfOk result (All IsUtf8) }
-{
-    write_texts(alloc, output_schema(kind).columns, values)
-}
-
-/// Appends a record of a kind as a line of JSON: an object with the text of each field under its column's key, and a line feed.
-/// After an `Err`, out of memory, the text is as it was.
-pub fn write_output_json(kind: OutputKind, row: &Row, out: &mut Vec<u8>) -> Result<(), AllocError>
-    requires each { length row.now ≡ length (output_columns kind) }
-    requires texts { All IsUtf8 row.now }
-    ensures appended { OnOk result (out.new.items
-        ≡ out.old.items ++ record_line (output_columns kind) row.now) }
-    ensures unchanged { OnErr result (out.new.items ≡ out.old.items) }
-{
-    write_json(output_schema(kind), row, out)
-}
-
-/// The laws that the texts of values that fit read back as them, and that each row of an output begins with a word.
-pub fn output_rows_law()
-    ensures text { OutputTextLaw }
-    ensures word { OutputWordLaw }
-{
-    number_text_law();
-}
-
-// The record of values, one a column.
-fn write_texts(alloc: Global, columns: &[Column], values: &[Value]) -> Result<Row, AllocError>
+// The record of the texts of values, one a column.
+pub(crate) fn write_texts(
+    alloc: Global,
+    columns: &[Column],
+    values: &[Value],
+) -> Result<Row, AllocError>
     requires { length values.now ≡ length columns.now }
     ensures fields { IfOk result (λ row. row ≡ texts_of (map column_seen columns.now)
         (values_as (map column_seen columns.now) values.now)) }
@@ -69,9 +37,28 @@ fn push_text(alloc: Global, column: &Column, value: Value, row: &mut Row) -> Res
     ensures texts { OnOk result (All IsUtf8 row.old → All IsUtf8 row.new) }
 {
     match value {
-        Value::Missing | Value::Day(_) => row.push(b""),
+        Value::Missing => row.push(b""),
         Value::Word(place) => row.push(word_of(&column.holds, place).as_bytes()),
         Value::Text(text) => row.push(text.as_bytes()),
         Value::Number(number) => push_number(alloc, number, row),
+        Value::Day(day) => push_day(day, row),
     }
+}
+
+// The word at a place among those of a column.
+fn word_of(holds: &Holds, place: usize) -> &'static str
+    ensures { result.now ≡ word_of (holds_seen holds.now) place }
+{
+    match holds {
+        Holds::Word(words) if place < words.len() => words[place],
+        _ => "",
+    }
+}
+
+// Appends the text of a number.
+fn push_number(alloc: Global, number: i128, row: &mut Row) -> Result<(), AllocError>
+    ensures { OnOk result (row.new ≡ row.old ++ whole_text number ∷ []) }
+{
+    let text = whole_bytes(alloc, number)?;
+    row.push(text.as_slice())
 }

@@ -5,7 +5,7 @@ ghost use Rattle.pb_form.specs.OutputRows.{output_columns};
 ghost use Rattle.pb_report.specs.Form.{row_text};
 ghost use Rattle.pb_report.specs.Given.{given_row};
 
-use pb_form::{OutputKind, Value, output_record, write_output_json};
+use pb_form::{OutputKind, Value, output_record, output_json};
 use std::alloc::{AllocError, Global};
 
 /// The form in which rows are written.
@@ -35,6 +35,6 @@ pub fn write_row(
     let row = output_record(alloc, kind, values)?;
     match form {
         Form::Csv => row.write_to(text),
-        Form::Json => write_output_json(kind, &row, text),
+        Form::Json => output_json(kind, &row, text),
     }
 }

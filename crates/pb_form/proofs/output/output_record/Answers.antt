@@ -1,6 +1,6 @@
 use Rattle.std.proofs.Common.{◌∙◌}
 use Rattle.pb_form.proofs.RowTextLemmas.{seen_columns, seen_count, written_by, written_count}
-use Rattle.pb_form.proofs.texts.output_record.Goals as goal
+use Rattle.pb_form.proofs.output.output_record.Goals as goal
 
 pub write_texts-requires : goal.write_texts-requires
 write_texts-requires c = c.requires ∙ seen_count _ _ c.output_schema.ensures.value

@@ -3,7 +3,7 @@ use Rattle.std.proofs.Common.{◌≡◌, ◌∙◌, ◌++◌, List, subst}
 use Rattle.pb_form.specs.Columns.{Column}
 use Rattle.pb_form.specs.Json.{record_line}
 use Rattle.pb_form.proofs.RowTextLemmas.{seen_columns, seen_count}
-use Rattle.pb_form.proofs.texts.write_output_json.Goals as goal
+use Rattle.pb_form.proofs.output.output_json.Goals as goal
 
 pub write_json-requires-clause-each : goal.write_json-requires-clause-each
 write_json-requires-clause-each c = c.requires.each ∙ seen_count _ _ c.output_schema.ensures.value

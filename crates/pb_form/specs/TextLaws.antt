@@ -1,17 +1,16 @@
--- Statement. Rows of an output read back, and each begins with the word of its kind.
+-- Statement. The texts of values that fit read back as them, and each row of an output begins with the word of its kind.
 use Rattle.std.specs.Prelude.{◌≡◌, true, List, ◌∷◌}
 use Rattle.pb_rows.specs.Written.{begins_with_word}
-use Rattle.pb_form.specs.OutputRows.{output_columns, output_schema}
+use Rattle.pb_form.specs.Columns.{Schema}
+use Rattle.pb_form.specs.OutputRows.{output_columns}
 use Rattle.pb_form.specs.Texts.{texts_of}
 use Rattle.pb_form.specs.Value.{Value, Word}
 use Rattle.pb_form.specs.Writing.{FitEach, Writes}
 use Rattle.pb_form.specs.declared.output.OutputKind.{OutputKind}
 
--- The texts of values that fit the columns of a kind are the record that reads back as them.
-abbrev pub OutputTextLaw : Type 0
-OutputTextLaw =
-    (kind : OutputKind) (values : List Value) → FitEach (output_columns kind) values
-    → Writes (output_schema kind) values (texts_of (output_columns kind) values)
+-- The texts of values that fit the columns of a schema are a record that reads back as them.
+abbrev pub TextLaw : Type 0
+TextLaw = (schema : Schema) (values : List Value) → FitEach schema.columns values → Writes schema values (texts_of schema.columns values)
 
 -- Whatever the other values are, the texts of a kind's word and of them begin with a word.
 abbrev pub OutputWordLaw : Type 0
