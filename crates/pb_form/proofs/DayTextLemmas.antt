@@ -1,5 +1,5 @@
 -- The text of a day writes it: it stands among those of all dates.
-use Rattle.std.specs.Prelude.{◌==◌, map, Option, Some, None, if◌then◌else◌}
+use Rattle.std.specs.Prelude.{◌==◌, ◌||◌, map, Option, Some, None, if◌then◌else◌}
 use Rattle.std.specs.List.{flat_map, range_with_len}
 use Rattle.std.specs.Ordering.{int_eq}
 use Rattle.std.proofs.Common.{◌≡◌, ◌∙◌, ◌⊎◌, inl, inr, ◌≤◌, ◌<◌, ◌+◌, ℕ, zero, suc, ℤ, pos, Bool, true, false, List, [], ◌∷◌, ◌++◌, refl, sym, ap, subst, arith}
@@ -26,9 +26,9 @@ in_right x [] ys is = is
 in_right x (y ∷ xs) ys is = inr (in_right x xs ys is)
 
 in_flat : {A B : Type 0} (f : A → List B) (x : A) (y : B) (xs : List A) → IsIn x xs → IsIn y (f x) → IsIn y (flat_map f xs)
-in_flat f x y [] is there = absurd is
+in_flat {A = A} f x y [] is there = absurd is
 in_flat {A = A} f x y (z ∷ xs) (inl same) there = in_left y (f z) (flat_map f xs) (subst (λ (w : A). IsIn y (f w)) same there)
-in_flat f x y (z ∷ xs) (inr rest) there = in_right y (f z) (flat_map f xs) (in_flat f x y xs rest there)
+in_flat {A = A} f x y (z ∷ xs) (inr rest) there = in_right y (f z) (flat_map f xs) (in_flat f x y xs rest there)
 
 in_map : {A B : Type 0} (f : A → B) (x : A) (xs : List A) → IsIn x xs → IsIn (f x) (map f xs)
 in_map f x [] is = absurd is
@@ -45,7 +45,7 @@ in_range from (suc count) k low high = elim (cases_Bool (k == from)) [
 -- ---- dates
 
 month_length : (year : ℤ) (month : ℕ) → days_in_month year month ≤ 31
-month_length year month = by (month == 2) (is_leap_year year) _
+month_length year month = by (month == 2) (is_leap_year year) ((month == 4) || (month == 6) || (month == 9) || (month == 11))
   where
     by : (a b c : Bool) → (if a then (if b then 29 else 28) else (if c then 30 else 31)) ≤ 31
     by true true c = omega arith
@@ -69,7 +69,8 @@ in_years n year month day y_low y_high m_low m_high d_low d_high =
 
 in_dates : (year month day : ℕ) → IsDate year month day → IsIn (date_text year month day) (dates_of_years 300)
 in_dates year month day date =
-    in_years 300 year month day date.0.0 (omega (arith, date.0.1)) date.1.1.0 date.1.1.1 date.1.2.0 (omega (arith, date.1.2.1, month_length (pos year) month))
+    in_years 300 year month day (omega (arith, date.0)) (omega (arith, date.0)) (omega (arith, date.1.1)) (omega (arith, date.1.1)) (omega (arith, date.1.2))
+    (omega (arith, date.1.2, month_length (pos year) month))
 
 -- ---- the text that is found
 
@@ -82,12 +83,13 @@ own_day day o is = rw is ((Decides-int_eq day day).1 refl)
 
 first_found : (day : ℤ) (text : List ℕ) (texts : List (List ℕ)) → IsIn text texts → day_of text ≡ Some day → day_of (first_writing day texts) ≡ Some day
 first_found day text [] is reads = absurd is
-first_found day text (other ∷ texts) is reads = by (is_this_day day (day_of other)) refl is
+first_found day text (other ∷ texts) is reads = by (is_this_day day (day_of other)) refl is (λ rest. first_found day text texts rest reads)
   where
-    by : (b : Bool) → is_this_day day (day_of other) ≡ b → (text ≡ other) ⊎ IsIn text texts → day_of (if b then other else first_writing day texts) ≡ Some day
-    by true here is = this_day day (day_of other) here
-    by false here (inl same) = let own = own_day day (day_of other) (ap day_of (sym same) ∙ reads) in cc (sym own ∙ here)
-    by false here (inr rest) = first_found day text texts rest reads
+    by : (b : Bool) → is_this_day day (day_of other) ≡ b → (text ≡ other) ⊎ IsIn text texts → (IsIn text texts → day_of (first_writing day texts) ≡ Some day)
+        → day_of (if b then other else first_writing day texts) ≡ Some day
+    by true here is later = this_day day (day_of other) here
+    by false here (inl same) later = let own = own_day day (day_of other) (ap day_of (sym same) ∙ reads) in cc (sym own ∙ here)
+    by false here (inr rest) later = later rest
 
 -- The text of a day writes it.
 pub day_reads : HaveOneDateText → (n : ℤ) → IsDay n → day_of (day_text n) ≡ Some n
@@ -101,11 +103,11 @@ day_reads law n range =
 -- Another day has no text.
 none_found : (day : ℤ) → ((text : List ℕ) → day_of text ≡ Some day → ⊥) → (texts : List (List ℕ)) → first_writing day texts ≡ []
 none_found day none [] = refl
-none_found day none (other ∷ texts) = by (is_this_day day (day_of other)) refl
+none_found day none (other ∷ texts) = by (is_this_day day (day_of other)) refl (none_found day none texts)
   where
-    by : (b : Bool) → is_this_day day (day_of other) ≡ b → (if b then other else first_writing day texts) ≡ []
-    by true here = absurd (none other (this_day day (day_of other) here))
-    by false here = none_found day none texts
+    by : (b : Bool) → is_this_day day (day_of other) ≡ b → first_writing day texts ≡ [] → (if b then other else first_writing day texts) ≡ []
+    by true here later = absurd (none other (this_day day (day_of other) here))
+    by false here later = later
 
 pub no_text : HaveOneDateText → (n : ℤ) → (IsDay n → ⊥) → day_text n ≡ []
 unfolding day_text
