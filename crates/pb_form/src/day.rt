@@ -1,7 +1,7 @@
 // The text of a day, as a field writes it.
 
-ghost use Rattle.std.specs.Prelude.{◌≡◌, ◌<◌, ◌∷◌, ◌++◌, [], All, IsUtf8, OnOk};
-ghost use Rattle.pb_rows.specs.Date.{IsDay, date_text};
+ghost use Rattle.std.specs.Prelude.{◌≡◌, ◌<◌, ◌∷◌, ◌++◌, [], All, IsUtf8, MatchOption, OnOk};
+ghost use Rattle.pb_rows.specs.Date.{date_text};
 ghost use Rattle.pb_form.specs.Days.{day_text};
 
 use jiff_core::civil::Date;
@@ -13,28 +13,28 @@ const FIRST_DAY: i32 = -25_567;
 
 const LAST_DAY: i32 = 84_005;
 
-// Appends the text of a day, counted from 1970-01-01, or nothing if no date from 1900 to 2199 writes it.
+// Appends the text of a day, counted from 1970-01-01, or nothing if no date from 1900 to 2199 is the day's.
 pub(crate) fn push_day(day: i32, row: &mut Row) -> Result<(), AllocError>
     ensures adds { OnOk result (row.new ≡ row.old ++ day_text day ∷ []) }
     ensures texts { OnOk result (All IsUtf8 row.old → All IsUtf8 row.new) }
 {
-    if FIRST_DAY <= day && day <= LAST_DAY {
-        row.push(&day_text(day))
-    } else {
-        row.push(b"")
+    match day_text(day) {
+        Some(text) => row.push(&text),
+        None => row.push(b""),
     }
 }
 
-// The text `YYYY-MM-DD` of a day.
-fn day_text(day: i32) -> [u8; 10]
-    requires { IsDay day }
-    ensures value { result ≡ day_text day }
-    ensures text { IsUtf8 result }
+// The text `YYYY-MM-DD` of a day, if it has one.
+fn day_text(day: i32) -> Option<[u8; 10]>
+    ensures { MatchOption result (day_text day ≡ []) (λ text. (text ≡ day_text day) × IsUtf8 text) }
 {
     date_text_law();
+    if day < FIRST_DAY || LAST_DAY < day {
+        return None;
+    }
     match Date::from_unix_epoch_day(i64::from(day)) {
-        Ok(date) => text_of(date.year.unsigned_abs(), date.month, date.day),
-        Err(_) => unreachable!(),
+        Ok(date) => Some(text_of(date.year.unsigned_abs(), date.month, date.day)),
+        Err(_) => None,
     }
 }
 
