@@ -1,5 +1,5 @@
 mod OutputLemmas
 mod PieceLemmas
-mod PlaceLemmas
+mod EditLemmas
 mod StudyLemmas
 mod BlockLemmas

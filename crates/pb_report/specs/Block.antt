@@ -14,7 +14,7 @@ use Rattle.pb_graph.specs.ProcessGraph.{ProcessGraph}
 use Rattle.pb_graph.specs.WellFormed.{sweeps_of}
 use Rattle.pb_report.specs.Certificate.{certificate_values}
 use Rattle.pb_report.specs.Names.{name_at}
-use Rattle.pb_report.specs.Places.{class_place, gap_met, truth_place}
+use Rattle.pb_choices.specs.Places.{class_place, gap_met, truth_place}
 use Rattle.pb_report.specs.Row.{OutputRow, optional_number, row_of}
 use Rattle.pb_report.specs.Rows.{rows_with}
 use Rattle.pb_report.specs.Tests.{tests_rows}

@@ -8,7 +8,7 @@ use Rattle.pb_graph.specs.declared.records.Witness.{Witness}
 use Rattle.pb_graph.specs.declared.records.Witness.TheVariants.{Cut, Cycle}
 use Rattle.pb_form.specs.Value.{Value, Word, Items}
 use Rattle.pb_report.specs.Names.{name_at}
-use Rattle.pb_report.specs.Places.{shape_place, witness_shape}
+use Rattle.pb_choices.specs.Places.{shape_place, witness_shape}
 
 -- the names of the nodes in a side, in order of nodes
 abbrev pub names_in : List Bool → List (List ℕ) → List (List ℕ)

@@ -8,7 +8,7 @@ use Rattle.pb_graph.specs.declared.records.Classified.{Classified}
 use Rattle.pb_graph.specs.ProcessGraph.{ProcessGraph, is_measured}
 use Rattle.pb_report.specs.Certificate.{certificate_values}
 use Rattle.pb_report.specs.Names.{name_at}
-use Rattle.pb_report.specs.Places.{class_place, truth_place}
+use Rattle.pb_choices.specs.Places.{class_place, truth_place}
 use Rattle.pb_report.specs.Row.{OutputRow, row_of}
 use Rattle.pb_report.specs.Rows.{rows_with}
 

@@ -7,7 +7,7 @@ use Rattle.pb_form.specs.Value.{Word, Items}
 use Rattle.pb_form.specs.declared.output.OutputKind.{OutputKind}
 use Rattle.pb_form.specs.declared.value.Value.{Value}
 use Rattle.pb_report.specs.declared.certificate.Certificate.{Certificate}
-use Rattle.pb_report.specs.Places.{shape_place}
+use Rattle.pb_choices.specs.Places.{shape_place}
 use Rattle.pb_report.specs.Row.{OutputRow}
 
 -- the row of a kind with these values

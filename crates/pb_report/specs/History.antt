@@ -1,13 +1,23 @@
 -- Statement. The history of a period: its state, and the edits that touch it, in the order in which they were made.
-use Rattle.std.specs.Prelude.{ℕ, pos, List, [], ◌∷◌, length, map, Option, Some, None}
+use Rattle.std.specs.Prelude.{ℕ, pos, List, [], ◌∷◌, length, map, Option, Some, None, slice_get}
 use Rattle.pb_form.specs.Value.{Value, Missing, Name, Number, Reason, Word}
 use Rattle.pb_form.specs.declared.output.OutputKind.TheVariants as kind
 use Rattle.pb_report.specs.declared.history.HistoryRow.{HistoryRow}
 use Rattle.pb_report.specs.declared.history.HistoryWord.{HistoryWord}
 use Rattle.pb_report.specs.declared.history.HistoryWord.TheVariants.{Close, Late, Amend, Strike}
 use Rattle.pb_report.specs.declared.history.Period.{Period}
-use Rattle.pb_report.specs.Places.{edit_place, truth_place}
+use Rattle.pb_choices.specs.Places.{truth_place}
 use Rattle.pb_report.specs.Row.{OutputRow, row_of}
+
+-- what an edit did: the place of its word, and the word at a place
+abbrev pub edit_place : HistoryWord → ℕ
+edit_place Close = 0
+edit_place Late = 1
+edit_place Amend = 2
+edit_place Strike = 3
+
+abbrev pub placed_edit : ℕ → Option HistoryWord
+placed_edit place = slice_get (Close ∷ Late ∷ Amend ∷ Strike ∷ []) place
 
 -- a name or a reason, or nothing if there is none
 abbrev pub name_or_none : Option (List ℕ) → Value

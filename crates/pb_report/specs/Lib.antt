@@ -2,7 +2,6 @@
 pub mod Row
 pub mod Form
 pub mod Names
-pub mod Places
 pub mod Rows
 pub mod Refusal
 pub mod Over

@@ -11,7 +11,7 @@ use Rattle.pb_graph.specs.declared.results.Stop.{Stop}
 use Rattle.pb_graph.specs.declared.results.Study.{Study}
 use Rattle.pb_report.specs.Block.{block_rows}
 use Rattle.pb_report.specs.Names.{name_at}
-use Rattle.pb_report.specs.Places.{stop_place}
+use Rattle.pb_choices.specs.Places.{stop_place}
 use Rattle.pb_report.specs.Row.{OutputRow, row_of}
 
 -- the suspect taken before a round: the stream, and the low end of its drop

@@ -7,7 +7,7 @@ use Rattle.pb_graph.specs.declared.records.Class.TheVariants.{Observable, Unobse
 use Rattle.pb_graph.specs.declared.results.StreamResult.{StreamResult}
 use Rattle.pb_graph.specs.declared.results.Stage.{Stage}
 use Rattle.pb_graph.specs.WellFormed.{sweeps_of}
-use Rattle.pb_report.specs.Places.{class_place, gap_met, truth_place}
+use Rattle.pb_choices.specs.Places.{class_place, gap_met, truth_place}
 use Rattle.pb_report.specs.Row.{OutputRow, optional_number, row_of}
 
 -- how many streams are of a class

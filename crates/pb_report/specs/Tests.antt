@@ -8,7 +8,7 @@ use Rattle.pb_graph.specs.declared.results.NodalTest.{NodalTest}
 use Rattle.pb_graph.specs.declared.results.MeasureTest.{MeasureTest}
 use Rattle.pb_graph.specs.declared.results.Tests.{Tests}
 use Rattle.pb_report.specs.Names.{name_at}
-use Rattle.pb_report.specs.Places.{verdict_place}
+use Rattle.pb_choices.specs.Places.{verdict_place}
 use Rattle.pb_report.specs.Row.{OutputRow, optional_number, row_of}
 
 -- the global test: the critical value, and the verdict

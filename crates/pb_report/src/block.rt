@@ -13,9 +13,9 @@ ghost use Rattle.pb_report.specs.Row.{row_of};
 
 use crate::certificate::Certificate;
 use crate::output::Output;
-use crate::places::{class_place, gap_met, shape_place, truth_place};
 use crate::values::optional_number;
 use crate::verdicts::write_tests;
+use pb_choices::{class_place, gap_met, shape_place, truth_place};
 use pb_form::{OutputKind, Value};
 use pb_graph::{Bounds, Graph, List, Options, Solved, Stage, Stream, StreamResult};
 use pb_rows::{Name, NameList, Names};

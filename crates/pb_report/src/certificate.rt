@@ -7,7 +7,7 @@ ghost use Rattle.pb_report.specs.Given.{given_certificate};
 ghost use Rattle.pb_report.specs.Names.{IsNamed};
 
 use crate::parts;
-use crate::places::{Shape, witness_shape};
+use pb_choices::{Shape, witness_shape};
 use pb_graph::{Graph, Witness};
 use pb_rows::Names;
 use std::alloc::{AllocError, Global};

@@ -14,7 +14,7 @@ ghost use Rattle.pb_report.specs.Row.{row_of};
 use crate::certificate::Certificate;
 use crate::form::Form;
 use crate::output::Output;
-use crate::places::{class_place, shape_place, truth_place};
+use pb_choices::{class_place, shape_place, truth_place};
 use pb_form::{OutputKind, Value};
 use pb_graph::{Classified, Graph, List, Stream};
 use pb_rows::Names;

@@ -3,14 +3,16 @@
 ghost use Rattle.std.specs.Prelude.{◌≡◌, ◌∷◌, [], map, OnOk, OnErr};
 ghost use Rattle.pb_form.specs.Given.{value_as};
 ghost use Rattle.pb_form.specs.Holds as holds;
+ghost use Rattle.pb_form.specs.Words.{edit_words};
+ghost use Rattle.pb_choices.specs.Places.{IsWordTable};
 ghost use Rattle.pb_report.specs.Form.{AppendsRows};
 ghost use Rattle.pb_report.specs.Given.{given_row};
-ghost use Rattle.pb_report.specs.History.{edit_id, edit_reason, edit_row, history_rows, name_or_none, period_row, reason_or_none};
+ghost use Rattle.pb_report.specs.History.{edit_id, edit_place, edit_reason, edit_row, history_rows, name_or_none, period_row, placed_edit, reason_or_none};
 ghost use Rattle.pb_report.specs.Output.{AddsRows};
 
 use crate::form::Form;
 use crate::output::Output;
-use crate::places::{edit_place, truth_place};
+use pb_choices::truth_place;
 use pb_form::{OutputKind, Value};
 use pb_graph::List;
 use pb_rows::{Name, Reason};
@@ -35,6 +37,32 @@ pub enum HistoryWord {
     /// A fact was taken out.
     Strike,
 }
+
+static EDITS: [HistoryWord; 4] = [
+    HistoryWord::Close,
+    HistoryWord::Late,
+    HistoryWord::Amend,
+    HistoryWord::Strike,
+];
+
+/// The place of the word for what an edit did.
+pub fn edit_place(word: HistoryWord) -> usize
+    ensures { result ≡ edit_place word }
+{
+    word as usize
+}
+
+/// What an edit did, by the place of its word.
+pub fn placed_edit(place: usize) -> Option<HistoryWord>
+    ensures { result ≡ placed_edit place }
+{
+    EDITS.get(place).copied()
+}
+
+/// The law that this table goes both ways, and that its words are those of pb_form's column.
+pub fn edit_words_law()
+    ensures { IsWordTable edit_words edit_place placed_edit }
+{}
 
 /// An edit: the number of its record in the session, what it did, and for which fact and why. The fact of a closing isn't written,
 /// nor the reason of a closing or of a late fact.

@@ -12,7 +12,6 @@ mod history;
 mod output;
 mod over;
 mod parts;
-mod places;
 mod refused;
 mod study;
 mod summary;
@@ -21,13 +20,10 @@ mod verdicts;
 
 pub use design::write_design;
 pub use form::{Form, write_row};
-pub use history::{HistoryRow, HistoryWord, Period, write_history};
-pub use over::write_over;
-pub use places::{
-    Shape, class_place, edit_place, gap_met, placed_class, placed_edit, placed_shape, placed_stop,
-    placed_truth, placed_verdict, shape_place, stop_place, truth_place, verdict_place,
-    witness_shape, word_tables_law,
+pub use history::{
+    HistoryRow, HistoryWord, Period, edit_place, edit_words_law, placed_edit, write_history,
 };
+pub use over::write_over;
 pub use refused::write_refused;
 pub use study::write_study;
 pub use summary::write_summary;

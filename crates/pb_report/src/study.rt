@@ -10,7 +10,7 @@ ghost use Rattle.pb_report.specs.Study.{stage_rows, stop_row, stop_rows, study_r
 use crate::block::write_block;
 use crate::form::Form;
 use crate::output::Output;
-use crate::places::stop_place;
+use pb_choices::stop_place;
 use pb_form::{OutputKind, Value};
 use pb_graph::{Options, Stop, Study, Taken};
 use pb_rows::{Name, Names};

@@ -8,8 +8,8 @@ ghost use Rattle.pb_report.specs.declared.form.Form.TheVariants.{Csv};
 
 use crate::block::sweeps_of;
 use crate::form::{Form, write_row};
-use crate::places::{class_place, gap_met, truth_place};
 use crate::values::optional_number;
+use pb_choices::{class_place, gap_met, truth_place};
 use pb_form::{OutputKind, Value};
 use pb_graph::{Class, List, Stage, StreamResult};
 use std::alloc::{AllocError, Global};

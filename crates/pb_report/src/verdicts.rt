@@ -10,8 +10,8 @@ ghost use Rattle.pb_report.specs.Output.{AddsRows};
 ghost use Rattle.pb_report.specs.Tests.{global_row, measure_row, nodal_row, tests_rows};
 
 use crate::output::Output;
-use crate::places::verdict_place;
 use crate::values::optional_number;
+use pb_choices::verdict_place;
 use pb_form::{OutputKind, Value};
 use pb_graph::{GlobalTest, Graph, List, MeasureTest, NodalTest, Tests};
 use pb_rows::Names;

@@ -1,7 +1,7 @@
 use Rattle.std.proofs.Common.{refl}
 use Rattle.pb_form.specs.Words.{measured_words, period_words, state_words}
-use Rattle.pb_report.proofs.PlaceLemmas.{class_table, edit_table, shape_table, stop_table, truth_table, verdict_table}
-use Rattle.pb_report.proofs.places.word_tables_law.Goals as goal
+use Rattle.pb_choices.proofs.PlaceLemmas.{class_table, shape_table, stop_table, truth_table, verdict_table}
+use Rattle.pb_choices.proofs.places.word_tables_law.Goals as goal
 
 pub returns-clause-classes : goal.returns-clause-classes
 returns-clause-classes c = class_table
@@ -23,6 +23,3 @@ returns-clause-verdicts c = verdict_table
 
 pub returns-clause-stops : goal.returns-clause-stops
 returns-clause-stops c = stop_table
-
-pub returns-clause-edits : goal.returns-clause-edits
-returns-clause-edits c = edit_table

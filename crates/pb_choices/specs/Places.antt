@@ -12,10 +12,8 @@ use Rattle.pb_graph.specs.declared.results.Stop.{Stop}
 use Rattle.pb_graph.specs.declared.results.Stop.TheVariants as stop
 use Rattle.pb_graph.specs.declared.results.Verdict.{Verdict}
 use Rattle.pb_graph.specs.declared.results.Verdict.TheVariants as verdict
-use Rattle.pb_report.specs.declared.history.HistoryWord.{HistoryWord}
-use Rattle.pb_report.specs.declared.history.HistoryWord.TheVariants.{Close, Late, Amend, Strike}
-use Rattle.pb_report.specs.declared.places.Shape.{Shape}
-use Rattle.pb_report.specs.declared.places.Shape.TheVariants.{Cut, Cycle}
+use Rattle.pb_choices.specs.declared.places.Shape.{Shape}
+use Rattle.pb_choices.specs.declared.places.Shape.TheVariants.{Cut, Cycle}
 
 -- the classes of a stream
 abbrev pub class_place : Class → ℕ
@@ -77,16 +75,6 @@ stop_place stop.Spent = 5
 abbrev pub placed_stop : ℕ → Option Stop
 placed_stop place =
     slice_get (stop.Accepted ∷ stop.Undecided ∷ stop.NoCritical ∷ stop.NoTest ∷ stop.NoSuspect ∷ stop.Spent ∷ []) place
-
--- what an edit did
-abbrev pub edit_place : HistoryWord → ℕ
-edit_place Close = 0
-edit_place Late = 1
-edit_place Amend = 2
-edit_place Strike = 3
-
-abbrev pub placed_edit : ℕ → Option HistoryWord
-placed_edit place = slice_get (Close ∷ Late ∷ Amend ∷ Strike ∷ []) place
 
 -- Each value has a word at its place and stands there, and at no other place; each word is that of a value; and no word comes twice.
 pub record IsWordTable {A : Type 0} (words : List (List ℕ)) (place_of : A → ℕ) (placed : ℕ → Option A) : Type 0 where

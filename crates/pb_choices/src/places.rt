@@ -1,10 +1,9 @@
 // The places of words among those of their columns, and the values at these places: for writing and for reading.
 
 ghost use Rattle.std.specs.Prelude.{◌≡◌};
-ghost use Rattle.pb_form.specs.Words.{class_words, edit_words, measured_words, period_words, shape_words, state_words, stop_words, verdict_words};
-ghost use Rattle.pb_report.specs.Places.{IsWordTable, class_place, edit_place, gap_met, placed_class, placed_edit, placed_shape, placed_stop, placed_truth, placed_verdict, shape_place, stop_place, truth_place, verdict_place, witness_shape};
+ghost use Rattle.pb_form.specs.Words.{class_words, measured_words, period_words, shape_words, state_words, stop_words, verdict_words};
+ghost use Rattle.pb_choices.specs.Places.{IsWordTable, class_place, gap_met, placed_class, placed_shape, placed_stop, placed_truth, placed_verdict, shape_place, stop_place, truth_place, verdict_place, witness_shape};
 
-use crate::history::HistoryWord;
 use pb_graph::{Class, Solved, Stop, Verdict, Witness};
 
 static CLASSES: [Class; 4] = [
@@ -40,13 +39,6 @@ static STOPS: [Stop; 6] = [
     Stop::NoTest,
     Stop::NoSuspect,
     Stop::Spent,
-];
-
-static EDITS: [HistoryWord; 4] = [
-    HistoryWord::Close,
-    HistoryWord::Late,
-    HistoryWord::Amend,
-    HistoryWord::Strike,
 ];
 
 /// The place of a class.
@@ -139,20 +131,6 @@ pub fn placed_stop(place: usize) -> Option<Stop>
     STOPS.get(place).copied()
 }
 
-/// The place of what an edit did.
-pub fn edit_place(edit: HistoryWord) -> usize
-    ensures { result ≡ edit_place edit }
-{
-    edit as usize
-}
-
-/// What an edit did, by its place.
-pub fn placed_edit(place: usize) -> Option<HistoryWord>
-    ensures { result ≡ placed_edit place }
-{
-    EDITS.get(place).copied()
-}
-
 /// The law that each of these tables goes both ways, and that its words are those of pb_form's columns.
 pub fn word_tables_law()
     ensures classes { IsWordTable class_words class_place placed_class }
@@ -162,5 +140,4 @@ pub fn word_tables_law()
     ensures periods { IsWordTable period_words truth_place placed_truth }
     ensures verdicts { IsWordTable verdict_words verdict_place placed_verdict }
     ensures stops { IsWordTable stop_words stop_place placed_stop }
-    ensures edits { IsWordTable edit_words edit_place placed_edit }
 {}

@@ -1,7 +1,7 @@
 -- Tables of values and the places of their words.
 use Rattle.std.specs.Prelude.{slice_get}
 use Rattle.std.proofs.Common.{◌≡◌, ◌∙◌, ◌<◌, ◌+◌, ℕ, zero, suc, Bool, true, false, List, [], ◌∷◌, length, Some, refl, sym, ap, arith}
-use Rattle.pb_form.specs.Words.{class_words, edit_words, shape_words, stop_words, verdict_words}
+use Rattle.pb_form.specs.Words.{class_words, shape_words, stop_words, verdict_words}
 use Rattle.pb_form.specs.Writing.{IsFirst}
 use Rattle.pb_graph.specs.declared.records.Class.{Class}
 use Rattle.pb_graph.specs.declared.records.Class.TheVariants.{Observable, Unobservable, Redundant, Nonredundant}
@@ -9,11 +9,9 @@ use Rattle.pb_graph.specs.declared.results.Stop.{Stop}
 use Rattle.pb_graph.specs.declared.results.Stop.TheVariants as stop
 use Rattle.pb_graph.specs.declared.results.Verdict.{Verdict}
 use Rattle.pb_graph.specs.declared.results.Verdict.TheVariants as verdict
-use Rattle.pb_report.specs.declared.history.HistoryWord.{HistoryWord}
-use Rattle.pb_report.specs.declared.history.HistoryWord.TheVariants.{Close, Late, Amend, Strike}
-use Rattle.pb_report.specs.declared.places.Shape.{Shape}
-use Rattle.pb_report.specs.declared.places.Shape.TheVariants.{Cut, Cycle}
-use Rattle.pb_report.specs.Places.{IsWordTable, class_place, edit_place, placed_class, placed_edit, placed_shape, placed_stop, placed_truth, placed_verdict, shape_place, stop_place, truth_place, verdict_place}
+use Rattle.pb_choices.specs.declared.places.Shape.{Shape}
+use Rattle.pb_choices.specs.declared.places.Shape.TheVariants.{Cut, Cycle}
+use Rattle.pb_choices.specs.Places.{IsWordTable, class_place, placed_class, placed_shape, placed_stop, placed_truth, placed_verdict, shape_place, stop_place, truth_place, verdict_place}
 
 -- each value of a list has the place at which it stands
 abbrev pub AreInPlace : {A : Type 0} → (A → ℕ) → ℕ → List A → Type 0
@@ -148,26 +146,3 @@ stop_table = record {
     word stop.NoTest = refl
     word stop.NoSuspect = refl
     word stop.Spent = refl
-
-pub edit_table : IsWordTable edit_words edit_place placed_edit
-edit_table = record {
-  there = there;
-  only = λ place value at. only_there edit_place edits place value (refl, (refl, (refl, (refl, tt)))) at;
-  each = λ place lt. some_there edits place lt;
-  word = word;
-}
-  where
-    edits : List HistoryWord
-    edits = Close ∷ Late ∷ Amend ∷ Strike ∷ []
-
-    there : (edit : HistoryWord) → placed_edit (edit_place edit) ≡ Some edit
-    there Close = refl
-    there Late = refl
-    there Amend = refl
-    there Strike = refl
-
-    word : (edit : HistoryWord) → IsFirst edit_words (edit_place edit)
-    word Close = refl
-    word Late = refl
-    word Amend = refl
-    word Strike = refl
