@@ -6,6 +6,14 @@ use Rattle.pb_rows.specs.Date.{IsDay, date_text, day_of}
 use Rattle.pb_form.proofs.DayLemmas.{text_date}
 use Rattle.pb_form.proofs.DayTextLemmas.{day_reads, no_text}
 use Rattle.pb_form.proofs.day.day_text.Goals as goal
+use Rattle.pb_form.proofs.day.day_text.Goals.{then-day-lt-FIRST_DAY-via-then-day-lt-FIRST_DAY, then-day-lt-FIRST_DAY-via-else-day-lt-FIRST_DAY+then-day-gt-LAST_DAY}
+
+pub returns-then-day-lt-FIRST_DAY : goal.returns-then-day-lt-FIRST_DAY
+returns-then-day-lt-FIRST_DAY c =
+    no_text c.date_text_law.ensures c.args.day (λ (range : IsDay c.args.day). elim c.then-day-lt-FIRST_DAY.branch [
+      | then-day-lt-FIRST_DAY-via-then-day-lt-FIRST_DAY w ↦ omega (arith, ints, range.0, range.1)
+      | then-day-lt-FIRST_DAY-via-else-day-lt-FIRST_DAY+then-day-gt-LAST_DAY w ↦ omega (arith, ints, range.0, range.1)
+    ])
 
 pub returns-in-Ok : goal.returns-in-Ok
 returns-in-Ok c =
