@@ -11,7 +11,7 @@ use Rattle.pb_check.specs.Laws.{IsSound}
 use Rattle.pb_check.specs.Verdict.{IsFirstFault, IsPassed}
 use Rattle.pb_report.specs.declared.form.Form.TheVariants.{Csv}
 use Rattle.pb_report.specs.Form.{text_in}
-use Rattle.pb_report.specs.Row.{Columns}
+use Rattle.pb_report.specs.Row.{OutputRow}
 use Rattle.pb_audit.specs.Rows.{no_row, unreadable_row, yes_row}
 
 -- What is found: a block that passes all tests; a block that fails one, with the place, what is stated there and what the rule gives;
@@ -53,7 +53,7 @@ abbrev pub finds_wrong : List Finding → Bool
 finds_wrong findings = list_any is_wrong findings
 
 -- the row of a finding
-abbrev pub finding_row : Finding → Columns
+abbrev pub finding_row : Finding → OutputRow
 finding_row (passed block) = yes_row block
 finding_row (failed block test place stated found) = no_row block test place stated found
 finding_row (unreadable number fault) = unreadable_row number fault

@@ -1,14 +1,20 @@
 // The rows of a judgement.
 
-ghost use Rattle.std.specs.Prelude.{◌≡◌, ◌∷◌, [], ◌<◌, length, IfOk, OnOk, OnErr};
+ghost use Rattle.std.specs.Prelude.{◌≡◌, ◌-◌, ◌∷◌, [], OnOk, OnErr};
+ghost use Rattle.pb_form.specs.Given.{value_as};
+ghost use Rattle.pb_form.specs.Holds as holds;
+ghost use Rattle.pb_readback.specs.Codes as codes_of_faults;
+ghost use Rattle.pb_check.specs.Verdict as tests;
 ghost use Rattle.pb_report.specs.Form.{AppendsRows};
+ghost use Rattle.pb_report.specs.Given.{given_row};
 ghost use Rattle.pb_report.specs.declared.form.Form.TheVariants.{Csv};
-ghost use Rattle.pb_audit.specs.Rows.{fault_word, no_row, place_name, test_word, unreadable_row, verdict_row, yes_row};
+ghost use Rattle.pb_audit.specs.Rows.{no_row, place_name, unreadable_row, yes_row};
 ghost use Rattle.pb_audit.specs.Judging.{IsPlaceOf};
 
 use pb_check::{Place, Test};
+use pb_form::{OutputKind, Value};
 use pb_readback::{Block, RowFault};
-use pb_report::{Form, OutputRow, write_row};
+use pb_report::{Form, write_row};
 use pb_rows::Names;
 use std::alloc::{AllocError, Global};
 
@@ -18,7 +24,7 @@ pub(crate) fn write_yes(alloc: Global, block: &Block, out: &mut Vec<u8>) -> Resu
         (AppendsRows Csv out.old.items out.new.items (yes_row block.now ∷ [])) }
     ensures err { OnErr result (out.new.items ≡ out.old.items) }
 {
-    write_row(&yes_row(alloc, block)?, Form::Csv, out)
+    write_row(alloc, OutputKind::Yes, &yes_values(block), Form::Csv, out)
 }
 
 // Appends the row of a block that fails a test.
@@ -36,8 +42,8 @@ pub(crate) fn write_no(
         (no_row block.now test place stated found ∷ [])) }
     ensures err { OnErr result (out.new.items ≡ out.old.items) }
 {
-    let row = no_row(alloc, block, test, place, stated, found)?;
-    write_row(&row, Form::Csv, out)
+    let values = no_values(block, test, place, stated, found);
+    write_row(alloc, OutputKind::No, &values, Form::Csv, out)
 }
 
 // Appends the row of a record that can't be read.
@@ -51,98 +57,75 @@ pub(crate) fn write_unreadable(
         (unreadable_row at fault ∷ [])) }
     ensures err { OnErr result (out.new.items ≡ out.old.items) }
 {
-    write_row(&unreadable_row(alloc, at, fault)?, Form::Csv, out)
+    let values = unreadable_values(at, fault);
+    write_row(alloc, OutputKind::Unreadable, &values, Form::Csv, out)
 }
 
-// The row of a block by its word, with its period and its round.
-fn verdict_row(alloc: Global, word: &str, block: &Block) -> Result<OutputRow, AllocError>
-    ensures { IfOk result (λ row. row ≡ verdict_row word.now block.now) }
+fn yes_values<'a>(block: &'a Block) -> [Value<'a>; 3]
+    ensures { given_row OutputKind.Yes result ≡ yes_row block.now }
 {
-    OutputRow::of(alloc, word)?
-        .text("period", block.period.as_str())?
-        .number("round", i128::from(block.round))
+    [
+        Value::Word(0),
+        Value::Text(block.period.as_str()),
+        Value::Number(i128::from(block.round)),
+    ]
 }
 
-fn yes_row(alloc: Global, block: &Block) -> Result<OutputRow, AllocError>
-    ensures { IfOk result (λ row. row ≡ yes_row block.now) }
-{
-    verdict_row(alloc, "yes", block)
-}
-
-fn no_row(
-    alloc: Global,
-    block: &Block,
+fn no_values<'a>(
+    block: &'a Block,
     test: Test,
     place: Place,
     stated: i128,
     found: i128,
-) -> Result<OutputRow, AllocError>
+) -> [Value<'a>; 8]
     requires { IsPlaceOf block.now.names place }
-    ensures { IfOk result (λ row. row ≡ no_row block.now test place stated found) }
+    ensures { given_row OutputKind.No result ≡ no_row block.now test place stated found }
 {
-    verdict_row(alloc, "no", block)?
-        .number("code", i128::from(test.code()))?
-        .text("word", test_word(test))?
-        .text("name", place_name(&block.names, place))?
-        .number("stated", stated)?
-        .number("found", found)
+    [
+        Value::Word(0),
+        Value::Text(block.period.as_str()),
+        Value::Number(i128::from(block.round)),
+        Value::Number(i128::from(test.code())),
+        Value::Word(test_place(test)),
+        place_name(&block.names, place),
+        Value::Number(stated),
+        Value::Number(found),
+    ]
 }
 
-fn unreadable_row(alloc: Global, at: u32, fault: RowFault) -> Result<OutputRow, AllocError>
-    ensures { IfOk result (λ row. row ≡ unreadable_row at fault) }
+fn unreadable_values(at: u32, fault: RowFault) -> [Value<'static>; 4]
+    ensures { given_row OutputKind.Unreadable result ≡ unreadable_row at fault }
 {
-    OutputRow::of(alloc, "unreadable")?
-        .number("at", i128::from(at))?
-        .number("code", i128::from(fault.code()))?
-        .text("word", fault_word(fault))
+    [
+        Value::Word(0),
+        Value::Number(i128::from(at)),
+        Value::Number(i128::from(fault.code())),
+        Value::Word(fault_place(fault)),
+    ]
 }
 
 // The name of the node or the stream at a place, and nothing for the whole stage.
-fn place_name(names: &Names, place: Place) -> &str
+fn place_name<'a>(names: &'a Names, place: Place) -> Value<'a>
     requires { IsPlaceOf names.now place }
-    ensures { result.now ≡ place_name names.now place }
+    ensures { value_as holds.Name result ≡ place_name names.now place }
 {
     match place {
-        Place::Node(node) => names.nodes.at(node as usize).as_str(),
-        Place::Stream(stream) => names.streams.at(stream as usize).as_str(),
-        Place::Whole => "",
+        Place::Node(node) => Value::Text(names.nodes.at(node as usize).as_str()),
+        Place::Stream(stream) => Value::Text(names.streams.at(stream as usize).as_str()),
+        Place::Whole => Value::Missing,
     }
 }
 
-fn test_word(test: Test) -> &'static str
-    ensures { result.now ≡ test_word test }
+// The place of a test's word among the words of tests.
+fn test_place(test: Test) -> usize
+    ensures { result ≡ tests.code_of test - 1 }
 {
-    match test {
-        Test::Class => "class",
-        Test::Witness => "witness",
-        Test::Balance => "balance",
-        Test::Price => "price",
-        Test::Box => "box",
-        Test::Freedom => "dof",
-        Test::Gap => "gap",
-        Test::State => "state",
-        Test::Bounds => "bounds",
-        Test::Statistic => "statistic",
-        Test::Nodal => "nodal",
-        Test::Verdict => "verdict",
-        Test::Least => "least",
-    }
+    test as usize
 }
 
-fn fault_word(fault: RowFault) -> &'static str
-    ensures { result.now ≡ fault_word fault }
+// The place of a fault's word among the words of faults.
+fn fault_place(fault: RowFault) -> usize
+    ensures { result ≡ codes_of_faults.code_of fault - 1 }
 {
-    match fault {
-        RowFault::Kind => "kind",
-        RowFault::Fields => "fields",
-        RowFault::Name => "name",
-        RowFault::Number => "number",
-        RowFault::Unknown => "unknown",
-        RowFault::Duplicate => "duplicate",
-        RowFault::Word => "word",
-        RowFault::Shape => "shape",
-        RowFault::Count => "count",
-        RowFault::Env => "env",
-        RowFault::Ended => "ended",
-    }
+    fault as usize
 }

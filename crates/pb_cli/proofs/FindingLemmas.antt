@@ -7,7 +7,7 @@ use Rattle.std.proofs.lemmas.Grind.{flat_map-append}
 use Rattle.pb_io.specs.Sink.{Puts, PutsPrefix, PutsSuch, SinkSeen}
 use Rattle.pb_report.specs.declared.form.Form.TheVariants.{Csv}
 use Rattle.pb_report.specs.Form.{row_text, text_in}
-use Rattle.pb_report.specs.Row.{Columns}
+use Rattle.pb_report.specs.Row.{OutputRow}
 use Rattle.pb_rows.specs.RecordsLeft.{RecordsLeft}
 use Rattle.pb_audit.specs.declared.judge.Judged.{Judged}
 use Rattle.pb_audit.specs.declared.judge.Judged.TheVariants.{Passed, Failed, Unreadable}
@@ -44,7 +44,7 @@ all_of at records (first ∷ front) rest k left (next, is, more) are =
 
 text-append : (front rest : List Finding) → text_of_findings (front ++ rest) ≡ text_of_findings front ++ text_of_findings rest
 text-append front rest =
-    ap (λ (rows : List Columns). text_in Csv rows) (map-append finding_row front rest) ∙ flat_map-append (row_text Csv) (map finding_row front) (map finding_row rest)
+    ap (λ (rows : List OutputRow). text_in Csv rows) (map-append finding_row front rest) ∙ flat_map-append (row_text Csv) (map finding_row front) (map finding_row rest)
 
 or-false : (b : Bool) → (b || false) ≡ b
 or-false b = elim b as (λ v. (v || false) ≡ v) [ true ↦ refl | false ↦ refl ]

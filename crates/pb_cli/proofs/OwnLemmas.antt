@@ -40,7 +40,7 @@ use Rattle.pb_period.specs.PeriodGraph.{assembly_of, design_graph, period_names}
 use Rattle.pb_report.specs.declared.form.Form.{Form}
 use Rattle.pb_report.specs.declared.form.Form.TheVariants.{Csv}
 use Rattle.pb_report.specs.Form.{row_text, text_in}
-use Rattle.pb_report.specs.Row.{Columns, values_of}
+use Rattle.pb_report.specs.Row.{OutputRow, fields_of}
 use Rattle.pb_report.specs.Study.{study_rows}
 use Rattle.pb_readback.specs.declared.block.Block.{Block}
 use Rattle.pb_readback.specs.Laws.{JoinLaw}
@@ -59,7 +59,7 @@ use Rattle.pb_audit.specs.Laws.{OneFindingsLaw, PassedLaw}
 
 -- A text is rows that read back as blocks, each of which passes.
 pub record ReadsBack (text : List ℕ) : Type 0 where
-  pub rows : List Columns
+  pub rows : List OutputRow
   pub blocks : List Block
   pub text_is : text ≡ text_in Csv rows
   pub words : BeginWithWords rows
@@ -71,13 +71,13 @@ none_read : ReadsBack []
 none_read = record { rows = []; blocks = []; text_is = refl; words = refl; are = refl; pass = All-nil IsPassedBlock }
 
 -- rows without a block
-passed_over : (rows : List Columns) (text : List ℕ) → text ≡ text_in Csv rows → BeginWithWords rows → AreBlocks (records_in rows) [] → ReadsBack text
+passed_over : (rows : List OutputRow) (text : List ℕ) → text ≡ text_in Csv rows → BeginWithWords rows → AreBlocks (records_in rows) [] → ReadsBack text
 passed_over rows text is words are = record { rows = rows; blocks = []; text_is = is; words = words; are = are; pass = All-nil IsPassedBlock }
 
 -- one text behind the other
 both_read : JoinLaw → (front back : List ℕ) → ReadsBack front → ReadsBack back → ReadsBack (front ++ back)
 both_read join front back a b =
-    let joined : records_in (a.rows ++ b.rows) ≡ records_in a.rows ++ records_in b.rows = map-append values_of a.rows b.rows in
+    let joined : records_in (a.rows ++ b.rows) ≡ records_in a.rows ++ records_in b.rows = map-append fields_of a.rows b.rows in
     record {
       rows = a.rows ++ b.rows;
       blocks = a.blocks ++ b.blocks;
@@ -108,7 +108,7 @@ sound_after accepted named state at fields sound = record {
 }
 
 -- rows in the form of a session
-in_csv : (state : SessionState) (rows : List Columns) (text : List ℕ) → state.form ≡ Csv → text ≡ text_in state.form rows → text ≡ text_in Csv rows
+in_csv : (state : SessionState) (rows : List OutputRow) (text : List ℕ) → state.form ≡ Csv → text ≡ text_in state.form rows → text ≡ text_in Csv rows
 in_csv state rows text csv is = is ∙ ap (λ (form : Form). text_in form rows) csv
 
 -- ---- a report
@@ -204,7 +204,7 @@ reports_read known law state i text sound (Some period) at reports = by (assembl
         (at_place (λ (p : Period). is_name p.name ≡ true) (periods_of state.rows) i period at named.periods) report
     by (Err (Over j)) is =
         let stream = name_at (period_names state.rows (days_of period)).streams j in
-        let rows : List Columns = over_row period.name stream ∷ [] in
+        let rows : List OutputRow = over_row period.name stream ∷ [] in
         passed_over rows text (in_csv state rows text sound.form is) (known.words.over period.name stream) (known.others.over period.name stream)
     by (Err NoMemory) is = absurd is
 
@@ -217,7 +217,7 @@ record_read known law state at fields text sound adds = by (answer_of state.rows
     tells None is = absurd is
     tells (Some period) is =
         let edits = map told (history_of state.rows period) in
-        let rows : List Columns = told_history state.rows period in
+        let rows : List OutputRow = told_history state.rows period in
         passed_over rows text (in_csv state rows text sound.form is) (known.words.histories (told_period period) edits) (known.others.histories (told_period period) edits)
 
     nothing : text ≡ [] → ReadsBack text
@@ -229,14 +229,14 @@ record_read known law state at fields text sound adds = by (answer_of state.rows
     said Design design =
         let names = names_of (declared_of state.rows) in
         let graph = design_graph state.rows in
-        let rows : List Columns = design_rows names graph design.classes in
+        let rows : List OutputRow = design_rows names graph design.classes in
         passed_over rows text (in_csv state rows text sound.form design.rows) (known.words.designs names graph design.classes) (known.others.designs names graph design.classes)
     said (Report i) reports = reports_read known law state i text sound (slice_get (periods_of state.rows) i) refl reports
     said (History i) is = tells (slice_get (periods_of state.rows) i) is
 
     by : (answer : Answer) → AddsBy state at answer text → ReadsBack text
     by (Refused cause) is =
-        let rows : List Columns = refused_row at (code_of cause) ∷ [] in
+        let rows : List OutputRow = refused_row at (code_of cause) ∷ [] in
         passed_over rows text (in_csv state rows text sound.form is) (known.words.refused at (code_of cause)) (known.others.refused at (code_of cause))
     by (Stored row) is = nothing is
     by (Says accepted) is = said accepted is

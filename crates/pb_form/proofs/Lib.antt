@@ -12,4 +12,5 @@ mod KindLemmas
 mod OneRecordLemmas
 mod JsonLemmas
 mod TextLemmas
-mod DaySaysLemmas
+mod DayTextLemmas
+mod RowTextLemmas

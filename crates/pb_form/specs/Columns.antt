@@ -2,10 +2,10 @@
 --
 -- A kind of rows is told once, as a schema: a list of columns with their keys, of which the first takes the kind's word. Columns of
 -- one word tell the kind (Telling): two kinds of one word differ in a further word or in the number of their fields. A record is read
--- by a schema to one value a column, or to its first fault in one order (Reading). Writing has no definition of its own: a record
--- writes values if it reads as them (Writing), and no two do (Laws). Rows of pairs or more have a tail, whose columns come over and
--- over. Columns that may be missing at the end of a row make a second schema. The kinds stand in two tables, SessionRows and
--- OutputRows; what a row means beside its form isn't said here.
+-- by a schema to one value a column, or to its first fault in one order (Reading). A record writes values if it reads as them
+-- (Writing), and no two do (Laws): it is that of their texts (Texts), if they fit (TextLaws). Rows of pairs or more have a tail, whose
+-- columns come over and over. Columns that may be missing at the end of a row make a second schema. The kinds stand in two tables,
+-- SessionRows and OutputRows; what a row means beside its form isn't said here.
 use Rattle.std.specs.Prelude.{ℕ, Bool, true, false, List, [], ◌∷◌}
 use Rattle.pb_form.specs.Holds.{Holds, Word}
 

@@ -1,11 +1,9 @@
 -- Inside. The values that are given to be written, as those of the definitions.
-use Rattle.std.specs.Prelude.{◌≡◌, ℕ, List, [], ◌∷◌, ◌++◌, Ok}
+use Rattle.std.specs.Prelude.{ℕ, List, [], ◌∷◌}
 use Rattle.pb_form.specs.Columns.{Column}
-use Rattle.pb_form.specs.Field.{field_read}
 use Rattle.pb_form.specs.Holds.{Holds}
 use Rattle.pb_form.specs.Holds as holds
 use Rattle.pb_form.specs.Value as value
-use Rattle.pb_form.specs.Writing.{word_at}
 use Rattle.pb_form.specs.declared.value.Value as coded
 use Rattle.pb_form.specs.declared.value.Value.TheVariants as given
 
@@ -27,14 +25,3 @@ value_as takes (given.Day day) = value.Date day
 abbrev pub values_as : List Column → List coded.Value → List value.Value
 values_as (column ∷ columns) (one ∷ values) = value_as column.holds one ∷ values_as columns values
 values_as columns values = []
-
--- a row gains a field that says a value
-pub record AddsValue (column : Column) (said : value.Value) (old new : List (List ℕ)) : Type 0 where
-  pub field : List ℕ
-  pub says : field_read column field ≡ Ok said
-  pub added : new ≡ old ++ field ∷ []
-
--- the word at a place among those that a column takes
-abbrev pub word_of : Holds → ℕ → List ℕ
-word_of (holds.Word words) place = word_at words place
-word_of takes place = []

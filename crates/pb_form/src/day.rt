@@ -1,21 +1,40 @@
 // The text of a day, as a field writes it.
 
-ghost use Rattle.std.specs.Prelude.{◌≡◌, ◌<◌, IsUtf8, Some};
-ghost use Rattle.pb_rows.specs.Date.{IsDay, date_text, day_of};
+ghost use Rattle.std.specs.Prelude.{◌≡◌, ◌<◌, ◌∷◌, ◌++◌, [], All, IsUtf8, MatchOption, OnOk};
+ghost use Rattle.pb_rows.specs.Date.{date_text};
+ghost use Rattle.pb_form.specs.Days.{day_text};
 
 use jiff_core::civil::Date;
-use pb_rows::date_text_law;
+use pb_rows::{Row, date_text_law};
+use std::alloc::AllocError;
 
-// The text `YYYY-MM-DD` of a day, counted from 1970-01-01.
-pub(crate) fn day_text(day: i32) -> [u8; 10]
-    requires { IsDay day }
-    ensures value { day_of result ≡ Some day }
-    ensures text { IsUtf8 result }
+// 1900-01-01 and 2199-12-31, counted from 1970-01-01.
+const FIRST_DAY: i32 = -25_567;
+
+const LAST_DAY: i32 = 84_005;
+
+// Appends the text of a day, counted from 1970-01-01, or nothing if no date from 1900 to 2199 is the day's.
+pub(crate) fn push_day(day: i32, row: &mut Row) -> Result<(), AllocError>
+    ensures adds { OnOk result (row.new ≡ row.old ++ day_text day ∷ []) }
+    ensures texts { OnOk result (All IsUtf8 row.old → All IsUtf8 row.new) }
+{
+    match day_text(day) {
+        Some(text) => row.push(&text),
+        None => row.push(b""),
+    }
+}
+
+// The text `YYYY-MM-DD` of a day, if it has one.
+fn day_text(day: i32) -> Option<[u8; 10]>
+    ensures { MatchOption result (day_text day ≡ []) (λ text. (text ≡ day_text day) × IsUtf8 text) }
 {
     date_text_law();
+    if day < FIRST_DAY || LAST_DAY < day {
+        return None;
+    }
     match Date::from_unix_epoch_day(i64::from(day)) {
-        Ok(date) => text_of(date.year.unsigned_abs(), date.month, date.day),
-        Err(_) => unreachable!(),
+        Ok(date) => Some(text_of(date.year.unsigned_abs(), date.month, date.day)),
+        Err(_) => None,
     }
 }
 

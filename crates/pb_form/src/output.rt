@@ -1,17 +1,24 @@
 // The rows of an output: the columns of each kind.
 
-ghost use Rattle.std.specs.Prelude.{◌≡◌, ◌≤◌, length, map, slice_get};
-ghost use Rattle.pb_form.specs.OutputRows.{output_kinds, output_schema, output_schemas};
+ghost use Rattle.std.specs.Prelude.{◌≡◌, ◌≤◌, ◌++◌, length, map, slice_get, All, IsUtf8, IfOk, OnOk, OnErr};
+ghost use Rattle.pb_form.specs.Given.{values_as};
+ghost use Rattle.pb_form.specs.Json.{record_line};
+ghost use Rattle.pb_form.specs.OutputRows.{output_columns, output_kinds, output_schema, output_schemas};
 ghost use Rattle.pb_form.specs.Seen.{schema_seen};
+ghost use Rattle.pb_form.specs.Texts.{texts_of};
 
 use crate::column::{Column, Holds, Schema};
+use crate::json::write_json;
 use crate::table::{column, optional, schema, word};
-use crate::value::ROOM;
+use crate::texts::write_texts;
+use crate::value::{ROOM, Value};
 use crate::words::{
     CAUSE_WORDS, CLASS_WORDS, EDIT_WORDS, MEASURED_WORDS, PERIOD_WORDS, SHAPE_WORDS, STATE_WORDS,
     STOP_WORDS, TEST_WORDS, UNREAD_WORDS, VERDICT_WORDS,
 };
 use pb_limits::{MOST_CRITICAL, MOST_FREEDOM, MOST_GAP, MOST_SWEEPS, MOST_VALUE, MOST_VARIANCE};
+use pb_rows::Row;
+use std::alloc::{AllocError, Global};
 
 /// The kinds of the rows of an output.
 #[derive(Clone, Copy, PartialEq, Eq, Debug)]
@@ -304,4 +311,27 @@ fn place_of(kind: OutputKind) -> usize
     ensures { slice_get output_kinds result ≡ Some kind }
 {
     kind as usize
+}
+
+/// The record of a kind: the text of each value, of which the first is the kind's word.
+pub fn output_record(alloc: Global, kind: OutputKind, values: &[Value]) -> Result<Row, AllocError>
+    requires { length values.now ≡ length (output_columns kind) }
+    ensures fields { IfOk result (λ row. row
+        ≡ texts_of (output_columns kind) (values_as (output_columns kind) values.now)) }
+    ensures each { IfOk result (λ row. length row ≡ length (output_columns kind)) }
+    ensures texts { IfOk result (All IsUtf8) }
+{
+    write_texts(alloc, output_schema(kind).columns, values)
+}
+
+/// Appends a record of a kind as a line of JSON: an object with the text of each field under its column's key, and a line feed.
+/// After an `Err`, out of memory, the text is as it was.
+pub fn output_json(kind: OutputKind, row: &Row, out: &mut Vec<u8>) -> Result<(), AllocError>
+    requires each { length row.now ≡ length (output_columns kind) }
+    requires texts { All IsUtf8 row.now }
+    ensures appended { OnOk result (out.new.items
+        ≡ out.old.items ++ record_line (output_columns kind) row.now) }
+    ensures unchanged { OnErr result (out.new.items ≡ out.old.items) }
+{
+    write_json(output_schema(kind), row, out)
 }

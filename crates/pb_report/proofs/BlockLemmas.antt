@@ -8,20 +8,17 @@ use Rattle.pb_graph.specs.declared.results.Options.{Options}
 use Rattle.pb_graph.specs.declared.results.Stage.{Stage}
 use Rattle.pb_report.specs.Block.{block_rows, end_row, node_rows, report_row, result_rows, solved_row}
 use Rattle.pb_report.specs.Output.{AddsRows, OutputText}
-use Rattle.pb_report.specs.Row.{Columns}
+use Rattle.pb_report.specs.Row.{OutputRow}
 use Rattle.pb_report.specs.Tests.{tests_rows}
-use Rattle.pb_report.proofs.OutputLemmas.{two_rows}
+use Rattle.pb_report.proofs.OutputLemmas.{adds_row, two_rows}
 
 -- what holds of each item holds of the one at a place
 pub holds_at : {A : Type 0} (P : A → Type 0) (xs : List A) (i : ℕ) (x : A) → All P xs → slice_get xs i ≡ Some x → P x
 holds_at P xs i x all at = subst P (get_or_from_slice_get xs i x x at) (All-get_or P xs i x (slice_get_within xs i x at) all)
 
-adds_row : (old new : OutputText) (row wanted : Columns) → row ≡ wanted → AddsRows old new (row ∷ []) → AddsRows old new (wanted ∷ [])
-adds_row old new row wanted is adds = subst (λ (r : Columns). AddsRows old new (r ∷ [])) is adds
-
--- the parts of a block, one behind the other, are its rows
+-- the parts of a block, one after the other, are its rows
 pub block_written : {V E : Type 0} (result : Result V E) (names : Names) (period : List ℕ) (options : Options) (round : ℕ) (stage : Stage) (a b c d e f g : OutputText)
-    (first solved last : Columns) → first ≡ report_row period round stage.graph options → AddsRows a b (first ∷ []) → AddsRows b c (node_rows names.nodes stage.prices)
+    (first solved last : OutputRow) → first ≡ report_row period round stage.graph options → AddsRows a b (first ∷ []) → AddsRows b c (node_rows names.nodes stage.prices)
     → AddsRows c d (result_rows names stage.graph.streams stage.streams) → solved ≡ solved_row stage → AddsRows d e (solved ∷ []) → AddsRows e f (tests_rows names stage.tests)
     → last ≡ end_row period round → OnOk result (AddsRows f g (last ∷ [])) → OnOk result (AddsRows a g (block_rows names period options round stage))
 block_written (Err error) names period options round stage a b c d e f g first solved last is one nodes streams is_solved two tests is_last three = tt

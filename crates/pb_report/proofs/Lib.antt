@@ -1,7 +1,5 @@
-mod RowLemmas
-mod TextLemmas
-mod JsonLemmas
 mod OutputLemmas
 mod PieceLemmas
+mod EditLemmas
 mod StudyLemmas
 mod BlockLemmas

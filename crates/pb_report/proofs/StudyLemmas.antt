@@ -7,7 +7,7 @@ use Rattle.pb_graph.specs.declared.results.Options.{Options}
 use Rattle.pb_graph.specs.declared.results.Stage.{Stage}
 use Rattle.pb_graph.specs.declared.results.Taken.{Taken}
 use Rattle.pb_report.specs.Block.{block_rows}
-use Rattle.pb_report.specs.Row.{Columns}
+use Rattle.pb_report.specs.Row.{OutputRow}
 use Rattle.pb_report.specs.Output.{AddsRows, IsUnderWay, OutputText}
 use Rattle.pb_report.specs.Study.{taken_row, round_rows}
 use Rattle.pb_report.proofs.OutputLemmas.{more_rows, two_rows}
@@ -24,7 +24,7 @@ rounds_more names period options taken stages i d stage lt at =
     rw (drop_next taken i d lt, drop_next stages (i + 1) stage within, is_stage) refl
 
 -- one more round is written
-pub one_round : (names : Names) (period : List ℕ) (options : Options) (start old middle new : OutputText) (rows : List Columns) (items taken : List Taken) (stages : List Stage) (i : ℕ) (d : Taken) (stage : Stage) (written : Columns)
+pub one_round : (names : Names) (period : List ℕ) (options : Options) (start old middle new : OutputText) (rows : List OutputRow) (items taken : List Taken) (stages : List Stage) (i : ℕ) (d : Taken) (stage : Stage) (written : OutputRow)
     → items ≡ taken → i < length taken → slice_get stages (i + 1) ≡ Some stage
     → IsUnderWay start old rows (round_rows names period options (i + 1) (drop i taken) (drop (i + 1) stages))
     → written ≡ taken_row names period (i + 1) (get_or items i d) → AddsRows old middle (written ∷ []) → AddsRows middle new (block_rows names period options (i + 1) stage)
@@ -34,4 +34,4 @@ one_round names period options start old middle new rows items taken stages i d 
     (round_rows names period options (i + 1 + 1) (drop (i + 1) taken) (drop (i + 1 + 1) stages))
     (rw (rounds_more names period options taken stages i d stage lt at) at way)
     (two_rows old middle new (taken_row names period (i + 1) (get_or taken i d) ∷ []) (block_rows names period options (i + 1) stage)
-    (subst (λ (one : Columns). AddsRows old middle (one ∷ [])) (is ∙ ap (λ (zs : List Taken). taken_row names period (i + 1) (get_or zs i d)) same) suspect) block)
+    (subst (λ (one : OutputRow). AddsRows old middle (one ∷ [])) (is ∙ ap (λ (zs : List Taken). taken_row names period (i + 1) (get_or zs i d)) same) suspect) block)

@@ -1,27 +1,14 @@
--- Statement. A certificate as columns: its shape, its side and its parts.
+-- Statement. A certificate as values of a row: its shape, its side and its parts.
 use Rattle.std.specs.Prelude.{ℕ, ℤ, pos, negsuc, Bool, true, false, List, [], ◌∷◌, ◌++◌, codes}
 use Rattle.std.specs.List.{join_by}
 use Rattle.pb_rows.specs.declared.name.Names.{Names}
 use Rattle.pb_graph.specs.declared.records.Member.{Member}
 use Rattle.pb_graph.specs.declared.records.Step.{Step}
-use Rattle.pb_graph.specs.declared.records.Class.{Class}
-use Rattle.pb_graph.specs.declared.records.Class.TheVariants.{Observable, Unobservable, Redundant, Nonredundant}
 use Rattle.pb_graph.specs.declared.records.Witness.{Witness}
 use Rattle.pb_graph.specs.declared.records.Witness.TheVariants.{Cut, Cycle}
+use Rattle.pb_form.specs.Value.{Value, Word, Items}
 use Rattle.pb_report.specs.Names.{name_at}
-use Rattle.pb_report.specs.Row.{Columns, text}
-
--- the word of a class
-abbrev pub class_word : Class → List ℕ
-class_word Observable = codes "observable"
-class_word Unobservable = codes "unobservable"
-class_word Redundant = codes "redundant"
-class_word Nonredundant = codes "nonredundant"
-
--- the word of a certificate's shape
-abbrev pub shape_word : Witness → List ℕ
-shape_word (Cut side members) = codes "cut"
-shape_word (Cycle steps) = codes "cycle"
+use Rattle.pb_choices.specs.Places.{shape_place, witness_shape}
 
 -- the names of the nodes in a side, in order of nodes
 abbrev pub names_in : List Bool → List (List ℕ) → List (List ℕ)
@@ -62,8 +49,7 @@ abbrev pub parts_text : List (List ℕ) → Witness → List ℕ
 parts_text streams (Cut side members) = spaced (member_text streams) members
 parts_text streams (Cycle steps) = spaced (step_text streams) steps
 
--- the columns of a certificate
-abbrev pub certificate_columns : Names → Witness → Columns
-certificate_columns names witness =
-    text (codes "shape") (shape_word witness) ∷ text (codes "side") (side_text names.nodes witness)
-    ∷ text (codes "parts") (parts_text names.streams witness) ∷ []
+-- the values of a certificate
+abbrev pub certificate_values : Names → Witness → List Value
+certificate_values names witness =
+    Word (shape_place (witness_shape witness)) ∷ Items (side_text names.nodes witness) ∷ Items (parts_text names.streams witness) ∷ []

@@ -1,6 +1,5 @@
 -- Statement
 pub mod Row
-pub mod Json
 pub mod Form
 pub mod Names
 pub mod Rows
@@ -14,6 +13,6 @@ pub mod Study
 pub mod History
 pub mod Summary
 -- Inside
-pub mod Columns
+pub mod Given
 pub mod Output
 pub mod Pieces

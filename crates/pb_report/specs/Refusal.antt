@@ -1,19 +1,9 @@
 -- Statement. Refused rows of a session.
-use Rattle.std.specs.Prelude.{ℕ, ◌-◌, List, [], ◌∷◌, pos, slice_index_or, codes}
-use Rattle.pb_report.specs.Row.{Columns, number, row_of, text}
+use Rattle.std.specs.Prelude.{ℕ, ◌-◌, [], ◌∷◌, pos}
+use Rattle.pb_form.specs.Value.{Number, Word}
+use Rattle.pb_form.specs.declared.output.OutputKind.TheVariants as kind
+use Rattle.pb_report.specs.Row.{OutputRow, row_of}
 
--- the words of the refusals, in order of their codes, which begin at 1
-abbrev pub refusal_words : List (List ℕ)
-refusal_words =
-    codes "kind" ∷ codes "fields" ∷ codes "name" ∷ codes "number" ∷ codes "date" ∷ codes "unknown" ∷ codes "duplicate"
-    ∷ codes "order" ∷ codes "mismatch" ∷ codes "sealed" ∷ codes "closed" ∷ codes "range" ∷ codes "full" ∷ []
-
--- the word of a refusal
-abbrev pub refusal_word : ℕ → List ℕ
-refusal_word code = slice_index_or refusal_words (code - 1) []
-
--- the row of a refused record: its number in the session, and the code and the word of the refusal
-abbrev pub refused_row : ℕ → ℕ → Columns
-refused_row at code =
-    row_of (codes "refused")
-    (number (codes "at") (pos at) ∷ number (codes "code") (pos code) ∷ text (codes "word") (refusal_word code) ∷ [])
+-- the row of a refused record: its number in the session, and the code and the word of the refusal; codes begin at 1
+abbrev pub refused_row : ℕ → ℕ → OutputRow
+refused_row at code = row_of kind.Refused (Number (pos at) ∷ Number (pos code) ∷ Word (code - 1) ∷ [])

@@ -1,33 +1,24 @@
--- Statement. A row of the output: its columns in order, each with its key and its value.
-use Rattle.std.specs.Prelude.{ℕ, ℤ, List, [], ◌∷◌, Option, Some, None, codes, map}
-use Rattle.pb_rows.specs.Number.{whole_text}
+-- Statement. A row of the output: its kind, and a value for each column of its kind.
+use Rattle.std.specs.Prelude.{ℕ, ℤ, List, ◌∷◌, Option, Some, None}
+use Rattle.pb_form.specs.OutputRows.{output_columns}
+use Rattle.pb_form.specs.Texts.{texts_of}
+use Rattle.pb_form.specs.Value.{Value, Missing, Number, Word}
+use Rattle.pb_form.specs.declared.output.OutputKind.{OutputKind}
 
--- a column: its key, and its value as a text
-pub record Column : Type 0 where
-  pub key : List ℕ
-  pub value : List ℕ
+-- a kind, and the values of its columns, of which the first is the kind's word
+pub record OutputRow : Type 0 where
+  pub kind : OutputKind
+  pub values : List Value
 
--- the columns of a row, of which the first has the key `row` and says which kind of row it is
-abbrev pub Columns : Type 0
-Columns = List Column
+-- a row of a kind, with these values after the kind's word
+abbrev pub row_of : OutputKind → List Value → OutputRow
+row_of kind values = record { kind = kind; values = Word 0 ∷ values }
 
--- a column that holds a text
-abbrev pub text : List ℕ → List ℕ → Column
-text key value = record { key = key; value = value }
+-- a number, or nothing if there is none
+abbrev pub optional_number : Option ℤ → Value
+optional_number None = Missing
+optional_number (Some value) = Number value
 
--- a column that holds a whole number
-abbrev pub number : List ℕ → ℤ → Column
-number key value = text key (whole_text value)
-
--- a column that holds a whole number, or nothing where there is none
-abbrev pub optional : List ℕ → Option ℤ → Column
-optional key None = text key []
-optional key (Some value) = number key value
-
--- a row of a kind
-abbrev pub row_of : List ℕ → Columns → Columns
-row_of kind columns = text (codes "row") kind ∷ columns
-
--- the values of a row, of which the first is its kind
-abbrev pub values_of : Columns → List (List ℕ)
-values_of columns = map (λ (column : Column). column.value) columns
+-- the fields of a row: the text of each value
+abbrev pub fields_of : OutputRow → List (List ℕ)
+fields_of row = texts_of (output_columns row.kind) row.values

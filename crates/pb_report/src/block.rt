@@ -1,22 +1,25 @@
 // The block of a stage: what frames it, its nodes, its streams, and how it was solved.
 
-ghost use Rattle.std.specs.Prelude.{◌≡◌, ◌<◌, ◌++◌, length, option_map, All, IfOk, OnOk};
-ghost use Rattle.pb_graph.specs.declared.records.Meas.{Meas};
-ghost use Rattle.pb_graph.specs.declared.results.Bounds.{Bounds};
+ghost use Rattle.std.specs.Prelude.{◌≡◌, ◌<◌, ◌∷◌, [], length, All, OnOk};
+ghost use Rattle.pb_form.specs.Given.{value_as};
+ghost use Rattle.pb_form.specs.Holds.{Holds};
 ghost use Rattle.pb_graph.specs.ProcessGraph.{IsStream};
 ghost use Rattle.pb_graph.specs.WellFormed.{IsResultWithin, IsWellFormed, IsWitnessWithin, sweeps_of};
-ghost use Rattle.pb_report.specs.Block.{block_rows, bounds_columns, end_row, flow_columns, least_columns, measured_columns, node_row, node_rows, report_row, result_row, result_rows, solved_row, state_word, written_least};
+ghost use Rattle.pb_report.specs.Block.{block_rows, end_row, high_end, low_end, measured_value, measured_variance, node_row, node_rows, report_row, result_row, result_rows, result_values, solved_row, written_least};
+ghost use Rattle.pb_report.specs.Given.{given_certificate, given_row};
 ghost use Rattle.pb_report.specs.Names.{IsNamed};
 ghost use Rattle.pb_report.specs.Output.{AddsRows};
+ghost use Rattle.pb_report.specs.Row.{row_of};
 
-use crate::certificate::{class_word, with_certificate};
-use crate::design::stream_row;
+use crate::certificate::Certificate;
 use crate::output::Output;
-use crate::row::OutputRow;
+use crate::values::optional_number;
 use crate::verdicts::write_tests;
-use pb_graph::{Bounds, Graph, List, Meas, Options, Solved, Stage, Stream, StreamResult};
+use pb_choices::{class_place, gap_met, shape_place, truth_place};
+use pb_form::{OutputKind, Value};
+use pb_graph::{Bounds, Graph, List, Options, Solved, Stage, Stream, StreamResult};
 use pb_rows::{Name, NameList, Names};
-use std::alloc::{AllocError, Global};
+use std::alloc::AllocError;
 
 /// Writes the block of a stage.
 pub fn write_block(
@@ -32,41 +35,45 @@ pub fn write_block(
     ensures { OnOk result (AddsRows output.old output.new
         (block_rows names.now period.now options.now round stage.now)) }
 {
-    let alloc = output.allocator();
-    output.push(&report_row(alloc, period, round, &stage.graph, options)?)?;
+    let opening = report_values(period, round, &stage.graph, options);
+    output.push(OutputKind::Report, &opening)?;
     write_nodes(&names.nodes, &stage.prices, output)?;
     write_results(names, &stage.graph, &stage.streams, output)?;
-    output.push(&solved_row(alloc, stage)?)?;
+    output.push(OutputKind::Solved, &solved_values(stage))?;
     write_tests(names, &stage.graph, &stage.tests, output)?;
-    output.push(&end_row(alloc, period, round)?)
+    output.push(OutputKind::End, &end_values(period, round))
 }
 
-// The row that opens a block.
-fn report_row(
-    alloc: Global,
-    period: &Name,
+// The values of the row that opens a block.
+fn report_values<'a>(
+    period: &'a Name,
     round: usize,
     graph: &Graph,
     options: &Options,
-) -> Result<OutputRow, AllocError>
-    ensures { IfOk result (λ row. row ≡ report_row period.now round graph.now options.now) }
+) -> [Value<'a>; 7]
+    ensures { given_row OutputKind.Report result
+        ≡ report_row period.now round graph.now options.now }
 {
-    OutputRow::of(alloc, "report")?
-        .text("period", period.as_str())?
-        .number("round", round as i128)?
-        .number("nodes", i128::from(graph.nodes()))?
-        .number("streams", i128::from(graph.len()))?
-        .number("gap", i128::from(options.gap))?
-        .number("sweeps", i128::from(options.sweeps))
+    [
+        Value::Word(0),
+        Value::Text(period.as_str()),
+        Value::Number(round as i128),
+        Value::Number(i128::from(graph.nodes())),
+        Value::Number(i128::from(graph.len())),
+        Value::Number(i128::from(options.gap)),
+        Value::Number(i128::from(options.sweeps)),
+    ]
 }
 
-// The row that closes a block.
-fn end_row(alloc: Global, period: &Name, round: usize) -> Result<OutputRow, AllocError>
-    ensures { IfOk result (λ row. row ≡ end_row period.now round) }
+// The values of the row that closes a block.
+fn end_values<'a>(period: &'a Name, round: usize) -> [Value<'a>; 3]
+    ensures { given_row OutputKind.End result ≡ end_row period.now round }
 {
-    OutputRow::of(alloc, "end")?
-        .text("period", period.as_str())?
-        .number("round", round as i128)
+    [
+        Value::Word(0),
+        Value::Text(period.as_str()),
+        Value::Number(round as i128),
+    ]
 }
 
 // Writes the rows of the nodes with their prices.
@@ -75,18 +82,19 @@ fn write_nodes(names: &NameList, prices: &List<i128>, output: &mut Output) -> Re
     ensures { OnOk result (AddsRows output.old output.new (node_rows names.now prices.now)) }
 {
     for (node, name) in names.as_slice().iter().enumerate() {
-        let row = node_row(output.allocator(), name, prices.at(node))?;
-        output.push(&row)?;
+        output.push(OutputKind::Node, &node_values(name, prices.at(node)))?;
     }
     Ok(())
 }
 
-fn node_row(alloc: Global, name: &Name, price: &i128) -> Result<OutputRow, AllocError>
-    ensures { IfOk result (λ row. row ≡ node_row name.now price.now) }
+fn node_values<'a>(name: &'a Name, price: &i128) -> [Value<'a>; 3]
+    ensures { given_row OutputKind.Node result ≡ node_row name.now price.now }
 {
-    OutputRow::of(alloc, "node")?
-        .text("name", name.as_str())?
-        .number("price", *price)
+    [
+        Value::Word(0),
+        Value::Text(name.as_str()),
+        Value::Number(*price),
+    ]
 }
 
 // Writes the rows of the streams with their results.
@@ -103,87 +111,88 @@ fn write_results(
         (result_rows names.now graph.now.streams results.now)) }
 {
     for (id, stream) in graph.streams().iter().enumerate() {
-        let row = result_row(output.allocator(), names, graph, id, stream, results.at(id))?;
-        output.push(&row)?;
+        write_result(names, graph, id, stream, results.at(id), output)?;
     }
     Ok(())
 }
 
-// The row of one stream.
-fn result_row(
-    alloc: Global,
+// Writes the row of one stream.
+fn write_result(
     names: &Names,
     graph: &Graph,
     id: usize,
     stream: &Stream,
     result_of: &StreamResult,
-) -> Result<OutputRow, AllocError>
+    output: &mut Output,
+) -> Result<(), AllocError>
     requires named { IsNamed names.now graph.now }
     requires place { id < length graph.now.streams }
     requires ends { IsStream graph.now.nodes stream.now }
     requires within { IsWitnessWithin graph.now result_of.now.classified.witness }
-    ensures { IfOk result (λ row. row ≡ result_row names.now id stream.now result_of.now) }
+    ensures { OnOk result (AddsRows output.old output.new
+        (result_row names.now id stream.now result_of.now ∷ [])) }
 {
-    let row = stream_row(alloc, "stream", names, graph, id, stream)?;
-    let row = with_flow(with_measured(row, stream)?, result_of)?;
-    let row = with_least(with_bounds(row, result_of)?, result_of)?;
-    with_certificate(alloc, row, names, graph, &result_of.classified.witness)
+    let witness = &result_of.classified.witness;
+    let certificate = Certificate::of(output.allocator(), names, graph, witness)?;
+    let values = result_values(names, id, stream, result_of, &certificate);
+    output.push(OutputKind::Stream, &values)
 }
 
-// The row with what was measured of a stream behind its columns.
-fn with_measured(row: OutputRow, stream: &Stream) -> Result<OutputRow, AllocError>
-    ensures { IfOk result (λ whole. whole ≡ row ++ measured_columns stream.now) }
+fn result_values<'a>(
+    names: &'a Names,
+    id: usize,
+    stream: &Stream,
+    result_of: &StreamResult,
+    certificate: &'a Certificate,
+) -> [Value<'a>; 15]
+    requires place { id < length names.now.streams }
+    requires from { stream.now.from < length names.now.nodes }
+    requires to { stream.now.to < length names.now.nodes }
+    ensures { given_row OutputKind.Stream result ≡ row_of OutputKind.Stream
+        (result_values names.now id stream.now result_of.now (given_certificate certificate.now)) }
 {
-    row.optional("value", measured_value(stream))?
-        .optional("variance", measured_variance(stream))
+    let least = written_least(result_of);
+    [
+        Value::Word(0),
+        Value::Text(names.streams.at(id).as_str()),
+        Value::Text(names.nodes.at(stream.from as usize).as_str()),
+        Value::Text(names.nodes.at(stream.to as usize).as_str()),
+        measured_value(stream),
+        measured_variance(stream),
+        Value::Word(class_place(result_of.classified.class)),
+        Value::Number(result_of.flow),
+        low_end(result_of.bounds),
+        high_end(result_of.bounds),
+        low_end(least),
+        high_end(least),
+        Value::Word(shape_place(certificate.shape)),
+        Value::Text(certificate.side.as_str()),
+        Value::Text(certificate.parts.as_str()),
+    ]
 }
 
-fn measured_value(stream: &Stream) -> Option<i128>
-    ensures { result ≡ option_map (λ (meas : Meas). meas.value) stream.now.meas }
+fn measured_value(stream: &Stream) -> Value<'static>
+    ensures { (takes : Holds) → value_as takes result ≡ measured_value stream.now }
 {
-    stream.meas.map(|meas| meas.value)
+    optional_number(stream.meas.map(|meas| meas.value))
 }
 
-fn measured_variance(stream: &Stream) -> Option<i128>
-    ensures { result ≡ option_map (λ (meas : Meas). meas.variance) stream.now.meas }
+fn measured_variance(stream: &Stream) -> Value<'static>
+    ensures { (takes : Holds) → value_as takes result ≡ measured_variance stream.now }
 {
-    stream.meas.map(|meas| meas.variance)
+    optional_number(stream.meas.map(|meas| meas.variance))
 }
 
-// The row with a stream's class and reconciled flow behind its columns.
-fn with_flow(row: OutputRow, result_of: &StreamResult) -> Result<OutputRow, AllocError>
-    ensures { IfOk result (λ whole. whole ≡ row ++ flow_columns result_of.now) }
+fn low_end(bounds: Option<Bounds>) -> Value<'static>
+    ensures { (takes : Holds) → value_as takes result ≡ low_end bounds }
 {
-    row.text("class", class_word(result_of.classified.class))?
-        .number("flow", result_of.flow)
+    optional_number(bounds.map(|bounds| bounds.lo))
 }
 
-// The row with the bounds of a stream's flow behind its columns.
-fn with_bounds(row: OutputRow, result_of: &StreamResult) -> Result<OutputRow, AllocError>
-    ensures { IfOk result (λ whole. whole ≡ row ++ bounds_columns result_of.now) }
+fn high_end(bounds: Option<Bounds>) -> Value<'static>
+    ensures { (takes : Holds) → value_as takes result ≡ high_end bounds }
 {
-    row.optional("lo", low_end(result_of.bounds))?
-        .optional("hi", high_end(result_of.bounds))
-}
-
-fn low_end(bounds: Option<Bounds>) -> Option<i128>
-    ensures { result ≡ option_map (λ (bounds : Bounds). bounds.lo) bounds }
-{
-    bounds.map(|bounds| bounds.lo)
-}
-
-fn high_end(bounds: Option<Bounds>) -> Option<i128>
-    ensures { result ≡ option_map (λ (bounds : Bounds). bounds.hi) bounds }
-{
-    bounds.map(|bounds| bounds.hi)
-}
-
-// The row with the least bounds of a stream's flow behind its columns.
-fn with_least(row: OutputRow, result_of: &StreamResult) -> Result<OutputRow, AllocError>
-    ensures { IfOk result (λ whole. whole ≡ row ++ least_columns result_of.now) }
-{
-    row.optional("least_lo", low_end(written_least(result_of)))?
-        .optional("least_hi", high_end(written_least(result_of)))
+    optional_number(bounds.map(|bounds| bounds.hi))
 }
 
 // The least bounds that are written of a stream: of one without bounds none are.
@@ -193,18 +202,20 @@ fn written_least(result_of: &StreamResult) -> Option<Bounds>
     result_of.bounds.and(result_of.least)
 }
 
-// The row that says how the stage was solved.
-fn solved_row(alloc: Global, stage: &Stage) -> Result<OutputRow, AllocError>
-    ensures { IfOk result (λ row. row ≡ solved_row stage.now) }
+// The values of the row that says how the stage was solved.
+fn solved_values(stage: &Stage) -> [Value<'static>; 8]
+    ensures { given_row OutputKind.Solved result ≡ solved_row stage.now }
 {
-    OutputRow::of(alloc, "solved")?
-        .number("k", i128::from(sweeps_of(stage.solved)))?
-        .text("state", state_word(stage.solved))?
-        .number("g", i128::from(stage.g))?
-        .number("h", i128::from(stage.h))?
-        .number("dof", i128::from(stage.dof))?
-        .number("low", stage.low)?
-        .optional("high", stage.high)
+    [
+        Value::Word(0),
+        Value::Number(i128::from(sweeps_of(stage.solved))),
+        Value::Word(truth_place(gap_met(stage.solved))),
+        Value::Number(i128::from(stage.g)),
+        Value::Number(i128::from(stage.h)),
+        Value::Number(i128::from(stage.dof)),
+        Value::Number(stage.low),
+        optional_number(stage.high),
+    ]
 }
 
 /// The sweeps that were done.
@@ -213,15 +224,5 @@ pub fn sweeps_of(solved: Solved) -> u32
 {
     match solved {
         Solved::Converged(sweeps) | Solved::Unconverged(sweeps) => sweeps,
-    }
-}
-
-/// Whether the gap was met, as a word.
-pub fn state_word(solved: Solved) -> &'static str
-    ensures { result.now ≡ state_word solved }
-{
-    match solved {
-        Solved::Converged(_) => "converged",
-        Solved::Unconverged(_) => "unconverged",
     }
 }

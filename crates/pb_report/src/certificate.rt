@@ -1,52 +1,43 @@
-// The class of a stream and its certificate, as words and columns.
+// The certificate of a class, as values of a row.
 
-ghost use Rattle.std.specs.Prelude.{◌≡◌, ◌++◌, string_bytes, IfOk};
+ghost use Rattle.std.specs.Prelude.{◌≡◌, string_bytes, IfOk};
 ghost use Rattle.pb_graph.specs.WellFormed.{IsWitnessWithin};
-ghost use Rattle.pb_report.specs.Certificate.{certificate_columns, class_word, parts_text, shape_word, side_text};
+ghost use Rattle.pb_report.specs.Certificate.{certificate_values, parts_text, side_text};
+ghost use Rattle.pb_report.specs.Given.{given_certificate};
 ghost use Rattle.pb_report.specs.Names.{IsNamed};
 
 use crate::parts;
-use crate::row::OutputRow;
-use pb_graph::{Class, Graph, Witness};
+use pb_choices::{Shape, witness_shape};
+use pb_graph::{Graph, Witness};
 use pb_rows::Names;
 use std::alloc::{AllocError, Global};
 
-/// The word of a class.
-pub fn class_word(class: Class) -> &'static str
-    ensures { result.now ≡ class_word class }
-{
-    match class {
-        Class::Observable => "observable",
-        Class::Unobservable => "unobservable",
-        Class::Redundant => "redundant",
-        Class::Nonredundant => "nonredundant",
-    }
+/// A certificate: its shape, and its side and its parts as texts.
+#[derive(Drop)]
+pub struct Certificate {
+    pub shape: Shape,
+    pub side: String,
+    pub parts: String,
 }
 
-/// The row of a stream with the columns of its certificate behind it.
-pub fn with_certificate(
-    alloc: Global,
-    row: OutputRow,
-    names: &Names,
-    graph: &Graph,
-    witness: &Witness,
-) -> Result<OutputRow, AllocError>
-    requires named { IsNamed names.now graph.now }
-    requires within { IsWitnessWithin graph.now witness.now }
-    ensures { IfOk result (λ whole. whole ≡ row ++ certificate_columns names.now witness.now) }
-{
-    row.text("shape", shape_word(witness))?
-        .text("side", side_text(alloc, names, graph, witness)?.as_str())?
-        .text("parts", parts_text(alloc, names, graph, witness)?.as_str())
-}
-
-// The word of a certificate's shape.
-fn shape_word(witness: &Witness) -> &'static str
-    ensures { result.now ≡ shape_word witness.now }
-{
-    match witness {
-        Witness::Cut { .. } => "cut",
-        Witness::Cycle { .. } => "cycle",
+impl Certificate {
+    /// The certificate of a class.
+    pub fn of(
+        alloc: Global,
+        names: &Names,
+        graph: &Graph,
+        witness: &Witness,
+    ) -> Result<Certificate, AllocError>
+        requires named { IsNamed names.now graph.now }
+        requires within { IsWitnessWithin graph.now witness.now }
+        ensures { IfOk result
+            (λ certificate. given_certificate certificate ≡ certificate_values names.now witness.now) }
+    {
+        Ok(Certificate {
+            shape: witness_shape(witness),
+            side: side_text(alloc, names, graph, witness)?,
+            parts: parts_text(alloc, names, graph, witness)?,
+        })
     }
 }
 

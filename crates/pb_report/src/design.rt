@@ -1,19 +1,21 @@
 // The rows of a design.
 
-ghost use Rattle.std.specs.Prelude.{◌≡◌, ◌<◌, ◌∷◌, ◌++◌, [], length, All, IfOk, OnOk, OnErr};
+ghost use Rattle.std.specs.Prelude.{◌≡◌, ◌<◌, ◌∷◌, [], length, All, OnOk, OnErr};
 ghost use Rattle.pb_graph.specs.declared.records.Classified.{Classified};
-ghost use Rattle.pb_graph.specs.ProcessGraph.{IsStream, is_measured};
+ghost use Rattle.pb_graph.specs.ProcessGraph.{IsStream};
 ghost use Rattle.pb_graph.specs.WellFormed.{IsWitnessWithin};
-ghost use Rattle.pb_report.specs.Design.{class_row, class_rows, design_rows, graph_row, measured_word, stream_columns};
+ghost use Rattle.pb_report.specs.Design.{class_row, class_rows, class_values, design_rows, graph_row};
 ghost use Rattle.pb_report.specs.Form.{AppendsRows};
+ghost use Rattle.pb_report.specs.Given.{given_certificate, given_row};
 ghost use Rattle.pb_report.specs.Names.{IsNamed};
 ghost use Rattle.pb_report.specs.Output.{AddsRows};
 ghost use Rattle.pb_report.specs.Row.{row_of};
 
-use crate::certificate::{class_word, with_certificate};
+use crate::certificate::Certificate;
 use crate::form::Form;
 use crate::output::Output;
-use crate::row::OutputRow;
+use pb_choices::{class_place, shape_place, truth_place};
+use pb_form::{OutputKind, Value};
 use pb_graph::{Classified, Graph, List, Stream};
 use pb_rows::Names;
 use std::alloc::{AllocError, Global};
@@ -37,17 +39,19 @@ pub fn write_design(
     ensures err { OnErr result (out.new.items ≡ out.old.items) }
 {
     let mut output = Output::new(alloc, form);
-    output.push(&graph_row(alloc, graph)?)?;
+    output.push(OutputKind::Design, &graph_values(graph))?;
     write_classes(names, graph, classes, &mut output)?;
     output.append_to(out)
 }
 
-fn graph_row(alloc: Global, graph: &Graph) -> Result<OutputRow, AllocError>
-    ensures { IfOk result (λ row. row ≡ graph_row graph.now) }
+fn graph_values(graph: &Graph) -> [Value<'static>; 3]
+    ensures { given_row OutputKind.Design result ≡ graph_row graph.now }
 {
-    OutputRow::of(alloc, "design")?
-        .number("nodes", i128::from(graph.nodes()))?
-        .number("streams", i128::from(graph.len()))
+    [
+        Value::Word(0),
+        Value::Number(i128::from(graph.nodes())),
+        Value::Number(i128::from(graph.len())),
+    ]
 }
 
 // Writes the rows of the streams.
@@ -65,59 +69,54 @@ fn write_classes(
         (class_rows names.now graph.now.streams classes.now)) }
 {
     for (id, stream) in graph.streams().iter().enumerate() {
-        let row = class_row(output.allocator(), names, graph, id, stream, classes.at(id))?;
-        output.push(&row)?;
+        write_class(names, graph, id, stream, classes.at(id), output)?;
     }
     Ok(())
 }
 
-// The row of one stream.
-fn class_row(
-    alloc: Global,
+// Writes the row of one stream.
+fn write_class(
     names: &Names,
     graph: &Graph,
     id: usize,
     stream: &Stream,
     classified: &Classified,
-) -> Result<OutputRow, AllocError>
+    output: &mut Output,
+) -> Result<(), AllocError>
     requires named { IsNamed names.now graph.now }
     requires place { id < length graph.now.streams }
     requires ends { IsStream graph.now.nodes stream.now }
     requires within { IsWitnessWithin graph.now classified.now.witness }
-    ensures { IfOk result (λ row. row ≡ class_row names.now id stream.now classified.now) }
+    ensures { OnOk result (AddsRows output.old output.new
+        (class_row names.now id stream.now classified.now ∷ [])) }
 {
-    let row = stream_row(alloc, "class", names, graph, id, stream)?
-        .text("measured", measured_word(stream))?
-        .text("class", class_word(classified.class))?;
-    with_certificate(alloc, row, names, graph, &classified.witness)
+    let certificate = Certificate::of(output.allocator(), names, graph, &classified.witness)?;
+    let values = class_values(names, id, stream, classified, &certificate);
+    output.push(OutputKind::Class, &values)
 }
 
-/// A row of a kind that begins with the name of a stream and those of its ends.
-pub fn stream_row(
-    alloc: Global,
-    kind: &str,
-    names: &Names,
-    graph: &Graph,
+fn class_values<'a>(
+    names: &'a Names,
     id: usize,
     stream: &Stream,
-) -> Result<OutputRow, AllocError>
-    requires named { IsNamed names.now graph.now }
-    requires place { id < length graph.now.streams }
-    requires ends { IsStream graph.now.nodes stream.now }
-    ensures { IfOk result
-        (λ row. row ≡ row_of kind.now (stream_columns names.now id stream.now)) }
+    classified: &Classified,
+    certificate: &'a Certificate,
+) -> [Value<'a>; 9]
+    requires place { id < length names.now.streams }
+    requires from { stream.now.from < length names.now.nodes }
+    requires to { stream.now.to < length names.now.nodes }
+    ensures { given_row OutputKind.Class result ≡ row_of OutputKind.Class
+        (class_values names.now id stream.now classified.now (given_certificate certificate.now)) }
 {
-    OutputRow::of(alloc, kind)?
-        .text("name", names.streams.at(id).as_str())?
-        .text("from", names.nodes.at(stream.from as usize).as_str())?
-        .text("to", names.nodes.at(stream.to as usize).as_str())
-}
-
-fn measured_word(stream: &Stream) -> &'static str
-    ensures { result.now ≡ measured_word (is_measured stream.now) }
-{
-    match stream.meas {
-        Some(_) => "yes",
-        None => "no",
-    }
+    [
+        Value::Word(0),
+        Value::Text(names.streams.at(id).as_str()),
+        Value::Text(names.nodes.at(stream.from as usize).as_str()),
+        Value::Text(names.nodes.at(stream.to as usize).as_str()),
+        Value::Word(truth_place(stream.meas.is_some())),
+        Value::Word(class_place(classified.class)),
+        Value::Word(shape_place(certificate.shape)),
+        Value::Text(certificate.side.as_str()),
+        Value::Text(certificate.parts.as_str()),
+    ]
 }

@@ -1,10 +1,12 @@
 // The form of the output, and a row in it.
 
-ghost use Rattle.std.specs.Prelude.{◌≡◌, ◌++◌, OnOk, OnErr};
+ghost use Rattle.std.specs.Prelude.{◌≡◌, ◌++◌, length, OnOk, OnErr};
+ghost use Rattle.pb_form.specs.OutputRows.{output_columns};
 ghost use Rattle.pb_report.specs.Form.{row_text};
+ghost use Rattle.pb_report.specs.Given.{given_row};
 
-use crate::row::OutputRow;
-use std::alloc::AllocError;
+use pb_form::{OutputKind, Value, output_record, output_json};
+use std::alloc::{AllocError, Global};
 
 /// The form in which rows are written.
 #[derive(Clone, Copy, Debug, PartialEq, Eq)]
@@ -16,13 +18,23 @@ pub enum Form {
     Json,
 }
 
-/// Appends a row in a form. After an `Err`, want of memory, the text is as it was.
-pub fn write_row(row: &OutputRow, form: Form, text: &mut Vec<u8>) -> Result<(), AllocError>
-    ensures ok { OnOk result (text.new.items ≡ text.old.items ++ row_text form row.now) }
+/// Appends the row of a kind in a form. The values are one a column, and the first is the kind's word. After an `Err`, out of
+/// memory, the text is as it was.
+pub fn write_row(
+    alloc: Global,
+    kind: OutputKind,
+    values: &[Value],
+    form: Form,
+    text: &mut Vec<u8>,
+) -> Result<(), AllocError>
+    requires { length values.now ≡ length (output_columns kind) }
+    ensures ok { OnOk result
+        (text.new.items ≡ text.old.items ++ row_text form (given_row kind values.now)) }
     ensures err { OnErr result (text.new.items ≡ text.old.items) }
 {
+    let row = output_record(alloc, kind, values)?;
     match form {
-        Form::Csv => row.write_csv(text),
-        Form::Json => row.write_json(text),
+        Form::Csv => row.write_to(text),
+        Form::Json => output_json(kind, &row, text),
     }
 }

@@ -1,13 +1,19 @@
 // The rows of a history.
 
-ghost use Rattle.std.specs.Prelude.{◌≡◌, ◌∷◌, [], map, unwrap_or, IfOk, OnOk, OnErr};
+ghost use Rattle.std.specs.Prelude.{◌≡◌, ◌∷◌, [], map, OnOk, OnErr};
+ghost use Rattle.pb_form.specs.Given.{value_as};
+ghost use Rattle.pb_form.specs.Holds as holds;
+ghost use Rattle.pb_form.specs.Words.{edit_words};
+ghost use Rattle.pb_choices.specs.Places.{IsWordTable};
 ghost use Rattle.pb_report.specs.Form.{AppendsRows};
-ghost use Rattle.pb_report.specs.History.{edit_id, edit_reason, edit_row, edit_word, history_rows, period_row, period_word};
+ghost use Rattle.pb_report.specs.Given.{given_row};
+ghost use Rattle.pb_report.specs.History.{edit_id, edit_place, edit_reason, edit_row, history_rows, name_or_none, period_row, placed_edit, reason_or_none};
 ghost use Rattle.pb_report.specs.Output.{AddsRows};
 
 use crate::form::Form;
 use crate::output::Output;
-use crate::row::OutputRow;
+use pb_choices::truth_place;
+use pb_form::{OutputKind, Value};
 use pb_graph::List;
 use pb_rows::{Name, Reason};
 use std::alloc::{AllocError, Global};
@@ -32,6 +38,32 @@ pub enum HistoryWord {
     Strike,
 }
 
+static EDITS: [HistoryWord; 4] = [
+    HistoryWord::Close,
+    HistoryWord::Late,
+    HistoryWord::Amend,
+    HistoryWord::Strike,
+];
+
+/// The place of the word for what an edit did.
+pub fn edit_place(word: HistoryWord) -> usize
+    ensures { result ≡ edit_place word }
+{
+    word as usize
+}
+
+/// What an edit did, by the place of its word.
+pub fn placed_edit(place: usize) -> Option<HistoryWord>
+    ensures { result ≡ placed_edit place }
+{
+    EDITS.get(place).copied()
+}
+
+/// The law that this table goes both ways, and that its words are those of pb_form's column.
+pub fn edit_words_law()
+    ensures { IsWordTable edit_words edit_place placed_edit }
+{}
+
 /// An edit: the number of its record in the session, what it did, and for which fact and why. The fact of a closing isn't written,
 /// nor the reason of a closing or of a late fact.
 #[derive(Clone, Copy)]
@@ -55,25 +87,20 @@ pub fn write_history(
     ensures err { OnErr result (out.new.items ≡ out.old.items) }
 {
     let mut output = Output::new(alloc, form);
-    output.push(&period_row(alloc, period, edits.len())?)?;
+    output.push(OutputKind::History, &period_values(period, edits.len()))?;
     write_edits(edits, &mut output)?;
     output.append_to(out)
 }
 
-// The row of the period.
-fn period_row(alloc: Global, period: &Period, edits: usize) -> Result<OutputRow, AllocError>
-    ensures { IfOk result (λ row. row ≡ period_row period.now edits) }
+fn period_values<'a>(period: &'a Period, edits: usize) -> [Value<'a>; 4]
+    ensures { given_row OutputKind.History result ≡ period_row period.now edits }
 {
-    OutputRow::of(alloc, "history")?
-        .text("period", period.name.as_str())?
-        .text("state", period_word(period.closed))?
-        .number("count", edits as i128)
-}
-
-fn period_word(closed: bool) -> &'static str
-    ensures { result.now ≡ period_word closed }
-{
-    if closed { "closed" } else { "open" }
+    [
+        Value::Word(0),
+        Value::Text(period.name.as_str()),
+        Value::Word(truth_place(period.closed)),
+        Value::Number(edits as i128),
+    ]
 }
 
 // Writes the rows of the edits.
@@ -81,67 +108,57 @@ fn write_edits(edits: &List<HistoryRow>, output: &mut Output) -> Result<(), Allo
     ensures { OnOk result (AddsRows output.old output.new (map edit_row edits.now)) }
 {
     for edit in edits.as_slice() {
-        output.push(&edit_row(output.allocator(), edit)?)?;
+        output.push(OutputKind::Edit, &edit_values(edit))?;
     }
     Ok(())
 }
 
-// The row of an edit.
-fn edit_row(alloc: Global, edit: &HistoryRow) -> Result<OutputRow, AllocError>
-    ensures { IfOk result (λ row. row ≡ edit_row edit.now) }
+fn edit_values<'a>(edit: &'a HistoryRow) -> [Value<'a>; 5]
+    ensures { given_row OutputKind.Edit result ≡ edit_row edit.now }
 {
-    OutputRow::of(alloc, "edit")?
-        .number("at", i128::from(edit.at))?
-        .text("word", edit_word(edit.word))?
-        .text("id", edit_id(edit.word, &edit.id))?
-        .text("reason", edit_reason(edit.word, &edit.reason))
-}
-
-fn edit_word(word: HistoryWord) -> &'static str
-    ensures { result.now ≡ edit_word word }
-{
-    match word {
-        HistoryWord::Close => "close",
-        HistoryWord::Late => "late",
-        HistoryWord::Amend => "amend",
-        HistoryWord::Strike => "strike",
-    }
+    [
+        Value::Word(0),
+        Value::Number(i128::from(edit.at)),
+        Value::Word(edit_place(edit.word)),
+        edit_id(edit.word, &edit.id),
+        edit_reason(edit.word, &edit.reason),
+    ]
 }
 
 // The fact that an edit is about; a closing is about none.
-fn edit_id(word: HistoryWord, id: &Option<Name>) -> &str
-    ensures { result.now ≡ edit_id word id.now }
+fn edit_id<'a>(word: HistoryWord, id: &'a Option<Name>) -> Value<'a>
+    ensures { value_as holds.Name result ≡ edit_id word id.now }
 {
     match word {
-        HistoryWord::Close => "",
-        HistoryWord::Late | HistoryWord::Amend | HistoryWord::Strike => name_text(id),
+        HistoryWord::Close => Value::Missing,
+        HistoryWord::Late | HistoryWord::Amend | HistoryWord::Strike => name_or_none(id),
     }
 }
 
-fn name_text(name: &Option<Name>) -> &str
-    ensures { result.now ≡ unwrap_or name.now [] }
+fn name_or_none<'a>(name: &'a Option<Name>) -> Value<'a>
+    ensures { value_as holds.Name result ≡ name_or_none name.now }
 {
     match name {
-        Some(name) => name.as_str(),
-        None => "",
+        Some(name) => Value::Text(name.as_str()),
+        None => Value::Missing,
     }
 }
 
 // The reason of an edit; only an amendment and a strike have one.
-fn edit_reason(word: HistoryWord, reason: &Option<Reason>) -> &str
-    ensures { result.now ≡ edit_reason word reason.now }
+fn edit_reason<'a>(word: HistoryWord, reason: &'a Option<Reason>) -> Value<'a>
+    ensures { value_as holds.Reason result ≡ edit_reason word reason.now }
 {
     match word {
-        HistoryWord::Close | HistoryWord::Late => "",
-        HistoryWord::Amend | HistoryWord::Strike => reason_text(reason),
+        HistoryWord::Close | HistoryWord::Late => Value::Missing,
+        HistoryWord::Amend | HistoryWord::Strike => reason_or_none(reason),
     }
 }
 
-fn reason_text(reason: &Option<Reason>) -> &str
-    ensures { result.now ≡ unwrap_or reason.now [] }
+fn reason_or_none<'a>(reason: &'a Option<Reason>) -> Value<'a>
+    ensures { value_as holds.Reason result ≡ reason_or_none reason.now }
 {
     match reason {
-        Some(reason) => reason.as_str(),
-        None => "",
+        Some(reason) => Value::Text(reason.as_str()),
+        None => Value::Missing,
     }
 }

@@ -1,10 +1,12 @@
 // Rows written in a form, one after the other.
 
-ghost use Rattle.std.specs.Prelude.{◌≡◌, ◌∷◌, ◌++◌, [], OnOk, OnErr};
+ghost use Rattle.std.specs.Prelude.{◌≡◌, ◌∷◌, ◌++◌, [], length, OnOk, OnErr};
+ghost use Rattle.pb_form.specs.OutputRows.{output_columns};
+ghost use Rattle.pb_report.specs.Given.{given_row};
 ghost use Rattle.pb_report.specs.Output.{AddsRows};
 
 use crate::form::{Form, write_row};
-use crate::row::OutputRow;
+use pb_form::{OutputKind, Value};
 use std::alloc::{AllocError, Global};
 use std::marker::Model;
 
@@ -39,11 +41,12 @@ impl Output {
         *self.text.allocator()
     }
 
-    /// Writes a row.
-    pub fn push(&mut self, row: &OutputRow) -> Result<(), AllocError>
-        ensures ok { OnOk result (AddsRows self.old self.new (row.now ∷ [])) }
+    /// Writes the row of a kind. The values are one a column, and the first is the kind's word.
+    pub fn push(&mut self, kind: OutputKind, values: &[Value]) -> Result<(), AllocError>
+        requires { length values.now ≡ length (output_columns kind) }
+        ensures { OnOk result (AddsRows self.old self.new (given_row kind values.now ∷ [])) }
     {
-        write_row(row, self.form, &mut self.text)
+        write_row(self.allocator(), kind, values, self.form, &mut self.text)
     }
 
     /// Appends all rows to a text. An empty text takes them over, and they aren't copied. After an `Err`, want of memory, the text is

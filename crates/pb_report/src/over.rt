@@ -1,11 +1,12 @@
 // The row of a total that is too great.
 
-ghost use Rattle.std.specs.Prelude.{◌≡◌, ◌∷◌, [], IfOk, OnOk, OnErr};
+ghost use Rattle.std.specs.Prelude.{◌≡◌, ◌∷◌, [], OnOk, OnErr};
 ghost use Rattle.pb_report.specs.Form.{AppendsRows};
+ghost use Rattle.pb_report.specs.Given.{given_row};
 ghost use Rattle.pb_report.specs.Over.{over_row};
 
 use crate::form::{Form, write_row};
-use crate::row::OutputRow;
+use pb_form::{OutputKind, Value};
 use pb_rows::Name;
 use std::alloc::{AllocError, Global};
 
@@ -22,13 +23,15 @@ pub fn write_over(
         (over_row period.now stream.now ∷ [])) }
     ensures err { OnErr result (out.new.items ≡ out.old.items) }
 {
-    write_row(&over_row(alloc, period, stream)?, form, out)
+    write_row(alloc, OutputKind::Over, &over_values(period, stream), form, out)
 }
 
-fn over_row(alloc: Global, period: &Name, stream: &Name) -> Result<OutputRow, AllocError>
-    ensures { IfOk result (λ row. row ≡ over_row period.now stream.now) }
+fn over_values<'a>(period: &'a Name, stream: &'a Name) -> [Value<'a>; 3]
+    ensures { given_row OutputKind.Over result ≡ over_row period.now stream.now }
 {
-    OutputRow::of(alloc, "over")?
-        .text("period", period.as_str())?
-        .text("stream", stream.as_str())
+    [
+        Value::Word(0),
+        Value::Text(period.as_str()),
+        Value::Text(stream.as_str()),
+    ]
 }

@@ -1,23 +1,24 @@
 // The rows of a study.
 
-ghost use Rattle.std.specs.Prelude.{◌≡◌, ◌<◌, ◌∷◌, ◌++◌, [], codes, pos, length, IfOk, OnOk, OnErr};
+ghost use Rattle.std.specs.Prelude.{◌≡◌, ◌<◌, ◌∷◌, [], length, OnOk, OnErr};
 ghost use Rattle.pb_report.specs.Form.{AppendsRows};
+ghost use Rattle.pb_report.specs.Given.{given_row};
 ghost use Rattle.pb_report.specs.Names.{IsNamedStudy};
 ghost use Rattle.pb_report.specs.Output.{AddsRows};
-ghost use Rattle.pb_report.specs.Row.{number, row_of, text};
-ghost use Rattle.pb_report.specs.Study.{stage_rows, stop_row, stop_rows, stop_word, study_rows, taken_row};
+ghost use Rattle.pb_report.specs.Study.{stage_rows, stop_row, stop_rows, study_rows, taken_row};
 
 use crate::block::write_block;
 use crate::form::Form;
 use crate::output::Output;
-use crate::row::OutputRow;
+use pb_choices::stop_place;
+use pb_form::{OutputKind, Value};
 use pb_graph::{Options, Stop, Study, Taken};
 use pb_rows::{Name, Names};
 use std::alloc::{AllocError, Global};
 
 /// Appends the report of a period: for each stage of its study a block (`report`, the nodes with their prices in units of 2^-56,
 /// the streams with reconciled flows and bounds in grams, `solved`, the rows of the tests, and `end`), before each stage but the
-/// first the row of the suspect that was `taken`, and at the end `stop` where suspects were to be taken.
+/// first the row of the suspect that was `taken`, and at the end `stop` if suspects were to be taken.
 pub fn write_study(
     alloc: Global,
     names: &Names,
@@ -52,8 +53,8 @@ fn write_stages(
 {
     write_block(names, period, options, 0, study.stages.at(0), output)?;
     for (i, suspect) in study.taken.as_slice().iter().enumerate() {
-        let row = taken_row(output.allocator(), names, period, i + 1, suspect)?;
-        output.push(&row)?;
+        let values = taken_values(names, period, i + 1, suspect);
+        output.push(OutputKind::Taken, &values)?;
         write_block(
             names,
             period,
@@ -66,35 +67,24 @@ fn write_stages(
     Ok(())
 }
 
-// The first columns of a row of a round: its kind, the period and the round.
-fn round_row(
-    alloc: Global,
-    kind: &str,
-    period: &Name,
-    round: usize,
-) -> Result<OutputRow, AllocError>
-    ensures { IfOk result (λ row. row ≡ row_of kind.now
-        (text (codes "period") period.now ∷ number (codes "round") (pos round) ∷ [])) }
-{
-    OutputRow::of(alloc, kind)?
-        .text("period", period.as_str())?
-        .number("round", round as i128)
-}
-
-// The row of a suspect that was taken before a round.
-fn taken_row(
-    alloc: Global,
-    names: &Names,
-    period: &Name,
+// The values of the row of a suspect that was taken before a round.
+fn taken_values<'a>(
+    names: &'a Names,
+    period: &'a Name,
     round: usize,
     suspect: &Taken,
-) -> Result<OutputRow, AllocError>
+) -> [Value<'a>; 5]
     requires { suspect.now.stream < length names.now.streams }
-    ensures { IfOk result (λ row. row ≡ taken_row names.now period.now round suspect.now) }
+    ensures { given_row OutputKind.Taken result
+        ≡ taken_row names.now period.now round suspect.now }
 {
-    round_row(alloc, "taken", period, round)?
-        .text("stream", names.streams.at(suspect.stream as usize).as_str())?
-        .number("low", suspect.low)
+    [
+        Value::Word(0),
+        Value::Text(period.as_str()),
+        Value::Number(round as i128),
+        Value::Text(names.streams.at(suspect.stream as usize).as_str()),
+        Value::Number(suspect.low),
+    ]
 }
 
 // Writes why the elimination stopped, if it was asked.
@@ -108,33 +98,17 @@ fn write_stop(
 {
     match stop {
         None => Ok(()),
-        Some(reason) => output.push(&stop_row(output.allocator(), period, rounds, reason)?),
+        Some(reason) => output.push(OutputKind::Stop, &stop_values(period, rounds, reason)),
     }
 }
 
-fn stop_row(
-    alloc: Global,
-    period: &Name,
-    rounds: usize,
-    reason: Stop,
-) -> Result<OutputRow, AllocError>
-    ensures { IfOk result (λ row. row ≡ stop_row period.now rounds reason) }
+fn stop_values<'a>(period: &'a Name, rounds: usize, reason: Stop) -> [Value<'a>; 4]
+    ensures { given_row OutputKind.Stop result ≡ stop_row period.now rounds reason }
 {
-    OutputRow::of(alloc, "stop")?
-        .text("period", period.as_str())?
-        .text("reason", stop_word(reason))?
-        .number("rounds", rounds as i128)
-}
-
-fn stop_word(stop: Stop) -> &'static str
-    ensures { result.now ≡ stop_word stop }
-{
-    match stop {
-        Stop::Accepted => "accepted",
-        Stop::Undecided => "undecided",
-        Stop::NoCritical => "nocritical",
-        Stop::NoTest => "notest",
-        Stop::NoSuspect => "nosuspect",
-        Stop::Spent => "spent",
-    }
+    [
+        Value::Word(0),
+        Value::Text(period.as_str()),
+        Value::Word(stop_place(reason)),
+        Value::Number(rounds as i128),
+    ]
 }

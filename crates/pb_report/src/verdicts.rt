@@ -1,20 +1,23 @@
 // The rows of the tests of a stage.
 
-ghost use Rattle.std.specs.Prelude.{◌≡◌, ◌<◌, Some, length, map, All, IfOk, IfSome, OnOk};
+ghost use Rattle.std.specs.Prelude.{◌≡◌, ◌<◌, ◌∷◌, [], Some, length, map, All, IfSome, OnOk};
 ghost use Rattle.pb_graph.specs.declared.results.NodalTest.{NodalTest};
 ghost use Rattle.pb_graph.specs.declared.results.MeasureTest.{MeasureTest};
 ghost use Rattle.pb_graph.specs.WellFormed.{AreTestsWithin};
+ghost use Rattle.pb_report.specs.Given.{given_row};
 ghost use Rattle.pb_report.specs.Names.{IsNamed};
 ghost use Rattle.pb_report.specs.Output.{AddsRows};
-ghost use Rattle.pb_report.specs.Tests.{global_row, measure_row, nodal_row, tests_rows, verdict_word};
+ghost use Rattle.pb_report.specs.Tests.{global_row, measure_row, nodal_row, tests_rows};
 
 use crate::output::Output;
-use crate::row::OutputRow;
-use pb_graph::{GlobalTest, Graph, List, MeasureTest, NodalTest, Tests, Verdict};
+use crate::values::optional_number;
+use pb_choices::verdict_place;
+use pb_form::{OutputKind, Value};
+use pb_graph::{GlobalTest, Graph, List, MeasureTest, NodalTest, Tests};
 use pb_rows::Names;
-use std::alloc::{AllocError, Global};
+use std::alloc::AllocError;
 
-/// Writes the rows of the tests, where tests were made.
+/// Writes the rows of the tests, if tests were made.
 pub fn write_tests(
     names: &Names,
     graph: &Graph,
@@ -41,17 +44,19 @@ fn write_some_tests(
     requires within { AreTestsWithin graph.now tests.now }
     ensures { OnOk result (AddsRows output.old output.new (tests_rows names.now (Some tests.now))) }
 {
-    output.push(&global_row(output.allocator(), &tests.global)?)?;
+    output.push(OutputKind::Global, &global_values(&tests.global))?;
     write_nodal(names, &tests.nodal, output)?;
     write_measure(names, &tests.measure, output)
 }
 
-fn global_row(alloc: Global, test: &GlobalTest) -> Result<OutputRow, AllocError>
-    ensures { IfOk result (λ row. row ≡ global_row test.now) }
+fn global_values(test: &GlobalTest) -> [Value<'static>; 3]
+    ensures { given_row OutputKind.Global result ≡ global_row test.now }
 {
-    OutputRow::of(alloc, "global")?
-        .optional("critical", critical(test.critical))?
-        .text("verdict", verdict_word(test.verdict))
+    [
+        Value::Word(0),
+        optional_number(critical(test.critical)),
+        Value::Word(verdict_place(test.verdict)),
+    ]
 }
 
 fn write_nodal(
@@ -63,21 +68,23 @@ fn write_nodal(
     ensures { OnOk result (AddsRows output.old output.new (map (nodal_row names.now) tests.now)) }
 {
     for test in tests.as_slice() {
-        output.push(&nodal_row(output.allocator(), names, test)?)?;
+        output.push(OutputKind::Nodal, &nodal_values(names, test))?;
     }
     Ok(())
 }
 
-fn nodal_row(alloc: Global, names: &Names, test: &NodalTest) -> Result<OutputRow, AllocError>
+fn nodal_values<'a>(names: &'a Names, test: &NodalTest) -> [Value<'a>; 6]
     requires { test.now.node < length names.now.nodes }
-    ensures { IfOk result (λ row. row ≡ nodal_row names.now test.now) }
+    ensures { given_row OutputKind.Nodal result ≡ nodal_row names.now test.now }
 {
-    OutputRow::of(alloc, "nodal")?
-        .text("node", names.nodes.at(test.node as usize).as_str())?
-        .number("net", test.net)?
-        .number("variance", test.variance)?
-        .optional("critical", critical(test.critical))?
-        .text("verdict", verdict_word(test.verdict))
+    [
+        Value::Word(0),
+        Value::Text(names.nodes.at(test.node as usize).as_str()),
+        Value::Number(test.net),
+        Value::Number(test.variance),
+        optional_number(critical(test.critical)),
+        Value::Word(verdict_place(test.verdict)),
+    ]
 }
 
 fn write_measure(
@@ -89,21 +96,23 @@ fn write_measure(
     ensures { OnOk result (AddsRows output.old output.new (map (measure_row names.now) tests.now)) }
 {
     for test in tests.as_slice() {
-        output.push(&measure_row(output.allocator(), names, test)?)?;
+        output.push(OutputKind::Measure, &measure_values(names, test))?;
     }
     Ok(())
 }
 
-fn measure_row(alloc: Global, names: &Names, test: &MeasureTest) -> Result<OutputRow, AllocError>
+fn measure_values<'a>(names: &'a Names, test: &MeasureTest) -> [Value<'a>; 6]
     requires { test.now.stream < length names.now.streams }
-    ensures { IfOk result (λ row. row ≡ measure_row names.now test.now) }
+    ensures { given_row OutputKind.Measure result ≡ measure_row names.now test.now }
 {
-    OutputRow::of(alloc, "measure")?
-        .text("stream", names.streams.at(test.stream as usize).as_str())?
-        .number("low", test.low)?
-        .optional("high", test.high)?
-        .optional("critical", critical(test.critical))?
-        .text("verdict", verdict_word(test.verdict))
+    [
+        Value::Word(0),
+        Value::Text(names.streams.at(test.stream as usize).as_str()),
+        Value::Number(test.low),
+        optional_number(test.high),
+        optional_number(critical(test.critical)),
+        Value::Word(verdict_place(test.verdict)),
+    ]
 }
 
 // A critical value, if there is one, as a number of a column.
@@ -111,16 +120,4 @@ fn critical(value: Option<i64>) -> Option<i128>
     ensures { result ≡ value }
 {
     value.map(i128::from)
-}
-
-fn verdict_word(verdict: Verdict) -> &'static str
-    ensures { result.now ≡ verdict_word verdict }
-{
-    match verdict {
-        Verdict::Reject => "reject",
-        Verdict::Accept => "accept",
-        Verdict::Undecided => "undecided",
-        Verdict::NoCritical => "nocritical",
-        Verdict::NoTest => "notest",
-    }
 }

@@ -11,7 +11,7 @@ use Rattle.pb_report.specs.declared.history.HistoryWord.{HistoryWord}
 use Rattle.pb_report.specs.declared.history.HistoryWord.TheVariants.{Close as CloseTold, Late as LateTold, Amend as AmendTold, Strike as StrikeTold}
 use Rattle.pb_report.specs.declared.history.Period.{Period as PeriodTold}
 use Rattle.pb_report.specs.History.{history_rows}
-use Rattle.pb_report.specs.Row.{Columns}
+use Rattle.pb_report.specs.Row.{OutputRow}
 
 -- the word of an edit
 abbrev pub told_word : EditWord → HistoryWord
@@ -29,5 +29,5 @@ abbrev pub told_period : Period → PeriodTold
 told_period period = record { name = period.name; closed = period.closed }
 
 -- The rows that tell the history of a period: its state, and the edits that touch it, in the order of their records.
-abbrev pub told_history : List StoredRow → Period → List Columns
+abbrev pub told_history : List StoredRow → Period → List OutputRow
 told_history rows period = history_rows (told_period period) (map told (history_of rows period))

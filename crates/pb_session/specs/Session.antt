@@ -22,7 +22,7 @@ use Rattle.pb_session.specs.Criticals.{critical_of}
 use Rattle.pb_session.specs.History.{told_history}
 use Rattle.pb_report.specs.declared.form.Form.{Form}
 use Rattle.pb_report.specs.Form.{text_in}
-use Rattle.pb_report.specs.Row.{Columns}
+use Rattle.pb_report.specs.Row.{OutputRow}
 use Rattle.pb_report.specs.Names.{IsNamed, name_at}
 use Rattle.pb_report.specs.Refusal.{refused_row}
 use Rattle.pb_report.specs.Design.{design_rows}
@@ -36,7 +36,7 @@ pub record SessionState : Type 0 where
   pub rows : List StoredRow
 
 -- a text is these rows in the form of the session
-abbrev pub IsTextOf : SessionState → List Columns → List ℕ → Type 0
+abbrev pub IsTextOf : SessionState → List OutputRow → List ℕ → Type 0
 IsTextOf state rows text = text ≡ text_in state.form rows
 
 -- Names of a graph: one for each node, the environment's first, and one for each stream; no two nodes share one, and no two streams.

@@ -13,7 +13,7 @@ use Rattle.pb_report.specs.declared.form.Form.TheVariants.{Csv}
 use Rattle.pb_report.specs.Form.{text_in}
 use Rattle.pb_report.specs.Names.{name_at}
 use Rattle.pb_report.specs.Over.{over_row}
-use Rattle.pb_report.specs.Row.{Columns}
+use Rattle.pb_report.specs.Row.{OutputRow}
 use Rattle.pb_report.specs.Summary.{summary_row}
 use Rattle.pb_make.specs.Rows.{session_rows, stored_rows}
 use Rattle.pb_session.specs.FirstStage.{IsFirstStage}
@@ -29,7 +29,7 @@ made_state number streams gap sweeps =
     state_after_all (new_session (made_options gap sweeps) Csv) 1 (stored_rows number streams)
 
 -- the row that names a stream of a period that is over the limits
-abbrev pub stream_row : List StoredRow → Period → ℕ → Columns
+abbrev pub stream_row : List StoredRow → Period → ℕ → OutputRow
 stream_row rows period j = over_row period.name (name_at (period_names rows (days_of period)).streams j)
 
 -- A text sums up the study of a graph by its first stage; or it names the first stream that is over the limits.

@@ -8,5 +8,5 @@ loop-node-preserved c =
     let within : c.loop-node.node < length c.args.names.now = search rules in
     record {
       names = search rules;
-      way = one_row (λ (n : ℕ) (name : List ℕ) (price : ℤ). node_row name price) c.args.output.now c.loop-node.output c.push.new.self _ c.as_slice-name-items.result.now c.args.names.now c.args.prices.now c.loop-node.node _ c.at.result.now c.in_ok-row.row c.as_slice-name-items.ensures within c.at.ensures c.loop-node.invariant.way (c.in_ok-row.ensures ∙ ap (λ (name : List ℕ). node_row name c.at.result.now) c.name-item.is) c.in_ok-push.ensures.ok;
+      way = one_row (λ (n : ℕ) (name : List ℕ) (price : ℤ). node_row name price) c.args.output.now c.loop-node.output c.push.new.self _ c.as_slice-name-items.result.now c.args.names.now c.args.prices.now c.loop-node.node _ c.at.result.now _ c.as_slice-name-items.ensures within c.at.ensures c.loop-node.invariant.way (c.node_values.ensures ∙ ap (λ (name : List ℕ). node_row name c.at.result.now) c.name-item.is) c.in_ok-push.ensures;
     }

@@ -7,7 +7,7 @@ use Rattle.pb_report.proofs.study.write_stages.Goals as goal
 pub loop-i-preserved : goal.loop-i-preserved
 loop-i-preserved c =
     let within : c.loop-i.i < length c.args.study.now.taken = search rules in
-    one_round c.args.names.now c.args.period.now c.args.options.now c.args.output.now c.loop-i.output c.push.new.self c.write_block-in-loop-i.new.output _ c.as_slice-suspect-items.result.now c.args.study.now.taken c.args.study.now.stages c.loop-i.i _ c.at-in-loop-i.result.now c.in_ok-row.row c.as_slice-suspect-items.ensures within c.at-in-loop-i.ensures c.loop-i.invariant c.in_ok-row.ensures c.in_ok-push.ensures.ok c.in_ok-write_block-2.ensures
+    one_round c.args.names.now c.args.period.now c.args.options.now c.args.output.now c.loop-i.output c.push.new.self c.write_block-in-loop-i.new.output _ c.as_slice-suspect-items.result.now c.args.study.now.taken c.args.study.now.stages c.loop-i.i _ c.at-in-loop-i.result.now _ c.as_slice-suspect-items.ensures within c.at-in-loop-i.ensures c.loop-i.invariant c.taken_values-values.ensures c.in_ok-push.ensures c.in_ok-write_block-2.ensures
 
 pub write_block-requires-in-loop-i-clause-formed : goal.write_block-requires-in-loop-i-clause-formed
 write_block-requires-in-loop-i-clause-formed c =

@@ -1,0 +1,30 @@
+-- Statement. The text of each value of a row.
+use Rattle.std.specs.Prelude.{ℕ, List, [], ◌∷◌}
+use Rattle.pb_rows.specs.Number.{whole_text}
+use Rattle.pb_form.specs.Columns.{Column}
+use Rattle.pb_form.specs.Days.{day_text}
+use Rattle.pb_form.specs.Holds.{Holds}
+use Rattle.pb_form.specs.Holds as holds
+use Rattle.pb_form.specs.Value.{Value, Missing, Word, Name, Reason, Number, Date, Items}
+use Rattle.pb_form.specs.Writing.{word_at}
+
+-- the word at a place among those that a column takes
+abbrev pub word_of : Holds → ℕ → List ℕ
+word_of (holds.Word words) place = word_at words place
+word_of takes place = []
+
+-- the text of a value by what its column takes: nothing for one that is missing, the word at its place, the name, reason or list as
+-- it is, the digits of the number, or the date of the day
+abbrev pub value_text : Holds → Value → List ℕ
+value_text takes Missing = []
+value_text takes (Word place) = word_of takes place
+value_text takes (Name text) = text
+value_text takes (Reason text) = text
+value_text takes (Number number) = whole_text number
+value_text takes (Date day) = day_text day
+value_text takes (Items text) = text
+
+-- The fields of a row: the text of each value, one a column.
+abbrev pub texts_of : List Column → List Value → List (List ℕ)
+texts_of (column ∷ columns) (value ∷ values) = value_text column.holds value ∷ texts_of columns values
+texts_of columns values = []

@@ -1,0 +1,64 @@
+// Fields that are the texts of values.
+
+ghost use Rattle.std.specs.Prelude.{◌≡◌, ◌∷◌, ◌++◌, [], length, map, All, IsUtf8, IfOk, OnOk};
+ghost use Rattle.pb_rows.specs.Number.{whole_text};
+ghost use Rattle.pb_form.specs.Given.{value_as, values_as};
+ghost use Rattle.pb_form.specs.Seen.{column_seen, holds_seen};
+ghost use Rattle.pb_form.specs.Texts.{texts_of, value_text, word_of};
+
+use crate::column::{Column, Holds};
+use crate::day::push_day;
+use crate::value::Value;
+use pb_rows::{Row, whole_bytes};
+use std::alloc::{AllocError, Global};
+
+// The record of the texts of values, one a column.
+pub(crate) fn write_texts(
+    alloc: Global,
+    columns: &[Column],
+    values: &[Value],
+) -> Result<Row, AllocError>
+    requires { length values.now ≡ length columns.now }
+    ensures fields { IfOk result (λ row. row ≡ texts_of (map column_seen columns.now)
+        (values_as (map column_seen columns.now) values.now)) }
+    ensures texts { IfOk result (All IsUtf8) }
+{
+    let mut row = Row::new(alloc);
+    for (i, column) in columns.iter().enumerate() {
+        push_text(alloc, column, values[i], &mut row)?;
+    }
+    Ok(row)
+}
+
+// Appends the text of a value.
+fn push_text(alloc: Global, column: &Column, value: Value, row: &mut Row) -> Result<(), AllocError>
+    ensures adds { OnOk result (row.new ≡ row.old ++ value_text (holds_seen column.now.holds)
+        (value_as (holds_seen column.now.holds) value.entry) ∷ []) }
+    ensures texts { OnOk result (All IsUtf8 row.old → All IsUtf8 row.new) }
+{
+    match value {
+        Value::Missing => row.push(b""),
+        Value::Word(place) => row.push(word_of(&column.holds, place).as_bytes()),
+        Value::Text(text) => row.push(text.as_bytes()),
+        Value::Number(number) => push_number(alloc, number, row),
+        Value::Day(day) => push_day(day, row),
+    }
+}
+
+// The word at a place among those of a column.
+fn word_of(holds: &Holds, place: usize) -> &'static str
+    ensures { result.now ≡ word_of (holds_seen holds.now) place }
+{
+    match holds {
+        Holds::Word(words) if place < words.len() => words[place],
+        _ => "",
+    }
+}
+
+// Appends the text of a number.
+fn push_number(alloc: Global, number: i128, row: &mut Row) -> Result<(), AllocError>
+    ensures { OnOk result (row.new ≡ row.old ++ whole_text number ∷ []) }
+{
+    let text = whole_bytes(alloc, number)?;
+    row.push(text.as_slice())
+}
