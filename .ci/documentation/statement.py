@@ -13,6 +13,8 @@ from .rust import Function, functions_in, item_of, of_libraries
 from .sources import Definition, Imports, Sources, Spec, Unknown, imports
 
 STATEMENT = "docs/STATEMENT.md"
+# The clauses of the contract of `run` in words, which stand in front.
+IN_WORDS = ".ci/documentation/clauses.md"
 # What README.md promises beside the contract of `run`: laws over the same words.
 LAWS = ("run_text_law", "check_text_law", "own_reports_law", "edited_file_law", "decided_law")
 WORD = re.compile(r"[A-Za-z_][A-Za-z0-9_']*(?:\.[A-Za-z_][A-Za-z0-9_']*)*")
@@ -332,7 +334,8 @@ def shown(page: Page, parts: list[Part]) -> list[str]:
 
 def body_of(sources: Sources, page: Page) -> list[str]:
     """Return the page without its head."""
-    lines = ["## The contract of `run`", "", f"In `{short(page.run.path)}`:", ""]
+    lines = [*sources.text(IN_WORDS).rstrip().split("\n"), ""]
+    lines += ["## The contract of `run`", "", f"In `{short(page.run.path)}`:", ""]
     lines += [*page.here(page.run), *code_block("rust", page.run.text), "", "## What it takes", ""]
     lines += paragraph(
         "The contract speaks of what the source and the sink have been seen to do, and of the value"
