@@ -18,6 +18,7 @@ INNER = (
     "docs/ASSURANCE.md",
     "docs/DECISIONS.md",
     "docs/DEFINITIONS.md",
+    ".ci/documentation/clauses.md",
 )
 OUTER = (
     "CHANGELOG.md",

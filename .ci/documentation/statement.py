@@ -345,9 +345,10 @@ def body_of(sources: Sources, page: Page) -> list[str]:
     lines += shown(page, page.ends)
     lines += ["", "## Laws beside it", ""]
     lines += paragraph(
-        "These functions do nothing. What their contracts say is proved of the words above and below:"
-        " that each input has one text, that one's own reports pass a check, that a report after edits"
-        " is that of the edited file, and that the decided tests of measurements are right."
+        "These functions do nothing. What their contracts say is proved of the words above and"
+        " below: that each input has one text, that one's own reports pass a check, that a report"
+        " after edits is that of the edited file, and that the decided tests of measurements are"
+        " right."
     )
     lines += shown(page, page.laws)
     for layer, files in chapters(sources, page):

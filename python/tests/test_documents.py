@@ -16,9 +16,12 @@ Check = Callable[[Sources], list[str]]
 SAME = Sources()
 
 
-def with_more(path: str, more: str) -> Sources:
-    """Sources in which a file has more at its end."""
-    return Sources({path: f"{SAME.text(path)}\n{more}\n"})
+def with_all(more: list[tuple[str, str]]) -> Sources:
+    """Sources in which files have more at their ends."""
+    texts: dict[str, str] = {}
+    for path, one in more:
+        texts[path] = f"{texts.get(path, SAME.text(path))}\n{one}\n"
+    return Sources(texts)
 
 
 def test_documents_say_what_the_sources_say() -> None:
@@ -32,38 +35,42 @@ def test_words_of_the_command(capsys: pytest.CaptureFixture[str]) -> None:
     assert capsys.readouterr().out.count("unreachable!(") == len(forms.unreachable(SAME))
 
 
-# A document with something more, the check that looks at it, and what is said of it.
-CITED: list[tuple[str, str, Check, str]] = [
-    (ARCHITECTURE, "In `crates/pb_limits/src/nowhere.rt`.", citations.missing, "src/nowhere.rt"),
-    (ARCHITECTURE, "In `specs/Nowhere.antt`.", citations.missing, "Nowhere.antt"),
-    ("docs/GUIDE.md", "See `examples/nowhere.csv`.", citations.missing, "examples/nowhere.csv"),
-    ("docs/DECISIONS.md", "So does `no_such_call`.", citations.missing, "no_such_call"),
-    ("docs/DECISIONS.md", "So does `pb_limits::NoSuchType`.", citations.missing, "NoSuchType"),
-    ("docs/DEFINITIONS.md", "It is `nosuch`.", citations.missing, "nosuch"),
-    ("docs/FORMAT.md", "| `no_such_file` | nothing |", citations.missing, "no_such_file.in"),
+# Something more in a document, and what is said of it.
+CITED = [
+    (ARCHITECTURE, "In `crates/pb_limits/src/nowhere.rt`.", "crates/pb_limits/src/nowhere.rt"),
+    (ARCHITECTURE, "In `specs/Nowhere.antt`.", "specs/Nowhere.antt"),
+    ("docs/GUIDE.md", "See `examples/nowhere.csv`.", "examples/nowhere.csv"),
+    ("docs/DECISIONS.md", "So does `no_such_call`.", "no_such_call"),
+    ("docs/DECISIONS.md", "So does `pb_limits::NoSuchType`.", "NoSuchType"),
+    ("docs/DEFINITIONS.md", "It is `nosuch`.", "nosuch"),
+    ("docs/FORMAT.md", "| `no_such_file` | nothing |", "conformance/no_such_file.in"),
+    # words of formats and commands, and files of users, are no names of the sources
+    (ARCHITECTURE, "`--gap`, `./plantbal run`, `unit,U`, `crates/NAME/src`, `out/`, `Other`", ""),
+    (ARCHITECTURE, "`std::process::Nothing`, `csv.specs.Nothing`", ""),
+    ("docs/GUIDE.md", "`may.csv`, `no_such_name`", ""),
+]
+
+
+def test_what_is_cited_is_there() -> None:
+    found = citations.missing(with_all([(path, more) for path, more, _ in CITED]))
+    wanted = [(path, said) for path, _, said in CITED if said]
+    assert len(found) == len(wanted), found
+    for path, said in wanted:
+        assert any(one.startswith(path) and said in one for one in found), (said, found)
+
+
+# Something more in a document, the check that looks at it, and what is said of it.
+CHECKED: list[tuple[str, str, Check, str]] = [
     ("docs/ASSURANCE.md", "| `pb_gap`, `no_edit` | nothing |", citations.edits, "no_edit"),
     ("docs/GUIDE.md", "    reading,no,A,2024-05-01,1,1", citations.rows_of_examples, "reading,no"),
     ("docs/STATEMENT.md", "", checks.stale, "docs/STATEMENT.md is stale"),
 ]
 
 
-@pytest.mark.parametrize("path, more, check, said", CITED, ids=[case[3] for case in CITED])
-def test_what_is_cited_is_there(path: str, more: str, check: Check, said: str) -> None:
-    found = check(with_more(path, more))
+@pytest.mark.parametrize("path, more, check, said", CHECKED, ids=[case[3] for case in CHECKED])
+def test_what_is_otherwise_is_told(path: str, more: str, check: Check, said: str) -> None:
+    found = check(with_all([(path, more)]))
     assert len(found) == 1 and found[0].startswith(path) and said in found[0], found
-
-
-def test_what_is_no_citation() -> None:
-    """Words of formats and commands, and files of users, are no names of the sources."""
-    text = "`--gap`, `./plantbal run`, `unit,U`, `crates/NAME/src`, `out/`, `reading`, `Other`"
-    outer = f"{text}, `may.csv`, `no_such_name`"
-    found = Sources(
-        {
-            path: f"{SAME.text(path)}\n{more}\n"
-            for path, more in ((ARCHITECTURE, text), ("docs/GUIDE.md", outer))
-        }
-    )
-    assert citations.missing(found) == []
 
 
 # A function of each form.
@@ -85,7 +92,7 @@ UNFORMED = (
 
 def test_forms_are_counted() -> None:
     functions = "\n\n".join([*FORMED.values(), *UNFORMED])
-    before, after = SAME, with_more(LIMITS, functions)
+    before, after = SAME, with_all([(LIMITS, functions)])
     for form in FORMED:
         assert len(forms.FORMS[form](after)) == len(forms.FORMS[form](before)) + 1, form
 
@@ -133,7 +140,7 @@ def test_page_has_the_ends_and_the_laws() -> None:
 
 def test_names_of_two_files() -> None:
     path = "crates/pb_limits/specs/Limits.antt"
-    twice = with_more(path, "-- a second one\nabbrev pub is_name : ℕ\nis_name = 1\n")
+    twice = with_all([(path, "-- a second one\nabbrev pub is_name : ℕ\nis_name = 1\n")])
     new = [one for one in forms.repeated_names(twice) if one.startswith("is_name:")]
     assert len(new) == 1 and "pb_limits/specs/Limits.antt" in new[0]
 
