@@ -122,11 +122,9 @@ long_is columns values at place sum key lo hi fit same has narrow =
 
 -- ---- the columns after the words of a kind
 
-pub after_word : (word : Column) (columns : List Column) (values : List Value) → FitEach (word ∷ columns) values → FitEach columns (drop 1 values)
-after_word word columns [] fit = absurd fit
-after_word word columns (value ∷ values) fit = fit.1
-
-pub after_words : (late word : Column) (columns : List Column) (values : List Value) → FitEach (late ∷ (word ∷ columns)) values → FitEach columns (drop 2 values)
-after_words late word columns [] fit = absurd fit
-after_words late word columns (value ∷ []) fit = absurd fit.1
-after_words late word columns (value ∷ (other ∷ values)) fit = fit.1.1
+pub fit_after : (n : ℕ) (columns : List Column) (values : List Value) → FitEach columns values → FitEach (drop n columns) (drop n values)
+fit_after zero columns values fit = fit
+fit_after (suc n) [] [] fit = tt
+fit_after (suc n) [] (value ∷ values) fit = absurd fit
+fit_after (suc n) (first ∷ columns) [] fit = absurd fit
+fit_after (suc n) (first ∷ columns) (value ∷ values) fit = fit_after n columns values fit.1

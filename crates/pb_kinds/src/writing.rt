@@ -132,11 +132,11 @@ fn strap(alloc: Global, tank: &Name, mm: i64, ml: i64) -> Result<Row, AllocError
 }
 
 // `stream,NAME,FROM,TO,KIND,BASEVAR`
-fn stream(
+fn stream<'a>(
     alloc: Global,
-    name: &Name,
-    from: &Name,
-    to: &Name,
+    name: &'a Name,
+    from: &'a Name,
+    to: &'a Name,
     kind: Kind,
     base: i128,
 ) -> Result<Row, AllocError>
@@ -226,10 +226,10 @@ fn period(alloc: Global, name: &Name, first: i32, last: i32) -> Result<Row, Allo
 }
 
 // `reading,ID,STREAM,DATE,GRAMS,VARIANCE`, after `late,` if it comes late
-fn reading(
+fn reading<'a>(
     alloc: Global,
-    id: &Name,
-    stream: &Name,
+    id: &'a Name,
+    stream: &'a Name,
     day: i32,
     grams: i64,
     variance: i128,
@@ -258,10 +258,10 @@ fn reading(
 }
 
 // `transfer,ID,STREAM,FIRST,LAST,GRAMS,VARIANCE`, after `late,` if it comes late
-fn transfer(
+fn transfer<'a>(
     alloc: Global,
-    id: &Name,
-    stream: &Name,
+    id: &'a Name,
+    stream: &'a Name,
     first: i32,
     last: i32,
     grams: i64,
@@ -293,10 +293,10 @@ fn transfer(
 }
 
 // `dip,ID,TANK,DATE,MM,DENSITY,VARIANCE`, after `late,` if it comes late
-fn dip(
+fn dip<'a>(
     alloc: Global,
-    id: &Name,
-    tank: &Name,
+    id: &'a Name,
+    tank: &'a Name,
     day: i32,
     mm: i64,
     density: i64,
@@ -346,12 +346,12 @@ fn editing(alloc: Global, id: &Name, edit: &Edit, reason: &Reason) -> Result<Row
 }
 
 // `amend,ID,GRAMS,VARIANCE,REASON`
-fn amend_amount(
+fn amend_amount<'a>(
     alloc: Global,
-    id: &Name,
+    id: &'a Name,
     grams: i64,
     variance: i128,
-    reason: &Reason,
+    reason: &'a Reason,
 ) -> Result<Row, AllocError>
     requires grams { IsGrams grams }
     requires variance { IsVariance variance }
@@ -372,13 +372,13 @@ fn amend_amount(
 }
 
 // `amend,ID,MM,DENSITY,VARIANCE,REASON`
-fn amend_level(
+fn amend_level<'a>(
     alloc: Global,
-    id: &Name,
+    id: &'a Name,
     mm: i64,
     density: i64,
     variance: i128,
-    reason: &Reason,
+    reason: &'a Reason,
 ) -> Result<Row, AllocError>
     requires level { IsLevel mm }
     requires density { IsDensity density }
@@ -401,7 +401,7 @@ fn amend_level(
 }
 
 // `strike,ID,REASON`
-fn strike(alloc: Global, id: &Name, reason: &Reason) -> Result<Row, AllocError>
+fn strike<'a>(alloc: Global, id: &'a Name, reason: &'a Reason) -> Result<Row, AllocError>
     ensures { IfOk result (WritesEffect (Edits id.now edits.Strike reason.now)) }
 {
     session_record(
