@@ -16,8 +16,8 @@ use Rattle.pb_form.specs.Writing.{FitEach}
 use Rattle.pb_form.specs.declared.session.SessionKind.{SessionKind}
 use Rattle.pb_form.specs.declared.session.SessionKind.TheVariants as kind
 use Rattle.pb_kinds.specs.declared.rows.Request.{Request}
-use Rattle.pb_kinds.specs.declared.rows.Request.TheVariants.{Blank, Store, Design, Report, History}
-use Rattle.pb_kinds.specs.Effects.{effect_names, fact_names}
+use Rattle.pb_kinds.specs.declared.rows.Request.TheVariants.{Store}
+use Rattle.pb_kinds.specs.Effects.{effect_names}
 use Rattle.pb_kinds.specs.Ranges.{IsRequestInRange}
 use Rattle.pb_kinds.specs.Requests.{day_there, dip_from, name_there, number_there, reading_from, request_of, transfer_from}
 use Rattle.pb_kinds.proofs.ThereLemmas.{day_is, fit_after, name_is, number_is}

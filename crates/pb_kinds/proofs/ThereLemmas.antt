@@ -1,6 +1,6 @@
 -- What stands at a place of values that fit the columns of their kind.
-use Rattle.std.specs.Prelude.{◌&&◌, ◌≤ℤ◌, ◌^◌, ◌-◌, int_le, neg_ℤ, option_and_then, slice_get, unwrap_or, Some, Option, None, if◌then◌else◌}
-use Rattle.std.proofs.Common.{◌≡◌, ◌∙◌, ◌+◌, ℕ, zero, suc, ℤ, pos, Bool, true, false, List, [], ◌∷◌, drop, refl, subst, sym, ap, arith}
+use Rattle.std.specs.Prelude.{◌&&◌, ◌^◌, ◌-◌, int_le, neg_ℤ, option_and_then, slice_get, Some, None, if◌then◌else◌}
+use Rattle.std.proofs.Common.{◌≡◌, ◌∙◌, ◌+◌, ℕ, zero, suc, ℤ, pos, true, false, List, [], ◌∷◌, drop, refl, subst, sym, ap, arith}
 use Rattle.std.proofs.lemmas.Bool.{and_parts}
 use Rattle.std.proofs.lemmas.Int.{ints}
 use Rattle.pb_rows.specs.Name.{is_name}

@@ -98,7 +98,11 @@ fn booking(alloc: Global, fact: &Fact, late: bool) -> Result<Row, AllocError>
 fn unit(alloc: Global, name: &Name) -> Result<Row, AllocError>
     ensures { IfOk result (WritesEffect (Declares (site.Unit name.now))) }
 {
-    session_record(alloc, SessionKind::Unit, &[Value::Word(0), Value::name(name)])
+    session_record(
+        alloc,
+        SessionKind::Unit,
+        &[Value::Word(0), Value::name(name)],
+    )
 }
 
 // `tank,NAME,BASEVAR`
@@ -196,7 +200,11 @@ fn critical_nodal(alloc: Global, value: i64) -> Result<Row, AllocError>
     session_record(
         alloc,
         SessionKind::CriticalNodal,
-        &[Value::Word(0), Value::Word(0), Value::Number(i128::from(value))],
+        &[
+            Value::Word(0),
+            Value::Word(0),
+            Value::Number(i128::from(value)),
+        ],
     )
 }
 
@@ -208,7 +216,11 @@ fn critical_measure(alloc: Global, value: i64) -> Result<Row, AllocError>
     session_record(
         alloc,
         SessionKind::CriticalMeasure,
-        &[Value::Word(0), Value::Word(0), Value::Number(i128::from(value))],
+        &[
+            Value::Word(0),
+            Value::Word(0),
+            Value::Number(i128::from(value)),
+        ],
     )
 }
 
@@ -221,7 +233,12 @@ fn period(alloc: Global, name: &Name, first: i32, last: i32) -> Result<Row, Allo
     session_record(
         alloc,
         SessionKind::Period,
-        &[Value::Word(0), Value::name(name), Value::Day(first), Value::Day(last)],
+        &[
+            Value::Word(0),
+            Value::name(name),
+            Value::Day(first),
+            Value::Day(last),
+        ],
     )
 }
 
@@ -336,11 +353,13 @@ fn editing(alloc: Global, id: &Name, edit: &Edit, reason: &Reason) -> Result<Row
         Edit::Change(Change::Amount { grams, variance }) => {
             amend_amount(alloc, id, *grams, *variance, reason)
         }
-        Edit::Change(Change::Level {
-            mm,
-            density,
-            variance,
-        }) => amend_level(alloc, id, *mm, *density, *variance, reason),
+        Edit::Change(
+            Change::Level {
+                mm,
+                density,
+                variance,
+            },
+        ) => amend_level(alloc, id, *mm, *density, *variance, reason),
         Edit::Strike => strike(alloc, id, reason),
     }
 }
@@ -415,5 +434,9 @@ fn strike<'a>(alloc: Global, id: &'a Name, reason: &'a Reason) -> Result<Row, Al
 fn close(alloc: Global, period: &Name) -> Result<Row, AllocError>
     ensures { IfOk result (WritesEffect (Closes period.now)) }
 {
-    session_record(alloc, SessionKind::Close, &[Value::Word(0), Value::name(period)])
+    session_record(
+        alloc,
+        SessionKind::Close,
+        &[Value::Word(0), Value::name(period)],
+    )
 }

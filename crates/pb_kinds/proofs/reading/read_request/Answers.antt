@@ -31,7 +31,7 @@ returns-in_err-kind-clause-value c =
     let p = err_from_is_err_and c.from_residual.result c.from_residual.ensures.1 in
     let some : 1 ≤ length (without_trailing_empty c.args.row.now) = omega (arith, c.len.ensures, ap length c.filled-fields.ensures, c.if-len-eq0.false) in
     let told : session_told (without_trailing_empty c.args.row.now) ≡ told_as (Err c.in_err-kind.field-0.0) =
-        ap session_told (sym c.filled-fields.ensures) ∙ sym c.session_kind.ensures ∙ c.in_err-kind.was in
+    ap session_told (sym c.filled-fields.ensures) ∙ sym c.session_kind.ensures ∙ c.in_err-kind.was in
     rw (p.1, p.2) (sym (told_asks c.args.row.now _ some told))
 
 pub returns-in_err-values-clause-value : goal.returns-in_err-values-clause-value
@@ -39,18 +39,18 @@ returns-in_err-values-clause-value c =
     let p = err_from_is_err_and c.from_residual-in_err-values.result c.from_residual-in_err-values.ensures.1 in
     let some : 1 ≤ length (without_trailing_empty c.args.row.now) = omega (arith, c.len.ensures, ap length c.filled-fields.ensures, c.if-len-eq0.false) in
     let told : session_told (without_trailing_empty c.args.row.now) ≡ told_as (Ok c.in_ok-kind.kind) =
-        ap session_told (sym c.filled-fields.ensures) ∙ sym c.session_kind.ensures ∙ c.in_ok-kind.was in
+    ap session_told (sym c.filled-fields.ensures) ∙ sym c.session_kind.ensures ∙ c.in_ok-kind.was in
     let reads : row_read (session_schema c.in_ok-kind.kind) (without_trailing_empty c.args.row.now) ≡ read_as (Err c.in_err-values.field-0.0) =
-        ap₂ row_read (sym c.session_schema.ensures.value) (sym c.filled-fields.ensures) ∙ sym c.read.ensures.value ∙ c.in_err-values.was in
+    ap₂ row_read (sym c.session_schema.ensures.value) (sym c.filled-fields.ensures) ∙ sym c.read.ensures.value ∙ c.in_err-values.was in
     rw (p.1, p.2) (sym (told_asks c.args.row.now _ some told ∙ ap (request_by c.in_ok-kind.kind) reads))
 
 pub returns-clause-value : goal.returns-clause-value
 returns-clause-value c =
     let some : 1 ≤ length (without_trailing_empty c.args.row.now) = omega (arith, c.len.ensures, ap length c.filled-fields.ensures, c.if-len-eq0.false) in
     let told : session_told (without_trailing_empty c.args.row.now) ≡ told_as (Ok c.in_ok-kind.kind) =
-        ap session_told (sym c.filled-fields.ensures) ∙ sym c.session_kind.ensures ∙ c.in_ok-kind.was in
+    ap session_told (sym c.filled-fields.ensures) ∙ sym c.session_kind.ensures ∙ c.in_ok-kind.was in
     let reads : row_read (session_schema c.in_ok-kind.kind) (without_trailing_empty c.args.row.now) ≡ read_as (Ok c.in_ok-values.values) =
-        ap₂ row_read (sym c.session_schema.ensures.value) (sym c.filled-fields.ensures) ∙ sym c.read.ensures.value ∙ c.in_ok-values.was in
+    ap₂ row_read (sym c.session_schema.ensures.value) (sym c.filled-fields.ensures) ∙ sym c.read.ensures.value ∙ c.in_ok-values.was in
     let ok : Request → Result Request FormFault = λ request. Ok request in
     ap ok c.request_of.ensures ∙ sym (told_asks c.args.row.now _ some told ∙ ap (request_by c.in_ok-kind.kind) reads)
 
