@@ -1,8 +1,8 @@
 -- A record is of one kind: no two schemas of a table have their words and their number of fields in common.
-use Rattle.std.specs.Prelude.{◌&&◌, ◌||◌, ◌==◌, bytes_eq, map, nat_lt, not, position, slice_get, Some, None, Option, Result, Ok, Err, if◌then◌else◌}
+use Rattle.std.specs.Prelude.{◌&&◌, ◌||◌, ◌==◌, bytes_eq, nat_lt, not, position, slice_get, Some, Option, Result, Ok, Err, if◌then◌else◌}
 use Rattle.std.specs.List.{list_all, prefix_len}
 use Rattle.std.specs.Option.{option_map}
-use Rattle.std.proofs.Common.{◌≡◌, ◌∙◌, ◌<◌, ◌≤◌, ℕ, zero, suc, Bool, true, false, List, [], ◌∷◌, ◌++◌, length, refl, sym, ap, subst, arith, inl, inr}
+use Rattle.std.proofs.Common.{◌≡◌, ◌∙◌, ◌<◌, ℕ, zero, suc, Bool, true, false, List, [], ◌∷◌, length, refl, sym, ap, subst, arith, inl, inr}
 use Rattle.std.proofs.lemmas.Bool.{and_parts, cases_Bool, ne_eqb}
 use Rattle.std.proofs.lemmas.Bool.Decides.{nat_tests}
 use Rattle.std.proofs.lemmas.Option.{slice_get-map}
@@ -13,11 +13,11 @@ use Rattle.pb_form.proofs.TableLemmas.{passes_at}
 use Rattle.pb_form.specs.Columns.{Column, Schema}
 use Rattle.pb_form.specs.Field.{field_read, found, held_in}
 use Rattle.pb_form.specs.Holds as holds
-use Rattle.pb_form.specs.Laws.{IsOfKind, OneKindLaw}
+use Rattle.pb_form.specs.Laws.{OneKindLaw}
 use Rattle.pb_form.specs.Reading.{fields_read, has_count, row_read}
 use Rattle.pb_form.specs.SessionRows.{kind_at, kind_in, session_columns, session_kinds, session_schema, session_schemas, session_told}
 use Rattle.pb_form.specs.Telling.{agrees, has_word, is_of, told_at}
-use Rattle.pb_form.specs.Value.{Value, Missing, Word}
+use Rattle.pb_form.specs.Value.{Value, Word}
 use Rattle.pb_form.specs.declared.fault.FormFault.{FormFault}
 use Rattle.pb_form.specs.declared.fault.FormFault.TheVariants as fault
 use Rattle.pb_form.specs.declared.session.SessionKind.{SessionKind}
@@ -262,7 +262,7 @@ unfolding session_told
 told it values fields reads =
     let at = place_in it in
     let schema_there : slice_get session_schemas at.0 ≡ Some (session_schema it) =
-        slice_get-map session_schema session_kinds at.0 ∙ ap (λ (o : Option SessionKind). option_map session_schema o) at.1 in
+    slice_get-map session_schema session_kinds at.0 ∙ ap (λ (o : Option SessionKind). option_map session_schema o) at.1 in
     let place = place_told session_schemas at.0 (session_schema it) values fields session_differ session_plain schema_there reads in
     ap (λ (o : Option ℕ). kind_in (told_at session_schemas fields o)) place ∙ ap kind_at at.1
 
