@@ -1,16 +1,39 @@
 -- The rounds of a study.
-use Rattle.std.proofs.Common.{◌≡◌, ◌∙◌, ℕ, ◌+◌, ◌<◌, List, ◌∷◌, ◌++◌, length, get_or, drop, slice_get, Some, [], refl, ap, subst}
+use Rattle.std.specs.Prelude.{All}
+use Rattle.std.proofs.Common.{◌≡◌, ◌∙◌, ℕ, ◌+◌, ◌<◌, List, ◌∷◌, ◌++◌, length, get_or, drop, slice_get, Some, [], refl, sym, ap, subst}
 use Rattle.std.proofs.lemmas.Option.{slice_get_within, get_or_from_slice_get}
 use Rattle.pb_integers.proofs.Lists.{drop_next}
 use Rattle.pb_rows.specs.declared.name.Names.{Names}
 use Rattle.pb_graph.specs.declared.results.Options.{Options}
 use Rattle.pb_graph.specs.declared.results.Stage.{Stage}
 use Rattle.pb_graph.specs.declared.results.Taken.{Taken}
+use Rattle.pb_graph.specs.ProcessGraph.{ProcessGraph}
+use Rattle.pb_graph.specs.WellFormed.{HasShapeOf}
 use Rattle.pb_report.specs.Block.{block_rows}
+use Rattle.pb_report.specs.Names.{IsNamed}
 use Rattle.pb_report.specs.Row.{OutputRow}
 use Rattle.pb_report.specs.Output.{AddsRows, IsUnderWay, OutputText}
-use Rattle.pb_report.specs.Study.{taken_row, round_rows}
+use Rattle.pb_report.specs.Study.{round_rows, stage_rows, taken_row}
+use Rattle.pb_report.proofs.BlockLemmas.{holds_at}
 use Rattle.pb_report.proofs.OutputLemmas.{more_rows, two_rows}
+
+-- the first block is written
+pub first_round : (names : Names) (period : List ℕ) (options : Options) (start now : OutputText) (taken : List Taken) (stages : List Stage) (stage : Stage)
+    → slice_get stages 0 ≡ Some stage → AddsRows start now (block_rows names period options 0 stage)
+    → IsUnderWay start now (stage_rows names period options taken stages) (round_rows names period options 1 taken (drop 1 stages))
+first_round names period options start now taken [] stage at block = cc at
+first_round names period options start now taken (first ∷ stages) stage at block =
+    let same : first ≡ stage = cc at in
+    let written : AddsRows start now (block_rows names period options 0 first) = subst (λ (s : Stage). AddsRows start now (block_rows names period options 0 s)) (sym same) block in
+    more_rows start start now (stage_rows names period options taken (first ∷ stages)) (block_rows names period options 0 first) (round_rows names period options 1 taken stages)
+    (record { form = refl; text = refl }) written
+
+-- a stage at a place has the names of the study
+pub named_at : (names : Names) (graph : ProcessGraph) (stages : List Stage) (i : ℕ) (stage : Stage) → IsNamed names graph → All (HasShapeOf graph) stages → slice_get stages i ≡ Some stage
+    → IsNamed names stage.graph
+named_at names graph stages i stage named shapes at =
+    let shape = holds_at (HasShapeOf graph) stages i stage shapes at in
+    record { nodes = named.nodes ∙ sym shape.nodes; streams = named.streams ∙ sym shape.streams }
 
 -- the rounds from place i on
 rounds_more : (names : Names) (period : List ℕ) (options : Options) (taken : List Taken) (stages : List Stage) (i : ℕ) (d : Taken) (stage : Stage)

@@ -1,7 +1,7 @@
 use Rattle.std.proofs.Common.{length, ◌<◌, rules}
 use Rattle.pb_graph.specs.WellFormed.{IsWellFormed}
 use Rattle.pb_report.proofs.BlockLemmas.{holds_at}
-use Rattle.pb_report.proofs.StudyLemmas.{one_round}
+use Rattle.pb_report.proofs.StudyLemmas.{first_round, named_at, one_round}
 use Rattle.pb_report.proofs.study.write_stages.Goals as goal
 
 pub loop-i-preserved : goal.loop-i-preserved
@@ -12,3 +12,10 @@ loop-i-preserved c =
 pub write_block-requires-in-loop-i-clause-formed : goal.write_block-requires-in-loop-i-clause-formed
 write_block-requires-in-loop-i-clause-formed c =
     holds_at IsWellFormed c.args.study.now.stages _ c.at-in-loop-i.result.now c.requires.formed.stages c.at-in-loop-i.ensures
+
+pub loop-i-init : goal.loop-i-init
+loop-i-init c = first_round c.args.names.now c.args.period.now c.args.options.now c.args.output.now c.write_block.new.output c.args.study.now.taken c.args.study.now.stages c.at.result.now c.at.ensures c.in_ok-write_block.ensures
+
+pub write_block-requires-in-loop-i-clause-named : goal.write_block-requires-in-loop-i-clause-named
+write_block-requires-in-loop-i-clause-named c =
+    named_at c.args.names.now c.requires.graph c.args.study.now.stages _ c.at-in-loop-i.result.now c.requires.named c.requires.formed.shapes c.at-in-loop-i.ensures
