@@ -1,0 +1,232 @@
+// What the rows of each kind say, column by column.
+
+ghost use Rattle.std.specs.Prelude.{◌≡◌, pos, IfOk, IfSome};
+ghost use Rattle.pb_limits.specs.Limits.{most_value, most_variance};
+ghost use Rattle.pb_graph.specs.ProcessGraph.{IsMeasurement, IsWithinLimits};
+ghost use Rattle.pb_form.specs.OutputRows.{output_columns};
+ghost use Rattle.pb_form.specs.Writing.{FitEach};
+ghost use Rattle.pb_form.specs.declared.output.OutputKind.TheVariants.{Solved as SolvedKind, Global, Nodal, Measure};
+ghost use Rattle.pb_blocks.specs.Counts.{IsCountAt, IsStreamKind};
+ghost use Rattle.pb_blocks.specs.Values.{arc_of, bounds_of, choice_at, class_at, global_of, least_of, meas_of, measure_of, natural_at, nodal_of, number_at, optional_at, price_of, shape_at, solution_of, solved_at, stream_row_of, verdict_at};
+
+use crate::known::Known;
+use crate::lists::side_of;
+use crate::rows::{Shape, Solution, StreamRow};
+use crate::texts::{from_field, name_field, parts_field, shape_place, side_field, to_field};
+use pb_form::{Fields, OutputKind, Values};
+use pb_graph::{
+    Bounds, Class, GlobalTest, List, Meas, MeasureTest, NodalTest, Solved, Stream, Verdict,
+};
+use std::alloc::{AllocError, Global};
+
+/// The price of a node, in units of 2^-56.
+pub fn price(values: &Values) -> i128
+    ensures { result ≡ price_of values.now }
+{
+    number(values, 2)
+}
+
+/// The ends of a stream, by their places among the nodes, and what was measured of it.
+pub fn arc(nodes: &Known, kind: OutputKind, fields: &Fields, values: &Values) -> Stream
+    requires stream { IsStreamKind kind }
+    requires fit { FitEach (output_columns kind) values.now }
+    ensures value { result ≡ arc_of nodes.now fields.now values.now }
+    ensures limits { IsWithinLimits result }
+{
+    Stream {
+        from: nodes.place(from_field(fields)),
+        to: nodes.place(to_field(fields)),
+        meas: meas_of(values.number(4), values.number(5)),
+    }
+}
+
+// A value with its variance, or neither.
+fn meas_of(value: Option<i128>, variance: Option<i128>) -> Option<Meas>
+    ensures { result ≡ meas_of value variance }
+{
+    match (value, variance) {
+        (Some(value), Some(variance)) => Some(Meas { value, variance }),
+        _ => None,
+    }
+}
+
+/// A stream's class, flow, bounds and certificate.
+pub fn stream_row(
+    alloc: Global,
+    nodes: &Known,
+    kind: OutputKind,
+    fields: &Fields,
+    values: &Values,
+) -> Result<StreamRow, AllocError>
+    ensures { IfOk result (λ row. row ≡ stream_row_of nodes.now kind fields.now values.now) }
+{
+    Ok(StreamRow {
+        class: class_at(choice(values, 6)),
+        flow: number(values, 7),
+        bounds: bounds_of(values.number(8), values.number(9)),
+        least: least_of(kind, values),
+        shape: shape_at(choice(values, shape_place(kind))),
+        side: side_of(alloc, nodes, side_field(kind, fields))?,
+        parts: List::from_vec(Vec::from_slice(alloc, parts_field(kind, fields))?),
+    })
+}
+
+// A lower bound with an upper one, or neither.
+fn bounds_of(lo: Option<i128>, hi: Option<i128>) -> Option<Bounds>
+    ensures { result ≡ bounds_of lo hi }
+{
+    match (lo, hi) {
+        (Some(lo), Some(hi)) => Some(Bounds { lo, hi }),
+        _ => None,
+    }
+}
+
+// The least bounds, which a row of the time before there were any hasn't.
+fn least_of(kind: OutputKind, values: &Values) -> Option<Bounds>
+    ensures { result ≡ least_of kind values.now }
+{
+    match kind {
+        OutputKind::StreamBefore => None,
+        _ => bounds_of(values.number(10), values.number(11)),
+    }
+}
+
+/// How the stage was solved.
+pub fn solution(values: &Values) -> Solution
+    requires { FitEach (output_columns SolvedKind) values.now }
+    ensures { result ≡ solution_of values.now }
+{
+    Solution {
+        solved: solved_at(choice(values, 2), natural(values, 1)),
+        g: long_natural(values, 3),
+        h: natural(values, 4),
+        dof: natural(values, 5),
+        low: number(values, 6),
+        high: values.number(7),
+    }
+}
+
+/// The global test.
+pub fn global_test(values: &Values) -> GlobalTest
+    requires { FitEach (output_columns Global) values.now }
+    ensures { result ≡ global_of values.now }
+{
+    GlobalTest {
+        critical: critical(values, 1),
+        verdict: verdict_at(choice(values, 2)),
+    }
+}
+
+/// The test of a balance, by the place of its node.
+pub fn nodal_test(nodes: &Known, fields: &Fields, values: &Values) -> NodalTest
+    requires { FitEach (output_columns Nodal) values.now }
+    ensures { result ≡ nodal_of nodes.now fields.now values.now }
+{
+    NodalTest {
+        node: nodes.place(name_field(fields)),
+        net: number(values, 2),
+        variance: number(values, 3),
+        critical: critical(values, 4),
+        verdict: verdict_at(choice(values, 5)),
+    }
+}
+
+/// The test of a measurement, by the place of its stream.
+pub fn measure_test(streams: &Known, fields: &Fields, values: &Values) -> MeasureTest
+    requires { FitEach (output_columns Measure) values.now }
+    ensures { result ≡ measure_of streams.now fields.now values.now }
+{
+    MeasureTest {
+        stream: streams.place(name_field(fields)),
+        low: number(values, 2),
+        high: values.number(3),
+        critical: critical(values, 4),
+        verdict: verdict_at(choice(values, 5)),
+    }
+}
+
+// The number at a place of a column that may not be empty.
+pub(crate) fn number(values: &Values, place: usize) -> i128
+    ensures { result ≡ number_at values.now place }
+{
+    values.number(place).unwrap_or(0)
+}
+
+// The same of one that isn't negative.
+pub(crate) fn natural(values: &Values, place: usize) -> u32
+    requires { IsCountAt 4294967295 values.now place }
+    ensures { result ≡ natural_at values.now place }
+{
+    number(values, place) as u32
+}
+
+// The same of a greater one.
+fn long_natural(values: &Values, place: usize) -> u64
+    requires { IsCountAt 18446744073709551615 values.now place }
+    ensures { result ≡ natural_at values.now place }
+{
+    number(values, place) as u64
+}
+
+// The critical value at a place, in thousandths, if there is one.
+fn critical(values: &Values, place: usize) -> Option<i64>
+    requires { IsCountAt 9223372036854775807 values.now place }
+    ensures { result ≡ optional_at values.now place }
+{
+    match values.number(place) {
+        Some(value) => Some(value as i64),
+        None => None,
+    }
+}
+
+// The place of a word among those of its column.
+fn choice(values: &Values, place: usize) -> usize
+    ensures { result ≡ choice_at values.now place }
+{
+    values.word(place).unwrap_or(0)
+}
+
+// The class whose word stands at a place among the words of classes.
+fn class_at(place: usize) -> Class
+    ensures { result ≡ class_at place }
+{
+    match place {
+        0 => Class::Observable,
+        1 => Class::Unobservable,
+        2 => Class::Redundant,
+        _ => Class::Nonredundant,
+    }
+}
+
+// The shape whose word stands at a place.
+fn shape_at(place: usize) -> Shape
+    ensures { result ≡ shape_at place }
+{
+    match place {
+        0 => Shape::Cut,
+        _ => Shape::Cycle,
+    }
+}
+
+// The sweeps done, and whether the gap was met by the place of its word.
+fn solved_at(place: usize, sweeps: u32) -> Solved
+    ensures { result ≡ solved_at place sweeps }
+{
+    match place {
+        0 => Solved::Converged(sweeps),
+        _ => Solved::Unconverged(sweeps),
+    }
+}
+
+// The verdict whose word stands at a place.
+fn verdict_at(place: usize) -> Verdict
+    ensures { result ≡ verdict_at place }
+{
+    match place {
+        0 => Verdict::Reject,
+        1 => Verdict::Accept,
+        2 => Verdict::Undecided,
+        3 => Verdict::NoCritical,
+        _ => Verdict::NoTest,
+    }
+}
