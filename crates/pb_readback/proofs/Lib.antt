@@ -1,7 +1,3 @@
-mod FieldLemmas
-mod FormLemmas
-mod ItemLemmas
-mod NameLemmas
 mod StreamLemmas
 mod ReadingLemmas
 mod NextLemmas
