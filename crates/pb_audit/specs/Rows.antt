@@ -2,9 +2,9 @@
 use Rattle.std.specs.Prelude.{ℕ, ℤ, pos, List, [], ◌∷◌, ◌++◌, codes}
 use Rattle.pb_rows.specs.declared.name.Names.{Names}
 use Rattle.pb_readback.specs.declared.block.Block.{Block}
-use Rattle.pb_readback.specs.declared.fault.RowFault.{RowFault}
-use Rattle.pb_readback.specs.declared.fault.RowFault.TheVariants as fault
-use Rattle.pb_readback.specs.Codes as codes_of_faults
+use Rattle.pb_blocks.specs.declared.fault.RowFault.{RowFault}
+use Rattle.pb_blocks.specs.declared.fault.RowFault.TheVariants as fault
+use Rattle.pb_blocks.specs.Codes as codes_of_faults
 use Rattle.pb_check.specs.declared.faults.Test.{Test}
 use Rattle.pb_check.specs.declared.faults.Test.TheVariants as test
 use Rattle.pb_check.specs.declared.faults.Place.{Place}

@@ -6,8 +6,9 @@ ghost use Rattle.pb_report.specs.declared.form.Form.TheVariants.{Csv};
 ghost use Rattle.pb_audit.specs.Rows.{fault_word, no_row, place_name, test_word, unreadable_row, verdict_row, yes_row};
 ghost use Rattle.pb_audit.specs.Judging.{IsPlaceOf};
 
+use pb_blocks::RowFault;
 use pb_check::{Place, Test};
-use pb_readback::{Block, RowFault};
+use pb_readback::Block;
 use pb_report::{Form, OutputRow, write_row};
 use pb_rows::Names;
 use std::alloc::{AllocError, Global};
