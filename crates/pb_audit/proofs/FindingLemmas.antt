@@ -4,7 +4,7 @@ use Rattle.std.proofs.lemmas.List.Elements.{All-cons, All-head, All-nil, All-tai
 use Rattle.pb_readback.specs.declared.block.Block.{Block}
 use Rattle.pb_blocks.specs.declared.fault.RowFault.{RowFault}
 use Rattle.pb_readback.specs.Laws.{FormedLaw, NextLaw}
-use Rattle.pb_readback.specs.Next.{AreBlocks, Found, IsFound, IsNext, IsRefusedAtOpening, IsRefusedWithin, Next, NoBlock, Refused}
+use Rattle.pb_readback.specs.Next.{AreBlocks, Found, IsFound, IsNext, Next, NoBlock, Refused}
 use Rattle.pb_check.specs.declared.faults.Place.{Place}
 use Rattle.pb_check.specs.declared.faults.Test.{Test}
 use Rattle.pb_check.specs.Verdict.{IsFirstFault}

@@ -1,6 +1,6 @@
 -- Values that fit their columns: numbers lie in their ranges.
 use Rattle.std.specs.Prelude.{neg_ℤ, unsigned_abs, IfSome, slice_get}
-use Rattle.std.proofs.Common.{◌≡◌, ◌≤◌, ◌≤ℤ◌, ℕ, ℤ, zero, suc, pos, negsuc, Bool, true, false, List, [], ◌∷◌, Option, Some, None, codes, refl, arith}
+use Rattle.std.proofs.Common.{◌≡◌, ◌≤◌, ◌≤ℤ◌, ℕ, ℤ, zero, suc, pos, negsuc, Bool, true, List, [], ◌∷◌, Option, Some, None, codes, refl, arith}
 use Rattle.std.proofs.lemmas.Int.{ints}
 use Rattle.pb_limits.specs.Limits.{most_value, most_variance}
 use Rattle.pb_graph.specs.ProcessGraph.{IsMeasurement}

@@ -1,10 +1,10 @@
 -- The kind of a row among one.
 use Rattle.std.specs.Prelude.{is_ok, position, if◌then◌else◌}
-use Rattle.std.proofs.Common.{◌≡◌, ℕ, Bool, true, false, List, [], ◌∷◌, length, Option, Some, None, Result, Ok, Err, refl, inl, inr}
+use Rattle.std.proofs.Common.{◌≡◌, ℕ, Bool, true, false, List, [], ◌∷◌, length, Some, None, Result, Err, refl, inl, inr}
 use Rattle.std.proofs.lemmas.Bool.{cases_Bool}
 use Rattle.pb_form.specs.Columns.{Schema}
 use Rattle.pb_form.specs.Reading.{has_count}
-use Rattle.pb_form.specs.Telling.{agrees, has_words, is_of, schema_told, told_at, untold}
+use Rattle.pb_form.specs.Telling.{agrees, has_words, is_of, schema_told, told_at}
 use Rattle.pb_form.specs.declared.fault.FormFault.{FormFault}
 use Rattle.pb_form.specs.declared.fault.FormFault.TheVariants as form
 

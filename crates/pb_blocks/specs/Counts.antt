@@ -6,7 +6,6 @@ use Rattle.pb_form.specs.declared.output.OutputKind.{OutputKind}
 use Rattle.pb_form.specs.declared.output.OutputKind.TheVariants.{Stream, StreamBefore}
 use Rattle.pb_blocks.specs.declared.fault.RowFault.{RowFault}
 use Rattle.pb_blocks.specs.declared.rows.Heading.{Heading}
-use Rattle.pb_blocks.specs.Laws.{LiesWithin}
 use Rattle.pb_blocks.specs.Values.{optional_at}
 
 -- these are numbers of nodes and streams that a graph has

@@ -1,5 +1,5 @@
 -- Statement. What the rows of each kind say, column by column.
-use Rattle.std.specs.Prelude.{ℕ, ◌==◌, ℤ, pos, Bool, List, [], Option, Some, None, Result, Ok, Err, if◌then◌else◌, unsigned_abs}
+use Rattle.std.specs.Prelude.{ℕ, ◌==◌, ℤ, pos, List, [], Option, Some, None, Result, Ok, Err, if◌then◌else◌, unsigned_abs}
 use Rattle.std.specs.Option.{unwrap_or}
 use Rattle.pb_form.specs.OutputRows.{output_schema}
 use Rattle.pb_form.specs.Reading.{row_read}

@@ -1,8 +1,7 @@
 // What the rows of each kind say, column by column.
 
-ghost use Rattle.std.specs.Prelude.{◌≡◌, pos, IfOk, IfSome};
-ghost use Rattle.pb_limits.specs.Limits.{most_value, most_variance};
-ghost use Rattle.pb_graph.specs.ProcessGraph.{IsMeasurement, IsWithinLimits};
+ghost use Rattle.std.specs.Prelude.{◌≡◌, IfOk};
+ghost use Rattle.pb_graph.specs.ProcessGraph.{IsWithinLimits};
 ghost use Rattle.pb_form.specs.OutputRows.{output_columns};
 ghost use Rattle.pb_form.specs.Writing.{FitEach};
 ghost use Rattle.pb_form.specs.declared.output.OutputKind.TheVariants.{Solved as SolvedKind, Global, Nodal, Measure};

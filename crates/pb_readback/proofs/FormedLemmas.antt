@@ -2,7 +2,6 @@
 use Rattle.std.specs.Prelude.{◌||◌, ◌&&◌, not, int_lt, unsigned_abs, All, IfSome, codes, bytes_eq, if◌then◌else◌, slice_index_or, position, option_map, Result, Ok, Err}
 use Rattle.std.specs.Cmp.Lexicographic.{bytes_decides}
 use Rattle.std.specs.List.{list_any}
-use Rattle.std.specs.Option.{unwrap_or}
 use Rattle.std.proofs.Common.{◌≡◌, ◌∙◌, ℕ, ◌-◌, ◌^◌, ◌<◌, ◌≤◌, ◌==◌, ℤ, pos, negsuc, neg_ℤ, List, [], ◌∷◌, ◌++◌, length, map, Bool, true, false, Option, Some, None, refl, sym, arith, inl, inr}
 use Rattle.std.proofs.lemmas.Bool.{cases_Bool, or_parts}
 use Rattle.std.proofs.lemmas.Int.{ints}
@@ -38,8 +37,8 @@ use Rattle.pb_blocks.specs.Kinds.{kind_among}
 use Rattle.pb_blocks.specs.Laws.{LiesWithin}
 use Rattle.pb_blocks.specs.Lists.{is_among, is_plus, items, member_of, names_no_stream, part_name, side_of, step_of}
 use Rattle.pb_blocks.specs.Results.{has_unknown_part, result_of, witness_by}
-use Rattle.pb_blocks.specs.Texts.{from_field, name_field, side_field, to_field}
-use Rattle.pb_blocks.specs.Values.{arc_of, bounds_of, choice_at, least_of, meas_of, measure_of, most_round, natural_at, nodal_of, number_at, optional_at, price_of, solved_at, stream_row_of, values_in, values_or_none}
+use Rattle.pb_blocks.specs.Texts.{name_field, side_field}
+use Rattle.pb_blocks.specs.Values.{arc_of, bounds_of, choice_at, least_of, meas_of, measure_of, most_round, natural_at, nodal_of, number_at, optional_at, price_of, stream_row_of, values_in, values_or_none}
 use Rattle.pb_blocks.proofs.NameLemmas.{some_found}
 use Rattle.pb_blocks.proofs.RowLaws.{name_read, number_read, optional_read}
 use Rattle.pb_readback.specs.declared.draft.Draft.{Draft}
@@ -282,32 +281,29 @@ stream_formed draft kind row formed may said known new apart =
       tests = formed.tests;
     }
 
+sweeps_within : (met : Bool) (k : ℕ) → k ≤ most_sweeps → sweeps_of (if met then Converged k else Unconverged k) ≤ most_sweeps
+sweeps_within true k h = h
+sweeps_within false k h = h
+
 solved_formed : (draft : Draft) (row : List (List ℕ)) → IsFormed draft → MayCome draft Solved → IsFine Solved draft row → IsFormed (told_with Solved draft row)
 solved_formed draft row formed may fine =
     let values = values_in Solved row in
-    let count = λ (place : ℕ) (key : List ℕ) (most : ℕ) (number : LiesWithin (pos 0) (pos most) (number_at values place)). (natural_within 0 most (number_at values place) number).1 in
+    let count = λ (place most : ℕ) (number : LiesWithin (pos 0) (pos most) (number_at values place)). (natural_within 0 most (number_at values place) number).1 in
     record {
       way = still_under draft Solved row formed.way may;
       heading = formed.heading;
       nodes = formed.nodes;
       streams = record { names = formed.streams.names; joins = formed.streams.joins; limits = formed.streams.limits; rows = formed.streams.rows };
       solution = record {
-        sweeps = sweeps (choice_at values 2) (natural_at values 1) (count 1 (codes "k") most_sweeps (number_read Solved row values 1 (codes "k") (pos 0) (pos most_sweeps) fine.read refl));
-        g = count 3 (codes "g") (2 ^ 63) (number_read Solved row values 3 (codes "g") (pos 0) (pos (2 ^ 63)) fine.read refl);
-        h = count 4 (codes "h") 32 (number_read Solved row values 4 (codes "h") (pos 0) (pos 32) fine.read refl);
-        dof = count 5 (codes "dof") most_freedom (number_read Solved row values 5 (codes "dof") (pos 0) (pos most_freedom) fine.read refl);
+        sweeps = sweeps_within (choice_at values 2 == 0) (natural_at values 1) (count 1 most_sweeps (number_read Solved row values 1 (codes "k") (pos 0) (pos most_sweeps) fine.read refl));
+        g = count 3 (2 ^ 63) (number_read Solved row values 3 (codes "g") (pos 0) (pos (2 ^ 63)) fine.read refl);
+        h = count 4 32 (number_read Solved row values 4 (codes "h") (pos 0) (pos 32) fine.read refl);
+        dof = count 5 most_freedom (number_read Solved row values 5 (codes "dof") (pos 0) (pos most_freedom) fine.read refl);
         low = abs_within (2 ^ 126) (number_at values 6) (number_read Solved row values 6 (codes "low") (neg_ℤ (pos (2 ^ 126))) (pos (2 ^ 126)) fine.read refl);
         high = wide_if (optional_at values 7) (optional_read Solved row values 7 (codes "high") (neg_ℤ (pos (2 ^ 126))) (pos (2 ^ 126)) fine.read refl);
       };
       tests = formed.tests;
     }
-  where
-    sweeps : (place k : ℕ) → k ≤ most_sweeps → sweeps_of (solved_at place k) ≤ most_sweeps
-    sweeps place k h = by (place == 0)
-      where
-        by : (b : Bool) → sweeps_of (if b then Converged k else Unconverged k) ≤ most_sweeps
-        by true = h
-        by false = h
 
 global_formed : (draft : Draft) (row : List (List ℕ)) → IsFormed draft → MayCome draft Global → IsFine Global draft row → IsFormed (told_with Global draft row)
 global_formed draft row formed may fine =

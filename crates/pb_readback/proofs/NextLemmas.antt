@@ -21,7 +21,7 @@ use Rattle.pb_readback.specs.Faults.{fault_behind, fault_if, first_unknown}
 use Rattle.pb_readback.specs.Laws.{JoinLaw, NextLaw}
 use Rattle.pb_readback.specs.Next.{AreBlocks, ArePassedOver, AreSound, Found, IsFault, IsFound, IsNext, Next, NoBlock, Refused, fault_next, opened}
 use Rattle.pb_readback.specs.Reading.{HasAll, IsReadWhole, MayCome}
-use Rattle.pb_readback.proofs.ReadingLemmas.{may_come, not_below, sound_more, told_among, unended, with_rows_more}
+use Rattle.pb_readback.proofs.ReadingLemmas.{may_come, not_below, sound_more, unended, with_rows_more}
 
 -- the row that ends a block
 abbrev pub is_end : OutputKind → Bool

@@ -1,7 +1,7 @@
 -- Reading on: what one row more shows of the records.
 use Rattle.std.specs.Prelude.{◌≢◌, nat_eq, nat_lt, find, Result, Ok, Err, if◌then◌else◌}
 use Rattle.std.specs.List.{list_all, AllByRecursion}
-use Rattle.std.proofs.Common.{◌≡◌, ◌∙◌, ℕ, ◌+◌, ◌<◌, ◌≤◌, List, [], ◌∷◌, ◌++◌, length, drop, Bool, true, false, Option, Some, None, refl, sym, ap, arith, inl, inr, append_assoc, length-append}
+use Rattle.std.proofs.Common.{◌≡◌, ◌∙◌, ℕ, ◌+◌, ◌<◌, ◌≤◌, List, [], ◌∷◌, ◌++◌, length, Bool, true, false, Option, Some, None, refl, sym, ap, arith, inl, inr, append_assoc, length-append}
 use Rattle.std.proofs.lemmas.Bool.{and_parts, cases_Bool}
 use Rattle.pb_form.specs.declared.output.OutputKind.{OutputKind}
 use Rattle.pb_form.specs.declared.output.OutputKind.TheVariants.{Report, Node, Stream, StreamBefore, Solved, Global, Nodal, Measure, End}
@@ -18,7 +18,7 @@ use Rattle.pb_readback.specs.declared.draft.Draft.{Draft}
 use Rattle.pb_readback.specs.declared.reading.ReadRefused.{ReadRefused}
 use Rattle.pb_readback.specs.declared.reading.ReadRefused.TheVariants.{At, NoMemory}
 use Rattle.pb_readback.specs.Blocks.{block_of}
-use Rattle.pb_readback.specs.Drafts.{added, draft_of, kinds_after, kinds_next, stream_kinds, told_if, told_with, with_row, with_rows, with_stream}
+use Rattle.pb_readback.specs.Drafts.{draft_of, kinds_after, kinds_next, stream_kinds, told_if, told_with, with_row, with_rows, with_stream}
 use Rattle.pb_readback.specs.Faults.{fault_behind, fault_if, first_unknown}
 use Rattle.pb_readback.specs.Next.{AreCounted, ArePassedOver, AreSound, IsFound, Tells, opened}
 use Rattle.pb_readback.specs.Reading.{AwaitsNodes, AwaitsStreams, Breaks, BreaksFrom, Ends, HasAll, IsBroken, IsReadFrom, IsReadTo, IsReadWhole, IsUnderWay, MayCome, RefusesPart, RefusesRow, Skips, is_stream_kind}

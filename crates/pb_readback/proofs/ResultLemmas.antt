@@ -1,7 +1,7 @@
 -- Results that were looked up: a name that is none of the streams' has their number as its place.
 use Rattle.std.specs.Prelude.{◌≢◌, ◌==◌, not, map, Result, Ok, Err}
 use Rattle.std.specs.List.{list_any, position, position_or_len}
-use Rattle.std.proofs.Common.{◌≡◌, ◌∙◌, ℕ, ◌≤◌, List, [], ◌∷◌, length, Bool, true, false, Option, Some, None, refl, sym, ap, arith, inl, inr}
+use Rattle.std.proofs.Common.{◌≡◌, ◌∙◌, ℕ, ◌≤◌, List, [], ◌∷◌, length, Bool, true, false, None, refl, sym, ap, arith, inl, inr}
 use Rattle.std.proofs.lemmas.Bool.{cases_Bool}
 use Rattle.std.proofs.lemmas.List.{length-map}
 use Rattle.pb_rows.specs.Name.{same_name}

@@ -13,8 +13,6 @@ use Rattle.pb_blocks.specs.Lists.{is_among, is_unknown_item, items, place_of}
 use Rattle.pb_blocks.specs.Texts.{from_field, side_field, to_field}
 use Rattle.pb_blocks.specs.Values.{arc_of}
 use Rattle.pb_blocks.proofs.NameLemmas.{all_more, any_place, differ_more}
-use Rattle.pb_readback.specs.declared.draft.Draft.{Draft}
-use Rattle.pb_readback.specs.Reading.{IsUnderWay}
 use Rattle.pb_readback.specs.WellFormed.{AreNames}
 
 pub not_false : (b : Bool) → not b ≡ false → b ≡ true

@@ -18,7 +18,7 @@ use Rattle.pb_form.specs.declared.output.OutputKind.TheVariants.{Node}
 use Rattle.pb_blocks.specs.Lists.{is_among}
 use Rattle.pb_blocks.specs.Values.{price_of}
 use Rattle.pb_readback.specs.declared.draft.Draft.{Draft}
-use Rattle.pb_readback.specs.Drafts.{told_with, with_row, with_rows}
+use Rattle.pb_readback.specs.Drafts.{with_row, with_rows}
 use Rattle.pb_readback.specs.Faults.{fault_behind, first_unknown}
 use Rattle.pb_readback.specs.Next.{AreSound}
 use Rattle.pb_readback.specs.Written.{records_in}

@@ -1,15 +1,15 @@
 -- When a row of each kind has no fault, and what it says.
-use Rattle.std.specs.Prelude.{◌&&◌, not, ◌==◌, nat_le, nat_lt, find, codes, bytes_eq, int_le, int_lt, Result, Ok, Err, if◌then◌else◌}
+use Rattle.std.specs.Prelude.{◌&&◌, not, ◌==◌, nat_le, codes, bytes_eq, int_le, int_lt, Result, Ok, Err, if◌then◌else◌}
 use Rattle.std.specs.List.{list_all, list_any}
-use Rattle.std.proofs.Common.{◌≡◌, ◌∙◌, ◌≤◌, ℕ, zero, suc, ◌-◌, ℤ, pos, List, [], ◌∷◌, length, drop, Bool, true, false, Option, Some, None, refl, sym, ap, ap₂, arith}
+use Rattle.std.proofs.Common.{◌≡◌, ◌∙◌, ◌≤◌, ℕ, zero, suc, ◌-◌, ℤ, pos, List, [], ◌∷◌, length, drop, Bool, true, false, Option, Some, None, refl, ap, ap₂, arith}
 use Rattle.std.proofs.lemmas.Bool.{and_from, le-leb}
 use Rattle.std.proofs.lemmas.Int.{ints}
 use Rattle.pb_limits.specs.Limits.{most_nodes, most_streams}
 use Rattle.pb_rows.specs.Name.{same_name}
-use Rattle.pb_form.specs.Columns.{Column, Schema}
+use Rattle.pb_form.specs.Columns.{Column}
 use Rattle.pb_form.specs.Field.{field_read}
-use Rattle.pb_form.specs.OutputRows.{output_columns, output_schema}
-use Rattle.pb_form.specs.Reading.{before, fields_read, has_count, repeated, row_read, tail_read}
+use Rattle.pb_form.specs.OutputRows.{output_schema}
+use Rattle.pb_form.specs.Reading.{before, fields_read, repeated, row_read}
 use Rattle.pb_form.specs.Value.{Value}
 use Rattle.pb_form.specs.declared.fault.FormFault.{FormFault}
 use Rattle.pb_form.specs.declared.fault.FormFault.TheVariants as fault

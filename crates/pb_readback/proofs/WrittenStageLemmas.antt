@@ -22,7 +22,6 @@ use Rattle.pb_blocks.specs.Values.{arc_of, stream_row_of}
 use Rattle.pb_readback.specs.declared.draft.Draft.{Draft}
 use Rattle.pb_readback.specs.Drafts.{with_row}
 use Rattle.pb_readback.specs.Faults.{first_unknown}
-use Rattle.pb_readback.specs.Reading.{AwaitsStreams}
 use Rattle.pb_readback.specs.Written.{records_in}
 use Rattle.pb_readback.proofs.WrittenFieldLemmas.{AreNew}
 use Rattle.pb_readback.proofs.WrittenRowLemmas.{row_leaves, row_sound, takes_least, values_back}

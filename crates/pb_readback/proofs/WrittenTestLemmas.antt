@@ -41,7 +41,7 @@ use Rattle.pb_blocks.specs.Lists.{is_among, place_of}
 use Rattle.pb_blocks.specs.Values.{global_of, measure_of, most_round, nodal_of, solution_of, solved_at, verdict_at}
 use Rattle.pb_readback.specs.declared.draft.Draft.{Draft}
 use Rattle.pb_readback.specs.Drafts.{tests_begun, with_row}
-use Rattle.pb_readback.specs.Faults.{fault_beside, first_unknown}
+use Rattle.pb_readback.specs.Faults.{first_unknown}
 use Rattle.pb_readback.specs.Written.{records_in}
 use Rattle.pb_readback.proofs.WrittenBlockLemmas.{Tells, last_of, tells_append, tells_more, tells_none, tells_to}
 use Rattle.pb_readback.proofs.WrittenFieldLemmas.{IsBetween, abs_between, among_at, count_between, name_back, number_back, optional_back, optional_said, optional_text, optional_value, place_at, said_back, same_self, within_back}

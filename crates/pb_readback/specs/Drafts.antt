@@ -1,5 +1,5 @@
 -- Statement. What the rows of a block have told so far, row by row, and of which kinds the next one may be.
-use Rattle.std.specs.Prelude.{ℕ, pos, nat_lt, List, [], ◌∷◌, ◌++◌, length, Option, Some, None, Result, Ok, Err, if◌then◌else◌}
+use Rattle.std.specs.Prelude.{ℕ, pos, nat_lt, List, [], ◌∷◌, ◌++◌, length, Some, None, Result, Ok, Err, if◌then◌else◌}
 use Rattle.std.specs.Option.{option_map}
 use Rattle.pb_form.specs.Value.{Value}
 use Rattle.pb_form.specs.declared.output.OutputKind.{OutputKind}

@@ -1,5 +1,5 @@
 -- Statement. When a row of a block can't be read, after the rows before it. Of all its faults the lowest is told.
-use Rattle.std.specs.Prelude.{ℕ, ◌==◌, Bool, true, false, ◌||◌, ◌&&◌, not, List, length, Option, Some, None, Result, Ok, Err, if◌then◌else◌, codes, bytes_eq, position}
+use Rattle.std.specs.Prelude.{ℕ, ◌==◌, Bool, false, ◌||◌, ◌&&◌, not, List, length, Option, Some, None, Result, Ok, Err, if◌then◌else◌, codes, bytes_eq, position}
 use Rattle.pb_rows.specs.Name.{same_name}
 use Rattle.pb_form.specs.OutputRows.{output_schema}
 use Rattle.pb_form.specs.Reading.{row_read}
