@@ -16,7 +16,7 @@ use Rattle.pb_blocks.specs.declared.fault.RowFault.TheVariants.{Count}
 use Rattle.pb_blocks.specs.Codes.{fault_by}
 use Rattle.pb_blocks.specs.Kinds.{kind_among}
 use Rattle.pb_blocks.specs.Lists.{is_among, is_part, is_side, is_unknown_item, items}
-use Rattle.pb_blocks.specs.Texts.{field, from_field, is_blank, parts_field, shape_field, side_field, to_field}
+use Rattle.pb_blocks.specs.Texts.{field, from_field, hi_place, is_blank, least_hi_place, least_lo_place, lo_place, parts_field, shape_field, side_field, to_field, value_place, variance_place}
 use Rattle.pb_blocks.specs.Values.{heading_of, most_round, number_at, values_in}
 use Rattle.pb_blocks.specs.declared.rows.Heading.{Heading}
 
@@ -29,12 +29,16 @@ form_fault (Err fault) = Some (fault_by fault)
 abbrev pub is_half : List ℕ → List ℕ → Bool
 is_half one other = if is_blank one then not (is_blank other) else is_blank other
 
+-- the same of the fields at two places of a row
+abbrev pub is_half_at : List (List ℕ) → ℕ → ℕ → Bool
+is_half_at row one other = is_half (field row one) (field row other)
+
 -- a stream's value without a variance, a lower bound without an upper one or a lower least bound without an upper one, or the
 -- reverse
 abbrev pub is_half_told : OutputKind → List (List ℕ) → Bool
 is_half_told Stream row =
-    is_half (field row 4) (field row 5) || is_half (field row 8) (field row 9) || is_half (field row 10) (field row 11)
-is_half_told StreamBefore row = is_half (field row 4) (field row 5) || is_half (field row 8) (field row 9)
+    is_half_at row value_place variance_place || is_half_at row lo_place hi_place || is_half_at row least_lo_place least_hi_place
+is_half_told StreamBefore row = is_half_at row value_place variance_place || is_half_at row lo_place hi_place
 is_half_told kind row = false
 
 -- a stream from or to, or with a side of, what is none of these nodes

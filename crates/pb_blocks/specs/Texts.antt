@@ -22,6 +22,25 @@ from_field row = field row 2
 abbrev pub to_field : List (List ℕ) → List ℕ
 to_field row = field row 3
 
+-- the places of a stream's value and its variance, of its bounds, and of its least bounds in a row that has them
+abbrev pub value_place : ℕ
+value_place = 4
+
+abbrev pub variance_place : ℕ
+variance_place = 5
+
+abbrev pub lo_place : ℕ
+lo_place = 8
+
+abbrev pub hi_place : ℕ
+hi_place = 9
+
+abbrev pub least_lo_place : ℕ
+least_lo_place = 10
+
+abbrev pub least_hi_place : ℕ
+least_hi_place = 11
+
 -- the shape of a stream's certificate, its side and its parts: a row without least bounds has them two places further to the front
 abbrev pub shape_place : OutputKind → ℕ
 shape_place StreamBefore = 10

@@ -26,7 +26,7 @@ use Rattle.pb_blocks.specs.declared.rows.Shape.TheVariants.{Cut, Cycle}
 use Rattle.pb_blocks.specs.declared.rows.Solution.{Solution}
 use Rattle.pb_blocks.specs.declared.rows.StreamRow.{StreamRow}
 use Rattle.pb_blocks.specs.Lists.{items, place_of, side_of}
-use Rattle.pb_blocks.specs.Texts.{from_field, name_field, parts_field, shape_place, side_field, to_field}
+use Rattle.pb_blocks.specs.Texts.{from_field, hi_place, least_hi_place, least_lo_place, lo_place, name_field, parts_field, shape_place, side_field, to_field, value_place, variance_place}
 
 -- the values of a row that can be read
 abbrev pub values_or_none : Result (List Value) FormFault → List Value
@@ -102,20 +102,20 @@ abbrev pub arc_of : List (List ℕ) → List (List ℕ) → List Value → Strea
 arc_of nodes row values = record {
   from = place_of nodes (from_field row);
   to = place_of nodes (to_field row);
-  meas = meas_of (optional_at values 4) (optional_at values 5);
+  meas = meas_of (optional_at values value_place) (optional_at values variance_place);
 }
 
 -- the least bounds, which a row of the time before there were any hasn't
 abbrev pub least_of : OutputKind → List Value → Option Bounds
 least_of StreamBefore values = None
-least_of kind values = bounds_of (optional_at values 10) (optional_at values 11)
+least_of kind values = bounds_of (optional_at values least_lo_place) (optional_at values least_hi_place)
 
 -- the class, the flow, the bounds and the certificate, of which the parts are kept as they are written
 abbrev pub stream_row_of : List (List ℕ) → OutputKind → List (List ℕ) → List Value → StreamRow
 stream_row_of nodes kind row values = record {
   class = class_at (choice_at values 6);
   flow = number_at values 7;
-  bounds = bounds_of (optional_at values 8) (optional_at values 9);
+  bounds = bounds_of (optional_at values lo_place) (optional_at values hi_place);
   least = least_of kind values;
   shape = shape_at (choice_at values (shape_place kind));
   side = side_of nodes (items (side_field kind row));

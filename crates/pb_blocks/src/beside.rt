@@ -1,12 +1,14 @@
 // What may be wrong with a row of a block beside its form.
 
 ghost use Rattle.std.specs.Prelude.{◌≡◌, bytes_eq};
-ghost use Rattle.pb_blocks.specs.Beside.{has_bad_list, has_one_end, has_unknown_node, is_half, is_half_told, is_round};
-ghost use Rattle.pb_blocks.specs.Texts.{field};
+ghost use Rattle.pb_blocks.specs.Beside.{has_bad_list, has_one_end, has_unknown_node, is_half, is_half_at, is_half_told, is_round};
 
 use crate::known::Known;
 use crate::lists::{are_parts, has_unknown_item, is_side};
-use crate::texts::{field, from_field, parts_field, shape_field, side_field, to_field};
+use crate::texts::{
+    HI, LEAST_HI, LEAST_LO, LO, VALUE, VARIANCE, field, from_field, parts_field, shape_field,
+    side_field, to_field,
+};
 use pb_form::{Fields, OutputKind};
 use pb_rows::read_whole;
 
@@ -19,16 +21,20 @@ pub fn is_half_told(kind: OutputKind, fields: &Fields) -> bool
 {
     match kind {
         OutputKind::Stream => {
-            is_half_at(fields, 4, 5) || is_half_at(fields, 8, 9) || is_half_at(fields, 10, 11)
+            is_half_at(fields, VALUE, VARIANCE)
+                || is_half_at(fields, LO, HI)
+                || is_half_at(fields, LEAST_LO, LEAST_HI)
         }
-        OutputKind::StreamBefore => is_half_at(fields, 4, 5) || is_half_at(fields, 8, 9),
+        OutputKind::StreamBefore => {
+            is_half_at(fields, VALUE, VARIANCE) || is_half_at(fields, LO, HI)
+        }
         _ => false,
     }
 }
 
 // Whether one of the fields at two places is left out and the other isn't.
 fn is_half_at(fields: &Fields, one: usize, other: usize) -> bool
-    ensures { result ≡ is_half (field fields.now one) (field fields.now other) }
+    ensures { result ≡ is_half_at fields.now one other }
 {
     is_half(field(fields, one), field(fields, other))
 }

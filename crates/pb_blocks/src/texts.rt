@@ -5,6 +5,19 @@ ghost use Rattle.pb_blocks.specs.Texts.{field, from_field, name_field, parts_fie
 
 use pb_form::{Fields, OutputKind};
 
+// The places of a stream's value and its variance, of its bounds, and of its least bounds in a row that has them.
+pub(crate) const VALUE: usize = 4;
+
+pub(crate) const VARIANCE: usize = 5;
+
+pub(crate) const LO: usize = 8;
+
+pub(crate) const HI: usize = 9;
+
+pub(crate) const LEAST_LO: usize = 10;
+
+pub(crate) const LEAST_HI: usize = 11;
+
 // The field of a record at a place, of which 0 is the kind; nothing if the record is shorter.
 pub(crate) fn field<'a>(fields: &Fields<'a>, place: usize) -> &'a [u8]
     ensures { result.now ≡ field fields.now place }

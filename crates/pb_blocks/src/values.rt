@@ -11,7 +11,10 @@ ghost use Rattle.pb_blocks.specs.Values.{arc_of, bounds_of, choice_at, class_at,
 use crate::known::Known;
 use crate::lists::side_of;
 use crate::rows::{Shape, Solution, StreamRow};
-use crate::texts::{from_field, name_field, parts_field, shape_place, side_field, to_field};
+use crate::texts::{
+    HI, LEAST_HI, LEAST_LO, LO, VALUE, VARIANCE, from_field, name_field, parts_field, shape_place,
+    side_field, to_field,
+};
 use pb_form::{Fields, OutputKind, Values};
 use pb_graph::{
     Bounds, Class, GlobalTest, List, Meas, MeasureTest, NodalTest, Solved, Stream, Verdict,
@@ -35,7 +38,7 @@ pub fn arc(nodes: &Known, kind: OutputKind, fields: &Fields, values: &Values) ->
     Stream {
         from: nodes.place(from_field(fields)),
         to: nodes.place(to_field(fields)),
-        meas: meas_of(values.number(4), values.number(5)),
+        meas: meas_of(values.number(VALUE), values.number(VARIANCE)),
     }
 }
 
@@ -62,7 +65,7 @@ pub fn stream_row(
     Ok(StreamRow {
         class: class_at(choice(values, 6)),
         flow: number(values, 7),
-        bounds: bounds_of(values.number(8), values.number(9)),
+        bounds: bounds_of(values.number(LO), values.number(HI)),
         least: least_of(kind, values),
         shape: shape_at(choice(values, shape_place(kind))),
         side: side_of(alloc, nodes, side_field(kind, fields))?,
@@ -86,7 +89,7 @@ fn least_of(kind: OutputKind, values: &Values) -> Option<Bounds>
 {
     match kind {
         OutputKind::StreamBefore => None,
-        _ => bounds_of(values.number(10), values.number(11)),
+        _ => bounds_of(values.number(LEAST_LO), values.number(LEAST_HI)),
     }
 }
 

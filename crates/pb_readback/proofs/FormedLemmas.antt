@@ -2,7 +2,7 @@
 use Rattle.std.specs.Prelude.{◌||◌, ◌&&◌, not, int_lt, unsigned_abs, All, IfSome, codes, bytes_eq, if◌then◌else◌, slice_index_or, position, option_map, Result, Ok, Err}
 use Rattle.std.specs.Cmp.Lexicographic.{bytes_decides}
 use Rattle.std.specs.List.{list_any}
-use Rattle.std.proofs.Common.{◌≡◌, ◌∙◌, ℕ, ◌-◌, ◌^◌, ◌<◌, ◌≤◌, ◌==◌, ℤ, pos, negsuc, neg_ℤ, List, [], ◌∷◌, ◌++◌, length, map, Bool, true, false, Option, Some, None, refl, sym, arith, inl, inr}
+use Rattle.std.proofs.Common.{◌≡◌, ◌∙◌, ℕ, ◌-◌, ◌^◌, ◌<◌, ◌≤◌, ◌==◌, ℤ, pos, negsuc, neg_ℤ, List, [], ◌∷◌, ◌++◌, length, map, Bool, true, false, Option, Some, None, refl, sym, ap, arith, inl, inr}
 use Rattle.std.proofs.lemmas.Bool.{cases_Bool, or_parts}
 use Rattle.std.proofs.lemmas.Int.{ints}
 use Rattle.std.proofs.lemmas.List.{length-map}
@@ -112,10 +112,19 @@ is_read kind row none = by (row_read (output_schema kind) row) none
     by (Ok values) none = refl
     by (Err fault) none = cc none
 
+-- no fault beside the form
+pub beside_fine : (kind : OutputKind) (draft : Draft) (row : List (List ℕ)) → fault_beside kind draft row ≡ None
+    → (is_unknown kind draft row ≡ false) × (is_duplicate kind draft row ≡ false) × (is_loop kind row ≡ false) × (is_other_env kind draft row ≡ false)
+beside_fine kind draft row none =
+    first_of (is_half_told kind row) (is_unknown kind draft row) (is_duplicate kind draft row) (is_misshapen kind draft row) (is_loop kind row) (is_other_env kind draft row) none
+
+pub read_values : (kind : OutputKind) (row : List (List ℕ)) (values : List Value) → row_read (output_schema kind) row ≡ Ok values → values_in kind row ≡ values
+read_values kind row values read = ap values_or_none read
+
 pub fine : (kind : OutputKind) (draft : Draft) (row : List (List ℕ)) → fault_of kind draft row ≡ None → IsFine kind draft row
 fine kind draft row none =
     let both = none_lowest (form_fault (row_read (output_schema kind) row)) (fault_beside kind draft row) none in
-    let each = first_of (is_half_told kind row) (is_unknown kind draft row) (is_duplicate kind draft row) (is_misshapen kind draft row) (is_loop kind row) (is_other_env kind draft row) both.1 in
+    let each = beside_fine kind draft row both.1 in
     record { read = is_read kind row both.0; known = each.0; new = each.1; apart = each.2; env = each.3 }
 
 -- ---- what a draft keeps

@@ -3,6 +3,7 @@ mod ReadingLemmas
 mod NextLemmas
 mod ResultLemmas
 mod FormedLemmas
+mod AddingLemmas
 mod WrittenFieldLemmas
 mod WrittenListLemmas
 mod WrittenPartLemmas
