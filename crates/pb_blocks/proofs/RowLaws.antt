@@ -1,5 +1,5 @@
 -- What a row that was read says is of its columns.
-use Rattle.std.specs.Prelude.{◌&&◌, ◌==◌, int_le, IfSome, Result, Ok, Err, slice_get, if◌then◌else◌}
+use Rattle.std.specs.Prelude.{◌&&◌, ◌==◌, ◌-◌, int_le, nat_le, IfSome, Result, Ok, Err, slice_get, if◌then◌else◌}
 use Rattle.std.specs.Option.{unwrap_or}
 use Rattle.std.proofs.Common.{◌≡◌, ◌≤◌, ℕ, ℤ, zero, suc, pos, Bool, true, false, List, [], ◌∷◌, length, Option, Some, None, refl, sym, arith, inl, inr}
 use Rattle.std.proofs.lemmas.Bool.{and_parts, cases_Bool}
@@ -11,7 +11,7 @@ use Rattle.pb_form.specs.Columns.{Column, Schema, column, optional}
 use Rattle.pb_form.specs.Field.{field_read, formed, found}
 use Rattle.pb_form.specs.Holds.{Name as NameColumn, Number as NumberColumn}
 use Rattle.pb_form.specs.OutputRows.{output_columns, output_schema}
-use Rattle.pb_form.specs.Reading.{before, fields_read, has_count, joined, one_read, row_read, tail_read}
+use Rattle.pb_form.specs.Reading.{are_turns, before, fields_read, has_count, joined, one_read, row_read, tail_read}
 use Rattle.pb_form.specs.Value.{Value, Missing, Name, Number}
 use Rattle.pb_form.specs.Values.{number_in}
 use Rattle.pb_form.specs.declared.fault.FormFault.{FormFault}
@@ -38,7 +38,7 @@ are_read schema row values read = by (has_count schema (length row)) refl (field
     by true count (Ok told) is (Err other) read = cc read
     by true count (Ok told) is (Ok more) read =
         let same : told ≡ values = cc read in
-        let parts = and_parts _ _ count in
+        let parts = and_parts (nat_le (length schema.columns) (length row)) (are_turns schema.tail (length row - length schema.columns)) count in
         record { fields = rw (is, same) refl; many = grind (arith, nat_tests, parts.0) }
 
 -- the value of the first field, and those of the others

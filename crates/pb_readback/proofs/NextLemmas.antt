@@ -173,7 +173,7 @@ heading_new : (row : List (List ℕ)) → is_row_of row Report ≡ true → is_p
 heading_new [] is = let none : false ≡ true = is in cc none
 heading_new (word ∷ row) is =
     let parts = and_parts (has_count (output_schema Report) (length (word ∷ row))) (agrees (output_columns Report) (word ∷ row)) is in
-    let here = and_parts (bytes_eq word (codes "report")) _ parts.1 in
+    let here = and_parts (bytes_eq word (codes "report")) (agrees (drop 1 (output_columns Report)) row) parts.1 in
     rw ((bytes_decides word (codes "report")).0 here.0) refl
 
 -- a row that opens a block isn't passed over
