@@ -18,7 +18,7 @@ use pb_limits::{MOST_NODES, MOST_STREAMS};
 use pb_rows::{Name, Row};
 
 /// What a row that opens a block says, or its first fault.
-pub fn heading(row: &Row) -> Result<Heading, RowFault>
+pub fn heading_in(row: &Row) -> Result<Heading, RowFault>
     ensures fault { told result ≡ opening_fault row.now }
     ensures value { IfOk result (λ heading. heading ≡ heading_in row.now) }
     ensures counts { IfOk result IsHeading }

@@ -18,11 +18,13 @@ mod values;
 
 pub use beside::{has_bad_list, has_one_end, has_unknown_node, is_half_told, is_round, is_word};
 pub use fault::{RowFault, lowest};
-pub use heading::heading;
+pub use heading::heading_in;
 pub use kinds::{is_passed_over, kind_among};
 pub use known::Known;
 pub use laws::row_read_law;
 pub use results::result_of;
 pub use rows::{Heading, Shape, Solution, StreamRow};
 pub use texts::name_field;
-pub use values::{arc, global_test, measure_test, nodal_test, price, solution, stream_row};
+pub use values::{
+    arc_of, global_of, measure_of, nodal_of, price_of, solution_of, stream_row_of,
+};

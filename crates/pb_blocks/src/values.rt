@@ -22,14 +22,14 @@ use pb_graph::{
 use std::alloc::{AllocError, Global};
 
 /// The price of a node, in units of 2^-56.
-pub fn price(values: &Values) -> i128
+pub fn price_of(values: &Values) -> i128
     ensures { result ≡ price_of values.now }
 {
     number(values, 2)
 }
 
 /// The ends of a stream, by their places among the nodes, and what was measured of it.
-pub fn arc(nodes: &Known, kind: OutputKind, fields: &Fields, values: &Values) -> Stream
+pub fn arc_of(nodes: &Known, kind: OutputKind, fields: &Fields, values: &Values) -> Stream
     requires stream { IsStreamKind kind }
     requires fit { FitEach (output_columns kind) values.now }
     ensures value { result ≡ arc_of nodes.now fields.now values.now }
@@ -53,7 +53,7 @@ fn meas_of(value: Option<i128>, variance: Option<i128>) -> Option<Meas>
 }
 
 /// A stream's class, flow, bounds and certificate.
-pub fn stream_row(
+pub fn stream_row_of(
     alloc: Global,
     nodes: &Known,
     kind: OutputKind,
@@ -94,7 +94,7 @@ fn least_of(kind: OutputKind, values: &Values) -> Option<Bounds>
 }
 
 /// How the stage was solved.
-pub fn solution(values: &Values) -> Solution
+pub fn solution_of(values: &Values) -> Solution
     requires { FitEach (output_columns SolvedKind) values.now }
     ensures { result ≡ solution_of values.now }
 {
@@ -109,7 +109,7 @@ pub fn solution(values: &Values) -> Solution
 }
 
 /// The global test.
-pub fn global_test(values: &Values) -> GlobalTest
+pub fn global_of(values: &Values) -> GlobalTest
     requires { FitEach (output_columns Global) values.now }
     ensures { result ≡ global_of values.now }
 {
@@ -120,7 +120,7 @@ pub fn global_test(values: &Values) -> GlobalTest
 }
 
 /// The test of a balance, by the place of its node.
-pub fn nodal_test(nodes: &Known, fields: &Fields, values: &Values) -> NodalTest
+pub fn nodal_of(nodes: &Known, fields: &Fields, values: &Values) -> NodalTest
     requires { FitEach (output_columns Nodal) values.now }
     ensures { result ≡ nodal_of nodes.now fields.now values.now }
 {
@@ -134,7 +134,7 @@ pub fn nodal_test(nodes: &Known, fields: &Fields, values: &Values) -> NodalTest
 }
 
 /// The test of a measurement, by the place of its stream.
-pub fn measure_test(streams: &Known, fields: &Fields, values: &Values) -> MeasureTest
+pub fn measure_of(streams: &Known, fields: &Fields, values: &Values) -> MeasureTest
     requires { FitEach (output_columns Measure) values.now }
     ensures { result ≡ measure_of streams.now fields.now values.now }
 {

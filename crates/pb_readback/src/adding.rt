@@ -19,8 +19,8 @@ ghost use Rattle.pb_readback.specs.Reading.{IsUnderWay, MayCome};
 
 use crate::draft::Draft;
 use pb_blocks::{
-    Heading, Known, RowFault, Solution, arc, global_test, kind_among, lowest, measure_test,
-    name_field, nodal_test, price, solution, stream_row,
+    Heading, Known, RowFault, Solution, arc_of, global_of, kind_among, lowest, measure_of,
+    name_field, nodal_of, price_of, solution_of, stream_row_of,
 };
 use pb_form::{Fields, OutputKind, Values, output_schema, read};
 use pb_graph::{Graph, List, MeasureTest, NodalTest, Solved, Tests};
@@ -105,14 +105,14 @@ impl Draft {
             OutputKind::Stream | OutputKind::StreamBefore => {
                 self.add_stream(alloc, kind, fields, values)?;
             }
-            OutputKind::Solved => self.solution = solution(values),
+            OutputKind::Solved => self.solution = solution_of(values),
             OutputKind::Global => self.tests = Some(no_tests(alloc, values)),
             OutputKind::Nodal => {
-                let test = nodal_test(&self.nodes, fields, values);
+                let test = nodal_of(&self.nodes, fields, values);
                 push_nodal(&mut self.tests, test)?;
             }
             OutputKind::Measure => {
-                let test = measure_test(&self.streams, fields, values);
+                let test = measure_of(&self.streams, fields, values);
                 push_measure(&mut self.tests, test)?;
             }
             _ => {}
@@ -130,7 +130,7 @@ impl Draft {
         ensures { OnOk result (self.new ≡ with_node fields.now self.old) }
     {
         self.nodes.add(name_field(fields))?;
-        self.prices.push(price(values))
+        self.prices.push(price_of(values))
     }
 
     // Adds a stream with its ends, and what its row tells beside them.
@@ -152,8 +152,8 @@ impl Draft {
         requires values { values.now ≡ values_in kind fields.now }
         ensures { OnOk result (self.new ≡ with_stream kind fields.now self.old) }
     {
-        let row = stream_row(alloc, &self.nodes, kind, fields, values)?;
-        self.graph.push(arc(&self.nodes, kind, fields, values))?;
+        let row = stream_row_of(alloc, &self.nodes, kind, fields, values)?;
+        self.graph.push(arc_of(&self.nodes, kind, fields, values))?;
         self.streams.add(name_field(fields))?;
         self.rows.push(row)
     }
@@ -179,7 +179,7 @@ fn no_tests(alloc: Global, values: &Values) -> Tests
     ensures { result ≡ tests_begun values.now }
 {
     Tests {
-        global: global_test(values),
+        global: global_of(values),
         nodal: List::new(alloc),
         measure: List::new(alloc),
     }

@@ -14,7 +14,7 @@ ghost use Rattle.pb_readback.specs.WellFormed.{IsWellFormedBlock};
 
 use crate::block::{Block, first_on_stream};
 use crate::draft::Draft;
-use pb_blocks::{Heading, RowFault, heading, is_passed_over};
+use pb_blocks::{Heading, RowFault, heading_in, is_passed_over};
 use pb_graph::{List, StreamResult};
 use pb_rows::{Records, Row};
 use std::alloc::{AllocError, Global};
@@ -67,7 +67,7 @@ fn block_from(alloc: Global, first: &Row, records: &mut Records) -> Result<Block
     ensures err { IfErr result (BreaksFrom first.now records.old records.new) }
     ensures counted { OnOk result (AreCounted records.old records.new) }
 {
-    match heading(first) {
+    match heading_in(first) {
         Ok(heading) => block_of(alloc, heading, records),
         Err(fault) => Err(ReadRefused::At {
             row: records.taken() as u32,
