@@ -1,5 +1,6 @@
 -- Values that fit their columns: numbers lie in their ranges.
 use Rattle.std.specs.Prelude.{neg_ℤ, unsigned_abs, IfSome, slice_get}
+use Rattle.std.specs.Option.{unwrap_or}
 use Rattle.std.proofs.Common.{◌≡◌, ◌≤◌, ◌≤ℤ◌, ℕ, ℤ, zero, suc, pos, negsuc, Bool, true, List, [], ◌∷◌, Option, Some, None, codes, refl, arith}
 use Rattle.std.proofs.lemmas.Int.{ints}
 use Rattle.pb_limits.specs.Limits.{most_value, most_variance}
@@ -52,6 +53,12 @@ pub count_at : (columns : List Column) (values : List Value) (place : ℕ) (key 
     → slice_get columns place ≡ Some (record { key = key; holds = NumberColumn (pos lo) (pos hi); optional = optional }) → hi ≤ bound → IsCountAt bound values place
 count_at columns values place key lo hi bound optional fit at le =
     within_more lo hi bound (optional_at values place) le (number_between columns values place key (pos lo) (pos hi) optional fit at)
+
+-- the same of a number whose range was asked apart
+pub counted : (lo hi bound : ℕ) (number : Option ℤ) → pos lo ≤ℤ unwrap_or number (pos 0) → unwrap_or number (pos 0) ≤ℤ pos hi → hi ≤ bound
+    → IfSome number (LiesWithin (pos 0) (pos bound))
+counted lo hi bound None least most le = tt
+counted lo hi bound (Some z) least most le = (omega (arith, ints, least), omega (arith, ints, most, le))
 
 -- ---- measurements
 
