@@ -15,7 +15,7 @@ use Rattle.pb_form.specs.declared.output.OutputKind.{OutputKind}
 use Rattle.pb_form.specs.declared.output.OutputKind.TheVariants.{Stream, StreamBefore}
 use Rattle.pb_blocks.specs.Counts.{IsCountAt, IsStreamKind}
 use Rattle.pb_blocks.specs.Laws.{LiesWithin}
-use Rattle.pb_blocks.specs.Values.{meas_of, optional_at}
+use Rattle.pb_blocks.specs.Values.{both_meas, optional_at}
 
 -- each column has a value that fits it
 fit_at : (columns : List Column) (values : List Value) (place : ℕ) (column : Column) → FitEach columns values → slice_get columns place ≡ Some column
@@ -67,14 +67,14 @@ abs_within m (pos n) h = omega (arith, ints, h.1)
 abs_within m (negsuc n) h = omega (arith, ints, h.0)
 
 pub meas_within : (value variance : Option ℤ) → IfSome value (LiesWithin (neg_ℤ (pos most_value)) (pos most_value)) → IfSome variance (LiesWithin (pos 1) (pos most_variance))
-    → IfSome (meas_of value variance) IsMeasurement
+    → IfSome (both_meas value variance) IsMeasurement
 meas_within None variance h k = tt
 meas_within (Some value) None h k = tt
 meas_within (Some value) (Some variance) h k = record { value = abs_within most_value value h; least = k.0; greatest = k.1 }
 
 -- what was measured of a stream is a measurement
 pub measured : (kind : OutputKind) (values : List Value) → IsStreamKind kind → FitEach (output_columns kind) values
-    → IfSome (meas_of (optional_at values 4) (optional_at values 5)) IsMeasurement
+    → IfSome (both_meas (optional_at values 4) (optional_at values 5)) IsMeasurement
 measured Stream values is fit =
     meas_within (optional_at values 4) (optional_at values 5)
     (number_between (output_columns Stream) values 4 (codes "value") (neg_ℤ (pos most_value)) (pos most_value) true fit refl)

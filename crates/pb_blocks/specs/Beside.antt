@@ -17,7 +17,7 @@ use Rattle.pb_blocks.specs.Codes.{fault_by}
 use Rattle.pb_blocks.specs.Kinds.{kind_among}
 use Rattle.pb_blocks.specs.Lists.{is_among, is_part, is_side, is_unknown_item, items}
 use Rattle.pb_blocks.specs.Texts.{field, from_field, hi_place, is_blank, least_hi_place, least_lo_place, lo_place, parts_field, shape_field, side_field, to_field, value_place, variance_place}
-use Rattle.pb_blocks.specs.Values.{heading_of, most_round, number_at, values_in}
+use Rattle.pb_blocks.specs.Values.{said_heading, most_round, number_at, values_in}
 use Rattle.pb_blocks.specs.declared.rows.Heading.{Heading}
 
 -- the fault of a row's form
@@ -55,8 +55,8 @@ has_bad_list nodes kind row =
     || not (list_all is_part (items (parts_field kind row)))
 
 -- a stream from a node to itself
-abbrev pub has_one_end : List (List ℕ) → Bool
-has_one_end row = same_name (from_field row) (to_field row)
+abbrev pub leads_to_itself : List (List ℕ) → Bool
+leads_to_itself row = same_name (from_field row) (to_field row)
 
 -- a number of rounds is this one
 abbrev pub equals_round : Option ℤ → ℕ → Bool
@@ -88,4 +88,4 @@ opening_fault row = opening_by (kind_among (Report ∷ []) row) row
 
 -- what it says
 abbrev pub heading_in : List (List ℕ) → Heading
-heading_in row = heading_of row (values_in Report row)
+heading_in row = said_heading row (values_in Report row)

@@ -52,38 +52,38 @@ abbrev pub choice_at : List Value → ℕ → ℕ
 choice_at values place = unwrap_or (value_at word_in values place) 0
 
 -- the class, the shape, the state and the verdict that stand at a place among the words of their columns
-abbrev pub class_at : ℕ → Class
-class_at place =
+abbrev pub chosen_class : ℕ → Class
+chosen_class place =
     if place == 0 then Observable else if place == 1 then Unobservable else if place == 2 then Redundant else Nonredundant
 
-abbrev pub shape_at : ℕ → Shape
-shape_at place = if place == 0 then Cut else Cycle
+abbrev pub chosen_shape : ℕ → Shape
+chosen_shape place = if place == 0 then Cut else Cycle
 
-abbrev pub solved_at : ℕ → ℕ → Solved
-solved_at place sweeps = if place == 0 then Converged sweeps else Unconverged sweeps
+abbrev pub chosen_state : ℕ → ℕ → Solved
+chosen_state place sweeps = if place == 0 then Converged sweeps else Unconverged sweeps
 
-abbrev pub verdict_at : ℕ → Verdict
-verdict_at place =
+abbrev pub chosen_verdict : ℕ → Verdict
+chosen_verdict place =
     if place == 0 then Reject else if place == 1 then Accept else if place == 2 then Undecided
     else if place == 3 then NoCritical else NoTest
 
 -- a value with its variance, or neither
-abbrev pub meas_of : Option ℤ → Option ℤ → Option Meas
-meas_of (Some value) (Some variance) = Some (record { value = value; variance = variance })
-meas_of value variance = None
+abbrev pub both_meas : Option ℤ → Option ℤ → Option Meas
+both_meas (Some value) (Some variance) = Some (record { value = value; variance = variance })
+both_meas value variance = None
 
 -- a lower bound with an upper one, or neither
-abbrev pub bounds_of : Option ℤ → Option ℤ → Option Bounds
-bounds_of (Some lo) (Some hi) = Some (record { lo = lo; hi = hi })
-bounds_of lo hi = None
+abbrev pub both_bounds : Option ℤ → Option ℤ → Option Bounds
+both_bounds (Some lo) (Some hi) = Some (record { lo = lo; hi = hi })
+both_bounds lo hi = None
 
 -- the greatest round of a block
 abbrev pub most_round : ℕ
 most_round = 20
 
 -- `report,PERIOD,ROUND,NODES,STREAMS,GAP,SWEEPS`
-abbrev pub heading_of : List (List ℕ) → List Value → Heading
-heading_of row values = record {
+abbrev pub said_heading : List (List ℕ) → List Value → Heading
+said_heading row values = record {
   period = name_field row;
   round = natural_at values 2;
   nodes = natural_at values 3;
@@ -93,39 +93,39 @@ heading_of row values = record {
 }
 
 -- `node,NAME,PRICE`
-abbrev pub price_of : List Value → ℤ
-price_of values = number_at values 2
+abbrev pub said_price : List Value → ℤ
+said_price values = number_at values 2
 
 -- `stream,NAME,FROM,TO,VALUE,VARIANCE,CLASS,FLOW,LO,HI,LEAST_LO,LEAST_HI,SHAPE,SIDE,PARTS`: the ends among the nodes, and what was
 -- measured
-abbrev pub arc_of : List (List ℕ) → List (List ℕ) → List Value → Stream
-arc_of nodes row values = record {
+abbrev pub said_arc : List (List ℕ) → List (List ℕ) → List Value → Stream
+said_arc nodes row values = record {
   from = place_of nodes (from_field row);
   to = place_of nodes (to_field row);
-  meas = meas_of (optional_at values value_place) (optional_at values variance_place);
+  meas = both_meas (optional_at values value_place) (optional_at values variance_place);
 }
 
 -- the least bounds, which a row of the time before there were any hasn't
-abbrev pub least_of : OutputKind → List Value → Option Bounds
-least_of StreamBefore values = None
-least_of kind values = bounds_of (optional_at values least_lo_place) (optional_at values least_hi_place)
+abbrev pub said_least : OutputKind → List Value → Option Bounds
+said_least StreamBefore values = None
+said_least kind values = both_bounds (optional_at values least_lo_place) (optional_at values least_hi_place)
 
 -- the class, the flow, the bounds and the certificate, of which the parts are kept as they are written
-abbrev pub stream_row_of : List (List ℕ) → OutputKind → List (List ℕ) → List Value → StreamRow
-stream_row_of nodes kind row values = record {
-  class = class_at (choice_at values 6);
+abbrev pub said_stream : List (List ℕ) → OutputKind → List (List ℕ) → List Value → StreamRow
+said_stream nodes kind row values = record {
+  class = chosen_class (choice_at values 6);
   flow = number_at values 7;
-  bounds = bounds_of (optional_at values lo_place) (optional_at values hi_place);
-  least = least_of kind values;
-  shape = shape_at (choice_at values (shape_place kind));
+  bounds = both_bounds (optional_at values lo_place) (optional_at values hi_place);
+  least = said_least kind values;
+  shape = chosen_shape (choice_at values (shape_place kind));
   side = side_of nodes (items (side_field kind row));
   parts = parts_field kind row;
 }
 
 -- `solved,K,STATE,G,H,DOF,LOW,HIGH`
-abbrev pub solution_of : List Value → Solution
-solution_of values = record {
-  solved = solved_at (choice_at values 2) (natural_at values 1);
+abbrev pub said_solution : List Value → Solution
+said_solution values = record {
+  solved = chosen_state (choice_at values 2) (natural_at values 1);
   g = natural_at values 3;
   h = natural_at values 4;
   dof = natural_at values 5;
@@ -134,25 +134,25 @@ solution_of values = record {
 }
 
 -- `global,CRITICAL,VERDICT`
-abbrev pub global_of : List Value → GlobalTest
-global_of values = record { critical = optional_at values 1; verdict = verdict_at (choice_at values 2) }
+abbrev pub said_global : List Value → GlobalTest
+said_global values = record { critical = optional_at values 1; verdict = chosen_verdict (choice_at values 2) }
 
 -- `nodal,NODE,NET,VARIANCE,CRITICAL,VERDICT`, by the place of the node
-abbrev pub nodal_of : List (List ℕ) → List (List ℕ) → List Value → NodalTest
-nodal_of nodes row values = record {
+abbrev pub said_nodal : List (List ℕ) → List (List ℕ) → List Value → NodalTest
+said_nodal nodes row values = record {
   node = place_of nodes (name_field row);
   net = number_at values 2;
   variance = number_at values 3;
   critical = optional_at values 4;
-  verdict = verdict_at (choice_at values 5);
+  verdict = chosen_verdict (choice_at values 5);
 }
 
 -- `measure,STREAM,LOW,HIGH,CRITICAL,VERDICT`, by the place of the stream
-abbrev pub measure_of : List (List ℕ) → List (List ℕ) → List Value → MeasureTest
-measure_of streams row values = record {
+abbrev pub said_measure : List (List ℕ) → List (List ℕ) → List Value → MeasureTest
+said_measure streams row values = record {
   stream = place_of streams (name_field row);
   low = number_at values 2;
   high = optional_at values 3;
   critical = optional_at values 4;
-  verdict = verdict_at (choice_at values 5);
+  verdict = chosen_verdict (choice_at values 5);
 }

@@ -1,7 +1,7 @@
 // What may be wrong with a row of a block beside its form.
 
 ghost use Rattle.std.specs.Prelude.{◌≡◌, bytes_eq};
-ghost use Rattle.pb_blocks.specs.Beside.{has_bad_list, has_one_end, has_unknown_node, is_half, is_half_at, is_half_told, is_round};
+ghost use Rattle.pb_blocks.specs.Beside.{has_bad_list, leads_to_itself, has_unknown_node, is_half, is_half_at, is_half_told, is_round};
 
 use crate::known::Known;
 use crate::lists::{are_parts, has_unknown_item, is_side};
@@ -69,8 +69,8 @@ pub fn has_bad_list(nodes: &Known, kind: OutputKind, fields: &Fields) -> bool
 }
 
 /// Whether a stream leads from a node to itself.
-pub fn has_one_end(fields: &Fields) -> bool
-    ensures { result ≡ has_one_end fields.now }
+pub fn leads_to_itself(fields: &Fields) -> bool
+    ensures { result ≡ leads_to_itself fields.now }
 {
     is_word(from_field(fields), to_field(fields))
 }

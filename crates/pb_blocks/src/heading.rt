@@ -6,7 +6,7 @@ ghost use Rattle.pb_form.specs.Writing.{FitEach};
 ghost use Rattle.pb_form.specs.declared.output.OutputKind.TheVariants.{Report};
 ghost use Rattle.pb_blocks.specs.Beside.{are_miscounted, heading_in, opening_fault};
 ghost use Rattle.pb_blocks.specs.Counts.{AreCounts, IsHeading, told};
-ghost use Rattle.pb_blocks.specs.Values.{heading_of, number_at};
+ghost use Rattle.pb_blocks.specs.Values.{said_heading, number_at};
 
 use crate::fault::RowFault;
 use crate::kinds::kind_among;
@@ -30,14 +30,14 @@ pub fn heading_in(row: &Row) -> Result<Heading, RowFault>
         return Err(RowFault::Count);
     }
     let period = Name::read(name_field(&fields)).ok_or(RowFault::Name)?;
-    Ok(heading_of(period, &values))
+    Ok(said_heading(period, &values))
 }
 
 // The heading of a period with its counts.
-fn heading_of(period: Name, values: &Values) -> Heading
+fn said_heading(period: Name, values: &Values) -> Heading
     requires fit { FitEach (output_columns Report) values.now }
     requires counts { AreCounts (number_at values.now 3) (number_at values.now 4) }
-    ensures { result ≡ record (heading_of [] values.now) { period = period } }
+    ensures { result ≡ record (said_heading [] values.now) { period = period } }
 {
     Heading {
         period,

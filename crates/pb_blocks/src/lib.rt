@@ -16,7 +16,7 @@ mod rows;
 mod texts;
 mod values;
 
-pub use beside::{has_bad_list, has_one_end, has_unknown_node, is_half_told, is_round, is_word};
+pub use beside::{has_bad_list, leads_to_itself, has_unknown_node, is_half_told, is_round, is_word};
 pub use fault::{RowFault, lowest};
 pub use heading::heading_in;
 pub use kinds::{is_passed_over, kind_among};
@@ -26,5 +26,5 @@ pub use results::result_of;
 pub use rows::{Heading, Shape, Solution, StreamRow};
 pub use texts::name_field;
 pub use values::{
-    arc_of, global_of, measure_of, nodal_of, price_of, solution_of, stream_row_of,
+    said_arc, said_global, said_measure, said_nodal, said_price, said_solution, said_stream,
 };

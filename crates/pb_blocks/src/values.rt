@@ -6,7 +6,7 @@ ghost use Rattle.pb_form.specs.OutputRows.{output_columns};
 ghost use Rattle.pb_form.specs.Writing.{FitEach};
 ghost use Rattle.pb_form.specs.declared.output.OutputKind.TheVariants.{Solved as SolvedKind, Global, Nodal, Measure};
 ghost use Rattle.pb_blocks.specs.Counts.{IsCountAt, IsStreamKind};
-ghost use Rattle.pb_blocks.specs.Values.{arc_of, bounds_of, choice_at, class_at, global_of, least_of, meas_of, measure_of, natural_at, nodal_of, number_at, optional_at, price_of, shape_at, solution_of, solved_at, stream_row_of, verdict_at};
+ghost use Rattle.pb_blocks.specs.Values.{said_arc, both_bounds, choice_at, chosen_class, said_global, said_least, both_meas, said_measure, natural_at, said_nodal, number_at, optional_at, said_price, chosen_shape, said_solution, chosen_state, said_stream, chosen_verdict};
 
 use crate::known::Known;
 use crate::lists::side_of;
@@ -22,29 +22,29 @@ use pb_graph::{
 use std::alloc::{AllocError, Global};
 
 /// The price of a node, in units of 2^-56.
-pub fn price_of(values: &Values) -> i128
-    ensures { result ≡ price_of values.now }
+pub fn said_price(values: &Values) -> i128
+    ensures { result ≡ said_price values.now }
 {
     number(values, 2)
 }
 
 /// The ends of a stream, by their places among the nodes, and what was measured of it.
-pub fn arc_of(nodes: &Known, kind: OutputKind, fields: &Fields, values: &Values) -> Stream
+pub fn said_arc(nodes: &Known, kind: OutputKind, fields: &Fields, values: &Values) -> Stream
     requires stream { IsStreamKind kind }
     requires fit { FitEach (output_columns kind) values.now }
-    ensures value { result ≡ arc_of nodes.now fields.now values.now }
+    ensures value { result ≡ said_arc nodes.now fields.now values.now }
     ensures limits { IsWithinLimits result }
 {
     Stream {
         from: nodes.place(from_field(fields)),
         to: nodes.place(to_field(fields)),
-        meas: meas_of(values.number(VALUE), values.number(VARIANCE)),
+        meas: both_meas(values.number(VALUE), values.number(VARIANCE)),
     }
 }
 
 // A value with its variance, or neither.
-fn meas_of(value: Option<i128>, variance: Option<i128>) -> Option<Meas>
-    ensures { result ≡ meas_of value variance }
+fn both_meas(value: Option<i128>, variance: Option<i128>) -> Option<Meas>
+    ensures { result ≡ both_meas value variance }
 {
     match (value, variance) {
         (Some(value), Some(variance)) => Some(Meas { value, variance }),
@@ -53,29 +53,29 @@ fn meas_of(value: Option<i128>, variance: Option<i128>) -> Option<Meas>
 }
 
 /// A stream's class, flow, bounds and certificate.
-pub fn stream_row_of(
+pub fn said_stream(
     alloc: Global,
     nodes: &Known,
     kind: OutputKind,
     fields: &Fields,
     values: &Values,
 ) -> Result<StreamRow, AllocError>
-    ensures { IfOk result (λ row. row ≡ stream_row_of nodes.now kind fields.now values.now) }
+    ensures { IfOk result (λ row. row ≡ said_stream nodes.now kind fields.now values.now) }
 {
     Ok(StreamRow {
-        class: class_at(choice(values, 6)),
+        class: chosen_class(choice(values, 6)),
         flow: number(values, 7),
-        bounds: bounds_of(values.number(LO), values.number(HI)),
-        least: least_of(kind, values),
-        shape: shape_at(choice(values, shape_place(kind))),
+        bounds: both_bounds(values.number(LO), values.number(HI)),
+        least: said_least(kind, values),
+        shape: chosen_shape(choice(values, shape_place(kind))),
         side: side_of(alloc, nodes, side_field(kind, fields))?,
         parts: List::from_vec(Vec::from_slice(alloc, parts_field(kind, fields))?),
     })
 }
 
 // A lower bound with an upper one, or neither.
-fn bounds_of(lo: Option<i128>, hi: Option<i128>) -> Option<Bounds>
-    ensures { result ≡ bounds_of lo hi }
+fn both_bounds(lo: Option<i128>, hi: Option<i128>) -> Option<Bounds>
+    ensures { result ≡ both_bounds lo hi }
 {
     match (lo, hi) {
         (Some(lo), Some(hi)) => Some(Bounds { lo, hi }),
@@ -84,22 +84,22 @@ fn bounds_of(lo: Option<i128>, hi: Option<i128>) -> Option<Bounds>
 }
 
 // The least bounds, which a row of the time before there were any hasn't.
-fn least_of(kind: OutputKind, values: &Values) -> Option<Bounds>
-    ensures { result ≡ least_of kind values.now }
+fn said_least(kind: OutputKind, values: &Values) -> Option<Bounds>
+    ensures { result ≡ said_least kind values.now }
 {
     match kind {
         OutputKind::StreamBefore => None,
-        _ => bounds_of(values.number(LEAST_LO), values.number(LEAST_HI)),
+        _ => both_bounds(values.number(LEAST_LO), values.number(LEAST_HI)),
     }
 }
 
 /// How the stage was solved.
-pub fn solution_of(values: &Values) -> Solution
+pub fn said_solution(values: &Values) -> Solution
     requires { FitEach (output_columns SolvedKind) values.now }
-    ensures { result ≡ solution_of values.now }
+    ensures { result ≡ said_solution values.now }
 {
     Solution {
-        solved: solved_at(choice(values, 2), natural(values, 1)),
+        solved: chosen_state(choice(values, 2), natural(values, 1)),
         g: long_natural(values, 3),
         h: natural(values, 4),
         dof: natural(values, 5),
@@ -109,41 +109,41 @@ pub fn solution_of(values: &Values) -> Solution
 }
 
 /// The global test.
-pub fn global_of(values: &Values) -> GlobalTest
+pub fn said_global(values: &Values) -> GlobalTest
     requires { FitEach (output_columns Global) values.now }
-    ensures { result ≡ global_of values.now }
+    ensures { result ≡ said_global values.now }
 {
     GlobalTest {
         critical: critical(values, 1),
-        verdict: verdict_at(choice(values, 2)),
+        verdict: chosen_verdict(choice(values, 2)),
     }
 }
 
 /// The test of a balance, by the place of its node.
-pub fn nodal_of(nodes: &Known, fields: &Fields, values: &Values) -> NodalTest
+pub fn said_nodal(nodes: &Known, fields: &Fields, values: &Values) -> NodalTest
     requires { FitEach (output_columns Nodal) values.now }
-    ensures { result ≡ nodal_of nodes.now fields.now values.now }
+    ensures { result ≡ said_nodal nodes.now fields.now values.now }
 {
     NodalTest {
         node: nodes.place(name_field(fields)),
         net: number(values, 2),
         variance: number(values, 3),
         critical: critical(values, 4),
-        verdict: verdict_at(choice(values, 5)),
+        verdict: chosen_verdict(choice(values, 5)),
     }
 }
 
 /// The test of a measurement, by the place of its stream.
-pub fn measure_of(streams: &Known, fields: &Fields, values: &Values) -> MeasureTest
+pub fn said_measure(streams: &Known, fields: &Fields, values: &Values) -> MeasureTest
     requires { FitEach (output_columns Measure) values.now }
-    ensures { result ≡ measure_of streams.now fields.now values.now }
+    ensures { result ≡ said_measure streams.now fields.now values.now }
 {
     MeasureTest {
         stream: streams.place(name_field(fields)),
         low: number(values, 2),
         high: values.number(3),
         critical: critical(values, 4),
-        verdict: verdict_at(choice(values, 5)),
+        verdict: chosen_verdict(choice(values, 5)),
     }
 }
 
@@ -189,8 +189,8 @@ fn choice(values: &Values, place: usize) -> usize
 }
 
 // The class whose word stands at a place among the words of classes.
-fn class_at(place: usize) -> Class
-    ensures { result ≡ class_at place }
+fn chosen_class(place: usize) -> Class
+    ensures { result ≡ chosen_class place }
 {
     match place {
         0 => Class::Observable,
@@ -201,8 +201,8 @@ fn class_at(place: usize) -> Class
 }
 
 // The shape whose word stands at a place.
-fn shape_at(place: usize) -> Shape
-    ensures { result ≡ shape_at place }
+fn chosen_shape(place: usize) -> Shape
+    ensures { result ≡ chosen_shape place }
 {
     match place {
         0 => Shape::Cut,
@@ -211,8 +211,8 @@ fn shape_at(place: usize) -> Shape
 }
 
 // The sweeps done, and whether the gap was met by the place of its word.
-fn solved_at(place: usize, sweeps: u32) -> Solved
-    ensures { result ≡ solved_at place sweeps }
+fn chosen_state(place: usize, sweeps: u32) -> Solved
+    ensures { result ≡ chosen_state place sweeps }
 {
     match place {
         0 => Solved::Converged(sweeps),
@@ -221,8 +221,8 @@ fn solved_at(place: usize, sweeps: u32) -> Solved
 }
 
 // The verdict whose word stands at a place.
-fn verdict_at(place: usize) -> Verdict
-    ensures { result ≡ verdict_at place }
+fn chosen_verdict(place: usize) -> Verdict
+    ensures { result ≡ chosen_verdict place }
 {
     match place {
         0 => Verdict::Reject,

@@ -11,7 +11,7 @@ use Rattle.pb_form.specs.declared.output.OutputKind.TheVariants.{Node, Stream, S
 use Rattle.pb_blocks.specs.Counts.{IsStreamKind}
 use Rattle.pb_blocks.specs.Lists.{is_among}
 use Rattle.pb_blocks.specs.Texts.{name_field}
-use Rattle.pb_blocks.specs.Values.{arc_of, values_in}
+use Rattle.pb_blocks.specs.Values.{said_arc, values_in}
 use Rattle.pb_blocks.proofs.RowLaws.{name_read}
 use Rattle.pb_readback.specs.declared.draft.Draft.{Draft}
 use Rattle.pb_readback.specs.Faults.{fault_beside}
@@ -64,7 +64,7 @@ new_stream draft StreamBefore row is none = (beside_fine StreamBefore draft row 
 new_stream draft kind row is none = absurd is
 
 pub joins : (draft : Draft) (kind : OutputKind) (row : List (List ℕ)) (values : List Value) → IsUnderWay draft → IsStreamKind kind → fault_beside kind draft row ≡ None
-    → IsStream draft.graph.nodes (arc_of draft.nodes row values)
+    → IsStream draft.graph.nodes (said_arc draft.nodes row values)
 joins draft Stream row values way is none =
     let fine = beside_fine Stream draft row none in
     rw (way.graph) (arc_joins draft.nodes Stream row values draft.heading.nodes way.nodes fine.0 fine.2)

@@ -30,7 +30,7 @@ use Rattle.pb_blocks.specs.declared.rows.Shape.{Shape as ShapeKind}
 use Rattle.pb_blocks.specs.declared.rows.Shape.TheVariants.{Cut, Cycle}
 use Rattle.pb_blocks.specs.declared.rows.Solution.{Solution}
 use Rattle.pb_blocks.specs.declared.rows.StreamRow.{StreamRow}
-use Rattle.pb_blocks.specs.Beside.{are_miscounted, form_fault, has_one_end, has_unknown_node, heading_fault, heading_in, is_half_told, opening_by, opening_fault}
+use Rattle.pb_blocks.specs.Beside.{are_miscounted, form_fault, leads_to_itself, has_unknown_node, heading_fault, heading_in, is_half_told, opening_by, opening_fault}
 use Rattle.pb_blocks.specs.Codes.{lowest}
 use Rattle.pb_blocks.specs.Counts.{IsHeading}
 use Rattle.pb_blocks.specs.Kinds.{kind_among}
@@ -38,7 +38,7 @@ use Rattle.pb_blocks.specs.Laws.{LiesWithin}
 use Rattle.pb_blocks.specs.Lists.{is_among, is_plus, items, member_of, names_no_stream, part_name, side_of, step_of}
 use Rattle.pb_blocks.specs.Results.{has_unknown_part, result_of, witness_by}
 use Rattle.pb_blocks.specs.Texts.{name_field, side_field}
-use Rattle.pb_blocks.specs.Values.{arc_of, bounds_of, choice_at, least_of, meas_of, measure_of, most_round, natural_at, nodal_of, number_at, optional_at, price_of, stream_row_of, values_in, values_or_none}
+use Rattle.pb_blocks.specs.Values.{said_arc, both_bounds, choice_at, said_least, both_meas, said_measure, most_round, natural_at, said_nodal, number_at, optional_at, said_price, said_stream, values_in, values_or_none}
 use Rattle.pb_blocks.proofs.NameLemmas.{some_found}
 use Rattle.pb_blocks.proofs.RowLaws.{name_read, number_read, optional_read}
 use Rattle.pb_readback.specs.declared.draft.Draft.{Draft}
@@ -68,12 +68,12 @@ wide_if None h = tt
 wide_if (Some z) h = abs_within (2 ^ 126) z h
 
 meas_in : (value variance : Option ℤ) → IfSome value (LiesWithin (neg_ℤ (pos most_value)) (pos most_value)) → IfSome variance (LiesWithin (pos 1) (pos most_variance))
-    → IfSome (meas_of value variance) IsMeasurement
+    → IfSome (both_meas value variance) IsMeasurement
 meas_in None variance h k = tt
 meas_in (Some value) None h k = tt
 meas_in (Some value) (Some variance) h k = record { value = abs_within most_value value h; least = k.0; greatest = k.1 }
 
-bounds_in : (lo hi : Option ℤ) → IfSome lo IsWide → IfSome hi IsWide → IfSome (bounds_of lo hi) AreBoundsWithin
+bounds_in : (lo hi : Option ℤ) → IfSome lo IsWide → IfSome hi IsWide → IfSome (both_bounds lo hi) AreBoundsWithin
 bounds_in None hi h k = tt
 bounds_in (Some lo) None h k = tt
 bounds_in (Some lo) (Some hi) h k = record { lo = h; hi = k }
@@ -195,7 +195,7 @@ node_formed draft row formed may fine =
     let name = name_read Node row values 1 (codes "name") fine.read refl in
     let price = number_read Node row values 2 (codes "price") (neg_ℤ (pos most_price)) (pos most_price) fine.read refl in
     let names = one_more draft.nodes (name_field row) in
-    let prices = one_more draft.prices (price_of values) in
+    let prices = one_more draft.prices (said_price values) in
     let each = formed.nodes.each in
     record {
       way = still_under draft Node row formed.way may;
@@ -204,7 +204,7 @@ node_formed draft row formed may fine =
         names = names_more draft.nodes (name_field row) formed.nodes.names name fine.new;
         env = first draft.nodes formed.nodes.env fine.env;
         each = omega (arith, names, prices, each);
-        ranges = All-push IsPrice draft.prices (price_of values) formed.nodes.ranges (abs_within most_price (price_of values) price);
+        ranges = All-push IsPrice draft.prices (said_price values) formed.nodes.ranges (abs_within most_price (said_price values) price);
       };
       streams = record { names = formed.streams.names; joins = formed.streams.joins; limits = formed.streams.limits; rows = formed.streams.rows };
       solution = formed.solution;
@@ -219,16 +219,16 @@ node_formed draft row formed may fine =
 -- what the row of a stream says is within the limits
 record IsSaidStream (kind : OutputKind) (row : List (List ℕ)) : Type 0 where
   name : is_name (name_field row) ≡ true
-  meas : IfSome (meas_of (optional_at (values_in kind row) 4) (optional_at (values_in kind row) 5)) IsMeasurement
+  meas : IfSome (both_meas (optional_at (values_in kind row) 4) (optional_at (values_in kind row) 5)) IsMeasurement
   flow : IsFlow (number_at (values_in kind row) 7)
-  bounds : IfSome (bounds_of (optional_at (values_in kind row) 8) (optional_at (values_in kind row) 9)) AreBoundsWithin
-  least : IfSome (least_of kind (values_in kind row)) AreBoundsWithin
+  bounds : IfSome (both_bounds (optional_at (values_in kind row) 8) (optional_at (values_in kind row) 9)) AreBoundsWithin
+  least : IfSome (said_least kind (values_in kind row)) AreBoundsWithin
 
 flow_in : (z : ℤ) → LiesWithin (neg_ℤ (pos (2 ^ 68 - 1))) (pos (2 ^ 68 - 1)) z → IsFlow z
 flow_in z h = let most = abs_within (2 ^ 68 - 1) z h in omega (arith, most)
 
-said_stream : (row : List (List ℕ)) → row_read (output_schema Stream) row ≡ Ok (values_in Stream row) → IsSaidStream Stream row
-said_stream row read =
+stream_within : (row : List (List ℕ)) → row_read (output_schema Stream) row ≡ Ok (values_in Stream row) → IsSaidStream Stream row
+stream_within row read =
     let values = values_in Stream row in
     let wide = λ (place : ℕ) (number : IfSome (optional_at values place) (LiesWithin (neg_ℤ (pos (2 ^ 126))) (pos (2 ^ 126)))). wide_if (optional_at values place) number in
     record {
@@ -244,8 +244,8 @@ said_stream row read =
           (wide 11 (optional_read Stream row values 11 (codes "least_hi") (neg_ℤ (pos (2 ^ 126))) (pos (2 ^ 126)) read refl));
     }
 
-said_before : (row : List (List ℕ)) → row_read (output_schema StreamBefore) row ≡ Ok (values_in StreamBefore row) → IsSaidStream StreamBefore row
-said_before row read =
+before_within : (row : List (List ℕ)) → row_read (output_schema StreamBefore) row ≡ Ok (values_in StreamBefore row) → IsSaidStream StreamBefore row
+before_within row read =
     let values = values_in StreamBefore row in
     let wide = λ (place : ℕ) (number : IfSome (optional_at values place) (LiesWithin (neg_ℤ (pos (2 ^ 126))) (pos (2 ^ 126)))). wide_if (optional_at values place) number in
     record {
@@ -264,7 +264,7 @@ side_long : (nodes names : List (List ℕ)) → length (side_of nodes names) ≡
 side_long nodes names = length-map nodes (is_among names)
 
 stream_formed : (draft : Draft) (kind : OutputKind) (row : List (List ℕ)) → IsFormed draft → AwaitsStreams draft → IsSaidStream kind row
-    → has_unknown_node draft.nodes kind row ≡ false → is_among draft.streams (name_field row) ≡ false → has_one_end row ≡ false
+    → has_unknown_node draft.nodes kind row ≡ false → is_among draft.streams (name_field row) ≡ false → leads_to_itself row ≡ false
     → IsFormed (record (with_stream kind row draft) { last = kind })
 stream_formed draft kind row formed may said known new apart =
     let values = values_in kind row in
@@ -276,10 +276,10 @@ stream_formed draft kind row formed may said known new apart =
       nodes = formed.nodes;
       streams = record {
         names = names_more draft.streams (name_field row) formed.streams.names said.name new;
-        joins = All-push (IsStream draft.heading.nodes) draft.graph.streams (arc_of draft.nodes row values) formed.streams.joins
+        joins = All-push (IsStream draft.heading.nodes) draft.graph.streams (said_arc draft.nodes row values) formed.streams.joins
             (arc_joins draft.nodes kind row values draft.heading.nodes formed.way.nodes known apart);
-        limits = All-push IsWithinLimits draft.graph.streams (arc_of draft.nodes row values) formed.streams.limits said.meas;
-        rows = All-push (IsFormedRow draft.heading.nodes) draft.rows (stream_row_of draft.nodes kind row values) formed.streams.rows (record {
+        limits = All-push IsWithinLimits draft.graph.streams (said_arc draft.nodes row values) formed.streams.limits said.meas;
+        rows = All-push (IsFormedRow draft.heading.nodes) draft.rows (said_stream draft.nodes kind row values) formed.streams.rows (record {
           side = long ∙ nodes;
           flow = said.flow;
           bounds = said.bounds;
@@ -336,7 +336,7 @@ nodal_formed draft row formed may fine =
     let values = values_in Nodal row in
     let at = place_within draft.nodes (name_field row) (not_false (is_among draft.nodes (name_field row)) fine.known) in
     let few = formed.way.nodes in
-    let test : IsFormedNodal draft.heading (nodal_of draft.nodes row values) = record {
+    let test : IsFormedNodal draft.heading (said_nodal draft.nodes row values) = record {
       node = omega (arith, at, few);
       net = abs_within (2 ^ 126) (number_at values 2) (number_read Nodal row values 2 (codes "net") (neg_ℤ (pos (2 ^ 126))) (pos (2 ^ 126)) fine.read refl);
       variance = abs_within (2 ^ 126) (number_at values 3) (number_read Nodal row values 3 (codes "variance") (neg_ℤ (pos (2 ^ 126))) (pos (2 ^ 126)) fine.read refl);
@@ -351,12 +351,12 @@ nodal_formed draft row formed may fine =
       tests = by draft.tests formed.tests test;
     }
   where
-    by : (tests : Option Tests) → IfSome tests (AreFormedTests draft.heading) → IsFormedNodal draft.heading (nodal_of draft.nodes row (values_in Nodal row))
-        → IfSome (option_map (with_nodal (nodal_of draft.nodes row (values_in Nodal row))) tests) (AreFormedTests draft.heading)
+    by : (tests : Option Tests) → IfSome tests (AreFormedTests draft.heading) → IsFormedNodal draft.heading (said_nodal draft.nodes row (values_in Nodal row))
+        → IfSome (option_map (with_nodal (said_nodal draft.nodes row (values_in Nodal row))) tests) (AreFormedTests draft.heading)
     by None h test = tt
     by (Some tests) h test = record {
       overall = h.overall;
-      nodal = All-push (IsFormedNodal draft.heading) tests.nodal (nodal_of draft.nodes row (values_in Nodal row)) h.nodal test;
+      nodal = All-push (IsFormedNodal draft.heading) tests.nodal (said_nodal draft.nodes row (values_in Nodal row)) h.nodal test;
       measure = h.measure;
     }
 
@@ -365,7 +365,7 @@ measure_formed draft row formed may fine =
     let values = values_in Measure row in
     let at = place_within draft.streams (name_field row) (not_false (is_among draft.streams (name_field row)) fine.known) in
     let few = formed.way.streams in
-    let test : IsFormedMeasure draft.heading (measure_of draft.streams row values) = record {
+    let test : IsFormedMeasure draft.heading (said_measure draft.streams row values) = record {
       stream = omega (arith, at, few);
       low = abs_within (2 ^ 126) (number_at values 2) (number_read Measure row values 2 (codes "low") (neg_ℤ (pos (2 ^ 126))) (pos (2 ^ 126)) fine.read refl);
       high = wide_if (optional_at values 3) (optional_read Measure row values 3 (codes "high") (neg_ℤ (pos (2 ^ 126))) (pos (2 ^ 126)) fine.read refl);
@@ -380,19 +380,19 @@ measure_formed draft row formed may fine =
       tests = by draft.tests formed.tests test;
     }
   where
-    by : (tests : Option Tests) → IfSome tests (AreFormedTests draft.heading) → IsFormedMeasure draft.heading (measure_of draft.streams row (values_in Measure row))
-        → IfSome (option_map (with_measure (measure_of draft.streams row (values_in Measure row))) tests) (AreFormedTests draft.heading)
+    by : (tests : Option Tests) → IfSome tests (AreFormedTests draft.heading) → IsFormedMeasure draft.heading (said_measure draft.streams row (values_in Measure row))
+        → IfSome (option_map (with_measure (said_measure draft.streams row (values_in Measure row))) tests) (AreFormedTests draft.heading)
     by None h test = tt
     by (Some tests) h test = record {
       overall = h.overall;
       nodal = h.nodal;
-      measure = All-push (IsFormedMeasure draft.heading) tests.measure (measure_of draft.streams row (values_in Measure row)) h.measure test;
+      measure = All-push (IsFormedMeasure draft.heading) tests.measure (said_measure draft.streams row (values_in Measure row)) h.measure test;
     }
 
 kind_formed : (draft : Draft) (kind : OutputKind) (row : List (List ℕ)) → IsFormed draft → MayCome draft kind → IsFine kind draft row → IsFormed (told_with kind draft row)
 kind_formed draft Node row formed may fine = node_formed draft row formed may fine
-kind_formed draft Stream row formed may fine = stream_formed draft Stream row formed may (said_stream row fine.read) fine.known fine.new fine.apart
-kind_formed draft StreamBefore row formed may fine = stream_formed draft StreamBefore row formed may (said_before row fine.read) fine.known fine.new fine.apart
+kind_formed draft Stream row formed may fine = stream_formed draft Stream row formed may (stream_within row fine.read) fine.known fine.new fine.apart
+kind_formed draft StreamBefore row formed may fine = stream_formed draft StreamBefore row formed may (before_within row fine.read) fine.known fine.new fine.apart
 kind_formed draft Solved row formed may fine = solved_formed draft row formed may fine
 kind_formed draft Global row formed may fine = global_formed draft row formed may fine
 kind_formed draft Nodal row formed may fine = nodal_formed draft row formed may fine

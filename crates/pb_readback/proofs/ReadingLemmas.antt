@@ -10,9 +10,9 @@ use Rattle.pb_blocks.specs.declared.fault.RowFault.{RowFault}
 use Rattle.pb_blocks.specs.declared.fault.RowFault.TheVariants.{Unknown, Ended}
 use Rattle.pb_blocks.specs.declared.rows.Heading.{Heading}
 use Rattle.pb_blocks.specs.Counts.{IsHeading}
-use Rattle.pb_blocks.specs.Kinds.{is_passed_over, is_row_of, kind_among, kind_or}
+use Rattle.pb_blocks.specs.Kinds.{is_passed_over, is_row_of, kind_among, kind_or, no_kind}
 use Rattle.pb_blocks.specs.Texts.{name_field}
-use Rattle.pb_blocks.specs.Values.{arc_of, stream_row_of, values_in}
+use Rattle.pb_blocks.specs.Values.{said_arc, said_stream, values_in}
 use Rattle.pb_readback.specs.declared.block.Block.{Block}
 use Rattle.pb_readback.specs.declared.draft.Draft.{Draft}
 use Rattle.pb_readback.specs.declared.reading.ReadRefused.{ReadRefused}
@@ -37,7 +37,7 @@ found_among P row (first ∷ kinds) kind all found = elim (cases_Bool (is_row_of
 ]
 
 told_among : (P : OutputKind → Type 0) (row : List (List ℕ)) (kinds : List OutputKind) (kind : OutputKind) → AllByRecursion P kinds → kind_among kinds row ≡ Ok kind → P kind
-told_among P row kinds kind all told = by (find (is_row_of row) kinds) refl told
+told_among P row kinds kind all told = by (find (is_row_of row) kinds) refl (no_kind kinds row) told
   where
     by : (found : Option OutputKind) → find (is_row_of row) kinds ≡ found → (fault : RowFault) → kind_or fault found ≡ Ok kind → P kind
     by None is fault told = cc told
@@ -106,8 +106,8 @@ pub stream_under : (draft : Draft) (kind : OutputKind) (row : List (List ℕ)) �
 stream_under draft kind row way may =
     let room = stream_room draft may in
     let names = one_more draft.streams (name_field row) in
-    let streams = one_more draft.graph.streams (arc_of draft.nodes row (values_in kind row)) in
-    let rows = one_more draft.rows (stream_row_of draft.nodes kind row (values_in kind row)) in
+    let streams = one_more draft.graph.streams (said_arc draft.nodes row (values_in kind row)) in
+    let rows = one_more draft.rows (said_stream draft.nodes kind row (values_in kind row)) in
     let each = way.each_stream in
     let each_row = way.each_row in
     record {

@@ -8,10 +8,10 @@ use Rattle.pb_rows.specs.Name.{is_name, same_name}
 use Rattle.pb_graph.specs.ProcessGraph.{IsStream}
 use Rattle.pb_form.specs.declared.output.OutputKind.{OutputKind}
 use Rattle.pb_form.specs.Value.{Value}
-use Rattle.pb_blocks.specs.Beside.{has_one_end, has_unknown_node}
+use Rattle.pb_blocks.specs.Beside.{leads_to_itself, has_unknown_node}
 use Rattle.pb_blocks.specs.Lists.{is_among, is_unknown_item, items, place_of}
 use Rattle.pb_blocks.specs.Texts.{from_field, side_field, to_field}
-use Rattle.pb_blocks.specs.Values.{arc_of}
+use Rattle.pb_blocks.specs.Values.{said_arc}
 use Rattle.pb_blocks.proofs.NameLemmas.{all_more, any_place, differ_more}
 use Rattle.pb_readback.specs.WellFormed.{AreNames}
 
@@ -59,7 +59,7 @@ known_ends nodes kind row known =
 
 -- a stream between two of these nodes is one of a graph of them
 pub arc_joins : (nodes : List (List ℕ)) (kind : OutputKind) (row : List (List ℕ)) (values : List Value) (count : ℕ) → length nodes ≤ count → has_unknown_node nodes kind row ≡ false
-    → has_one_end row ≡ false → IsStream count (arc_of nodes row values)
+    → leads_to_itself row ≡ false → IsStream count (said_arc nodes row values)
 arc_joins nodes kind row values count few known apart =
     let ends = known_ends nodes kind row known in
     let first = place_within nodes (from_field row) ends.0 in

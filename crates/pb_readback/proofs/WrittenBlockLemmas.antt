@@ -16,7 +16,7 @@ use Rattle.pb_form.specs.Value.{Value, Name, Number, Word}
 use Rattle.pb_form.specs.declared.output.OutputKind.{OutputKind}
 use Rattle.pb_form.specs.declared.output.OutputKind.TheVariants.{Node}
 use Rattle.pb_blocks.specs.Lists.{is_among}
-use Rattle.pb_blocks.specs.Values.{price_of}
+use Rattle.pb_blocks.specs.Values.{said_price}
 use Rattle.pb_readback.specs.declared.draft.Draft.{Draft}
 use Rattle.pb_readback.specs.Drafts.{with_row, with_rows}
 use Rattle.pb_readback.specs.Faults.{fault_behind, first_unknown}
@@ -101,7 +101,7 @@ nodes_tell texts i draft (name ∷ names) (price ∷ prices) long fine ranges ro
     } in
     let leaves : with_row draft row ≡ next =
     row_leaves draft Node row values sound
-    ∙ ap (λ (said : List Value). record draft { last = Node; nodes = draft.nodes ++ name ∷ []; prices = draft.prices ++ price_of said ∷ [] })
+    ∙ ap (λ (said : List Value). record draft { last = Node; nodes = draft.nodes ++ name ∷ []; prices = draft.prices ++ said_price said ∷ [] })
     (values_back Node row values sound.read) in
     let rest = nodes_tell texts (i + 1) next names prices (omega (arith, long)) fine.3 ranges.1 (omega (arith, more, room)) empty in
     let same : behind_nodes next names prices ≡ behind_nodes draft (name ∷ names) (price ∷ prices) =

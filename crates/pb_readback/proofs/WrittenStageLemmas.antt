@@ -18,7 +18,7 @@ use Rattle.pb_form.specs.Value.{Value}
 use Rattle.pb_form.specs.declared.output.OutputKind.TheVariants.{Stream as StreamKind}
 use Rattle.pb_blocks.specs.declared.rows.StreamRow.{StreamRow}
 use Rattle.pb_blocks.specs.Lists.{is_among}
-use Rattle.pb_blocks.specs.Values.{arc_of, stream_row_of}
+use Rattle.pb_blocks.specs.Values.{said_arc, said_stream}
 use Rattle.pb_readback.specs.declared.draft.Draft.{Draft}
 use Rattle.pb_readback.specs.Drafts.{with_row}
 use Rattle.pb_readback.specs.Faults.{first_unknown}
@@ -87,15 +87,15 @@ streams_tell texts names graph known draft (name ∷ rest) (stream ∷ streams) 
       graph = record draft.graph { streams = draft.graph.streams ++ stream ∷ [] };
       rows = draft.rows ++ told_of names result ∷ [];
     } in
-    let told : stream_row_of draft.nodes StreamKind row values ≡ told_of names result =
-    ap (λ (nodes : List (List ℕ)). stream_row_of nodes StreamKind row values) at.nodes ∙ result_told names graph i stream result known within.0 in
-    let read : arc_of draft.nodes row values ≡ stream =
-    ap (λ (nodes : List (List ℕ)). arc_of nodes row values) at.nodes ∙ stream_back names graph i stream result known joins.0 in
+    let told : said_stream draft.nodes StreamKind row values ≡ told_of names result =
+    ap (λ (nodes : List (List ℕ)). said_stream nodes StreamKind row values) at.nodes ∙ result_told names graph i stream result known within.0 in
+    let read : said_arc draft.nodes row values ≡ stream =
+    ap (λ (nodes : List (List ℕ)). said_arc nodes row values) at.nodes ∙ stream_back names graph i stream result known joins.0 in
     let with = λ (said : List Value). record draft {
       last = StreamKind;
       streams = draft.streams ++ name_at names.streams i ∷ [];
-      graph = record draft.graph { streams = draft.graph.streams ++ arc_of draft.nodes row said ∷ [] };
-      rows = draft.rows ++ stream_row_of draft.nodes StreamKind row said ∷ [];
+      graph = record draft.graph { streams = draft.graph.streams ++ said_arc draft.nodes row said ∷ [] };
+      rows = draft.rows ++ said_stream draft.nodes StreamKind row said ∷ [];
     } in
     let leaves : with_row draft row ≡ next =
     row_leaves draft StreamKind row values fine ∙ ap with (values_back StreamKind row values fine.read)

@@ -40,7 +40,7 @@ use Rattle.pb_blocks.specs.declared.rows.StreamRow.{StreamRow}
 use Rattle.pb_blocks.specs.Beside.{is_half}
 use Rattle.pb_blocks.specs.Lists.{is_among, is_part, is_side, is_unknown_item, items, names_no_stream, place_of, side_of}
 use Rattle.pb_blocks.specs.Results.{has_unknown_part, result_of, witness_by}
-use Rattle.pb_blocks.specs.Values.{arc_of, bounds_of, class_at, meas_of, shape_at, stream_row_of}
+use Rattle.pb_blocks.specs.Values.{said_arc, both_bounds, chosen_class, both_meas, chosen_shape, said_stream}
 use Rattle.pb_readback.specs.declared.draft.Draft.{Draft}
 use Rattle.pb_readback.specs.Reading.{AwaitsStreams}
 use Rattle.pb_readback.specs.Written.{HasBoundsForLeast}
@@ -64,7 +64,7 @@ class_said Unobservable = refl
 class_said Redundant = refl
 class_said Nonredundant = refl
 
-class_back : (class : Class) → class_at (class_place class) ≡ class
+class_back : (class : Class) → chosen_class (class_place class) ≡ class
 class_back Observable = refl
 class_back Unobservable = refl
 class_back Redundant = refl
@@ -83,7 +83,7 @@ shape_said : (witness : Witness) → field_read (column (codes "shape") (WordCol
 shape_said (CutWitness side members) = refl
 shape_said (CycleWitness steps) = refl
 
-shape_back : (witness : Witness) → shape_at (place_of_shape witness) ≡ shape_of witness
+shape_back : (witness : Witness) → chosen_shape (place_of_shape witness) ≡ shape_of witness
 shape_back (CutWitness side members) = refl
 shape_back (CycleWitness steps) = refl
 
@@ -101,11 +101,11 @@ lo_of bounds = option_map (λ (b : Bounds). b.lo) bounds
 abbrev pub hi_of : Option Bounds → Option ℤ
 hi_of bounds = option_map (λ (b : Bounds). b.hi) bounds
 
-pub meas_back : (meas : Option Meas) → meas_of (value_of meas) (variance_of meas) ≡ meas
+pub meas_back : (meas : Option Meas) → both_meas (value_of meas) (variance_of meas) ≡ meas
 meas_back None = refl
 meas_back (Some meas) = refl
 
-pub bounds_back : (bounds : Option Bounds) → bounds_of (lo_of bounds) (hi_of bounds) ≡ bounds
+pub bounds_back : (bounds : Option Bounds) → both_bounds (lo_of bounds) (hi_of bounds) ≡ bounds
 bounds_back None = refl
 bounds_back (Some bounds) = refl
 
@@ -192,7 +192,7 @@ stream_values names i stream result =
 
 -- what the row tells of a stream
 pub stream_back : (names : Names) (graph : ProcessGraph) (i : ℕ) (stream : Stream) (result : StreamResult) → AreKnownNames names graph → IsStream graph.nodes stream
-    → arc_of names.nodes (stream_fields names i stream result) (stream_values names i stream result) ≡ stream
+    → said_arc names.nodes (stream_fields names i stream result) (stream_values names i stream result) ≡ stream
 stream_back names graph i stream result known joins =
     let from : stream.from < length names.nodes = omega (arith, joins.from, known.each_node) in
     let to : stream.to < length names.nodes = omega (arith, joins.to, known.each_node) in
@@ -228,7 +228,7 @@ side_told names graph (CutWitness side members) known within =
 side_told names graph (CycleWitness steps) known within = refl
 
 pub result_told : (names : Names) (graph : ProcessGraph) (i : ℕ) (stream : Stream) (result : StreamResult) → AreKnownNames names graph → IsResultWithin graph result
-    → stream_row_of names.nodes StreamKind (stream_fields names i stream result) (stream_values names i stream result) ≡ told_of names result
+    → said_stream names.nodes StreamKind (stream_fields names i stream result) (stream_values names i stream result) ≡ told_of names result
 result_told names graph i stream result known within =
     rw (
       class_back result.classified.class,

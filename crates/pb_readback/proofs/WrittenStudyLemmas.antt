@@ -32,7 +32,7 @@ use Rattle.pb_blocks.specs.declared.rows.Heading.{Heading}
 use Rattle.pb_blocks.specs.declared.rows.StreamRow.{StreamRow}
 use Rattle.pb_blocks.specs.Beside.{heading_in, opening_fault}
 use Rattle.pb_blocks.specs.Results.{has_unknown_part, result_of}
-use Rattle.pb_blocks.specs.Values.{heading_of, most_round}
+use Rattle.pb_blocks.specs.Values.{said_heading, most_round}
 use Rattle.pb_readback.specs.declared.draft.Draft.{Draft}
 use Rattle.pb_readback.specs.Blocks.{block_of}
 use Rattle.pb_readback.specs.Drafts.{draft_of}
@@ -110,7 +110,7 @@ heading_back : HaveOneNumberText → (names : Names) (period : List ℕ) (option
     → heading_in (heading_fields period options round stage) ≡ stage_heading period options round stage
 heading_back texts names period options round stage h =
     let row = heading_fields period options round stage in
-    ap (heading_of row) (values_back Report row (heading_values period options round stage) (heading_reads texts names period options round stage h))
+    ap (said_heading row) (values_back Report row (heading_values period options round stage) (heading_reads texts names period options round stage h))
 
 heading_fine : HaveOneNumberText → (names : Names) (period : List ℕ) (options : Options) (round : ℕ) (stage : Stage) → IsStageToWrite names period options round stage
     → opening_fault (heading_fields period options round stage) ≡ None

@@ -38,7 +38,7 @@ use Rattle.pb_form.specs.declared.output.OutputKind.TheVariants.{Solved, Global,
 use Rattle.pb_blocks.specs.declared.rows.Solution.{Solution}
 use Rattle.pb_blocks.specs.Beside.{is_round}
 use Rattle.pb_blocks.specs.Lists.{is_among, place_of}
-use Rattle.pb_blocks.specs.Values.{global_of, measure_of, most_round, nodal_of, solution_of, solved_at, verdict_at}
+use Rattle.pb_blocks.specs.Values.{said_global, said_measure, most_round, said_nodal, said_solution, chosen_state, chosen_verdict}
 use Rattle.pb_readback.specs.declared.draft.Draft.{Draft}
 use Rattle.pb_readback.specs.Drafts.{tests_begun, with_row}
 use Rattle.pb_readback.specs.Faults.{first_unknown}
@@ -68,7 +68,7 @@ state_said : (solved : Met) → field_read (column (codes "state") (WordColumn s
 state_said (Converged sweeps) = refl
 state_said (Unconverged sweeps) = refl
 
-solved_back : (solved : Met) → solved_at (state_place solved) (sweeps_of solved) ≡ solved
+solved_back : (solved : Met) → chosen_state (state_place solved) (sweeps_of solved) ≡ solved
 solved_back (Converged sweeps) = refl
 solved_back (Unconverged sweeps) = refl
 
@@ -113,9 +113,9 @@ solved_tells texts names draft stage at order formed =
           (optional_back texts (codes "high") (neg_ℤ (pos (2 ^ 126))) (pos (2 ^ 126)) stage.high (wide_range stage.high formed.high), tt))))))));
       beside = refl;
     } in
-    let read : solution_of values ≡ solution_in stage = rw (solved_back stage.solved, said_back stage.high) refl in
+    let read : said_solution values ≡ solution_in stage = rw (solved_back stage.solved, said_back stage.high) refl in
     let leaves : with_row draft row ≡ next =
-    row_leaves draft Solved row values sound ∙ ap (λ (said : List Value). record draft { last = Solved; solution = solution_of said }) (values_back Solved row values sound.read)
+    row_leaves draft Solved row values sound ∙ ap (λ (said : List Value). record draft { last = Solved; solution = said_solution said }) (values_back Solved row values sound.read)
     ∙ ap (λ (s : Solution). record draft { last = Solved; solution = s }) read in
     subst (λ (first : List (List ℕ)). Tells draft (first ∷ []) next) (sym fields)
     (tells_more draft next row [] next at.known (row_sound draft Solved row values sound) leaves (tells_none next))
@@ -137,7 +137,7 @@ verdict_said Undecided = refl
 verdict_said NoCritical = refl
 verdict_said NoTest = refl
 
-verdict_back : (verdict : Verdict) → verdict_at (verdict_place verdict) ≡ verdict
+verdict_back : (verdict : Verdict) → chosen_verdict (verdict_place verdict) ≡ verdict
 verdict_back Reject = refl
 verdict_back Accept = refl
 verdict_back Undecided = refl
@@ -167,7 +167,7 @@ global_tells texts names draft test at order range =
           (refl, (optional_back texts (codes "critical") (pos 0) (pos most_critical) test.critical (critical_range test.critical range), (verdict_said test.verdict, tt)));
       beside = refl;
     } in
-    let read : global_of values ≡ test = rw (said_back test.critical, verdict_back test.verdict) refl in
+    let read : said_global values ≡ test = rw (said_back test.critical, verdict_back test.verdict) refl in
     let leaves : with_row draft row ≡ next =
     row_leaves draft Global row values sound ∙ ap (λ (said : List Value). with_tests draft Global (tests_begun said)) (values_back Global row values sound.read)
     ∙ ap (λ (t : GlobalTest). with_tests draft Global (only_global t)) read in
@@ -208,10 +208,10 @@ nodals_tell texts names graph known draft kind tests (test ∷ todo) at order wi
           (verdict_said test.verdict, tt))))));
       beside = rw there refl;
     } in
-    let read : nodal_of draft.nodes row values ≡ test = rw (place, said_back test.critical, verdict_back test.verdict) refl in
+    let read : said_nodal draft.nodes row values ≡ test = rw (place, said_back test.critical, verdict_back test.verdict) refl in
     let with = λ (t : NodalTest). with_tests draft Nodal (record tests { nodal = tests.nodal ++ t ∷ [] }) in
     let leaves : with_row told row ≡ next =
-    row_leaves told Nodal row values sound ∙ ap (λ (said : List Value). with (nodal_of draft.nodes row said)) (values_back Nodal row values sound.read) ∙ ap with read in
+    row_leaves told Nodal row values sound ∙ ap (λ (said : List Value). with (said_nodal draft.nodes row said)) (values_back Nodal row values sound.read) ∙ ap with read in
     let rest = nodals_tell texts names graph known draft Nodal more todo at refl within.1 in
     let last = with_tests draft (last_of Nodal kind (test ∷ todo)) (record tests { nodal = tests.nodal ++ test ∷ todo }) in
     let rows = records_in (map (nodal_row names) todo) in
@@ -256,10 +256,10 @@ measures_tell texts names graph known draft kind tests (test ∷ todo) at order 
           (verdict_said test.verdict, tt))))));
       beside = rw there refl;
     } in
-    let read : measure_of draft.streams row values ≡ test = rw (place, said_back test.high, said_back test.critical, verdict_back test.verdict) refl in
+    let read : said_measure draft.streams row values ≡ test = rw (place, said_back test.high, said_back test.critical, verdict_back test.verdict) refl in
     let with = λ (t : MeasureTest). with_tests draft Measure (record tests { measure = tests.measure ++ t ∷ [] }) in
     let leaves : with_row told row ≡ next =
-    row_leaves told Measure row values sound ∙ ap (λ (said : List Value). with (measure_of draft.streams row said)) (values_back Measure row values sound.read) ∙ ap with read in
+    row_leaves told Measure row values sound ∙ ap (λ (said : List Value). with (said_measure draft.streams row said)) (values_back Measure row values sound.read) ∙ ap with read in
     let rest = measures_tell texts names graph known draft Measure more todo at refl within.1 in
     let last = with_tests draft (last_of Measure kind (test ∷ todo)) (record tests { measure = tests.measure ++ test ∷ todo }) in
     let rows = records_in (map (measure_row names) todo) in

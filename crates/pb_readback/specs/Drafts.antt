@@ -13,7 +13,7 @@ use Rattle.pb_blocks.specs.declared.rows.Heading.{Heading}
 use Rattle.pb_blocks.specs.declared.rows.Solution.{Solution}
 use Rattle.pb_blocks.specs.Kinds.{kind_among}
 use Rattle.pb_blocks.specs.Texts.{name_field}
-use Rattle.pb_blocks.specs.Values.{arc_of, global_of, measure_of, nodal_of, price_of, solution_of, stream_row_of, values_in}
+use Rattle.pb_blocks.specs.Values.{said_arc, said_global, said_measure, said_nodal, said_price, said_solution, said_stream, values_in}
 use Rattle.pb_readback.specs.declared.draft.Draft.{Draft}
 
 -- the solution before its row has come
@@ -62,7 +62,7 @@ kinds_next draft =
 
 -- the global test, and no other test yet
 abbrev pub tests_begun : List Value → Tests
-tests_begun values = record { global = global_of values; nodal = []; measure = [] }
+tests_begun values = record { global = said_global values; nodal = []; measure = [] }
 
 -- tests with one of a balance more, or with one of a measurement
 abbrev pub with_nodal : NodalTest → Tests → Tests
@@ -75,15 +75,15 @@ with_measure test tests = record tests { measure = tests.measure ++ test ∷ [] 
 abbrev pub with_node : List (List ℕ) → Draft → Draft
 with_node row draft = record draft {
   nodes = draft.nodes ++ name_field row ∷ [];
-  prices = draft.prices ++ price_of (values_in Node row) ∷ [];
+  prices = draft.prices ++ said_price (values_in Node row) ∷ [];
 }
 
 -- what is told of one stream more, by its row in one of the two forms
 abbrev pub with_stream : OutputKind → List (List ℕ) → Draft → Draft
 with_stream kind row draft = record draft {
   streams = draft.streams ++ name_field row ∷ [];
-  graph = record draft.graph { streams = draft.graph.streams ++ arc_of draft.nodes row (values_in kind row) ∷ [] };
-  rows = draft.rows ++ stream_row_of draft.nodes kind row (values_in kind row) ∷ [];
+  graph = record draft.graph { streams = draft.graph.streams ++ said_arc draft.nodes row (values_in kind row) ∷ [] };
+  rows = draft.rows ++ said_stream draft.nodes kind row (values_in kind row) ∷ [];
 }
 
 -- what a row of a kind adds to what the rows before it have told
@@ -91,12 +91,12 @@ abbrev pub added : OutputKind → Draft → List (List ℕ) → Draft
 added Node draft row = with_node row draft
 added Stream draft row = with_stream Stream row draft
 added StreamBefore draft row = with_stream StreamBefore row draft
-added Solved draft row = record draft { solution = solution_of (values_in Solved row) }
+added Solved draft row = record draft { solution = said_solution (values_in Solved row) }
 added Global draft row = record draft { tests = Some (tests_begun (values_in Global row)) }
 added Nodal draft row =
-    record draft { tests = option_map (with_nodal (nodal_of draft.nodes row (values_in Nodal row))) draft.tests }
+    record draft { tests = option_map (with_nodal (said_nodal draft.nodes row (values_in Nodal row))) draft.tests }
 added Measure draft row =
-    record draft { tests = option_map (with_measure (measure_of draft.streams row (values_in Measure row))) draft.tests }
+    record draft { tests = option_map (with_measure (said_measure draft.streams row (values_in Measure row))) draft.tests }
 added kind draft row = draft
 
 -- what is told then, and of which kind the last row is

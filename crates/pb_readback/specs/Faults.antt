@@ -7,7 +7,7 @@ use Rattle.pb_form.specs.declared.output.OutputKind.{OutputKind}
 use Rattle.pb_form.specs.declared.output.OutputKind.TheVariants.{Node, Stream, StreamBefore, Nodal, Measure, End}
 use Rattle.pb_blocks.specs.declared.fault.RowFault.{RowFault}
 use Rattle.pb_blocks.specs.declared.fault.RowFault.TheVariants.{Number, Unknown, Duplicate, Shape, Count, Env}
-use Rattle.pb_blocks.specs.Beside.{form_fault, has_bad_list, has_one_end, has_unknown_node, is_half_told, is_round}
+use Rattle.pb_blocks.specs.Beside.{form_fault, has_bad_list, leads_to_itself, has_unknown_node, is_half_told, is_round}
 use Rattle.pb_blocks.specs.Codes.{lowest}
 use Rattle.pb_blocks.specs.Kinds.{kind_among}
 use Rattle.pb_blocks.specs.Lists.{is_among}
@@ -46,8 +46,8 @@ is_misshapen kind draft row = false
 
 -- Count: a stream from a node to itself
 abbrev pub is_loop : OutputKind → List (List ℕ) → Bool
-is_loop Stream row = has_one_end row
-is_loop StreamBefore row = has_one_end row
+is_loop Stream row = leads_to_itself row
+is_loop StreamBefore row = leads_to_itself row
 is_loop kind row = false
 
 -- Env: the first node isn't the environment

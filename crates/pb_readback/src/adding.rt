@@ -12,15 +12,15 @@ ghost use Rattle.pb_form.specs.declared.output.OutputKind.TheVariants.{Global, N
 ghost use Rattle.pb_blocks.specs.Counts.{IsHeading, IsStreamKind};
 ghost use Rattle.pb_blocks.specs.Lists.{is_among};
 ghost use Rattle.pb_blocks.specs.Texts.{name_field};
-ghost use Rattle.pb_blocks.specs.Values.{arc_of, values_in};
+ghost use Rattle.pb_blocks.specs.Values.{said_arc, values_in};
 ghost use Rattle.pb_readback.specs.Drafts.{draft_of, no_solution, tests_begun, told_with, with_measure, with_nodal, with_node, with_row, with_stream};
 ghost use Rattle.pb_readback.specs.Faults.{fault_behind, fault_beside, fault_of};
 ghost use Rattle.pb_readback.specs.Reading.{IsUnderWay, MayCome};
 
 use crate::draft::Draft;
 use pb_blocks::{
-    Heading, Known, RowFault, Solution, arc_of, global_of, kind_among, lowest, measure_of,
-    name_field, nodal_of, price_of, solution_of, stream_row_of,
+    Heading, Known, RowFault, Solution, said_arc, said_global, kind_among, lowest, said_measure,
+    name_field, said_nodal, said_price, said_solution, said_stream,
 };
 use pb_form::{Fields, OutputKind, Values, output_schema, read};
 use pb_graph::{Graph, List, MeasureTest, NodalTest, Solved, Tests};
@@ -105,14 +105,14 @@ impl Draft {
             OutputKind::Stream | OutputKind::StreamBefore => {
                 self.add_stream(alloc, kind, fields, values)?;
             }
-            OutputKind::Solved => self.solution = solution_of(values),
+            OutputKind::Solved => self.solution = said_solution(values),
             OutputKind::Global => self.tests = Some(no_tests(alloc, values)),
             OutputKind::Nodal => {
-                let test = nodal_of(&self.nodes, fields, values);
+                let test = said_nodal(&self.nodes, fields, values);
                 push_nodal(&mut self.tests, test)?;
             }
             OutputKind::Measure => {
-                let test = measure_of(&self.streams, fields, values);
+                let test = said_measure(&self.streams, fields, values);
                 push_measure(&mut self.tests, test)?;
             }
             _ => {}
@@ -130,7 +130,7 @@ impl Draft {
         ensures { OnOk result (self.new ≡ with_node fields.now self.old) }
     {
         self.nodes.add(name_field(fields))?;
-        self.prices.push(price_of(values))
+        self.prices.push(said_price(values))
     }
 
     // Adds a stream with its ends, and what its row tells beside them.
@@ -148,12 +148,12 @@ impl Draft {
         requires new { is_among self.old.streams (name_field fields.now) ≡ false }
         requires few { length self.old.graph.streams < most_streams }
         requires joins { IsStream self.old.graph.nodes
-            (arc_of self.old.nodes fields.now values.now) }
+            (said_arc self.old.nodes fields.now values.now) }
         requires values { values.now ≡ values_in kind fields.now }
         ensures { OnOk result (self.new ≡ with_stream kind fields.now self.old) }
     {
-        let row = stream_row_of(alloc, &self.nodes, kind, fields, values)?;
-        self.graph.push(arc_of(&self.nodes, kind, fields, values))?;
+        let row = said_stream(alloc, &self.nodes, kind, fields, values)?;
+        self.graph.push(said_arc(&self.nodes, kind, fields, values))?;
         self.streams.add(name_field(fields))?;
         self.rows.push(row)
     }
@@ -179,7 +179,7 @@ fn no_tests(alloc: Global, values: &Values) -> Tests
     ensures { result ≡ tests_begun values.now }
 {
     Tests {
-        global: global_of(values),
+        global: said_global(values),
         nodal: List::new(alloc),
         measure: List::new(alloc),
     }

@@ -5,7 +5,7 @@ ghost use Rattle.pb_readback.specs.Faults.{fault_beside, is_duplicate, is_loop, 
 
 use crate::draft::Draft;
 use pb_blocks::{
-    RowFault, has_bad_list, has_one_end, has_unknown_node, is_half_told, is_round, is_word,
+    RowFault, has_bad_list, leads_to_itself, has_unknown_node, is_half_told, is_round, is_word,
     name_field,
 };
 use pb_form::{Fields, OutputKind};
@@ -94,7 +94,7 @@ fn is_loop(kind: OutputKind, fields: &Fields) -> bool
     ensures { result ≡ is_loop kind fields.now }
 {
     match kind {
-        OutputKind::Stream | OutputKind::StreamBefore => has_one_end(fields),
+        OutputKind::Stream | OutputKind::StreamBefore => leads_to_itself(fields),
         _ => false,
     }
 }

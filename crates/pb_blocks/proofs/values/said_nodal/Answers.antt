@@ -3,7 +3,7 @@ use Rattle.pb_limits.specs.Limits.{most_critical}
 use Rattle.pb_form.specs.OutputRows.{output_columns}
 use Rattle.pb_form.specs.declared.output.OutputKind.TheVariants.{Nodal}
 use Rattle.pb_blocks.proofs.FitLemmas.{count_at}
-use Rattle.pb_blocks.proofs.values.nodal_of.Goals as goal
+use Rattle.pb_blocks.proofs.values.said_nodal.Goals as goal
 
 pub critical-requires : goal.critical-requires
 critical-requires c =

@@ -3,7 +3,7 @@ use Rattle.pb_limits.specs.Limits.{most_freedom, most_sweeps}
 use Rattle.pb_form.specs.OutputRows.{output_columns}
 use Rattle.pb_form.specs.declared.output.OutputKind.TheVariants.{Solved}
 use Rattle.pb_blocks.proofs.FitLemmas.{count_at}
-use Rattle.pb_blocks.proofs.values.solution_of.Goals as goal
+use Rattle.pb_blocks.proofs.values.said_solution.Goals as goal
 
 pub natural-requires : goal.natural-requires
 natural-requires c = count_at (output_columns Solved) c.args.values.now 1 (codes "k") 0 most_sweeps 4294967295 false c.requires refl (omega arith)

@@ -4,7 +4,7 @@ use Rattle.pb_form.specs.OutputRows.{output_columns}
 use Rattle.pb_form.specs.declared.output.OutputKind.TheVariants.{Report}
 use Rattle.pb_blocks.specs.Values.{most_round, optional_at}
 use Rattle.pb_blocks.proofs.FitLemmas.{count_at, counted}
-use Rattle.pb_blocks.proofs.heading.heading_of.Goals as goal
+use Rattle.pb_blocks.proofs.heading.said_heading.Goals as goal
 
 pub natural-requires : goal.natural-requires
 natural-requires c = count_at (output_columns Report) c.args.values.now 2 (codes "round") 0 most_round 4294967295 false c.requires.fit refl (omega arith)

@@ -1,5 +1,0 @@
-use Rattle.pb_blocks.proofs.FitLemmas.{measured}
-use Rattle.pb_blocks.proofs.values.arc_of.Goals as goal
-
-pub returns-clause-limits : goal.returns-clause-limits
-returns-clause-limits c = rw c.meas_of.ensures (measured c.args.kind c.args.values.now c.requires.stream c.requires.fit)
