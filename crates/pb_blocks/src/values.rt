@@ -4,7 +4,7 @@ ghost use Rattle.std.specs.Prelude.{◌≡◌, IfOk};
 ghost use Rattle.pb_graph.specs.ProcessGraph.{IsWithinLimits};
 ghost use Rattle.pb_form.specs.OutputRows.{output_columns};
 ghost use Rattle.pb_form.specs.Writing.{FitEach};
-ghost use Rattle.pb_form.specs.declared.output.OutputKind.TheVariants.{Solved as SolvedKind, Global, Nodal, Measure};
+ghost use Rattle.pb_form.specs.declared.output.OutputKind.TheVariants.{Solved as SolvedKind, Global as GlobalKind, Nodal, Measure};
 ghost use Rattle.pb_blocks.specs.Counts.{IsCountAt, IsStreamKind};
 ghost use Rattle.pb_blocks.specs.Values.{said_arc, both_bounds, choice_at, chosen_class, said_global, said_least, both_meas, said_measure, natural_at, said_nodal, number_at, optional_at, said_price, chosen_shape, said_solution, chosen_state, said_stream, chosen_verdict};
 
@@ -110,7 +110,7 @@ pub fn said_solution(values: &Values) -> Solution
 
 /// The global test.
 pub fn said_global(values: &Values) -> GlobalTest
-    requires { FitEach (output_columns Global) values.now }
+    requires { FitEach (output_columns GlobalKind) values.now }
     ensures { result ≡ said_global values.now }
 {
     GlobalTest {

@@ -8,7 +8,7 @@ ghost use Rattle.pb_graph.specs.ProcessGraph.{IsStream};
 ghost use Rattle.pb_form.specs.OutputRows.{output_columns, output_schema};
 ghost use Rattle.pb_form.specs.Reading.{row_read};
 ghost use Rattle.pb_form.specs.Writing.{FitEach};
-ghost use Rattle.pb_form.specs.declared.output.OutputKind.TheVariants.{Global, Node};
+ghost use Rattle.pb_form.specs.declared.output.OutputKind.TheVariants.{Global as GlobalKind, Node};
 ghost use Rattle.pb_blocks.specs.Counts.{IsHeading, IsStreamKind};
 ghost use Rattle.pb_blocks.specs.Lists.{is_among};
 ghost use Rattle.pb_blocks.specs.Texts.{name_field};
@@ -175,7 +175,7 @@ fn no_solution() -> Solution
 
 // The global test, and no other test yet.
 fn no_tests(alloc: Global, values: &Values) -> Tests
-    requires { FitEach (output_columns Global) values.now }
+    requires { FitEach (output_columns GlobalKind) values.now }
     ensures { result ≡ tests_begun values.now }
 {
     Tests {
