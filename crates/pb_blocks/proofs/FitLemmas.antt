@@ -3,7 +3,7 @@ use Rattle.std.specs.Prelude.{neg_ℤ, unsigned_abs, IfSome, slice_get}
 use Rattle.std.specs.Option.{unwrap_or}
 use Rattle.std.proofs.Common.{◌≡◌, ◌≤◌, ◌≤ℤ◌, ℕ, ℤ, zero, suc, pos, negsuc, Bool, true, List, [], ◌∷◌, Option, Some, None, codes, refl, arith}
 use Rattle.std.proofs.lemmas.Int.{ints}
-use Rattle.pb_limits.specs.Limits.{most_value, most_variance}
+use Rattle.pb_limits.specs.Limits.{most_nodes, most_streams, most_value, most_variance}
 use Rattle.pb_graph.specs.ProcessGraph.{IsMeasurement}
 use Rattle.pb_form.specs.Columns.{Column}
 use Rattle.pb_form.specs.Holds.{Number as NumberColumn}
@@ -13,7 +13,7 @@ use Rattle.pb_form.specs.Values.{number_in}
 use Rattle.pb_form.specs.Writing.{FitEach, Fits, FitsIn}
 use Rattle.pb_form.specs.declared.output.OutputKind.{OutputKind}
 use Rattle.pb_form.specs.declared.output.OutputKind.TheVariants.{Stream, StreamBefore}
-use Rattle.pb_blocks.specs.Counts.{IsCountAt, IsStreamKind}
+use Rattle.pb_blocks.specs.Counts.{AreCounts, IsCountAt, IsStreamKind}
 use Rattle.pb_blocks.specs.Laws.{LiesWithin}
 use Rattle.pb_blocks.specs.Values.{both_meas, optional_at}
 
@@ -59,6 +59,12 @@ pub counted : (lo hi bound : ℕ) (number : Option ℤ) → pos lo ≤ℤ unwrap
     → IfSome number (LiesWithin (pos 0) (pos bound))
 counted lo hi bound None least most le = tt
 counted lo hi bound (Some z) least most le = (omega (arith, ints, least), omega (arith, ints, most, le))
+
+-- counts of a graph's nodes and streams
+pub counts_within : (nodes streams : ℤ) → AreCounts nodes streams → (1 ≤ unsigned_abs nodes) × (unsigned_abs nodes ≤ most_nodes) × (unsigned_abs streams ≤ most_streams)
+counts_within (pos n) (pos s) counts = (omega (arith, ints, counts.env), omega (arith, ints, counts.few_nodes), omega (arith, ints, counts.few_streams))
+counts_within (negsuc n) streams counts = absurd (omega (arith, ints, counts.env))
+counts_within (pos n) (negsuc s) counts = absurd (omega (arith, ints, counts.natural))
 
 -- ---- measurements
 

@@ -1,7 +1,7 @@
 -- What a row that was read says is of its columns.
 use Rattle.std.specs.Prelude.{◌&&◌, ◌==◌, ◌-◌, int_le, nat_le, IfSome, Result, Ok, Err, slice_get, if◌then◌else◌}
 use Rattle.std.specs.Option.{unwrap_or}
-use Rattle.std.proofs.Common.{◌≡◌, ◌≤◌, ℕ, ℤ, zero, suc, pos, Bool, true, false, List, [], ◌∷◌, length, Option, Some, None, refl, sym, arith, inl, inr}
+use Rattle.std.proofs.Common.{◌≡◌, ◌∙◌, ◌≤◌, ℕ, ℤ, zero, suc, pos, Bool, true, false, List, [], ◌∷◌, length, Option, Some, None, refl, sym, ap, arith, inl, inr}
 use Rattle.std.proofs.lemmas.Bool.{and_parts, cases_Bool}
 use Rattle.std.proofs.lemmas.Bool.Decides.{nat_tests}
 use Rattle.std.proofs.lemmas.Int.{ints}
@@ -75,11 +75,11 @@ says_at (first ∷ columns) [] values place asked read at = absurd (omega (arith
 says_at (first ∷ columns) (text ∷ row) values zero asked read at =
     let here = first_read first columns text row values read.fields in
     let same : first ≡ asked = cc in
-    record { value = here.value; at = rw (here.split) refl; says = rw (← same) here.one }
+    record { value = here.value; at = ap (λ (all : List Value). slice_get all zero) here.split; says = rw (← same) here.one }
 says_at (first ∷ columns) (text ∷ row) values (suc place) asked read at =
     let here = first_read first columns text row values read.fields in
     let more = says_at columns row here.rest place asked (record { fields = here.others; many = omega (arith, read.many) }) at in
-    record { value = more.value; at = rw (here.split) more.at; says = more.says }
+    record { value = more.value; at = ap (λ (all : List Value). slice_get all (suc place)) here.split ∙ more.at; says = more.says }
 
 -- ---- what a field says
 

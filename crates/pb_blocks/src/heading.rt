@@ -26,11 +26,13 @@ pub fn heading_in(row: &Row) -> Result<Heading, RowFault>
     let fields = Fields::all(row);
     kind_among(&[OutputKind::Report], &fields)?;
     let values = read(output_schema(OutputKind::Report), &fields)?;
-    if are_miscounted(number(&values, 3), number(&values, 4)) {
+    if is_miscounted(&values) {
         return Err(RowFault::Count);
     }
-    let period = Name::read(name_field(&fields)).ok_or(RowFault::Name)?;
-    Ok(said_heading(period, &values))
+    match Name::read(name_field(&fields)) {
+        Some(period) => Ok(said_heading(period, &values)),
+        None => Err(RowFault::Name),
+    }
 }
 
 // The heading of a period with its counts.
@@ -49,10 +51,14 @@ fn said_heading(period: Name, values: &Values) -> Heading
     }
 }
 
-// Whether these are too few or too many nodes or streams.
-fn are_miscounted(nodes: i128, streams: i128) -> bool
-    ensures value { result ≡ are_miscounted nodes streams }
-    ensures counts { result ≡ false → AreCounts nodes streams }
+// Whether a heading says too few or too many nodes or streams.
+fn is_miscounted(values: &Values) -> bool
+    ensures value { result
+        ≡ are_miscounted (number_at values.now 3) (number_at values.now 4) }
+    ensures counts { result ≡ false
+        → AreCounts (number_at values.now 3) (number_at values.now 4) }
 {
+    let nodes = number(values, 3);
+    let streams = number(values, 4);
     nodes < 1 || i128::from(MOST_NODES) < nodes || streams < 0 || (MOST_STREAMS as i128) < streams
 }

@@ -1,6 +1,7 @@
 // The kind of a row, by its word and the number of its fields.
 
 ghost use Rattle.std.specs.Prelude.{◌≡◌, find, option_copied};
+ghost use Rattle.std.specs.List.{list_any};
 ghost use Rattle.pb_blocks.specs.Kinds.{has_word_of, is_passed_over, is_row_of, kind_among, no_kind, passed_kinds};
 
 use crate::fault::RowFault;
@@ -29,11 +30,18 @@ fn first_kind<'a>(kinds: &'a [OutputKind], fields: &Fields) -> Option<&'a Output
 fn no_kind(kinds: &[OutputKind], fields: &Fields) -> RowFault
     ensures { result ≡ no_kind kinds.now fields.now }
 {
-    if kinds.iter().any(|kind| has_word_of(*kind, fields)) {
+    if has_word_among(kinds, fields) {
         RowFault::Fields
     } else {
         RowFault::Kind
     }
+}
+
+// Whether a record has the word of one of these kinds.
+fn has_word_among(kinds: &[OutputKind], fields: &Fields) -> bool
+    ensures { result ≡ list_any (has_word_of fields.now) kinds.now }
+{
+    kinds.iter().any(|kind| has_word_of(*kind, fields))
 }
 
 // Whether a record has a kind's word and its number of fields.
@@ -47,20 +55,17 @@ fn is_row_of(kind: OutputKind, fields: &Fields) -> bool
 fn has_word_of(kind: OutputKind, fields: &Fields) -> bool
     ensures { result ≡ has_word_of fields.now kind }
 {
-    !matches!(
-        tell(&[*output_schema(kind)], fields),
-        Err(FormFault::Kind)
-    )
+    match tell(&[*output_schema(kind)], fields) {
+        Ok(_) => true,
+        Err(fault) => fault != FormFault::Kind,
+    }
 }
 
 /// Whether a record is passed over between blocks: it is a row of a session's output that is no row of a report.
 pub fn is_passed_over(row: &Row) -> bool
     ensures { result ≡ is_passed_over row.now }
 {
-    let fields = Fields::all(row);
-    passed_kinds()
-        .iter()
-        .any(|kind| has_word_of(*kind, &fields))
+    has_word_among(passed_kinds(), &Fields::all(row))
 }
 
 // The kinds of the rows that are passed over.

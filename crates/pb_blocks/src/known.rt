@@ -93,10 +93,10 @@ impl Known {
         requires new { is_among self.old text.now ≡ false }
         ensures { OnOk result (self.new ≡ self.old ++ text.now ∷ []) }
     {
-        match Name::read(text) {
-            Some(name) => insert(&mut self.names, name),
-            None => Ok(()),
+        if let Some(name) = Name::read(text) {
+            insert(&mut self.names, name)?;
         }
+        Ok(())
     }
 
     /// The names as a list.
