@@ -23,8 +23,8 @@ use Rattle.pb_report.specs.Over.{over_row}
 use Rattle.pb_report.specs.Refusal.{refused_row}
 use Rattle.pb_report.specs.Row.{Columns, values_of}
 use Rattle.pb_report.specs.Study.{study_rows}
+use Rattle.pb_blocks.specs.Values.{most_round}
 use Rattle.pb_readback.specs.declared.block.Block.{Block}
-use Rattle.pb_readback.specs.Columns.{most_round}
 use Rattle.pb_readback.specs.Next.{AreBlocks}
 
 -- rows as the records that `csv` reads back
