@@ -1,5 +1,5 @@
 // What no clause says: that words are read with ample memory, lists of words in every order, and words that give no command.
-use crate::inputs::words_of;
+use crate::inputs::words_from;
 use pb_graph::Options;
 use pb_report::Form;
 use pb_words::*;
@@ -14,7 +14,7 @@ const USUAL: Options = Options {
 
 // What the words give.
 fn read(rt: &HostRuntime, words: &[&str]) -> Result<Result<Command, WordsRefused>, AllocError> {
-    let list = words_of(rt.alloc(), words)?;
+    let list = words_from(rt.alloc(), words)?;
     Ok(read_words(rt.alloc(), &list))
 }
 
@@ -294,7 +294,7 @@ fn refuses_other_words(rt: HostRuntime) -> Result<(), AllocError> {
 
 #[test]
 fn keeps_words(rt: HostRuntime) -> Result<(), AllocError> {
-    let words = words_of(rt.alloc(), &["run", ""])?;
+    let words = words_from(rt.alloc(), &["run", ""])?;
     assert_eq!(rt; words.len(), 2);
     assert_eq!(rt; words.at(0), "run");
     assert_eq!(rt; words.at(1), "");
