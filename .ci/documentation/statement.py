@@ -1,4 +1,4 @@
-"""docs/STATEMENT.md: what must be believed, from the contract of `run` down."""
+"""docs/STATEMENT.md: what must be believed, from the contract of the call that `main` makes down."""
 
 from __future__ import annotations
 
@@ -11,6 +11,8 @@ from .rust import Function, functions_in, item_of
 from .sources import Definition, Imports, Sources, Spec, Unknown, imports
 
 STATEMENT = "docs/STATEMENT.md"
+# The call that `main` makes.
+TOP_CALL = "run_program"
 WORD = re.compile(r"[A-Za-z_][A-Za-z0-9_']*(?:\.[A-Za-z_][A-Za-z0-9_']*)*")
 
 
@@ -134,10 +136,10 @@ def contract(sources: Sources) -> tuple[Function, Part]:
     for path in sources.files(r"crates/pb_cli/src/[^/]*\.rt"):
         text = sources.text(path)
         for function in functions_in(path, text):
-            if function.name == "run" and function.public and not function.owner:
+            if function.name == TOP_CALL and function.public and not function.owner:
                 shown = f"{function.head}\n{function.contract}".rstrip()
                 return function, Part(path, shown, imports(text))
-    raise Unknown("pb_cli has no call `run`")
+    raise Unknown(f"pb_cli has no call `{TOP_CALL}`")
 
 
 def block_of(text: str, pattern: str) -> str | None:
@@ -151,7 +153,7 @@ def block_of(text: str, pattern: str) -> str | None:
 
 
 def ends(sources: Sources, run: Function) -> list[Part]:
-    """Return what the values that `run` takes are to a contract: its traits, what has them, and views of types."""
+    """Return what the values that the call takes are to a contract: its traits, what has them, and views of types."""
     traits = re.findall(r"\b[A-Z]\w*: ([A-Z]\w+)", run.head.partition("(")[0])
     types = [kind.lstrip("&").removeprefix("mut ") for _, kind in run.parameters]
     main = sources.text("crates/plantbal/src/main.rt")
@@ -287,7 +289,7 @@ def document(sources: Sources) -> str:
     libraries = ", ".join(f"`{name}`" for name in sorted(page.reach.libraries))
     count = sum(len(definitions) for _, definitions in page.files)
     body = [
-        "## The contract of `run`",
+        f"## The contract of `{TOP_CALL}`",
         "",
         f"In `{short(page.run.path)}`:",
         "",
@@ -318,11 +320,11 @@ def document(sources: Sources) -> str:
         "",
         "Made by `.ci/documents write` from the sources; `.ci/documents check` fails if it is stale.",
         "",
-        "The program is proved to meet the contract of `pb_cli::run`. Whoever reads that contract must believe that its words",
+        f"The program is proved to meet the contract of `pb_cli::{TOP_CALL}`. Whoever reads that contract must believe that its words",
         f"mean what they should. These are all of them: {count} definitions in {len(page.files)} files, by the layers of their crates from the",
         f"program down, and after them the {len(page.reach.types)} types and constants of the code that they speak of. Words that aren't here are those of",
         f"the toolchain's libraries: {libraries}. Nothing else of the repository has to be read",
-        "to know what is claimed: bodies, invariants, lemmas and the contracts below `run` only serve to prove it.",
+        f"to know what is claimed: bodies, invariants, lemmas and the contracts below `{TOP_CALL}` only serve to prove it.",
         "",
         "## Contents",
         "",
