@@ -1,4 +1,4 @@
-// The call that main makes.
+// A run of the command that words give.
 ghost use Rattle.std.specs.Prelude.{◌≡◌, ◌≢◌, ◌⊎◌, ◌+◌, ◌≤◌, ℕ, List, Err, true, false, length, IfOk, IfErr, OnErr};
 ghost use Rattle.pb_io.specs.Counts.{Rose};
 ghost use Rattle.pb_io.specs.Source.{TakesExactly, TakesAtMost};
