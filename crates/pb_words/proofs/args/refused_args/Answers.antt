@@ -1,4 +1,4 @@
-use Rattle.std.proofs.Common.{◌≡◌, refl}
+use Rattle.std.proofs.Common.{◌≡◌, refl, sym}
 use Rattle.std.specs.declared.io.ErrorKind.{ErrorKind}
 use Rattle.std.specs.declared.io.ErrorKind.TheVariants as kind
 use Rattle.pb_words.specs.Args.{refused_by}
@@ -10,5 +10,5 @@ others : (k : ErrorKind) → (k ≡ kind.OutOfMemory → ⊥) → refused_by k �
 others kind.OutOfMemory not = absurd (not refl)
 others _ not = refl
 
-pub returns : goal.returns
-returns c = others c.args.kind c.in_default.not-OutOfMemory
+pub returns-in_default : goal.returns-in_default
+returns-in_default c = sym (others c.args.kind c.in_default.not-OutOfMemory)
