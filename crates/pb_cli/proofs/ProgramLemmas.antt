@@ -1,5 +1,5 @@
 -- The line of a status, and a run over words that the system doesn't give.
-use Rattle.std.proofs.Common.{◌≡◌, ◌⊎◌, inl, inr, ℕ, ◌+◌, ◌<◌, ◌≤◌, List, [], ◌∷◌, ◌++◌, Result, Ok, Err, length, take, arith, ap, sym, subst, refl, length-append}
+use Rattle.std.proofs.Common.{◌≡◌, ◌∙◌, ◌⊎◌, inl, inr, ℕ, ◌+◌, ◌<◌, ◌≤◌, List, [], ◌∷◌, ◌++◌, Result, Ok, Err, length, take, arith, ap, sym, subst, refl, length-append}
 use Rattle.std.specs.Prelude.{IfErr, OnOk, OnErr}
 use Rattle.std.proofs.KnownBytes.{Consumes-nil}
 use Rattle.std.proofs.lemmas.List.{take_all, take-append-le}
@@ -42,8 +42,9 @@ name_and_feed (Ok x) a b c name feed first second = puts_more a b c name feed fi
 name_and_feed (Err e) a b c name feed first second = tt
 
 -- a name was cut short
-pub name_cut : (a b : SinkSeen) (name feed : List ℕ) → PutsPrefix a b name → PutsPrefix a b (name ++ feed)
-name_cut a b name feed (n, lt, puts) =
+pub name_cut : (a b : SinkSeen) (name bytes feed : List ℕ) → bytes ≡ name → PutsPrefix a b bytes → PutsPrefix a b (name ++ feed)
+name_cut a b name bytes feed are prefix =
+    let (n, lt, puts) = subst (λ (front : List ℕ). PutsPrefix a b front) are prefix in
     let within : n ≤ length name = omega arith in
     (n, omega (arith, length-append name feed), subst (λ (bytes : List ℕ). Puts a b bytes) (sym (take-append-le n name feed within)) puts)
 
@@ -101,13 +102,19 @@ nothing_done seen_read seen_written words a c = record {
 }
 
 -- no run, where the arguments give no words or no memory was found for them
-pub not_run : {R W : Type 0} (seen_read : R → SourceSeen) (seen_written : W → SinkSeen) (given : Result (List (List ℕ)) WordsRefused) (why : WordsRefused) (a : R) (c : W)
-    → IfErr given (λ e. Err {T = List (List ℕ)} why ≡ Err e) → (given ≡ Err why) ⊎ (why ≡ refused.NoMemory) → RunsGiven seen_read seen_written given a a c c (status_of why)
-not_run seen_read seen_written (Err e) why a c same cause =
-    let is : why ≡ e = cc same in
-    (ap status_of is, refl, refl)
-not_run seen_read seen_written (Ok words) why a c same (inl is) =
+pub not_run : {R W T : Type 0} (seen_read : R → SourceSeen) (seen_written : W → SinkSeen) (given : Result (List (List ℕ)) WordsRefused) (result : Result T WordsRefused) (why : WordsRefused)
+    (a : R) (c : W) (status : Status) → result ≡ Err why → IfErr given (λ e. result ≡ Err e) → IfErr result (λ e. (given ≡ Err e) ⊎ (e ≡ refused.NoMemory)) → status ≡ status_of why
+    → RunsGiven seen_read seen_written given a a c c status
+not_run seen_read seen_written (Err e) result why a c status is same cause ends =
+    let there : why ≡ e = cc (is, same) in
+    (ends ∙ ap status_of there, refl, refl)
+not_run seen_read seen_written (Ok words) (Ok x) why a c status is same cause ends =
     let no : ⊥ = cc is in
     absurd no
-not_run seen_read seen_written (Ok words) why a c same (inr is) =
-    subst (λ (w : WordsRefused). Runs seen_read seen_written words a a c c (status_of w)) (sym is) (nothing_done seen_read seen_written words a c)
+not_run seen_read seen_written (Ok words) (Err e) why a c status is same (inl given) ends =
+    let no : ⊥ = cc given in
+    absurd no
+not_run seen_read seen_written (Ok words) (Err e) why a c status is same (inr none) ends =
+    let there : why ≡ e = cc is in
+    let here : NoMemory ≡ status = sym (ends ∙ ap status_of (there ∙ none)) in
+    subst (λ (s : Status). Runs seen_read seen_written words a a c c s) here (nothing_done seen_read seen_written words a c)

@@ -1,3 +1,4 @@
+use Rattle.std.proofs.Common.{rules}
 use Rattle.pb_words.specs.Args.{words_given}
 use Rattle.pb_cli.proofs.ProgramLemmas.{not_run, ran}
 use Rattle.pb_cli.proofs.program.run_args.Goals as goal
@@ -32,5 +33,7 @@ returns-in-Ok g c =
     }
 
 -- there are no words
-pub returns : goal.returns
-returns g c = ?
+pub returns-in-Err : goal.returns-in-Err
+returns-in-Err g c =
+    not_run g.R.Source.seen g.W.Sink.seen (words_given c.args.args) c.words_of.result c.in-Err.refused c.args.source.now c.args.sink.now c.from.result c.in-Err.is c.words_of.ensures.refused
+    c.words_of.ensures.memory (search rules)
