@@ -45,7 +45,7 @@ def heads(sources: Sources) -> list[str]:
     for spec, definitions in statement.page_of(sources).files:
         if spec.kind == "Inside":
             name = definitions[0].name
-            found.append(f"{spec.path} is marked Inside, and the contract of run reaches {name}")
+            found.append(f"{spec.path} is marked Inside, and the contract of the top call reaches {name}")
     return found
 
 

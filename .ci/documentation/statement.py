@@ -1,4 +1,4 @@
-"""docs/STATEMENT.md: what must be believed, from the contract of `run` down."""
+"""docs/STATEMENT.md: what must be believed, from the contract of the call that `main` makes down."""
 
 from __future__ import annotations
 
@@ -13,9 +13,11 @@ from .rust import Function, functions_in, item_of, of_libraries
 from .sources import Definition, Imports, Sources, Spec, Unknown, imports
 
 STATEMENT = "docs/STATEMENT.md"
-# The clauses of the contract of `run` in words, which stand in front.
+# The call that `main` makes.
+TOP_CALL = "run_program"
+# The clauses of the contract of the call in words, which stand in front.
 IN_WORDS = ".ci/documentation/clauses.md"
-# What README.md promises beside the contract of `run`: laws over the same words.
+# What README.md promises beside the contract of the call: laws over the same words.
 LAWS = ("run_text_law", "check_text_law", "own_reports_law", "edited_file_law", "decided_law")
 WORD = re.compile(r"[A-Za-z_][A-Za-z0-9_']*(?:\.[A-Za-z_][A-Za-z0-9_']*)*")
 # A function with a body in a block, with its comment.
@@ -143,10 +145,10 @@ def contract(sources: Sources) -> tuple[Function, Part]:
     for path in sources.files(r"crates/pb_cli/src/[^/]*\.rt"):
         text = sources.text(path)
         for function in functions_in(path, text):
-            if function.called == "run" and function.public:
+            if function.called == TOP_CALL and function.public:
                 shown = f"{function.head}\n{function.contract}".rstrip()
                 return function, Part(path, shown, imports(text))
-    raise Unknown("pb_cli has no call `run`")
+    raise Unknown(f"pb_cli has no call `{TOP_CALL}`")
 
 
 def block_of(text: str, head: str) -> str | None:
@@ -186,7 +188,7 @@ def ends(sources: Sources, run: Function) -> Iterator[Part]:
 
 
 def laws(sources: Sources) -> Iterator[Part]:
-    """Return the laws that stand beside the contract of `run`."""
+    """Return the laws that stand beside the contract of the call."""
     for name in LAWS:
         found = [one for one in of_libraries(sources) if one.called == name and one.public]
         if len(found) != 1:
@@ -207,7 +209,7 @@ class Page:
     Attributes
     ----------
     run, ends, laws : Part, list of Part, list of Part
-        The contract of `run`, what it takes, and the laws beside it.
+        The contract of the call, what it takes, and the laws beside it.
     reach : Reach
         What these reach.
     files : list
@@ -335,7 +337,7 @@ def shown(page: Page, parts: list[Part]) -> list[str]:
 def body_of(sources: Sources, page: Page) -> list[str]:
     """Return the page without its head."""
     lines = [*sources.text(IN_WORDS).rstrip().split("\n"), ""]
-    lines += ["## The contract of `run`", "", f"In `{short(page.run.path)}`:", ""]
+    lines += [f"## The contract of `{TOP_CALL}`", "", f"In `{short(page.run.path)}`:", ""]
     lines += [*page.here(page.run), *code_block("rust", page.run.text), "", "## What it takes", ""]
     lines += paragraph(
         "The contract speaks of what the source and the sink have been seen to do, and of the value"
@@ -380,7 +382,7 @@ def document(sources: Sources) -> str:
         ),
         "",
         *paragraph(
-            "The program is proved to meet the contract of `pb_cli::run`, and beside it stand a few"
+            f"The program is proved to meet the contract of `pb_cli::{TOP_CALL}`, and beside it stand a few"
             " laws. Whoever reads these must believe that their words mean what they should. These"
             f" are all of them: {count} definitions in {len(page.files)} files, by the layers of"
             f" their crates from the program down, and after them the {len(page.reach.types)} types"

@@ -2,3 +2,4 @@ mod TextLemmas
 mod CommandLemmas
 mod FindingLemmas
 mod OwnLemmas
+mod ProgramLemmas

@@ -2,6 +2,7 @@
 use Rattle.std.proofs.Common.{◌≡◌, ◌∙◌, ℕ, zero, suc, ◌+◌, ◌<◌, ◌≤◌, Bool, true, false, ◌||◌, Option, Some, None, Result, Ok, Err, List, [], ◌∷◌, ◌++◌, length, take, drop, get_or, ap, ap₂, sym, refl, subst, arith, append_assoc, append-nil}
 use Rattle.std.specs.Prelude.{IfErr}
 use Rattle.std.proofs.lemmas.List.{length-drop, take_more, take_all, take-append-drop, length-take-le}
+use Rattle.pb_io.specs.Sink.{SinkSeen, Puts, PutsPrefix, PutsSuch}
 use Rattle.pb_rows.specs.RecordsLeft.{RecordsLeft, TakesNext}
 use Rattle.pb_book.specs.Answer.{answer_of, is_refused}
 use Rattle.pb_session.specs.Session.{Adds, SessionState, IsSessionText, state_after, state_after_all, refuses_some}
@@ -141,3 +142,20 @@ none_left rows old new left (none, same) = past rows old.taken (left ∙ none)
   where
     past : (rows : List Record) (i : ℕ) → drop i rows ≡ [] → length rows ≤ i
     past rows i is = omega (arith, ap (λ (l : List Record). length l) is, length-drop i rows)
+
+-- the text that joined an empty one was put
+pub put_text : (Holds : List ℕ → Type 0) (before after bytes : List ℕ) (old new : SinkSeen) → (text : List ℕ) × (after ≡ before ++ text) × Holds text → before ≡ [] → bytes ≡ after
+    → Puts old new bytes → PutsSuch Holds old new
+put_text Holds before after bytes old new (text, appended, holds) empty is puts =
+    let same : bytes ≡ text = is ∙ appended ∙ ap (λ (b : List ℕ). b ++ text) empty in
+    (text, holds, subst (λ (b : List ℕ). Puts old new b) same puts)
+
+-- or a beginning of it
+pub cut_text : (Holds : List ℕ → Type 0) (before after bytes : List ℕ) (old new : SinkSeen) → (text : List ℕ) × (after ≡ before ++ text) × Holds text → before ≡ [] → bytes ≡ after
+    → PutsPrefix old new bytes → PutsSuch (IsBeginningOf Holds) old new
+cut_text Holds before after bytes old new (text, appended, holds) empty is (n, within, puts) =
+    let same : bytes ≡ text = is ∙ appended ∙ ap (λ (b : List ℕ). b ++ text) empty in (
+      take n text,
+      record { whole = text; holds = holds; written = n; within = omega (arith, within, ap (λ (l : List ℕ). length l) same); is = refl },
+      subst (λ (b : List ℕ). Puts old new (take n b)) same puts,
+    )

@@ -1,5 +1,7 @@
 -- Statement. How a run ended: a number and a name for each status.
 use Rattle.std.specs.Prelude.{ℕ, Bool, List, codes, if◌then◌else◌}
+use Rattle.pb_words.specs.declared.command.WordsRefused.{WordsRefused}
+use Rattle.pb_words.specs.declared.command.WordsRefused.TheVariants as words
 use Rattle.pb_cli.specs.declared.status.Status.{Status}
 use Rattle.pb_cli.specs.declared.status.Status.TheVariants.{Done, DoneRefused, Usage, ReadFault, WriteFault, TooLarge, NoMemory}
 
@@ -13,7 +15,7 @@ number_of WriteFault = 4
 number_of TooLarge = 5
 number_of NoMemory = 6
 
--- the line on standard error, where the run was no success
+-- its name, which standard error has as a line if the run was no success
 abbrev pub name_of : Status → List ℕ
 name_of Done = codes "Done"
 name_of DoneRefused = codes "DoneRefused"
@@ -26,3 +28,8 @@ name_of NoMemory = codes "NoMemory"
 -- the status of a run that read all and wrote all, by whether some record was refused
 abbrev pub done_status : Bool → Status
 done_status refused = if refused then DoneRefused else Done
+
+-- the status of words that were refused
+abbrev pub status_of : WordsRefused → Status
+status_of words.Usage = Usage
+status_of words.NoMemory = NoMemory

@@ -1,6 +1,7 @@
-//! The top call: a session from bytes to bytes.
+//! The top call: the program from its arguments to its exit status, and a session from bytes to bytes.
 //!
-//! [`run`] reads the words of its command, then a source to its end. [`answer`] takes the records of its bytes one by one and
+//! [`run_program`] takes the arguments of the program and its three ends, and says how it ended on the third. [`run`] reads the words
+//! of its command, then a source to its end. [`answer`] takes the records of its bytes one by one and
 //! writes what each adds to the output before it takes the next; [`judge`] does so with the blocks of a report. A run answers by
 //! one of seven statuses, and each has its cause.
 #![tactic(auto)]
@@ -9,6 +10,7 @@ mod answers;
 mod checks;
 mod laws;
 mod making;
+mod program;
 mod runs;
 mod status;
 
@@ -16,5 +18,6 @@ pub use answers::answer;
 pub use checks::judge;
 pub use laws::{check_text_law, own_reports_law, run_text_law};
 pub use pb_words::{Command, Words, WordsRefused, read_words};
+pub use program::run_program;
 pub use runs::run;
 pub use status::Status;

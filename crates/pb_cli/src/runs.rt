@@ -1,4 +1,4 @@
-// The call that main makes.
+// A run of the command that words give.
 ghost use Rattle.std.specs.Prelude.{◌≡◌, ◌≢◌, ◌⊎◌, ◌+◌, ◌≤◌, ℕ, List, Err, true, false, length, IfOk, IfErr, OnErr};
 ghost use Rattle.pb_io.specs.Counts.{Rose};
 ghost use Rattle.pb_io.specs.Source.{TakesExactly, TakesAtMost};
@@ -6,6 +6,7 @@ ghost use Rattle.pb_limits.specs.Limits.{most_bytes};
 ghost use Rattle.pb_cli.specs.declared.status.Status.TheVariants.{Done, DoneRefused, Usage, ReadFault, WriteFault, TooLarge, NoMemory};
 ghost use Rattle.pb_words.specs.declared.command.Command.{Command};
 ghost use Rattle.pb_words.specs.Command.{IsCommandOf, IsInRange};
+ghost use Rattle.pb_words.specs.Line.{are_plain_or_named};
 ghost use Rattle.pb_cli.specs.Run.{AreAccepted, AskToMake, Does, EndsAs, IsCut, IsFront, IsGiven, IsWhole, Reads, is_making};
 
 use crate::answers::answer;
@@ -41,10 +42,11 @@ pub fn run<R: Source, W: Sink>(alloc: Global, words: &Words, source: &mut R, sin
     ensures done_refused { result ≡ DoneRefused → Does (IsWhole true) words.now
         (R.seen source.old) (R.seen source.new) (W.seen sink.old) (W.seen sink.new) }
 
-    // Usage is the answer only where the words aren't accepted, and nothing else is then but want of memory. Nothing is read or
-    // written where they aren't.
+    // Usage is the answer only where the words aren't accepted, and nothing else is then but want of memory; where one of them has
+    // another form than any word of a command, not even that. Nothing is read or written where they aren't.
     ensures usage { result ≡ Usage → AreAccepted words.now → ⊥ }
     ensures unaccepted { (AreAccepted words.now → ⊥) → (result ≡ Usage) ⊎ (result ≡ NoMemory) }
+    ensures malformed { are_plain_or_named words.now ≡ false → result ≡ Usage }
     ensures unread { (AreAccepted words.now → ⊥) → source.new ≡ source.old }
     ensures unwritten { (AreAccepted words.now → ⊥) → sink.new ≡ sink.old }
 

@@ -1,6 +1,8 @@
 // How a run ended: a number for the system, and a name.
 ghost use Rattle.std.specs.Prelude.{◌≡◌, codes};
-ghost use Rattle.pb_cli.specs.Status.{number_of, name_of};
+ghost use Rattle.pb_cli.specs.Status.{number_of, name_of, status_of};
+
+use pb_words::WordsRefused;
 
 /// How a run ended.
 #[derive(Clone, Copy, Debug, PartialEq, Eq)]
@@ -49,6 +51,17 @@ impl Status {
             Status::WriteFault => "WriteFault",
             Status::TooLarge => "TooLarge",
             Status::NoMemory => "NoMemory",
+        }
+    }
+}
+
+impl From<WordsRefused> for Status {
+    ghost from_gives = { λ refused status. status ≡ status_of refused };
+
+    fn from(refused: WordsRefused) -> Status {
+        match refused {
+            WordsRefused::Usage => Status::Usage,
+            WordsRefused::NoMemory => Status::NoMemory,
         }
     }
 }

@@ -3,4 +3,5 @@ pub mod Parts
 pub mod Given
 pub mod Command
 pub mod Line
+pub mod Args
 pub mod Laws

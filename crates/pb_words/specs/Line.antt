@@ -42,12 +42,16 @@ is_plain_or_named (first ∷ []) = not (first == dash)
 is_plain_or_named (first ∷ second ∷ []) = not (first == dash)
 is_plain_or_named (first ∷ second ∷ third ∷ rest) = not (first == dash) || (second == dash)
 
+-- whether each word is one
+abbrev pub are_plain_or_named : List Text → Bool
+are_plain_or_named words = list_all is_plain_or_named words
+
 -- what the rows of the matches give
 abbrev pub given_in : List Row → Given
 given_in rows = given_of (λ name. first_of name rows)
 
 -- The words as clap reads them: each is plain or named, clap takes them, and these are the texts that it hands out.
 pub record IsGivenByClap (words : List Text) (given : Given) : Type 0 where
-  pub formed : IsTrue (list_all is_plain_or_named words)
+  pub formed : IsTrue (are_plain_or_named words)
   pub taken : fault_of line words ≡ []
   pub is : given ≡ given_in (matches_of line words)

@@ -1,11 +1,11 @@
 // The commands, and the words that give each.
-ghost use Rattle.std.specs.Prelude.{◌≡◌, ◌↔◌, ◌||◌, ◌≤ℤ◌, ℕ, pos, Bool, IfOk, IfErr, IfSome, IsNone, IsTrue, Some, is_some, codes, string_bytes};
+ghost use Rattle.std.specs.Prelude.{◌≡◌, ◌↔◌, ◌||◌, ◌≤ℤ◌, ℕ, pos, Bool, false, Err, IfOk, IfErr, IfSome, IsNone, IsTrue, Some, is_some, codes, string_bytes};
 ghost use Rattle.std.specs.List.{All};
 ghost use Rattle.pb_rows.specs.Number.{number, within};
 ghost use Rattle.clap.specs.Matches.{found_of, first_value};
 ghost use Rattle.pb_words.specs.Given.{given_of, is_true};
 ghost use Rattle.pb_words.specs.Command.{Asks, AsksCheck, AsksMake, AsksRun, IsCommandOf, IsFormOf, IsInRange, number_or};
-ghost use Rattle.pb_words.specs.Line.{is_plain_or_named};
+ghost use Rattle.pb_words.specs.Line.{are_plain_or_named, is_plain_or_named};
 ghost use Rattle.pb_words.specs.declared.command.WordsRefused.TheVariants.{Usage, NoMemory};
 
 use crate::line::taken_apart;
@@ -57,12 +57,14 @@ const MOST_ROUNDS: u32 = 20;
 const LEAST_STREAMS: u32 = 3;
 
 /// The command that words give: exactly one mode, `run`, `check` or `make`, and its options, each at most once and in any order, as two
-/// words or as one with an equals sign. `Usage` exactly where they give none.
+/// words or as one with an equals sign. `Usage` exactly where they give none. A word of one hyphen, of two alone, or of one and a name
+/// is refused before any memory is asked for.
 pub fn read_words(alloc: Global, words: &Words) -> Result<Command, WordsRefused>
     ensures ok { IfOk result (λ command. IsCommandOf words.now command) }
     ensures within { IfOk result IsInRange }
     ensures usage { IfErr result (λ e. e ≡ Usage → (command : Command)
         → IsCommandOf words.now command → ⊥) }
+    ensures malformed { are_plain_or_named words.now ≡ false → result ≡ Err Usage }
 {
     if !are_plain_or_named(words.as_slice()) {
         return Err(WordsRefused::Usage);

@@ -1,5 +1,5 @@
 // The words as `clap` takes them apart.
-ghost use Rattle.std.specs.Prelude.{◌≡◌, ◌≢◌, ◌⊎◌, IfOk, IfErr, false, []};
+ghost use Rattle.std.specs.Prelude.{◌≡◌, ◌↔◌, IfOk, IfErr, false, []};
 ghost use Rattle.clap.specs.Walk.{rule_of, rows_of};
 ghost use Rattle.clap.specs.Simple.{app_of, matches_of};
 ghost use Rattle.clap.specs.Matches.{found_of};
@@ -90,9 +90,9 @@ pub(crate) fn taken_apart<'a>(
     }
 }
 
-// Why `clap` gave no matches.
+// Why `clap` gave no matches: it found no memory exactly if it says so, and else it doesn't take the words.
 fn refusal(error: &Error) -> WordsRefused
-    ensures { (result ≡ NoMemory) ⊎ ((result ≡ Usage) × (kind_of error.now ≢ OutOfMemory)) }
+    ensures { (result ≡ NoMemory) ↔ (kind_of error.now ≡ OutOfMemory) }
 {
     if error.kind() == ErrorKind::OutOfMemory {
         WordsRefused::NoMemory

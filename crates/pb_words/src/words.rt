@@ -4,7 +4,7 @@ ghost use Rattle.std.specs.Prelude.{◌≡◌, ◌<◌, ◌++◌, ◌∷◌, [],
 use std::alloc::{AllocError, Global};
 use std::marker::Model;
 
-/// The words of a command line, behind the program's name.
+/// The words of a command line, after the program's name.
 #[derive(Drop)]
 pub struct Words {
     alloc: Global,
@@ -30,7 +30,14 @@ impl Words {
         }
     }
 
-    /// Appends a word. After an `Err`, want of memory, the words are as they were.
+    // These words in order.
+    pub(crate) fn from_vec(alloc: Global, words: Vec<String>) -> Words
+        ensures { result ≡ map (λ w. string_bytes w) words.items }
+    {
+        Words { alloc, words }
+    }
+
+    /// Appends a word. After an `Err`, out of memory, the words are as they were.
     pub fn push(&mut self, word: &str) -> Result<(), AllocError>
         ensures appended { OnOk result (self.new ≡ self.old ++ word.now ∷ []) }
         ensures unchanged { OnErr result (self.new ≡ self.old) }

@@ -2,7 +2,7 @@
 ghost use Rattle.std.specs.Prelude.{◌≢◌};
 ghost use Rattle.pb_cli.specs.declared.status.Status.TheVariants.{ReadFault, WriteFault};
 
-use crate::inputs::{joined, words_of};
+use crate::inputs::{joined, words_from};
 use pb_cli::*;
 use pb_io::{MemSink, MemSource, SureSink, SureSource, sure_law};
 use pb_limits::MOST_BYTES;
@@ -80,7 +80,7 @@ fn outcome(alloc: Global, ends: Ends<'_>, input: Vec<u8>) -> Result<(Status, Vec
     let failing_takes = vec![in alloc; ends.failing_take]?;
     let failing_puts = vec![in alloc; ends.failing_put]?;
     let mut sink = MemSink::new(alloc, ends.room, ends.put.max(1), failing_puts)?;
-    let words = words_of(alloc, ends.words)?;
+    let words = words_from(alloc, ends.words)?;
     let mut source = MemSource::new(input, ends.take.max(1), failing_takes);
     let status = run_in_memory(alloc, &words, &mut source, &mut sink);
     Ok((status, Vec::from_slice(alloc, sink.bytes())?))
@@ -377,7 +377,7 @@ fn sure_run(alloc: Global, words: &Words, input: Vec<u8>) -> (Status, u64)
 
 // The same with tests, of two meters.
 fn sure_run_of_two_meters(alloc: Global) -> Result<(Status, u64), AllocError> {
-    let words = words_of(alloc, TESTS.words)?;
+    let words = words_from(alloc, TESTS.words)?;
     let input = Vec::from_slice(alloc, TWO_METERS.as_bytes())?;
     Ok(sure_run(alloc, &words, input))
 }

@@ -3,7 +3,7 @@
 use pb_words::Words;
 use std::alloc::{AllocError, Global};
 
-pub(crate) fn words_of(alloc: Global, list: &[&str]) -> Result<Words, AllocError> {
+pub(crate) fn words_from(alloc: Global, list: &[&str]) -> Result<Words, AllocError> {
     let mut words = Words::new(alloc);
     for word in list {
         words.push(word)?;

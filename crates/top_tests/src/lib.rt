@@ -6,6 +6,8 @@ mod cli;
 #[cfg(test)]
 mod inputs;
 #[cfg(test)]
+mod program;
+#[cfg(test)]
 mod session;
 #[cfg(test)]
 mod summary;

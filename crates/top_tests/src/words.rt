@@ -1,9 +1,10 @@
 // What no clause says: that words are read with ample memory, lists of words in every order, and words that give no command.
-use crate::inputs::words_of;
+use crate::inputs::words_from;
 use pb_graph::Options;
 use pb_report::Form;
 use pb_words::*;
-use std::alloc::AllocError;
+use std::alloc::{AllocError, Global};
+use std::io;
 
 const USUAL: Options = Options {
     gap: 10,
@@ -14,7 +15,7 @@ const USUAL: Options = Options {
 
 // What the words give.
 fn read(rt: &HostRuntime, words: &[&str]) -> Result<Result<Command, WordsRefused>, AllocError> {
-    let list = words_of(rt.alloc(), words)?;
+    let list = words_from(rt.alloc(), words)?;
     Ok(read_words(rt.alloc(), &list))
 }
 
@@ -292,9 +293,62 @@ fn refuses_other_words(rt: HostRuntime) -> Result<(), AllocError> {
     Ok(())
 }
 
+// The words of the system's arguments, where these are they.
+fn given(alloc: Global, args: &[&str]) -> Result<Result<Words, WordsRefused>, AllocError> {
+    let mut list = Vec::new(alloc);
+    for arg in args {
+        list.push(String::from_str(alloc, arg)?)?;
+    }
+    Ok(words_of(alloc, Ok(list.into_iter())))
+}
+
+fn are_words(found: &Result<Words, WordsRefused>, wanted: &[&str]) -> bool {
+    let Ok(words) = found else {
+        return false;
+    };
+    for (i, word) in wanted.iter().enumerate() {
+        if i >= words.len() || words.at(i) != *word {
+            return false;
+        }
+    }
+    words.len() == wanted.len()
+}
+
+/// The first argument is the program's name, whatever it is.
+#[test]
+fn takes_the_words_after_the_name(rt: HostRuntime) -> Result<(), AllocError> {
+    let lists: [(&[&str], &[&str]); 4] = [
+        (&[], &[]),
+        (&["run"], &[]),
+        (&["plantbal", "run"], &["run"]),
+        (&["plantbal", "run", "", "--gap", "5"], &["run", "", "--gap", "5"]),
+    ];
+    for (args, words) in lists {
+        let found = given(rt.alloc(), args)?;
+        assert!(rt; are_words(&found, words), "at {args:?}");
+    }
+    Ok(())
+}
+
+/// Arguments that the system doesn't give are no words; whether memory lacked, its error says.
+#[test]
+fn refuses_arguments_that_are_not_given(rt: HostRuntime) {
+    for (kind, refused) in [
+        (io::ErrorKind::InvalidData, WordsRefused::Usage),
+        (io::ErrorKind::Other, WordsRefused::Usage),
+        (io::ErrorKind::OutOfMemory, WordsRefused::NoMemory),
+    ] {
+        let is_so = match words_of(rt.alloc(), Err(io::Error::from(kind))) {
+            Ok(_) => false,
+            Err(why) => why == refused,
+        };
+        assert!(rt; is_so && refused_args(kind) == refused, "at {refused:?}");
+    }
+}
+
 #[test]
 fn keeps_words(rt: HostRuntime) -> Result<(), AllocError> {
-    let words = words_of(rt.alloc(), &["run", ""])?;
+    let words = words_from(rt.alloc(), &["run", ""])?;
     assert_eq!(rt; words.len(), 2);
     assert_eq!(rt; words.at(0), "run");
     assert_eq!(rt; words.at(1), "");

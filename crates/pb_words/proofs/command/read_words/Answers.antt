@@ -1,11 +1,17 @@
-use Rattle.std.proofs.Common.{rules, ◌≡◌, ◌∙◌, IsTrue, true, false, true≢false, refl, sym, subst, string_bytes, List, ℕ}
+use Rattle.std.proofs.Common.{rules, ◌≡◌, ◌∙◌, IsTrue, All, true, false, true≢false, refl, sym, subst, map, string_bytes, String, List, ℕ}
 use Rattle.std.specs.List.{list_all}
+use Rattle.std.specs.declared.alloc.Global.{Global}
 use Rattle.clap.specs.Matches.{found_of, first_value}
 use Rattle.pb_words.specs.Given.{given_of}
 use Rattle.pb_words.specs.Line.{IsGivenByClap, is_plain_or_named}
 use Rattle.pb_words.proofs.CommandLemmas.{asked_here, command_here, in_range}
 use Rattle.pb_words.proofs.EndLemmas.{all_formed, each_formed, found_given, taken_of_parts}
 use Rattle.pb_words.proofs.command.read_words.Goals as goal
+
+-- each of these words is plain or named
+formed_words : (words : List (List ℕ)) (texts : List (String Global)) → map (λ w. string_bytes w) texts ≡ words
+    → All (λ w. IsTrue (is_plain_or_named (string_bytes w))) texts → IsTrue (list_all is_plain_or_named words)
+formed_words words texts are each = subst (λ (ws : List (List ℕ)). IsTrue (list_all is_plain_or_named ws)) are (all_formed string_bytes texts each)
 
 -- a word of another form is of no known part
 pub returns-then-not-are_plain_or_named-clause-usage : goal.returns-then-not-are_plain_or_named-clause-usage
@@ -22,8 +28,7 @@ pub returns-in-Some-clause-ok : goal.returns-in-Some-clause-ok
 returns-in-Some-clause-ok c =
     let words = c.args.words.now in
     let yes : c.are_plain_or_named.result ≡ true = search rules in
-    let formed = subst (λ (ws : List (List ℕ)). IsTrue (list_all is_plain_or_named ws)) c.as_slice.ensures
-    (all_formed string_bytes c.as_slice.result.now (c.are_plain_or_named.ensures.0 yes)) in
+    let formed = formed_words words c.as_slice.result.now c.as_slice.ensures (c.are_plain_or_named.ensures.0 yes) in
     let given = given_of (first_value (found_of c.in-Ok.matches)) in
     let taken : IsGivenByClap words given =
     record { formed = formed; taken = c.in-Ok.ensures.taken; is = found_given (found_of c.in-Ok.matches) words c.in-Ok.ensures.rows } in
@@ -34,8 +39,7 @@ pub returns-in-Ok-clause-usage : goal.returns-in-Ok-clause-usage
 returns-in-Ok-clause-usage c = λ e command of.
     let words = c.args.words.now in
     let yes : c.are_plain_or_named.result ≡ true = search rules in
-    let formed = subst (λ (ws : List (List ℕ)). IsTrue (list_all is_plain_or_named ws)) c.as_slice.ensures
-    (all_formed string_bytes c.as_slice.result.now (c.are_plain_or_named.ensures.0 yes)) in
+    let formed = formed_words words c.as_slice.result.now c.as_slice.ensures (c.are_plain_or_named.ensures.0 yes) in
     let given = given_of (first_value (found_of c.in-Ok.matches)) in
     let taken : IsGivenByClap words given =
     record { formed = formed; taken = c.in-Ok.ensures.taken; is = found_given (found_of c.in-Ok.matches) words c.in-Ok.ensures.rows } in
@@ -47,3 +51,14 @@ returns-clause-usage c = λ e command of. c.in-Err.ensures.refused e (taken_of_p
 
 pub returns-in-Some-clause-within : goal.returns-in-Some-clause-within
 returns-in-Some-clause-within c = in_range (given_of (first_value (found_of c.in-Ok.matches))) c.in-Some.command c.in-Some.ensures.some
+
+-- behind the first test each word is plain or named
+pub returns-in-Some-clause-malformed : goal.returns-in-Some-clause-malformed
+returns-in-Some-clause-malformed c = λ malformed.
+    let yes : c.are_plain_or_named.result ≡ true = search rules in
+    absurd (true≢false (sym (formed_words c.args.words.now c.as_slice.result.now c.as_slice.ensures (c.are_plain_or_named.ensures.0 yes)) ∙ malformed))
+
+pub returns-clause-malformed : goal.returns-clause-malformed
+returns-clause-malformed c = λ malformed.
+    let yes : c.are_plain_or_named.result ≡ true = search rules in
+    absurd (true≢false (sym (formed_words c.args.words.now c.as_slice.result.now c.as_slice.ensures (c.are_plain_or_named.ensures.0 yes)) ∙ malformed))
