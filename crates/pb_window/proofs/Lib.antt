@@ -1,0 +1,7 @@
+mod CodeLemmas
+mod GraphLemmas
+mod JoinLemmas
+mod ListLemmas
+mod NameLemmas
+mod NumberLemmas
+mod RisingLemmas

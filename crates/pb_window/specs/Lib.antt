@@ -1,0 +1,6 @@
+-- Statement
+pub mod Plant
+pub mod Window
+pub mod Graph
+pub mod Codes
+pub mod Laws
