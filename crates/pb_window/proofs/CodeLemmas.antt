@@ -112,7 +112,7 @@ pub codes_apart : (letter t i u j : ℕ) → t < 2 ^ 32 → i < 2 ^ 32 → u < 2
 codes_apart letter t i u j t_small i_small u_small j_small other =
     apart (code_text letter t i) (code_text letter u j) (λ same.
         let parts = coded_injective letter t i u j t_small i_small u_small j_small same in
-        elim other [ inl turns ↦ absurd (turns parts.0) | inr places ↦ absurd (places parts.1) ])
+        elim other [ inl periods ↦ absurd (periods parts.0) | inr places ↦ absurd (places parts.1) ])
 
 -- it has the form of a name
 all_joined : (a b : List ℕ) → list_all is_name_byte a ≡ true → list_all is_name_byte b ≡ true → list_all is_name_byte (a ++ b) ≡ true

@@ -18,10 +18,10 @@ use Rattle.pb_window.specs.declared.window.WindowFault.{WindowFault}
 use Rattle.pb_window.specs.declared.window.WindowNode.{WindowNode}
 use Rattle.pb_window.specs.declared.window.WindowStream.{WindowStream}
 use Rattle.pb_window.specs.Plant.{IsPlant, IsPlantArc, NumberedArc, arcs_in, is_end, is_node_in, is_served}
-use Rattle.pb_window.specs.Window.{IsWindow, IsWindowStream, Turn, content_day, content_end, content_of, contents_of_arc, flow_of, flows_of_turn, if_served, is_too_great, number_of, span_of, stands_for, stay_of, turns_of, unless_too_great, window_contents, window_flows, window_nodes, window_shape, window_streams}
+use Rattle.pb_window.specs.Window.{IsWindow, IsWindowStream, NumberedSpan, content_day, content_end, content_of, contents_of_arc, flow_of, flows_of_period, if_served, is_too_great, number_of, span_of, stands_for, stay_of, numbered_spans, unless_too_great, window_contents, window_flows, window_nodes, window_shape, window_streams}
 use Rattle.pb_window.specs.Laws.{WindowFormLaw}
 use Rattle.pb_window.proofs.ListLemmas.{all_flat, all_join, all_kept, all_mapped, all_numbered, all_range, or_true}
-use Rattle.pb_window.proofs.NumberLemmas.{HasNodes, nodes_apart, number_small, number_some, turns_apart, turns_have}
+use Rattle.pb_window.proofs.NumberLemmas.{HasNodes, nodes_apart, number_small, number_some, periods_apart, periods_have}
 
 -- ---- the ends of an arc in service are nodes
 
@@ -50,29 +50,29 @@ to_end arc = rw (eq-eqb arc.to arc.to refl) (or_true (arc.from == arc.to))
 abbrev IsServedArc : Plant → Span → NumberedArc → Type 0
 IsServedArc plant span numbered = IsArcOf plant numbered.1 × (is_served span numbered.1 ≡ true)
 
-flow_joins : (plant : Plant) (nodes : List WindowNode) (turn : Turn) → HasNodes plant nodes turn → (placed : ℕ × NumberedArc) → IsServedArc plant turn.1 placed.1
-    → IfSome (flow_of nodes turn.0 placed) (IsWindowStream (1 + length nodes))
-flow_joins plant nodes turn has placed is = elim (cases_Bool placed.1.1.is_tank) [
+flow_joins : (plant : Plant) (nodes : List WindowNode) (numbered : NumberedSpan) → HasNodes plant nodes numbered → (placed : ℕ × NumberedArc) → IsServedArc plant numbered.1 placed.1
+    → IfSome (flow_of nodes numbered.0 placed) (IsWindowStream (1 + length nodes))
+flow_joins plant nodes numbered has placed is = elim (cases_Bool placed.1.1.is_tank) [
   | inl tank ↦ rw tank tt
   | inr flow ↦ rw flow (record {
-    from = number_small nodes turn.0 arc.from;
-    to = number_small nodes turn.0 arc.to;
-    apart = nodes_apart nodes turn.0 arc.from arc.to is.0.0.apart
-        (λ some. has arc.from (is.0.1 turn.1 arc.from is.1 (from_end arc)) some is.0.0.from)
-        (λ some. has arc.to (is.0.1 turn.1 arc.to is.1 (to_end arc)) some is.0.0.to);
+    from = number_small nodes numbered.0 arc.from;
+    to = number_small nodes numbered.0 arc.to;
+    apart = nodes_apart nodes numbered.0 arc.from arc.to is.0.0.apart
+        (λ some. has arc.from (is.0.1 numbered.1 arc.from is.1 (from_end arc)) some is.0.0.from)
+        (λ some. has arc.to (is.0.1 numbered.1 arc.to is.1 (to_end arc)) some is.0.0.to);
   })
 ]
   where
     arc : PlantArc
     arc = placed.1.1
 
-flows_join : (plant : Plant) → IsPlant plant → (nodes : List WindowNode) (turn : Turn) → HasNodes plant nodes turn
-    → AllByRecursion (IsWindowStream (1 + length nodes)) (flows_of_turn plant.arcs nodes turn)
-flows_join plant is nodes turn has =
-    let numbered = all_numbered (IsArcOf plant) 0 plant.arcs (arcs_are plant is) in
-    let served = all_kept (λ (one : NumberedArc). IsArcOf plant one.1) (λ (one : NumberedArc). is_served turn.1 one.1) (enumerate_from 0 plant.arcs) numbered in
-    all_mapped (λ (placed : ℕ × NumberedArc). IsServedArc plant turn.1 placed.1) (IsWindowStream (1 + length nodes)) (flow_of nodes turn.0)
-    (flow_joins plant nodes turn has) (enumerate_from 0 (arcs_in plant.arcs turn.1)) (all_numbered (IsServedArc plant turn.1) 0 (arcs_in plant.arcs turn.1) served)
+flows_join : (plant : Plant) → IsPlant plant → (nodes : List WindowNode) (numbered : NumberedSpan) → HasNodes plant nodes numbered
+    → AllByRecursion (IsWindowStream (1 + length nodes)) (flows_of_period plant.arcs nodes numbered)
+flows_join plant is nodes numbered has =
+    let each = all_numbered (IsArcOf plant) 0 plant.arcs (arcs_are plant is) in
+    let served = all_kept (λ (one : NumberedArc). IsArcOf plant one.1) (λ (one : NumberedArc). is_served numbered.1 one.1) (enumerate_from 0 plant.arcs) each in
+    all_mapped (λ (placed : ℕ × NumberedArc). IsServedArc plant numbered.1 placed.1) (IsWindowStream (1 + length nodes)) (flow_of nodes numbered.0)
+    (flow_joins plant nodes numbered has) (enumerate_from 0 (arcs_in plant.arcs numbered.1)) (all_numbered (IsServedArc plant numbered.1) 0 (arcs_in plant.arcs numbered.1) served)
 
 -- ---- contents
 
@@ -84,33 +84,33 @@ stay_parts arc span (Some one) is =
     (ap Some parts.1, ap (λ (s : Span). is_served s arc) (sym parts.1) ∙ parts.0)
 
 -- a tank in service in a period is a node of it
-stay_there : (plant : Plant) (nodes : List WindowNode) (spans : List Span) (arc : PlantArc) (turn : ℕ) (span : Span)
-    → AllByRecursion (HasNodes plant nodes) (turns_of spans) → IsArcOf plant arc → arc.is_tank ≡ true → stay_of spans arc turn ≡ Some span
-    → list_any (stands_for turn arc.from) nodes ≡ true
-stay_there plant nodes spans arc turn span have is tank stay = elim (cases_Bool (turn == 0)) [
+stay_there : (plant : Plant) (nodes : List WindowNode) (spans : List Span) (arc : PlantArc) (period : ℕ) (span : Span)
+    → AllByRecursion (HasNodes plant nodes) (numbered_spans spans) → IsArcOf plant arc → arc.is_tank ≡ true → stay_of spans arc period ≡ Some span
+    → list_any (stands_for period arc.from) nodes ≡ true
+stay_there plant nodes spans arc period span have is tank stay = elim (cases_Bool (period == 0)) [
   | inl zero ↦ cc (rw zero at stay)
   | inr some ↦
-      let later = eqb-false turn 0 some in
-      let parts = stay_parts arc span (slice_get spans (turn - 1)) (rw some at stay) in
-      let lt = slice_get_within spans (turn - 1) span parts.0 in
-      let d : Turn = (0, span) in
-      let at = get_or-enumerate_from 1 spans (turn - 1) d lt in
+      let later = eqb-false period 0 some in
+      let parts = stay_parts arc span (slice_get spans (period - 1)) (rw some at stay) in
+      let lt = slice_get_within spans (period - 1) span parts.0 in
+      let d : NumberedSpan = (0, span) in
+      let at = get_or-enumerate_from 1 spans (period - 1) d lt in
       let long = length-enumerate_from 1 spans in
-      let here : HasNodes plant nodes (get_or (turns_of spans) (turn - 1) d) =
-      All-from_recursion (HasNodes plant nodes) (turns_of spans) have (turn - 1) d (omega (arith, long, lt)) in
-      let has : HasNodes plant nodes (1 + (turn - 1), get_or spans (turn - 1) span) = subst (HasNodes plant nodes) at here in
-      let own : get_or spans (turn - 1) span ≡ span = get_or_from_slice_get spans (turn - 1) span span parts.0 in
-      let number : 1 + (turn - 1) ≡ turn = omega (arith, later) in
+      let here : HasNodes plant nodes (get_or (numbered_spans spans) (period - 1) d) =
+      All-from_recursion (HasNodes plant nodes) (numbered_spans spans) have (period - 1) d (omega (arith, long, lt)) in
+      let has : HasNodes plant nodes (1 + (period - 1), get_or spans (period - 1) span) = subst (HasNodes plant nodes) at here in
+      let own : get_or spans (period - 1) span ≡ span = get_or_from_slice_get spans (period - 1) span span parts.0 in
+      let number : 1 + (period - 1) ≡ period = omega (arith, later) in
       let ends = is.0.apart in
       let first : 1 ≤ arc.from = omega (arith, ends, is.0.tank tank) in
-      let is_node = is.1 (get_or spans (turn - 1) span) arc.from (ap (λ (s : Span). is_served s arc) own ∙ parts.1) (from_end arc) in
+      let is_node = is.1 (get_or spans (period - 1) span) arc.from (ap (λ (s : Span). is_served s arc) own ∙ parts.1) (from_end arc) in
       subst (λ (t : ℕ). list_any (stands_for t arc.from) nodes ≡ true) number (has arc.from is_node first is.0.from)
 ]
 
-content_joins : (plant : Plant) (nodes : List WindowNode) (spans : List Span) → AllByRecursion (HasNodes plant nodes) (turns_of spans)
-    → (numbered : NumberedArc) → IsArcOf plant numbered.1 → numbered.1.is_tank ≡ true → (turn : ℕ)
-    → IfSome (content_of nodes spans numbered turn) (IsWindowStream (1 + length nodes))
-content_joins plant nodes spans have numbered is tank turn = by (stay_of spans arc turn) (stay_of spans arc (turn + 1)) refl refl
+content_joins : (plant : Plant) (nodes : List WindowNode) (spans : List Span) → AllByRecursion (HasNodes plant nodes) (numbered_spans spans)
+    → (numbered : NumberedArc) → IsArcOf plant numbered.1 → numbered.1.is_tank ≡ true → (period : ℕ)
+    → IfSome (content_of nodes spans numbered period) (IsWindowStream (1 + length nodes))
+content_joins plant nodes spans have numbered is tank period = by (stay_of spans arc period) (stay_of spans arc (period + 1)) refl refl
   where
     arc : PlantArc
     arc = numbered.1
@@ -118,35 +118,35 @@ content_joins plant nodes spans have numbered is tank turn = by (stay_of spans a
     stream : ℤ → Option Span → Option Span → WindowStream
     stream day before after = record {
       source = Content day;
-      turn = turn;
+      period = period;
       place = numbered.0;
       arc = numbered.0;
-      from = content_end nodes turn arc before;
-      to = content_end nodes (turn + 1) arc after;
+      from = content_end nodes period arc before;
+      to = content_end nodes (period + 1) arc after;
     }
 
-    by : (before after : Option Span) → stay_of spans arc turn ≡ before → stay_of spans arc (turn + 1) ≡ after
+    by : (before after : Option Span) → stay_of spans arc period ≡ before → stay_of spans arc (period + 1) ≡ after
         → IfSome (option_map (λ (day : ℤ). stream day before after) (content_day arc before after)) (IsWindowStream (1 + length nodes))
     by None None one other = tt
     by None (Some span) one other =
-        let there = stay_there plant nodes spans arc (turn + 1) span have is tank other in
-        record { from = omega arith; to = number_small nodes (turn + 1) arc.from; apart = λ same. number_some nodes (turn + 1) arc.from there (sym same) }
+        let there = stay_there plant nodes spans arc (period + 1) span have is tank other in
+        record { from = omega arith; to = number_small nodes (period + 1) arc.from; apart = λ same. number_some nodes (period + 1) arc.from there (sym same) }
     by (Some span) None one other =
-        let there = stay_there plant nodes spans arc turn span have is tank one in
-        record { from = number_small nodes turn arc.from; to = omega arith; apart = number_some nodes turn arc.from there }
+        let there = stay_there plant nodes spans arc period span have is tank one in
+        record { from = number_small nodes period arc.from; to = omega arith; apart = number_some nodes period arc.from there }
     by (Some span) (Some next) one other =
-        let there = stay_there plant nodes spans arc turn span have is tank one in
+        let there = stay_there plant nodes spans arc period span have is tank one in
         record {
-          from = number_small nodes turn arc.from;
-          to = number_small nodes (turn + 1) arc.from;
-          apart = turns_apart nodes turn (turn + 1) arc.from (λ same. absurd (omega (arith, same))) there;
+          from = number_small nodes period arc.from;
+          to = number_small nodes (period + 1) arc.from;
+          apart = periods_apart nodes period (period + 1) arc.from (λ same. absurd (omega (arith, same))) there;
         }
 
-contents_join : (plant : Plant) (nodes : List WindowNode) (spans : List Span) → AllByRecursion (HasNodes plant nodes) (turns_of spans)
+contents_join : (plant : Plant) (nodes : List WindowNode) (spans : List Span) → AllByRecursion (HasNodes plant nodes) (numbered_spans spans)
     → (numbered : NumberedArc) → IsArcOf plant numbered.1 → AllByRecursion (IsWindowStream (1 + length nodes)) (contents_of_arc nodes spans numbered)
 contents_join plant nodes spans have numbered is = elim (cases_Bool numbered.1.is_tank) [
-  | inl tank ↦ rw tank (all_mapped (λ (turn : ℕ). Unit {0}) (IsWindowStream (1 + length nodes)) (content_of nodes spans numbered)
-      (λ turn _. content_joins plant nodes spans have numbered is tank turn) (range_with_len 0 (length spans + 1)) (all_range (λ (turn : ℕ). Unit {0}) (λ _. tt) 0 (length spans + 1)))
+  | inl tank ↦ rw tank (all_mapped (λ (period : ℕ). Unit {0}) (IsWindowStream (1 + length nodes)) (content_of nodes spans numbered)
+      (λ period _. content_joins plant nodes spans have numbered is tank period) (range_with_len 0 (length spans + 1)) (all_range (λ (period : ℕ). Unit {0}) (λ _. tt) 0 (length spans + 1)))
   | inr flow ↦ rw flow tt
 ]
 
@@ -154,7 +154,7 @@ contents_join plant nodes spans have numbered is = elim (cases_Bool numbered.1.i
 
 streams_join : (plant : Plant) (spans : List Span) → IsPlant plant → AllByRecursion (IsWindowStream (1 + length (window_nodes plant spans))) (window_streams plant spans)
 streams_join plant spans is = all_join joins (window_flows plant.arcs nodes spans) (window_contents plant.arcs nodes spans)
-    (all_flat (HasNodes plant nodes) joins (flows_of_turn plant.arcs nodes) (flows_join plant is nodes) (turns_of spans) have)
+    (all_flat (HasNodes plant nodes) joins (flows_of_period plant.arcs nodes) (flows_join plant is nodes) (numbered_spans spans) have)
     (all_flat (λ (numbered : NumberedArc). IsArcOf plant numbered.1) joins (contents_of_arc nodes spans) (contents_join plant nodes spans have)
     (enumerate_from 0 plant.arcs) (all_numbered (IsArcOf plant) 0 plant.arcs (arcs_are plant is)))
   where
@@ -164,8 +164,8 @@ streams_join plant spans is = all_join joins (window_flows plant.arcs nodes span
     joins : WindowStream → Type 0
     joins = IsWindowStream (1 + length nodes)
 
-    have : AllByRecursion (HasNodes plant nodes) (turns_of spans)
-    have = turns_have plant [] 1 spans
+    have : AllByRecursion (HasNodes plant nodes) (numbered_spans spans)
+    have = periods_have plant [] 1 spans
 
 form_by : (shape window : Window) → AllByRecursion (IsWindowStream (1 + length shape.nodes)) shape.streams → unless_too_great shape ≡ Ok window → IsWindow window
 form_by shape window joins answer = elim (cases_Bool (is_too_great shape)) [

@@ -5,3 +5,4 @@ mod ListLemmas
 mod NameLemmas
 mod NumberLemmas
 mod RisingLemmas
+mod ShapeLemmas

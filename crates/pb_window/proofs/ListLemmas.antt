@@ -10,7 +10,15 @@ use Rattle.std.proofs.lemmas.List.Sums.{fails_before_first}
 -- ---- what is made, and what is left
 
 pub append_piece : {A : Type 0} (whole made rest piece left : List A) → whole ≡ made ++ rest → rest ≡ piece ++ left → whole ≡ (made ++ piece) ++ left
-append_piece whole made rest piece left so_far next = so_far ∙ ap (λ (r : List _). made ++ r) next ∙ sym (append_assoc made piece left)
+append_piece {A} whole made rest piece left so_far next = so_far ∙ ap (λ (r : List A). made ++ r) next ∙ sym (append_assoc made piece left)
+
+-- the same, by what is made then
+pub grown : {A : Type 0} (whole made rest piece left new : List A) → whole ≡ made ++ rest → rest ≡ piece ++ left → new ≡ made ++ piece → whole ≡ new ++ left
+grown {A} whole made rest piece left new so_far next is = append_piece whole made rest piece left so_far next ∙ ap (λ (r : List A). r ++ left) (sym is)
+
+-- the same, where nothing is added
+pub passed : {A : Type 0} (whole made rest left : List A) → whole ≡ made ++ rest → rest ≡ left → whole ≡ made ++ left
+passed {A} whole made rest left so_far next = so_far ∙ ap (λ (r : List A). made ++ r) next
 
 -- the next number of a range
 pub range_next : (a n k : ℕ) → k < n → range_with_len a (n - k) ≡ a ∷ range_with_len (a + 1) (n - (k + 1))

@@ -17,7 +17,7 @@ use Rattle.pb_window.specs.declared.window.Window.{Window}
 use Rattle.pb_window.specs.declared.window.WindowNode.{WindowNode}
 use Rattle.pb_window.specs.declared.window.WindowStream.{WindowStream}
 use Rattle.pb_window.specs.Plant.{IsPlant, NumberedArc, arcs_in}
-use Rattle.pb_window.specs.Window.{Turn, content_day, content_end, content_of, contents_of_arc, flow_of, flows_of_turn, is_too_great, most_periods_of_window, stay_of, turns_of, unless_too_great, window_contents, window_flows, window_nodes, window_shape, window_streams}
+use Rattle.pb_window.specs.Window.{NumberedSpan, content_day, content_end, content_of, contents_of_arc, flow_of, flows_of_period, is_too_great, most_periods_of_window, stay_of, numbered_spans, unless_too_great, window_contents, window_flows, window_nodes, window_shape, window_streams}
 use Rattle.pb_window.specs.Codes.{AreNames, AreWindowNames, code_text, node_code, source_letter, stream_code}
 use Rattle.pb_window.specs.Laws.{WindowNamesLaw}
 use Rattle.pb_window.proofs.CodeLemmas.{coded_name, codes_apart}
@@ -101,10 +101,10 @@ env_differs (node ∷ nodes) = (refl, env_differs nodes)
 
 node_names : (plant : Plant) (spans : List Span) → IsPlant plant → length spans ≤ most_periods_of_window → AreNames (codes "env" ∷ map node_code (window_nodes plant spans))
 node_names plant spans is few = record {
-  forms = forms_rise node_code node_key end (λ node below. name_by 110 node.turn node.place end refl most below) 65536 nodes rises;
+  forms = forms_rise node_code node_key end (λ node below. name_by 110 node.period node.place end refl most below) 65536 nodes rises;
   differ = all_pairs (codes "env" ∷ map node_code nodes) (
     env_differs nodes,
-    apart_rise node_code node_key end (λ one other lt below. differ_by 110 one.turn one.place other.turn other.place end most lt below) 65536 nodes rises,
+    apart_rise node_code node_key end (λ one other lt below. differ_by 110 one.period one.place other.period other.place end most lt below) 65536 nodes rises,
   );
 }
   where
@@ -131,21 +131,21 @@ abbrev HasLetter : ℕ → WindowStream → Type 0
 HasLetter letter stream = source_letter stream.source ≡ letter
 
 same_codes : (letter : ℕ) (streams : List WindowStream) → AllByRecursion (HasLetter letter) streams
-    → map stream_code streams ≡ map (λ (s : WindowStream). code_text letter s.turn s.place) streams
+    → map stream_code streams ≡ map (λ (s : WindowStream). code_text letter s.period s.place) streams
 same_codes letter [] are = refl
 same_codes letter (s ∷ streams) are =
-    ap₂ (λ (l : ℕ) (rest : List (List ℕ)). code_text l s.turn s.place ∷ rest) are.0 (same_codes letter streams are.1)
+    ap₂ (λ (l : ℕ) (rest : List (List ℕ)). code_text l s.period s.place ∷ rest) are.0 (same_codes letter streams are.1)
 
 flow_letters : (arcs : List PlantArc) (nodes : List WindowNode) (spans : List Span) → AllByRecursion (HasLetter 115) (window_flows arcs nodes spans)
-flow_letters arcs nodes spans = all_flat (λ (turn : Turn). Unit {0}) (HasLetter 115) (flows_of_turn arcs nodes) (λ turn _. of_turn turn) (turns_of spans) (all_true (turns_of spans))
+flow_letters arcs nodes spans = all_flat (λ (numbered : NumberedSpan). Unit {0}) (HasLetter 115) (flows_of_period arcs nodes) (λ numbered _. of_period numbered) (numbered_spans spans) (all_true (numbered_spans spans))
   where
-    of_one : (turn : ℕ) (placed : ℕ × NumberedArc) → IfSome (flow_of nodes turn placed) (HasLetter 115)
-    of_one turn placed = elim (cases_Bool placed.1.1.is_tank) [ inl tank ↦ rw tank tt | inr flow ↦ rw flow refl ]
+    of_one : (period : ℕ) (placed : ℕ × NumberedArc) → IfSome (flow_of nodes period placed) (HasLetter 115)
+    of_one period placed = elim (cases_Bool placed.1.1.is_tank) [ inl tank ↦ rw tank tt | inr flow ↦ rw flow refl ]
 
-    of_turn : (turn : Turn) → AllByRecursion (HasLetter 115) (flows_of_turn arcs nodes turn)
-    of_turn turn =
-        let list = enumerate_from 0 (arcs_in arcs turn.1) in
-        all_mapped (λ (placed : ℕ × NumberedArc). Unit {0}) (HasLetter 115) (flow_of nodes turn.0) (λ placed _. of_one turn.0 placed) list (all_true list)
+    of_period : (numbered : NumberedSpan) → AllByRecursion (HasLetter 115) (flows_of_period arcs nodes numbered)
+    of_period numbered =
+        let list = enumerate_from 0 (arcs_in arcs numbered.1) in
+        all_mapped (λ (placed : ℕ × NumberedArc). Unit {0}) (HasLetter 115) (flow_of nodes numbered.0) (λ placed _. of_one numbered.0 placed) list (all_true list)
 
 content_letters : (arcs : List PlantArc) (nodes : List WindowNode) (spans : List Span) → AllByRecursion (HasLetter 99) (window_contents arcs nodes spans)
 content_letters arcs nodes spans =
@@ -155,25 +155,25 @@ content_letters arcs nodes spans =
     of_option make are None = tt
     of_option make are (Some day) = are day
 
-    of_one : (numbered : NumberedArc) (turn : ℕ) → IfSome (content_of nodes spans numbered turn) (HasLetter 99)
-    of_one numbered turn =
+    of_one : (numbered : NumberedArc) (period : ℕ) → IfSome (content_of nodes spans numbered period) (HasLetter 99)
+    of_one numbered period =
         let arc = numbered.1 in
-        let before = stay_of spans arc turn in
-        let after = stay_of spans arc (turn + 1) in
+        let before = stay_of spans arc period in
+        let after = stay_of spans arc (period + 1) in
         of_option (λ (day : ℤ). record {
           source = Content day;
-          turn = turn;
+          period = period;
           place = numbered.0;
           arc = numbered.0;
-          from = content_end nodes turn arc before;
-          to = content_end nodes (turn + 1) arc after;
+          from = content_end nodes period arc before;
+          to = content_end nodes (period + 1) arc after;
         }) (λ day. refl) (content_day arc before after)
 
     of_arc : (numbered : NumberedArc) → AllByRecursion (HasLetter 99) (contents_of_arc nodes spans numbered)
     of_arc numbered = elim (cases_Bool numbered.1.is_tank) [
       | inl tank ↦
           let list = range_with_len 0 (length spans + 1) in
-          rw tank (all_mapped (λ (turn : ℕ). Unit {0}) (HasLetter 99) (content_of nodes spans numbered) (λ turn _. of_one numbered turn) list (all_true list))
+          rw tank (all_mapped (λ (period : ℕ). Unit {0}) (HasLetter 99) (content_of nodes spans numbered) (λ period _. of_one numbered period) list (all_true list))
       | inr flow ↦ rw flow tt
     ]
 
@@ -220,12 +220,12 @@ stream_names plant spans is few = subst AreNames (sym (map-append stream_code fl
 
     flow_forms : list_all is_name (map stream_code flows) ≡ true
     flow_forms = ap (list_all is_name) (same_codes 115 flows flow_is)
-        ∙ forms_rise (λ (s : WindowStream). code_text 115 s.turn s.place) flow_key flow_end (λ s below. name_by 115 s.turn s.place flow_end refl flow_most below) 65536 flows flow_rises
+        ∙ forms_rise (λ (s : WindowStream). code_text 115 s.period s.place) flow_key flow_end (λ s below. name_by 115 s.period s.place flow_end refl flow_most below) 65536 flows flow_rises
 
     flows_apart : AreApart (map stream_code flows)
     flows_apart = subst AreApart (sym (same_codes 115 flows flow_is))
-        (apart_rise (λ (s : WindowStream). code_text 115 s.turn s.place) flow_key flow_end
-        (λ one other lt below. differ_by 115 one.turn one.place other.turn other.place flow_end flow_most lt below) 65536 flows flow_rises)
+        (apart_rise (λ (s : WindowStream). code_text 115 s.period s.place) flow_key flow_end
+        (λ one other lt below. differ_by 115 one.period one.place other.period other.place flow_end flow_most lt below) 65536 flows flow_rises)
 
     content_last : ℕ
     content_last = (0 + length plant.arcs) * 65536
@@ -238,12 +238,12 @@ stream_names plant spans is few = subst AreNames (sym (map-append stream_code fl
 
     content_forms : list_all is_name (map stream_code contents) ≡ true
     content_forms = ap (list_all is_name) (same_codes 99 contents content_is)
-        ∙ forms_rise (λ (s : WindowStream). code_text 99 s.turn s.place) content_key content_last (λ s below. name_by_place 99 s.turn s.place content_last refl content_most below) 0 contents content_rises
+        ∙ forms_rise (λ (s : WindowStream). code_text 99 s.period s.place) content_key content_last (λ s below. name_by_place 99 s.period s.place content_last refl content_most below) 0 contents content_rises
 
     contents_apart : AreApart (map stream_code contents)
     contents_apart = subst AreApart (sym (same_codes 99 contents content_is))
-        (apart_rise (λ (s : WindowStream). code_text 99 s.turn s.place) content_key content_last
-        (λ one other lt below. differ_by_place 99 one.turn one.place other.turn other.place content_last content_most lt below) 0 contents content_rises)
+        (apart_rise (λ (s : WindowStream). code_text 99 s.period s.place) content_key content_last
+        (λ one other lt below. differ_by_place 99 one.period one.place other.period other.place content_last content_most lt below) 0 contents content_rises)
 
 -- ---- the window
 

@@ -11,7 +11,7 @@ use Rattle.pb_window.specs.declared.plant.Plant.{Plant}
 use Rattle.pb_window.specs.declared.plant.Span.{Span}
 use Rattle.pb_window.specs.declared.window.WindowNode.{WindowNode}
 use Rattle.pb_window.specs.Plant.{is_node_in, nodes_in}
-use Rattle.pb_window.specs.Window.{Turn, nodes_of_turn, number_of, stands_for, window_node}
+use Rattle.pb_window.specs.Window.{NumberedSpan, nodes_of_period, number_of, stands_for, window_node}
 use Rattle.pb_window.proofs.ListLemmas.{none_passes, or_true}
 
 -- ---- a node of a period is one of its nodes
@@ -36,24 +36,24 @@ in_filter q n (x ∷ xs) passes there = elim (cases_Bool (x == n)) [
       elim (cases_Bool (q x)) [ inl kept ↦ rw (kept, other) later | inr dropped ↦ rw dropped later ]
 ]
 
-in_numbered : (n turn i : ℕ) (xs : List ℕ) → list_any (λ (m : ℕ). m == n) xs ≡ true → list_any (stands_for turn n) (map (window_node turn) (enumerate_from i xs)) ≡ true
-in_numbered n turn i [] there = cc there
-in_numbered n turn i (x ∷ xs) there =
-    let own : (turn == turn) ≡ true = eq-eqb turn turn refl in
+in_numbered : (n period i : ℕ) (xs : List ℕ) → list_any (λ (m : ℕ). m == n) xs ≡ true → list_any (stands_for period n) (map (window_node period) (enumerate_from i xs)) ≡ true
+in_numbered n period i [] there = cc there
+in_numbered n period i (x ∷ xs) there =
+    let own : (period == period) ≡ true = eq-eqb period period refl in
     elim (cases_Bool (x == n)) [
       | inl same ↦ rw (own, same) refl
-      | inr other ↦ rw (own, other) (in_numbered n turn (i + 1) xs (rw other at there))
+      | inr other ↦ rw (own, other) (in_numbered n period (i + 1) xs (rw other at there))
     ]
 
-pub in_turn : (plant : Plant) (turn : ℕ) (span : Span) (n : ℕ) → is_node_in plant span n ≡ true → 1 ≤ n → n ≤ plant.nodes
-    → list_any (stands_for turn n) (nodes_of_turn plant (turn, span)) ≡ true
-in_turn plant turn span n is least most =
-    in_numbered n turn 1 (nodes_in plant span) (in_filter (is_node_in plant span) n (range_with_len 1 plant.nodes) is (in_range n 1 plant.nodes least (omega (arith, most))))
+pub in_period : (plant : Plant) (period : ℕ) (span : Span) (n : ℕ) → is_node_in plant span n ≡ true → 1 ≤ n → n ≤ plant.nodes
+    → list_any (stands_for period n) (nodes_of_period plant (period, span)) ≡ true
+in_period plant period span n is least most =
+    in_numbered n period 1 (nodes_in plant span) (in_filter (is_node_in plant span) n (range_with_len 1 plant.nodes) is (in_range n 1 plant.nodes least (omega (arith, most))))
 
 -- the nodes of a period stand among these
-abbrev pub HasNodes : Plant → List WindowNode → Turn → Type 0
-HasNodes plant nodes turn =
-    (n : ℕ) → is_node_in plant turn.1 n ≡ true → 1 ≤ n → n ≤ plant.nodes → list_any (stands_for turn.0 n) nodes ≡ true
+abbrev pub HasNodes : Plant → List WindowNode → NumberedSpan → Type 0
+HasNodes plant nodes numbered =
+    (n : ℕ) → is_node_in plant numbered.1 n ≡ true → 1 ≤ n → n ≤ plant.nodes → list_any (stands_for numbered.0 n) nodes ≡ true
 
 in_middle : (p : WindowNode → Bool) (front here after : List WindowNode) → list_any p here ≡ true → list_any p (front ++ (here ++ after)) ≡ true
 in_middle p front here after there =
@@ -61,71 +61,71 @@ in_middle p front here after there =
     ∙ ap (λ (b : Bool). list_any p front || b) (list_any-append p here after ∙ ap (λ (b : Bool). b || list_any p after) there)
     ∙ or_true (list_any p front)
 
-pub turns_have : (plant : Plant) (front : List WindowNode) (u : ℕ) (spans : List Span)
-    → AllByRecursion (HasNodes plant (front ++ flat_map (nodes_of_turn plant) (enumerate_from u spans))) (enumerate_from u spans)
-turns_have plant front u [] = tt
-turns_have plant front u (span ∷ spans) =
-    let here = nodes_of_turn plant (u, span) in
-    let after = flat_map (nodes_of_turn plant) (enumerate_from (u + 1) spans) in (
-      λ n is least most. in_middle (stands_for u n) front here after (in_turn plant u span n is least most),
-      subst (λ (nodes : List WindowNode). AllByRecursion (HasNodes plant nodes) (enumerate_from (u + 1) spans)) (append_assoc front here after) (turns_have plant (front ++ here) (u + 1) spans),
+pub periods_have : (plant : Plant) (front : List WindowNode) (u : ℕ) (spans : List Span)
+    → AllByRecursion (HasNodes plant (front ++ flat_map (nodes_of_period plant) (enumerate_from u spans))) (enumerate_from u spans)
+periods_have plant front u [] = tt
+periods_have plant front u (span ∷ spans) =
+    let here = nodes_of_period plant (u, span) in
+    let after = flat_map (nodes_of_period plant) (enumerate_from (u + 1) spans) in (
+      λ n is least most. in_middle (stands_for u n) front here after (in_period plant u span n is least most),
+      subst (λ (nodes : List WindowNode). AllByRecursion (HasNodes plant nodes) (enumerate_from (u + 1) spans)) (append_assoc front here after) (periods_have plant (front ++ here) (u + 1) spans),
     )
 
 -- ---- numbers
 
 abbrev some_node : WindowNode
-some_node = record { turn = 0; place = 0; node = 0 }
+some_node = record { period = 0; place = 0; node = 0 }
 
 -- a number is that of a node of the graph
-pub number_small : (nodes : List WindowNode) (turn n : ℕ) → number_of nodes turn n < 1 + length nodes
-number_small nodes turn n = by (position (stands_for turn n) nodes) refl
+pub number_small : (nodes : List WindowNode) (period n : ℕ) → number_of nodes period n < 1 + length nodes
+number_small nodes period n = by (position (stands_for period n) nodes) refl
   where
-    by : (o : Option ℕ) → position (stands_for turn n) nodes ≡ o → option_map_or (λ (place : ℕ). 1 + place) o 0 < 1 + length nodes
+    by : (o : Option ℕ) → position (stands_for period n) nodes ≡ o → option_map_or (λ (place : ℕ). 1 + place) o 0 < 1 + length nodes
     by None at = omega arith
-    by (Some i) at = let parts = position-Some (stands_for turn n) nodes i some_node at in omega (arith, parts.0)
+    by (Some i) at = let parts = position-Some (stands_for period n) nodes i some_node at in omega (arith, parts.0)
 
 -- where a number is that of a node, what stands there
-node_at : (nodes : List WindowNode) (turn n i : ℕ) → position (stands_for turn n) nodes ≡ Some i → ((get_or nodes i some_node).turn ≡ turn) × ((get_or nodes i some_node).node ≡ n)
-node_at nodes turn n i at =
-    let here = (position-Some (stands_for turn n) nodes i some_node at).1 in
+node_at : (nodes : List WindowNode) (period n i : ℕ) → position (stands_for period n) nodes ≡ Some i → ((get_or nodes i some_node).period ≡ period) × ((get_or nodes i some_node).node ≡ n)
+node_at nodes period n i at =
+    let here = (position-Some (stands_for period n) nodes i some_node at).1 in
     let one = get_or nodes i some_node in
-    let parts = and_parts (one.turn == turn) (one.node == n) here in
-    (eqb-true one.turn turn parts.0, eqb-true one.node n parts.1)
+    let parts = and_parts (one.period == period) (one.node == n) here in
+    (eqb-true one.period period parts.0, eqb-true one.node n parts.1)
 
 -- a node of a period isn't the environment
-pub number_some : (nodes : List WindowNode) (turn n : ℕ) → list_any (stands_for turn n) nodes ≡ true → number_of nodes turn n ≢ 0
-number_some nodes turn n there = by (position (stands_for turn n) nodes) refl
+pub number_some : (nodes : List WindowNode) (period n : ℕ) → list_any (stands_for period n) nodes ≡ true → number_of nodes period n ≢ 0
+number_some nodes period n there = by (position (stands_for period n) nodes) refl
   where
-    by : (o : Option ℕ) → position (stands_for turn n) nodes ≡ o → option_map_or (λ (place : ℕ). 1 + place) o 0 ≢ 0
-    by None at = λ _. cc (sym there ∙ none_passes (stands_for turn n) some_node nodes at)
+    by : (o : Option ℕ) → position (stands_for period n) nodes ≡ o → option_map_or (λ (place : ℕ). 1 + place) o 0 ≢ 0
+    by None at = λ _. cc (sym there ∙ none_passes (stands_for period n) some_node nodes at)
     by (Some i) at = λ same. absurd (omega (arith, same))
 
 -- two nodes of a plant in one period have different numbers, where a unit or tank is a node of it
-pub nodes_apart : (nodes : List WindowNode) (turn a b : ℕ) → a ≢ b → (1 ≤ a → list_any (stands_for turn a) nodes ≡ true)
-    → (1 ≤ b → list_any (stands_for turn b) nodes ≡ true) → number_of nodes turn a ≢ number_of nodes turn b
-nodes_apart nodes turn a b differ a_there b_there = λ same. by (position (stands_for turn a) nodes) (position (stands_for turn b) nodes) refl refl same
+pub nodes_apart : (nodes : List WindowNode) (period a b : ℕ) → a ≢ b → (1 ≤ a → list_any (stands_for period a) nodes ≡ true)
+    → (1 ≤ b → list_any (stands_for period b) nodes ≡ true) → number_of nodes period a ≢ number_of nodes period b
+nodes_apart nodes period a b differ a_there b_there = λ same. by (position (stands_for period a) nodes) (position (stands_for period b) nodes) refl refl same
   where
-    by : (o p : Option ℕ) → position (stands_for turn a) nodes ≡ o → position (stands_for turn b) nodes ≡ p
+    by : (o p : Option ℕ) → position (stands_for period a) nodes ≡ o → position (stands_for period b) nodes ≡ p
         → option_map_or (λ (place : ℕ). 1 + place) o 0 ≡ option_map_or (λ (place : ℕ). 1 + place) p 0 → ⊥
     by None None a_at b_at same = elim (cases_Bool (a == 0)) [
       | inl zero ↦
           let a_is = eqb-true a 0 zero in
-          cc (sym (b_there (omega (arith, a_is, differ))) ∙ none_passes (stands_for turn b) some_node nodes b_at)
+          cc (sym (b_there (omega (arith, a_is, differ))) ∙ none_passes (stands_for period b) some_node nodes b_at)
       | inr some ↦
           let a_some = eqb-false a 0 some in
-          cc (sym (a_there (omega (arith, a_some))) ∙ none_passes (stands_for turn a) some_node nodes a_at)
+          cc (sym (a_there (omega (arith, a_some))) ∙ none_passes (stands_for period a) some_node nodes a_at)
     ]
     by None (Some k) a_at b_at same = absurd (omega (arith, same))
     by (Some i) None a_at b_at same = absurd (omega (arith, same))
     by (Some i) (Some k) a_at b_at same =
-        let one = (node_at nodes turn a i a_at).1 in
-        let other = (node_at nodes turn b k b_at).1 in
+        let one = (node_at nodes period a i a_at).1 in
+        let other = (node_at nodes period b k b_at).1 in
         let place : i ≡ k = omega (arith, same) in
         differ (sym one ∙ ap (λ (m : ℕ). (get_or nodes m some_node).node) place ∙ other)
 
 -- a node of a plant has different numbers in two periods
-pub turns_apart : (nodes : List WindowNode) (t u n : ℕ) → t ≢ u → list_any (stands_for t n) nodes ≡ true → number_of nodes t n ≢ number_of nodes u n
-turns_apart nodes t u n differ there = λ same. by (position (stands_for t n) nodes) (position (stands_for u n) nodes) refl refl same
+pub periods_apart : (nodes : List WindowNode) (t u n : ℕ) → t ≢ u → list_any (stands_for t n) nodes ≡ true → number_of nodes t n ≢ number_of nodes u n
+periods_apart nodes t u n differ there = λ same. by (position (stands_for t n) nodes) (position (stands_for u n) nodes) refl refl same
   where
     by : (o p : Option ℕ) → position (stands_for t n) nodes ≡ o → position (stands_for u n) nodes ≡ p
         → option_map_or (λ (place : ℕ). 1 + place) o 0 ≡ option_map_or (λ (place : ℕ). 1 + place) p 0 → ⊥
@@ -135,4 +135,4 @@ turns_apart nodes t u n differ there = λ same. by (position (stands_for t n) no
         let one = (node_at nodes t n i t_at).0 in
         let other = (node_at nodes u n k u_at).0 in
         let place : i ≡ k = omega (arith, same) in
-        differ (sym one ∙ ap (λ (m : ℕ). (get_or nodes m some_node).turn) place ∙ other)
+        differ (sym one ∙ ap (λ (m : ℕ). (get_or nodes m some_node).period) place ∙ other)

@@ -11,7 +11,7 @@ use Rattle.pb_window.specs.declared.window.WindowNode.{WindowNode}
 use Rattle.pb_window.specs.declared.window.WindowStream.{WindowStream}
 use Rattle.pb_window.specs.declared.window.Source.TheVariants.{Content}
 use Rattle.pb_window.specs.Plant.{NumberedArc, arcs_in, is_node_in, is_served, nodes_in}
-use Rattle.pb_window.specs.Window.{content_day, content_end, content_of, contents_of_arc, flow_of, flows_of_turn, nodes_of_turn, stay_of, window_node}
+use Rattle.pb_window.specs.Window.{content_day, content_end, content_of, contents_of_arc, flow_of, flows_of_period, nodes_of_period, stay_of, window_node}
 
 -- the keys of items rise, from one number on and below another
 abbrev pub Rise : {A : Type 0} → (A → ℕ) → ℕ → List A → ℕ → Type 0
@@ -48,26 +48,26 @@ length_filter p (x ∷ xs) = let more = length_filter p xs in elim (cases_Bool (
 -- ---- nodes
 
 abbrev pub node_key : WindowNode → ℕ
-node_key node = node.turn * 65536 + node.place
+node_key node = node.period * 65536 + node.place
 
-rise_numbered : (turn i : ℕ) (xs : List ℕ) → Rise node_key (turn * 65536 + i) (map (window_node turn) (enumerate_from i xs)) (turn * 65536 + (i + length xs))
-rise_numbered turn i [] = omega arith
-rise_numbered turn i (x ∷ xs) = (
+rise_numbered : (period i : ℕ) (xs : List ℕ) → Rise node_key (period * 65536 + i) (map (window_node period) (enumerate_from i xs)) (period * 65536 + (i + length xs))
+rise_numbered period i [] = omega arith
+rise_numbered period i (x ∷ xs) = (
   omega arith,
-  rise_from node_key (turn * 65536 + i + 1) (turn * 65536 + (i + 1)) (map (window_node turn) (enumerate_from (i + 1) xs)) (turn * 65536 + (i + length (x ∷ xs))) (omega arith)
-  (rise_to node_key (turn * 65536 + (i + 1)) (map (window_node turn) (enumerate_from (i + 1) xs)) (turn * 65536 + (i + 1 + length xs)) (turn * 65536 + (i + length (x ∷ xs))) (omega arith)
-  (rise_numbered turn (i + 1) xs)),
+  rise_from node_key (period * 65536 + i + 1) (period * 65536 + (i + 1)) (map (window_node period) (enumerate_from (i + 1) xs)) (period * 65536 + (i + length (x ∷ xs))) (omega arith)
+  (rise_to node_key (period * 65536 + (i + 1)) (map (window_node period) (enumerate_from (i + 1) xs)) (period * 65536 + (i + 1 + length xs)) (period * 65536 + (i + length (x ∷ xs))) (omega arith)
+  (rise_numbered period (i + 1) xs)),
 )
 
 pub nodes_rise : (plant : Plant) → plant.nodes ≤ 65000 → (u : ℕ) (spans : List Span)
-    → Rise node_key (u * 65536) (flat_map (nodes_of_turn plant) (enumerate_from u spans)) ((u + length spans) * 65536)
+    → Rise node_key (u * 65536) (flat_map (nodes_of_period plant) (enumerate_from u spans)) ((u + length spans) * 65536)
 nodes_rise plant few u [] = omega arith
 nodes_rise plant few u (span ∷ spans) =
     let list = nodes_in plant span in
     let short = length_filter (is_node_in plant span) (range_with_len 1 plant.nodes) in
     let long = length-range_with_len 1 plant.nodes in
-    let here = nodes_of_turn plant (u, span) in
-    let rest = flat_map (nodes_of_turn plant) (enumerate_from (u + 1) spans) in
+    let here = nodes_of_period plant (u, span) in
+    let rest = flat_map (nodes_of_period plant) (enumerate_from (u + 1) spans) in
     rise_join node_key (u * 65536) ((u + 1) * 65536) ((u + length (span ∷ spans)) * 65536) here rest
     (rise_from node_key (u * 65536) (u * 65536 + 1) here ((u + 1) * 65536) (omega arith)
     (rise_to node_key (u * 65536 + 1) here (u * 65536 + (1 + length list)) ((u + 1) * 65536) (omega (arith, short, long, few)) (rise_numbered u 1 list)))
@@ -76,31 +76,31 @@ nodes_rise plant few u (span ∷ spans) =
 -- ---- flows
 
 abbrev pub flow_key : WindowStream → ℕ
-flow_key stream = stream.turn * 65536 + stream.place
+flow_key stream = stream.period * 65536 + stream.place
 
-rise_flows : (nodes : List WindowNode) (turn i : ℕ) (xs : List NumberedArc)
-    → Rise flow_key (turn * 65536 + i) (filter_map (flow_of nodes turn) (enumerate_from i xs)) (turn * 65536 + (i + length xs))
-rise_flows nodes turn i [] = omega arith
-rise_flows nodes turn i (x ∷ xs) =
-    let rest = filter_map (flow_of nodes turn) (enumerate_from (i + 1) xs) in
-    let later = rise_to flow_key (turn * 65536 + (i + 1)) rest (turn * 65536 + (i + 1 + length xs)) (turn * 65536 + (i + length (x ∷ xs))) (omega arith) (rise_flows nodes turn (i + 1) xs) in
+rise_flows : (nodes : List WindowNode) (period i : ℕ) (xs : List NumberedArc)
+    → Rise flow_key (period * 65536 + i) (filter_map (flow_of nodes period) (enumerate_from i xs)) (period * 65536 + (i + length xs))
+rise_flows nodes period i [] = omega arith
+rise_flows nodes period i (x ∷ xs) =
+    let rest = filter_map (flow_of nodes period) (enumerate_from (i + 1) xs) in
+    let later = rise_to flow_key (period * 65536 + (i + 1)) rest (period * 65536 + (i + 1 + length xs)) (period * 65536 + (i + length (x ∷ xs))) (omega arith) (rise_flows nodes period (i + 1) xs) in
     elim (cases_Bool x.1.is_tank) [
-      | inl tank ↦ rw tank (rise_from flow_key (turn * 65536 + i) (turn * 65536 + (i + 1)) rest (turn * 65536 + (i + length (x ∷ xs))) (omega arith) later)
+      | inl tank ↦ rw tank (rise_from flow_key (period * 65536 + i) (period * 65536 + (i + 1)) rest (period * 65536 + (i + length (x ∷ xs))) (omega arith) later)
       | inr flow ↦ rw flow (
         omega arith,
-        rise_from flow_key (turn * 65536 + i + 1) (turn * 65536 + (i + 1)) rest (turn * 65536 + (i + length (x ∷ xs))) (omega arith) later,
+        rise_from flow_key (period * 65536 + i + 1) (period * 65536 + (i + 1)) rest (period * 65536 + (i + length (x ∷ xs))) (omega arith) later,
       )
     ]
 
 pub flows_rise : (arcs : List PlantArc) (nodes : List WindowNode) → length arcs ≤ 65000 → (u : ℕ) (spans : List Span)
-    → Rise flow_key (u * 65536) (flat_map (flows_of_turn arcs nodes) (enumerate_from u spans)) ((u + length spans) * 65536)
+    → Rise flow_key (u * 65536) (flat_map (flows_of_period arcs nodes) (enumerate_from u spans)) ((u + length spans) * 65536)
 flows_rise arcs nodes few u [] = omega arith
 flows_rise arcs nodes few u (span ∷ spans) =
     let list = arcs_in arcs span in
     let short = length_filter (λ (numbered : NumberedArc). is_served span numbered.1) (enumerate_from 0 arcs) in
     let long = length-enumerate_from 0 arcs in
-    let here = flows_of_turn arcs nodes (u, span) in
-    let rest = flat_map (flows_of_turn arcs nodes) (enumerate_from (u + 1) spans) in
+    let here = flows_of_period arcs nodes (u, span) in
+    let rest = flat_map (flows_of_period arcs nodes) (enumerate_from (u + 1) spans) in
     rise_join flow_key (u * 65536) ((u + 1) * 65536) ((u + length (span ∷ spans)) * 65536) here rest
     (rise_from flow_key (u * 65536) (u * 65536 + 0) here ((u + 1) * 65536) (omega arith)
     (rise_to flow_key (u * 65536 + 0) here (u * 65536 + (0 + length list)) ((u + 1) * 65536) (omega (arith, short, long, few)) (rise_flows nodes u 0 list)))
@@ -109,7 +109,7 @@ flows_rise arcs nodes few u (span ∷ spans) =
 -- ---- contents
 
 abbrev pub content_key : WindowStream → ℕ
-content_key stream = stream.place * 65536 + stream.turn
+content_key stream = stream.place * 65536 + stream.period
 
 rise_option : {A B : Type 0} (key : B → ℕ) (make : A → B) (b : ℕ) (o : Option A) (rest : List B) (e : ℕ)
     → ((x : A) → key (make x) ≡ b) → Rise key (b + 1) rest e → Rise key b (cons_option (option_map make o) rest) e
@@ -129,7 +129,7 @@ rise_contents nodes spans numbered k (suc n) =
     let end = numbered.0 * 65536 + (k + suc n) in
     rise_option content_key (λ (day : ℤ). record {
       source = Content day;
-      turn = k;
+      period = k;
       place = numbered.0;
       arc = numbered.0;
       from = content_end nodes k arc before;

@@ -13,7 +13,7 @@ use Rattle.pb_window.specs.declared.window.WindowStream.{WindowStream}
 
 -- such a name
 abbrev pub code_text : ℕ → ℕ → ℕ → List ℕ
-code_text letter turn place = letter ∷ (decimal_text turn ++ dot ∷ decimal_text place)
+code_text letter period place = letter ∷ (decimal_text period ++ dot ∷ decimal_text place)
 
 -- the letters of nodes, flows and contents: `n`, `s` and `c`
 abbrev pub node_letter : ℕ
@@ -24,10 +24,10 @@ source_letter Flow = 115
 source_letter (Content day) = 99
 
 abbrev pub node_code : WindowNode → List ℕ
-node_code node = code_text node_letter node.turn node.place
+node_code node = code_text node_letter node.period node.place
 
 abbrev pub stream_code : WindowStream → List ℕ
-stream_code stream = code_text (source_letter stream.source) stream.turn stream.place
+stream_code stream = code_text (source_letter stream.source) stream.period stream.place
 
 -- The names of the nodes and streams of a window's graph.
 abbrev pub window_names : Window → Names

@@ -19,63 +19,63 @@ abbrev pub most_periods_of_window : ℕ
 most_periods_of_window = 31
 
 -- a period after its number in the window, counted from 1
-abbrev pub Turn : Type 0
-Turn = ℕ × Span
+abbrev pub NumberedSpan : Type 0
+NumberedSpan = ℕ × Span
 
-abbrev pub turns_of : List Span → List Turn
-turns_of spans = enumerate_from 1 spans
+abbrev pub numbered_spans : List Span → List NumberedSpan
+numbered_spans spans = enumerate_from 1 spans
 
 -- ---- nodes
 
 -- a node of a period, by its place in the graph of the period and its number in the plant
 abbrev pub window_node : ℕ → ℕ × ℕ → WindowNode
-window_node turn placed = record { turn = turn; place = placed.0; node = placed.1 }
+window_node period placed = record { period = period; place = placed.0; node = placed.1 }
 
 -- the nodes of a period; the environment has place 0
-abbrev pub nodes_of_turn : Plant → Turn → List WindowNode
-nodes_of_turn plant turn = map (window_node turn.0) (enumerate_from 1 (nodes_in plant turn.1))
+abbrev pub nodes_of_period : Plant → NumberedSpan → List WindowNode
+nodes_of_period plant numbered = map (window_node numbered.0) (enumerate_from 1 (nodes_in plant numbered.1))
 
 -- The nodes of a window but the environment: those of each period in turn.
 abbrev pub window_nodes : Plant → List Span → List WindowNode
-window_nodes plant spans = flat_map (nodes_of_turn plant) (turns_of spans)
+window_nodes plant spans = flat_map (nodes_of_period plant) (numbered_spans spans)
 
 -- a node of the window stands for this node of the plant in this period
 abbrev pub stands_for : ℕ → ℕ → WindowNode → Bool
-stands_for turn node one = (one.turn == turn) && (one.node == node)
+stands_for period node one = (one.period == period) && (one.node == node)
 
 -- the number in the window's graph of a node of the plant in a period: its place after the environment, and the environment's number
 -- for what is no node of the period
 abbrev pub number_of : List WindowNode → ℕ → ℕ → ℕ
-number_of nodes turn node = option_map_or (λ place. 1 + place) (position (stands_for turn node) nodes) 0
+number_of nodes period node = option_map_or (λ place. 1 + place) (position (stands_for period node) nodes) 0
 
 -- ---- flows
 
 -- the flow of an arc in a period, by its place in the graph of the period; an inventory is none
 abbrev pub flow_of : List WindowNode → ℕ → ℕ × NumberedArc → Option WindowStream
-flow_of nodes turn placed =
+flow_of nodes period placed =
     let arc = placed.1.1 in
     if arc.is_tank then None else Some (record {
       source = Flow;
-      turn = turn;
+      period = period;
       place = placed.0;
       arc = placed.1.0;
-      from = number_of nodes turn arc.from;
-      to = number_of nodes turn arc.to;
+      from = number_of nodes period arc.from;
+      to = number_of nodes period arc.to;
     })
 
 -- the flows of a period
-abbrev pub flows_of_turn : List PlantArc → List WindowNode → Turn → List WindowStream
-flows_of_turn arcs nodes turn = filter_map (flow_of nodes turn.0) (enumerate_from 0 (arcs_in arcs turn.1))
+abbrev pub flows_of_period : List PlantArc → List WindowNode → NumberedSpan → List WindowStream
+flows_of_period arcs nodes numbered = filter_map (flow_of nodes numbered.0) (enumerate_from 0 (arcs_in arcs numbered.1))
 
 -- The flows of a window: those of each period in turn.
 abbrev pub window_flows : List PlantArc → List WindowNode → List Span → List WindowStream
-window_flows arcs nodes spans = flat_map (flows_of_turn arcs nodes) (turns_of spans)
+window_flows arcs nodes spans = flat_map (flows_of_period arcs nodes) (numbered_spans spans)
 
 -- ---- contents
 
 -- the period with a number, which is none for 0 and after the last one
 abbrev pub span_of : List Span → ℕ → Option Span
-span_of spans turn = if turn == 0 then None else slice_get spans (turn - 1)
+span_of spans period = if period == 0 then None else slice_get spans (period - 1)
 
 -- a period, if an arc is in service in it
 abbrev pub if_served : PlantArc → Option Span → Option Span
@@ -84,7 +84,7 @@ if_served arc (Some span) = if is_served span arc then Some span else None
 
 -- the period with a number, if there is one and an arc is in service in it
 abbrev pub stay_of : List Span → PlantArc → ℕ → Option Span
-stay_of spans arc turn = if_served arc (span_of spans turn)
+stay_of spans arc period = if_served arc (span_of spans period)
 
 -- The day at whose end the content between two periods is held: the day at whose end it closes in the one before, or else that at whose
 -- end it opens in the one after. There is no content where the tank is in service in neither.
@@ -95,22 +95,22 @@ content_day arc None None = None
 
 -- an end of a content: the tank's node in a period in which it is in service, and else the environment
 abbrev pub content_end : List WindowNode → ℕ → PlantArc → Option Span → ℕ
-content_end nodes turn arc None = 0
-content_end nodes turn arc (Some span) = number_of nodes turn arc.from
+content_end nodes period arc None = 0
+content_end nodes period arc (Some span) = number_of nodes period arc.from
 
 -- what a tank holds after the period with a number, 0 for the first opening, and before the next one
 abbrev pub content_of : List WindowNode → List Span → NumberedArc → ℕ → Option WindowStream
-content_of nodes spans numbered turn =
+content_of nodes spans numbered period =
     let arc = numbered.1 in
-    let before = stay_of spans arc turn in
-    let after = stay_of spans arc (turn + 1) in
+    let before = stay_of spans arc period in
+    let after = stay_of spans arc (period + 1) in
     option_map (λ (day : ℤ). record {
       source = Content day;
-      turn = turn;
+      period = period;
       place = numbered.0;
       arc = numbered.0;
-      from = content_end nodes turn arc before;
-      to = content_end nodes (turn + 1) arc after;
+      from = content_end nodes period arc before;
+      to = content_end nodes (period + 1) arc after;
     }) (content_day arc before after)
 
 -- the contents of an arc, which are none unless it is a tank's

@@ -9,23 +9,23 @@ use pb_rows::{Name, whole_bytes};
 use std::alloc::{AllocError, Global};
 
 // A letter, a number, a dot and a number.
-fn code_text(alloc: Global, letter: u8, turn: u32, place: u32) -> Result<Vec<u8>, AllocError>
-    ensures { IfOk result (λ text. text.items ≡ code_text letter turn place) }
+fn code_text(alloc: Global, letter: u8, period: u32, place: u32) -> Result<Vec<u8>, AllocError>
+    ensures { IfOk result (λ text. text.items ≡ code_text letter period place) }
 {
     let mut text = Vec::new(alloc);
     text.push(letter)?;
-    text.extend_from_slice(&whole_bytes(alloc, i128::from(turn))?)?;
+    text.extend_from_slice(&whole_bytes(alloc, i128::from(period))?)?;
     text.push(b'.')?;
     text.extend_from_slice(&whole_bytes(alloc, i128::from(place))?)?;
     Ok(text)
 }
 
 // Such a text as a name.
-fn code(alloc: Global, letter: u8, turn: u32, place: u32) -> Result<Name, AllocError>
+fn code(alloc: Global, letter: u8, period: u32, place: u32) -> Result<Name, AllocError>
     requires { is_name_byte letter ≡ true }
-    ensures { IfOk result (λ name. name ≡ code_text letter turn place) }
+    ensures { IfOk result (λ name. name ≡ code_text letter period place) }
 {
-    let text = code_text(alloc, letter, turn, place)?;
+    let text = code_text(alloc, letter, period, place)?;
     match Name::read(&text) {
         Some(name) => Ok(name),
         None => unreachable!(),
@@ -36,7 +36,7 @@ fn code(alloc: Global, letter: u8, turn: u32, place: u32) -> Result<Name, AllocE
 pub fn node_code(alloc: Global, node: &WindowNode) -> Result<Name, AllocError>
     ensures { IfOk result (λ name. name ≡ node_code node.now) }
 {
-    code(alloc, b'n', node.turn, node.place)
+    code(alloc, b'n', node.period, node.place)
 }
 
 /// The name of a stream of a window. That of a flow is `s`, the number of its period, and its place in the graph of that period;
@@ -48,5 +48,5 @@ pub fn stream_code(alloc: Global, stream: &WindowStream) -> Result<Name, AllocEr
         Source::Flow => b's',
         Source::Content(_) => b'c',
     };
-    code(alloc, letter, stream.turn, stream.place)
+    code(alloc, letter, stream.period, stream.place)
 }

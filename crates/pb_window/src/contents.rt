@@ -11,24 +11,24 @@ use crate::window::{Source, WindowNode, WindowStream};
 use std::alloc::AllocError;
 
 // The period with a number, counted from 1.
-fn span_of(spans: &[Span], turn: u32) -> Option<Span>
+fn span_of(spans: &[Span], period: u32) -> Option<Span>
     requires { All IsSpan spans.now }
-    ensures value { result ≡ span_of spans.now turn }
+    ensures value { result ≡ span_of spans.now period }
     ensures begins { IfSome result IsSpan }
 {
-    if turn == 0 {
+    if period == 0 {
         return None;
     }
-    spans.get(turn as usize - 1).copied()
+    spans.get(period as usize - 1).copied()
 }
 
 // The period with a number, if there is one and an arc is in service in it.
-fn stay_of(spans: &[Span], arc: &PlantArc, turn: u32) -> Option<Span>
+fn stay_of(spans: &[Span], arc: &PlantArc, period: u32) -> Option<Span>
     requires { All IsSpan spans.now }
-    ensures value { result ≡ stay_of spans.now arc.now turn }
+    ensures value { result ≡ stay_of spans.now arc.now period }
     ensures begins { IfSome result IsSpan }
 {
-    let span = span_of(spans, turn)?;
+    let span = span_of(spans, period)?;
     if is_served(&span, arc) {
         Some(span)
     } else {
@@ -49,13 +49,13 @@ fn content_day(arc: &PlantArc, before: Option<Span>, after: Option<Span>) -> Opt
 }
 
 // An end of a content.
-fn content_end(nodes: &[WindowNode], turn: u32, arc: &PlantArc, stay: Option<Span>) -> u32
+fn content_end(nodes: &[WindowNode], period: u32, arc: &PlantArc, stay: Option<Span>) -> u32
     requires { length nodes.now < 2 ^ 31 }
-    ensures { result ≡ content_end nodes.now turn arc.now stay }
+    ensures { result ≡ content_end nodes.now period arc.now stay }
 {
     match stay {
         None => 0,
-        Some(_) => number_of(nodes, turn, arc.from),
+        Some(_) => number_of(nodes, period, arc.from),
     }
 }
 
@@ -65,23 +65,23 @@ fn content_of(
     spans: &[Span],
     number: u32,
     arc: &PlantArc,
-    turn: u32,
+    period: u32,
 ) -> Option<WindowStream>
     requires nodes { length nodes.now < 2 ^ 31 }
     requires spans { All IsSpan spans.now }
-    requires turn { turn ≤ most_periods_of_window }
-    ensures { result ≡ content_of nodes.now spans.now (number, arc.now) turn }
+    requires period { period ≤ most_periods_of_window }
+    ensures { result ≡ content_of nodes.now spans.now (number, arc.now) period }
 {
-    let before = stay_of(spans, arc, turn);
-    let after = stay_of(spans, arc, turn + 1);
+    let before = stay_of(spans, arc, period);
+    let after = stay_of(spans, arc, period + 1);
     let day = content_day(arc, before, after)?;
     Some(WindowStream {
         source: Source::Content(day),
-        turn,
+        period,
         place: number,
         arc: number,
-        from: content_end(nodes, turn, arc, before),
-        to: content_end(nodes, turn + 1, arc, after),
+        from: content_end(nodes, period, arc, before),
+        to: content_end(nodes, period + 1, arc, after),
     })
 }
 
@@ -102,8 +102,8 @@ fn push_arc(
     if !arc.is_tank {
         return Ok(());
     }
-    for turn in 0..spans.len() as u32 + 1 {
-        if let Some(stream) = content_of(nodes, spans, number, arc, turn) {
+    for period in 0..spans.len() as u32 + 1 {
+        if let Some(stream) = content_of(nodes, spans, number, arc, period) {
             streams.push(stream)?;
         }
     }

@@ -33,41 +33,41 @@ fn arcs_in(
 // The flow of an arc in a period, by its place in the graph of the period.
 fn flow_of(
     nodes: &[WindowNode],
-    turn: u32,
+    period: u32,
     place: u32,
     number: u32,
     arc: &PlantArc,
 ) -> Option<WindowStream>
     requires { length nodes.now < 2 ^ 31 }
-    ensures { result ≡ flow_of nodes.now turn (place, (number, arc.now)) }
+    ensures { result ≡ flow_of nodes.now period (place, (number, arc.now)) }
 {
     if arc.is_tank {
         return None;
     }
     Some(WindowStream {
         source: Source::Flow,
-        turn,
+        period,
         place,
         arc: number,
-        from: number_of(nodes, turn, arc.from),
-        to: number_of(nodes, turn, arc.to),
+        from: number_of(nodes, period, arc.from),
+        to: number_of(nodes, period, arc.to),
     })
 }
 
 // Appends the flows of a period, in which these arcs are in service.
-fn push_turn(
+fn push_period(
     list: &[(u32, PlantArc)],
     nodes: &[WindowNode],
-    turn: u32,
+    period: u32,
     streams: &mut Vec<WindowStream>,
 ) -> Result<(), AllocError>
     requires nodes { length nodes.now < 2 ^ 31 }
     requires few { length list.now ≤ most_streams }
     ensures { OnOk result (streams.new.items
-        ≡ streams.old.items ++ filter_map (flow_of nodes.now turn) (enumerate_from 0 list.now)) }
+        ≡ streams.old.items ++ filter_map (flow_of nodes.now period) (enumerate_from 0 list.now)) }
 {
     for (place, (number, arc)) in list.iter().enumerate() {
-        if let Some(stream) = flow_of(nodes, turn, place as u32, *number, arc) {
+        if let Some(stream) = flow_of(nodes, period, place as u32, *number, arc) {
             streams.push(stream)?;
         }
     }
@@ -90,7 +90,7 @@ pub fn push_flows(
     let alloc = *streams.allocator();
     for (t, span) in spans.iter().enumerate() {
         let list = arcs_in(alloc, arcs, span)?;
-        push_turn(&list, nodes, t as u32 + 1, streams)?;
+        push_period(&list, nodes, t as u32 + 1, streams)?;
     }
     Ok(())
 }

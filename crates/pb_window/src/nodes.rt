@@ -4,7 +4,7 @@ ghost use Rattle.std.specs.Prelude.{◌≡◌, ◌<◌, ◌≤◌, ◌*◌, ◌^
 ghost use Rattle.std.specs.List.{enumerate_from};
 ghost use Rattle.pb_limits.specs.Limits.{most_units_and_tanks};
 ghost use Rattle.pb_window.specs.Plant.{IsPlant, nodes_in};
-ghost use Rattle.pb_window.specs.Window.{most_periods_of_window, nodes_of_turn, number_of, stands_for, window_node, window_nodes};
+ghost use Rattle.pb_window.specs.Window.{most_periods_of_window, nodes_of_period, number_of, stands_for, window_node, window_nodes};
 
 use crate::plant::{Plant, Span, is_node_in};
 use crate::window::WindowNode;
@@ -26,14 +26,14 @@ fn nodes_in(alloc: Global, plant: &Plant, span: &Span) -> Result<Vec<u32>, Alloc
 }
 
 // Appends the nodes of a period, which are those units and tanks.
-fn push_nodes(turn: u32, list: &[u32], nodes: &mut Vec<WindowNode>) -> Result<(), AllocError>
+fn push_nodes(period: u32, list: &[u32], nodes: &mut Vec<WindowNode>) -> Result<(), AllocError>
     requires { length list.now ≤ most_units_and_tanks }
-    ensures ok { OnOk result (nodes.new.items
-        ≡ nodes.old.items ++ map (window_node turn) (enumerate_from 1 list.now)) }
+    ensures { OnOk result (nodes.new.items
+        ≡ nodes.old.items ++ map (window_node period) (enumerate_from 1 list.now)) }
 {
     for (i, &node) in list.iter().enumerate() {
         nodes.push(WindowNode {
-            turn,
+            period,
             place: i as u32 + 1,
             node,
         })?;
@@ -62,21 +62,21 @@ pub fn window_nodes(
 }
 
 // The place of a node of the plant in a period among the nodes of a window.
-fn place_of(nodes: &[WindowNode], turn: u32, node: u32) -> Option<usize>
-    ensures { result ≡ position (stands_for turn node) nodes.now }
+fn place_of(nodes: &[WindowNode], period: u32, node: u32) -> Option<usize>
+    ensures { result ≡ position (stands_for period node) nodes.now }
 {
     nodes
         .iter()
-        .position(|one| one.turn == turn && one.node == node)
+        .position(|one| one.period == period && one.node == node)
 }
 
 /// The number of a node of the plant in a period among the nodes of a window's graph; 0 for the environment, and for what is no
 /// node of the period.
-pub fn number_of(nodes: &[WindowNode], turn: u32, node: u32) -> u32
+pub fn number_of(nodes: &[WindowNode], period: u32, node: u32) -> u32
     requires { length nodes.now < 2 ^ 31 }
-    ensures { result ≡ number_of nodes.now turn node }
+    ensures { result ≡ number_of nodes.now period node }
 {
-    match place_of(nodes, turn, node) {
+    match place_of(nodes, period, node) {
         Some(place) => 1 + place as u32,
         None => 0,
     }

@@ -1,9 +1,10 @@
 // Windows.
 
-ghost use Rattle.std.specs.Prelude.{◌≡◌, ◌≢◌, ◌≤◌, length, All, Err};
+ghost use Rattle.std.specs.Prelude.{◌≡◌, ◌≢◌, ◌≤◌, length, All, Err, IfOk};
 ghost use Rattle.pb_window.specs.declared.window.WindowFault.TheVariants.{NoMemory};
 ghost use Rattle.pb_window.specs.Plant.{IsPlant, IsSpan};
-ghost use Rattle.pb_window.specs.Window.{is_too_great, most_periods_of_window, window_of};
+ghost use Rattle.pb_window.specs.Codes.{AreWindowNames};
+ghost use Rattle.pb_window.specs.Window.{IsWindow, is_too_great, most_periods_of_window, window_of};
 
 use crate::contents::push_contents;
 use crate::flows::push_flows;
@@ -16,7 +17,7 @@ use std::alloc::{AllocError, Global};
 /// plant. Node 0 of the window's graph is the environment, and its other nodes follow in order.
 #[derive(Clone, Copy, Debug, PartialEq, Eq)]
 pub struct WindowNode {
-    pub turn: u32,
+    pub period: u32,
     pub place: u32,
     pub node: u32,
 }
@@ -36,7 +37,7 @@ pub enum Source {
 #[derive(Clone, Copy, Debug, PartialEq, Eq)]
 pub struct WindowStream {
     pub source: Source,
-    pub turn: u32,
+    pub period: u32,
     pub place: u32,
     pub arc: u32,
     pub from: u32,
@@ -78,7 +79,9 @@ pub fn window_of(alloc: Global, plant: &Plant, spans: &[Span]) -> Result<Window,
     requires plant { IsPlant plant.now }
     requires spans { All IsSpan spans.now }
     requires few { length spans.now ≤ most_periods_of_window }
-    ensures { result ≢ Err WindowFault.NoMemory → result ≡ window_of plant.now spans.now }
+    ensures answer { result ≢ Err WindowFault.NoMemory → result ≡ window_of plant.now spans.now }
+    ensures form { IfOk result IsWindow }
+    ensures names { IfOk result AreWindowNames }
 {
     let nodes = window_nodes(alloc, plant, spans)?;
     let mut streams = Vec::new(alloc);

@@ -6,5 +6,5 @@ use Rattle.pb_window.proofs.nodes.push_nodes.Given as goal
 -- the nodes so far stand at the end
 abbrev pub invariant-loop-i : goal.invariant-loop-i
 invariant-loop-i l =
-    l.fn.nodes.items ++ map (window_node l.turn) (enumerate_from 1 l.list)
-    ≡ l.nodes.items ++ map (window_node l.turn) (enumerate_from (l.i + 1) (drop l.i l.list))
+    l.fn.nodes.items ++ map (window_node l.period) (enumerate_from 1 l.list)
+    ≡ l.nodes.items ++ map (window_node l.period) (enumerate_from (l.i + 1) (drop l.i l.list))
