@@ -4,5 +4,6 @@ mod JoinLemmas
 mod ListLemmas
 mod NameLemmas
 mod NumberLemmas
+mod PlaceLemmas
 mod RisingLemmas
 mod ShapeLemmas

@@ -247,7 +247,7 @@ stream_names plant spans is few = subst AreNames (sym (map-append stream_code fl
 
 -- ---- the window
 
-shape_in : (shape window : Window) → unless_too_great shape ≡ Ok window → shape ≡ window
+pub shape_in : (shape window : Window) → unless_too_great shape ≡ Ok window → shape ≡ window
 shape_in shape window answer = elim (cases_Bool (is_too_great shape)) [ inl great ↦ cc (rw great at answer) | inr fits ↦ cc (rw fits at answer) ]
 
 pub names_are : WindowNamesLaw

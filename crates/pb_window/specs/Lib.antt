@@ -3,4 +3,5 @@ pub mod Plant
 pub mod Window
 pub mod Graph
 pub mod Codes
+pub mod Places
 pub mod Laws

@@ -12,12 +12,14 @@ mod contents;
 mod flows;
 mod graph;
 mod laws;
+mod names;
 mod nodes;
 mod plant;
 mod window;
 
 pub use codes::{node_code, stream_code};
 pub use graph::{WindowAssembly, window_graph};
-pub use laws::{window_form_law, window_names_law};
+pub use laws::{window_form_law, window_names_law, window_places_law};
+pub use names::{WindowPlace, window_names, window_places};
 pub use plant::{Plant, PlantArc, Service, Span, is_plant};
 pub use window::{Source, Window, WindowFault, WindowNode, WindowStream, window_of};
