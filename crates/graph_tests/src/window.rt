@@ -1,5 +1,8 @@
-use crate::graphs::METER;
-use pb_graph::{Graph, List, Meas, Stream};
+ghost use Rattle.std.specs.Prelude.{IfOk};
+ghost use Rattle.pb_window.specs.Window.{IsWindow};
+
+use pb_classify::classify;
+use pb_graph::{Class, Graph, List, Meas};
 use pb_window::{
     Plant, PlantArc, Service, Source, Span, Window, WindowAssembly, WindowFault, WindowNode,
     is_plant, node_code, stream_code, window_graph, window_of,
@@ -168,7 +171,9 @@ fn window_by(
     arcs: &[PlantArc],
     keeps_idle: bool,
     spans: &[Span],
-) -> Result<Window, WindowFault> {
+) -> Result<Window, WindowFault>
+    ensures { IfOk result IsWindow }
+{
     let plant = Plant {
         nodes,
         arcs: List::from_vec(Vec::from_slice(alloc, arcs)?),
@@ -284,4 +289,71 @@ fn size_of(rt: &impl Abort, alloc: Global, days: usize) -> Result<(usize, usize)
 fn greatest_window(rt: HostRuntime) {
     assert_eq!(&rt; size_of(&rt, rt.alloc(), 10), Ok((1_000, 1_000)), "ten days");
     assert_eq!(&rt; size_of(&rt, rt.alloc(), 11), Err(WindowFault::TooGreat), "eleven days");
+}
+
+const fn read(value: i128) -> Option<Meas> {
+    Some(Meas { value, variance: 1 })
+}
+
+// The graph of the two periods of a tank, by what was measured.
+fn graph_by(
+    rt: &impl Abort,
+    alloc: Global,
+    measured: &[Option<Meas>],
+) -> Result<Graph, WindowAssembly> {
+    let Ok(window) = window_by(rt, alloc, 1, TANK, true, &[day(10), day(11)]) else {
+        return Err(WindowAssembly::NoMemory);
+    };
+    assert!(rt; measured.len() == window.streams.len(), "a measurement for each stream");
+    window_graph(alloc, &window, measured)
+}
+
+fn assert_classes(
+    rt: &impl Abort,
+    alloc: Global,
+    g: &Graph,
+    wanted: &[Class],
+) -> Result<(), AllocError> {
+    let classes = classify(alloc, g)?;
+    assert_eq!(rt; classes.len(), wanted.len(), "streams");
+    for (found, wanted) in classes.iter().zip(wanted) {
+        assert_eq!(rt; found.class, *wanted, "a class");
+    }
+    Ok(())
+}
+
+/// A tank is read on the day before the first period and at the end of the second one, and not between: the flows determine what it
+/// holds there.
+#[test]
+fn missed_dip(rt: HostRuntime) -> Result<(), WindowAssembly> {
+    let measured = [
+        read(50),
+        read(10),
+        read(0),
+        read(10),
+        read(0),
+        None,
+        read(30),
+    ];
+    let wanted = [
+        Class::Redundant,
+        Class::Redundant,
+        Class::Redundant,
+        Class::Redundant,
+        Class::Redundant,
+        Class::Observable,
+        Class::Redundant,
+    ];
+    let g = graph_by(&rt, rt.alloc(), &measured)?;
+    assert_classes(&rt, rt.alloc(), &g, &wanted)?;
+    Ok(())
+}
+
+/// A stream of the second period is over the limits.
+#[test]
+fn over_in_the_second_period(rt: HostRuntime) {
+    let great = read(1_000_000_000_000_001);
+    let measured = [read(0), read(0), read(0), great, None, None, None];
+    let found = graph_by(&rt, rt.alloc(), &measured).map(|g| g.len());
+    assert_eq!(&rt; found, Err(WindowAssembly::Over(3)), "the second flow of the second period");
 }
