@@ -136,7 +136,10 @@ const CASES: &[Case] = &[
         nodes: 1,
         arcs: &[arc(0, 1), serving(tank(1), 12, 15)],
         keeps_idle: false,
-        spans: &[Span { first: 10, last: 19 }],
+        spans: &[Span {
+            first: 10,
+            last: 19,
+        }],
         window_nodes: &[("n1.1", 1)],
         window_streams: &[("s1.0", 0, 1), ("c0.1", 0, 1), ("c1.1", 1, 0)],
         days: &[11, 15],
@@ -180,7 +183,10 @@ fn window_by(
         keeps_idle,
     };
     let within = is_plant(&plant) && spans.len() <= 31;
-    assert!(rt; within && spans.iter().all(|span| span.first >= 0), "a plant and periods");
+    assert!(rt;
+        within && spans.iter().all(|span| span.first >= 0),
+        "a plant and periods"
+    );
     window_of(alloc, &plant, spans)
 }
 
@@ -201,7 +207,12 @@ fn assert_nodes(
     case: &Case,
     window: &Window,
 ) -> Result<(), AllocError> {
-    assert_eq!(rt; window.nodes.len(), case.window_nodes.len(), "{}", case.name);
+    assert_eq!(rt;
+        window.nodes.len(),
+        case.window_nodes.len(),
+        "{}",
+        case.name
+    );
     for (node, wanted) in window.nodes.iter().zip(case.window_nodes) {
         assert_node(rt, alloc, node, wanted)?;
     }
@@ -214,7 +225,12 @@ fn assert_streams(
     case: &Case,
     window: &Window,
 ) -> Result<(), AllocError> {
-    assert_eq!(rt; window.streams.len(), case.window_streams.len(), "{}", case.name);
+    assert_eq!(rt;
+        window.streams.len(),
+        case.window_streams.len(),
+        "{}",
+        case.name
+    );
     for (stream, wanted) in window.streams.iter().zip(case.window_streams) {
         let name = stream_code(alloc, stream)?;
         assert_eq!(rt;
@@ -273,7 +289,7 @@ fn windows(rt: HostRuntime) -> Result<(), WindowFault> {
     Ok(())
 }
 
-// How many nodes and streams a window of so many days has, of a plant of 100 units with a stream each.
+// How many nodes and streams a window of that many days has, of a plant of 100 units with a stream each.
 fn size_of(rt: &impl Abort, alloc: Global, days: usize) -> Result<(usize, usize), WindowFault> {
     let mut arcs = Vec::new(alloc);
     for unit in 1..101 {
@@ -287,8 +303,16 @@ fn size_of(rt: &impl Abort, alloc: Global, days: usize) -> Result<(usize, usize)
 /// As many nodes as a graph may have, and a period more.
 #[test]
 fn greatest_window(rt: HostRuntime) {
-    assert_eq!(&rt; size_of(&rt, rt.alloc(), 10), Ok((1_000, 1_000)), "ten days");
-    assert_eq!(&rt; size_of(&rt, rt.alloc(), 11), Err(WindowFault::TooGreat), "eleven days");
+    assert_eq!(&rt;
+        size_of(&rt, rt.alloc(), 10),
+        Ok((1_000, 1_000)),
+        "ten days"
+    );
+    assert_eq!(&rt;
+        size_of(&rt, rt.alloc(), 11),
+        Err(WindowFault::TooGreat),
+        "eleven days"
+    );
 }
 
 const fn read(value: i128) -> Option<Meas> {
@@ -304,7 +328,10 @@ fn graph_by(
     let Ok(window) = window_by(rt, alloc, 1, TANK, true, &[day(10), day(11)]) else {
         return Err(WindowAssembly::NoMemory);
     };
-    assert!(rt; measured.len() == window.streams.len(), "a measurement for each stream");
+    assert!(rt;
+        measured.len() == window.streams.len(),
+        "a measurement for each stream"
+    );
     window_graph(alloc, &window, measured)
 }
 
@@ -355,5 +382,9 @@ fn over_in_the_second_period(rt: HostRuntime) {
     let great = read(1_000_000_000_000_001);
     let measured = [read(0), read(0), read(0), great, None, None, None];
     let found = graph_by(&rt, rt.alloc(), &measured).map(|g| g.len());
-    assert_eq!(&rt; found, Err(WindowAssembly::Over(3)), "the second flow of the second period");
+    assert_eq!(&rt;
+        found,
+        Err(WindowAssembly::Over(3)),
+        "the second flow of the second period"
+    );
 }

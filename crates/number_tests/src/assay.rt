@@ -225,14 +225,7 @@ fn assert_balance(
     component: &Graph,
     flows: &[(usize, i128)],
 ) -> Result<(), AllocError> {
-    let balance = study_of(
-        rt,
-        alloc,
-        component.nodes(),
-        component.streams(),
-        10,
-        5_000,
-    )?;
+    let balance = study_of(rt, alloc, component.nodes(), component.streams(), 10, 5_000)?;
     assert!(rt; balance.stages.len() == 1, "one stage");
     assert_flows(rt, balance.stages.at(0), flows);
     Ok(())
@@ -266,7 +259,7 @@ const OVERS: &[([Option<Grade>; 3], u32)] = &[
     ([Some(grade(0, 10_000)), None, Some(grade(1, 0))], 0),
 ];
 
-/// The first stream that is over the limits is told.
+/// The first stream that is over the limits is named.
 #[test]
 fn over_the_limits(rt: HostRuntime) {
     for (grades, j) in OVERS {

@@ -3,7 +3,7 @@ use Rattle.std.specs.Prelude.{nat_lt, int_lt}
 use Rattle.std.proofs.Common.{◌≡◌, ◌≤◌, ℕ, ◌*◌, ◌^◌, ℤ, pos, neg_ℤ, ◌+ℤ◌, ◌-ℤ◌, ◌*ℤ◌, ◌≤ℤ◌, ◌<ℤ◌, unsigned_abs, FitsSigned, false, arith, subst}
 use Rattle.std.proofs.Math.Nat.{mul-le-mul_left, mul-le-mul_right}
 use Rattle.std.proofs.lemmas.Bool.{or_parts, ltb-false}
-use Rattle.std.proofs.lemmas.Int.{unsigned_abs-mul, fits_signed_mul, ints}
+use Rattle.std.proofs.lemmas.Int.{unsigned_abs-mul, fits_signed_from_abs, fits_signed_mul, ints}
 use mir.Syntax.{w128}
 use Rattle.pb_limits.specs.Limits.{most_value, most_variance}
 use Rattle.pb_integers.proofs.Order.{mul_nonneg, square_pos}
@@ -79,3 +79,7 @@ carried_is flow grade =
       grams = floor_is (flow *ℤ grade.ppm) (pos (10 ^ 6)) million;
       variance = subst (λ (q : ℤ). IsCeiling weighted (pos (10 ^ 12)) q) (one_less (ceil_div weighted (pos (10 ^ 12)))) (ceiling_is weighted (pos (10 ^ 12)) squared);
     }
+
+-- one more than what a square by a variance may be fits too
+pub one_more_fits : (variance : ℤ) → unsigned_abs variance ≤ 10 ^ 38 → FitsSigned w128 (variance +ℤ pos 1)
+one_more_fits variance small = fits_signed_from_abs w128 (variance +ℤ pos 1) (omega (arith, ints, small))

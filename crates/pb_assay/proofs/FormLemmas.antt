@@ -1,16 +1,15 @@
 -- The component graph keeps the limits of a process graph.
-use Rattle.std.specs.Prelude.{position, option_map, All, IfSome}
-use Rattle.std.proofs.Common.{◌≡◌, ◌∙◌, ◌<◌, ℕ, zero, suc, ℤ, Bool, false, List, [], ◌∷◌, length, get_or, Option, Some, None, Result, Ok, Err, refl, sym, ap, arith, subst}
+use Rattle.std.specs.Prelude.{option_map, All, IfSome}
+use Rattle.std.proofs.Common.{◌≡◌, ◌∙◌, ◌<◌, ℕ, zero, suc, ℤ, false, List, [], ◌∷◌, length, get_or, Option, Some, None, sym, arith, subst}
 use Rattle.std.specs.Option.{option_map_or}
 use Rattle.pb_graph.specs.declared.records.Stream.{Stream}
 use Rattle.pb_graph.specs.declared.records.Class.{Class}
 use Rattle.pb_graph.specs.declared.records.Class.TheVariants.{Observable, Unobservable, Redundant, Nonredundant}
 use Rattle.pb_graph.specs.declared.results.StreamResult.{StreamResult}
-use Rattle.pb_graph.specs.ProcessGraph.{IsMeasurement, IsProcessGraph, IsStream, IsWithinLimits, ProcessGraph}
+use Rattle.pb_graph.specs.ProcessGraph.{IsMeasurement, IsProcessGraph, IsStream, IsWithinLimits}
 use Rattle.pb_assay.specs.declared.grade.Grade.{Grade}
-use Rattle.pb_assay.specs.declared.component.ComponentFault.{ComponentFault}
 use Rattle.pb_assay.specs.Grade.{IsGrade, carried, carries_too_much}
-use Rattle.pb_assay.specs.Component.{component_of, component_overs, component_stream, component_streams, component_unless_over, counted_grade, is_component_over}
+use Rattle.pb_assay.specs.Component.{component_overs, component_stream, component_streams, counted_grade, is_component_over}
 use Rattle.pb_assay.specs.Laws.{ComponentFormLaw}
 use Rattle.pb_assay.proofs.CarriedLemmas.{carried_within}
 use Rattle.pb_assay.proofs.ComponentLemmas.{made_graph, none_over, streams_each}

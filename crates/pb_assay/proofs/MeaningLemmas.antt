@@ -1,7 +1,7 @@
--- What the component graph is, stream by stream, and which stream is told as over the limits.
-use Rattle.std.specs.Prelude.{position, option_map, unwrap_or, IsSomeAnd}
+-- What the component graph is, stream by stream, and which stream is named as over the limits.
+use Rattle.std.specs.Prelude.{position, option_map, IsSomeAnd}
 use Rattle.std.specs.Option.{option_map_or}
-use Rattle.std.proofs.Common.{◌≡◌, ◌≢◌, ◌∙◌, ◌<◌, ℕ, zero, suc, ℤ, Bool, true, false, List, [], ◌∷◌, length, slice_get, get_or, Option, Some, None, Ok, Err, refl, sym, ap, ap₂, arith, subst}
+use Rattle.std.proofs.Common.{◌≡◌, ◌≢◌, ◌∙◌, ◌<◌, ℕ, zero, suc, ℤ, true, false, List, [], ◌∷◌, length, slice_get, get_or, Option, Some, None, Err, refl, sym, ap, ap₂, subst}
 use Rattle.std.proofs.lemmas.List.Quantifiers.{position-Some}
 use Rattle.std.proofs.lemmas.Option.{slice_get_within}
 use Rattle.pb_graph.specs.declared.records.Stream.{Stream}
@@ -12,7 +12,7 @@ use Rattle.pb_graph.specs.ProcessGraph.{ProcessGraph}
 use Rattle.pb_assay.specs.declared.grade.Grade.{Grade}
 use Rattle.pb_assay.specs.declared.component.ComponentFault.TheVariants.{Over}
 use Rattle.pb_assay.specs.Grade.{IsCarried, carried, carries_too_much}
-use Rattle.pb_assay.specs.Component.{IsComponentStream, IsOverAt, component_of, component_overs, component_stream, component_streams, component_unless_over, counted_grade, is_component_over}
+use Rattle.pb_assay.specs.Component.{IsComponentStream, IsOverAt, component_overs, component_stream, component_streams, component_unless_over, counted_grade}
 use Rattle.pb_assay.specs.Laws.{ComponentLaw, FirstOverLaw}
 use Rattle.pb_assay.proofs.CarriedLemmas.{carried_is}
 use Rattle.pb_assay.proofs.ComponentLemmas.{made_graph, none_over, over_is, some_is, streams_each}

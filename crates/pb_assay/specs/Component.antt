@@ -53,7 +53,7 @@ component_of graph printed grades =
     component_unless_over (record { nodes = graph.nodes; streams = component_streams graph.streams printed grades })
     (position (λ over. over) (component_overs printed grades))
 
--- a stream that is told as over the limits is one of the graph's
+-- a stream that is named as over the limits is one of the graph's
 abbrev pub NamesAStreamOf : ProcessGraph → ComponentFault → Type 0
 NamesAStreamOf graph (Over stream) = stream < length graph.streams
 NamesAStreamOf graph NoMemory = Unit {0}

@@ -24,7 +24,7 @@ ComponentFormLaw = (graph component : ProcessGraph) (printed : List StreamResult
     → length printed ≡ length graph.streams → length grades ≡ length graph.streams → All (λ (grade : Option Grade). IfSome grade IsGrade) grades
     → component_of graph printed grades ≡ Ok component → IsProcessGraph component
 
--- the stream that is told as over the limits is the first that is
+-- the stream that is named as over the limits is the first that is
 abbrev pub FirstOverLaw : Type 0
 FirstOverLaw = (graph : ProcessGraph) (printed : List StreamResult) (grades : List (Option Grade)) (j : ℕ)
     → component_of graph printed grades ≡ Err (Over j) → IsFirstOver printed grades j

@@ -17,7 +17,7 @@ pub fn component_form_law()
     ensures { ComponentFormLaw }
 {}
 
-/// The stream that is told as over the limits is the first one to be measured that is.
+/// The stream that is named as over the limits is the first one to be measured that is.
 pub fn first_over_law()
     ensures { FirstOverLaw }
 {}

@@ -71,7 +71,6 @@ digits_in_name (b ∷ field) digits =
     let parts = and_parts (is_ascii_digit b) (list_all is_ascii_digit field) digits in
     rw (digit_in_name b parts.0) (digits_in_name field parts.1)
 
-
 apart : (a b : List ℕ) → a ≢ b → same_name a b ≡ false
 apart a b other = elim (cases_Bool (same_name a b)) [ inl same ↦ absurd (other ((bytes_decides a b).0 same)) | inr differs ↦ differs ]
 
@@ -101,7 +100,7 @@ split_dot (x ∷ a) b (y ∷ c) d a_is c_is same =
     (tail_same x y (a ++ 46 ∷ b) (c ++ 46 ∷ d) same) in
     (ap₂ (λ (z : ℕ) (l : List ℕ). z ∷ l) here rest.0, rest.1)
 
--- it tells its numbers
+-- its numbers follow from it
 pub coded_injective : (letter t i u j : ℕ) → t < 2 ^ 32 → i < 2 ^ 32 → u < 2 ^ 32 → j < 2 ^ 32 → code_text letter t i ≡ code_text letter u j → (t ≡ u) × (i ≡ j)
 coded_injective letter t i u j t_small i_small u_small j_small same =
     let rest = tail_same letter letter (decimal_text t ++ 46 ∷ decimal_text i) (decimal_text u ++ 46 ∷ decimal_text j) same in
@@ -111,8 +110,8 @@ coded_injective letter t i u j t_small i_small u_small j_small same =
 pub codes_apart : (letter t i u j : ℕ) → t < 2 ^ 32 → i < 2 ^ 32 → u < 2 ^ 32 → j < 2 ^ 32 → (t ≢ u) ⊎ (i ≢ j) → same_name (code_text letter t i) (code_text letter u j) ≡ false
 codes_apart letter t i u j t_small i_small u_small j_small other =
     apart (code_text letter t i) (code_text letter u j) (λ same.
-        let parts = coded_injective letter t i u j t_small i_small u_small j_small same in
-        elim other [ inl periods ↦ absurd (periods parts.0) | inr places ↦ absurd (places parts.1) ])
+    let parts = coded_injective letter t i u j t_small i_small u_small j_small same in
+    elim other [ inl periods ↦ absurd (periods parts.0) | inr places ↦ absurd (places parts.1) ])
 
 -- it has the form of a name
 all_joined : (a b : List ℕ) → list_all is_name_byte a ≡ true → list_all is_name_byte b ≡ true → list_all is_name_byte (a ++ b) ≡ true
@@ -127,6 +126,6 @@ coded_name letter t i good t_small i_small =
     let long : length (code_text letter t i) ≤ 22 = omega (arith, length-append (decimal_text t) (46 ∷ decimal_text i), text_short t t_small, text_short i i_small) in
     let some : (length (code_text letter t i) == 0) ≡ false = ne_eqb (length (code_text letter t i)) 0 (λ e. absurd (omega (arith, e))) in
     let few : nat_le (length (code_text letter t i)) 32 ≡ true = at_most (length (code_text letter t i)) 32 (omega (arith, long)) in
-    let behind : list_all is_name_byte (46 ∷ decimal_text i) ≡ true = digits_in_name (decimal_text i) (text_digits i i_small) in
-    let all : list_all is_name_byte text ≡ true = all_joined (decimal_text t) (46 ∷ decimal_text i) (digits_in_name (decimal_text t) (text_digits t t_small)) behind in
+    let after : list_all is_name_byte (46 ∷ decimal_text i) ≡ true = digits_in_name (decimal_text i) (text_digits i i_small) in
+    let all : list_all is_name_byte text ≡ true = all_joined (decimal_text t) (46 ∷ decimal_text i) (digits_in_name (decimal_text t) (text_digits t t_small)) after in
     rw (some, few, good) all

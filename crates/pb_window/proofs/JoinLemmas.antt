@@ -76,7 +76,7 @@ flows_join plant is nodes numbered has =
 
 -- ---- contents
 
--- the period with a number, where an arc is in service in it
+-- a period that an arc is in service in
 pub stay_parts : (arc : PlantArc) (span : Span) (o : Option Span) → if_served arc o ≡ Some span → (o ≡ Some span) × (is_served span arc ≡ true)
 stay_parts arc span None is = cc is
 stay_parts arc span (Some one) is =

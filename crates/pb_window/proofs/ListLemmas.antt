@@ -16,7 +16,7 @@ append_piece {A} whole made rest piece left so_far next = so_far ∙ ap (λ (r :
 pub grown : {A : Type 0} (whole made rest piece left new : List A) → whole ≡ made ++ rest → rest ≡ piece ++ left → new ≡ made ++ piece → whole ≡ new ++ left
 grown {A} whole made rest piece left new so_far next is = append_piece whole made rest piece left so_far next ∙ ap (λ (r : List A). r ++ left) (sym is)
 
--- the same, where nothing is added
+-- the same if nothing is added
 pub passed : {A : Type 0} (whole made rest left : List A) → whole ≡ made ++ rest → rest ≡ left → whole ≡ made ++ left
 passed {A} whole made rest left so_far next = so_far ∙ ap (λ (r : List A). made ++ r) next
 

@@ -44,7 +44,7 @@ apart_join (name ∷ one) other is also cross = (all_join (Differ name) one othe
 
 -- ---- items with rising keys
 
--- where items of different keys have different names
+-- items of different keys have different names
 apart_rise : {A : Type 0} (code : A → List ℕ) (key : A → ℕ) (e : ℕ) → ((x y : A) → key x < key y → key y < e → Differ (code x) (code y))
     → (b : ℕ) (xs : List A) → Rise key b xs e → AreApart (map code xs)
 apart_rise code key e differ b [] is = tt
@@ -54,7 +54,7 @@ apart_rise {A} code key e differ b (x ∷ xs) is = (after xs (rise_within key (k
     after [] are = tt
     after (y ∷ ys) are = (differ x y (omega (arith, are.0.0)) are.0.1, after ys are.1)
 
--- where each item has a name
+-- each item has a name
 forms_rise : {A : Type 0} (code : A → List ℕ) (key : A → ℕ) (e : ℕ) → ((x : A) → key x < e → is_name (code x) ≡ true)
     → (b : ℕ) (xs : List A) → Rise key b xs e → list_all is_name (map code xs) ≡ true
 forms_rise {A} code key e forms b xs is = by xs (rise_within key b b xs e (omega arith) is)

@@ -84,7 +84,7 @@ number_small nodes period n = by (position (stands_for period n) nodes) refl
     by None at = omega arith
     by (Some i) at = let parts = position-Some (stands_for period n) nodes i some_node at in omega (arith, parts.0)
 
--- where a number is that of a node, what stands there
+-- what stands at a number that is that of a node
 node_at : (nodes : List WindowNode) (period n i : ℕ) → position (stands_for period n) nodes ≡ Some i → ((get_or nodes i some_node).period ≡ period) × ((get_or nodes i some_node).node ≡ n)
 node_at nodes period n i at =
     let here = (position-Some (stands_for period n) nodes i some_node at).1 in
@@ -100,7 +100,7 @@ number_some nodes period n there = by (position (stands_for period n) nodes) ref
     by None at = λ _. cc (sym there ∙ none_passes (stands_for period n) some_node nodes at)
     by (Some i) at = λ same. absurd (omega (arith, same))
 
--- two nodes of a plant in one period have different numbers, where a unit or tank is a node of it
+-- two nodes of a plant in one period have different numbers, if units and tanks among them are nodes of it
 pub nodes_apart : (nodes : List WindowNode) (period a b : ℕ) → a ≢ b → (1 ≤ a → list_any (stands_for period a) nodes ≡ true)
     → (1 ≤ b → list_any (stands_for period b) nodes ≡ true) → number_of nodes period a ≢ number_of nodes period b
 nodes_apart nodes period a b differ a_there b_there = λ same. by (position (stands_for period a) nodes) (position (stands_for period b) nodes) refl refl same

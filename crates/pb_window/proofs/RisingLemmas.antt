@@ -55,8 +55,8 @@ rise_numbered period i [] = omega arith
 rise_numbered period i (x ∷ xs) = (
   omega arith,
   rise_from node_key (period * 65536 + i + 1) (period * 65536 + (i + 1)) (map (window_node period) (enumerate_from (i + 1) xs)) (period * 65536 + (i + length (x ∷ xs))) (omega arith)
-  (rise_to node_key (period * 65536 + (i + 1)) (map (window_node period) (enumerate_from (i + 1) xs)) (period * 65536 + (i + 1 + length xs)) (period * 65536 + (i + length (x ∷ xs))) (omega arith)
-  (rise_numbered period (i + 1) xs)),
+      (rise_to node_key (period * 65536 + (i + 1)) (map (window_node period) (enumerate_from (i + 1) xs)) (period * 65536 + (i + 1 + length xs)) (period * 65536 + (i + length (x ∷ xs))) (omega arith)
+      (rise_numbered period (i + 1) xs)),
 )
 
 pub nodes_rise : (plant : Plant) → plant.nodes ≤ 65000 → (u : ℕ) (spans : List Span)

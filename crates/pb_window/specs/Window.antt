@@ -87,7 +87,7 @@ abbrev pub stay_of : List Span → PlantArc → ℕ → Option Span
 stay_of spans arc period = if_served arc (span_of spans period)
 
 -- The day at whose end the content between two periods is held: the day at whose end it closes in the one before, or else that at whose
--- end it opens in the one after. There is no content where the tank is in service in neither.
+-- end it opens in the one after. There is no content if the tank is in service in neither.
 abbrev pub content_day : PlantArc → Option Span → Option Span → Option ℤ
 content_day arc (Some before) after = Some (closing_day arc.service before)
 content_day arc None (Some after) = Some (opening_day arc.service after)

@@ -93,10 +93,7 @@ pub fn is_node_in(plant: &Plant, span: &Span, node: u32) -> bool
 fn is_plant_arc(nodes: u32, arc: &PlantArc) -> bool
     ensures { IsTrue result ↔ IsPlantArc nodes arc.now }
 {
-    arc.from <= nodes
-        && arc.to <= nodes
-        && arc.from != arc.to
-        && (!arc.is_tank || arc.to == 0)
+    arc.from <= nodes && arc.to <= nodes && arc.from != arc.to && (!arc.is_tank || arc.to == 0)
 }
 
 /// Whether a plant has no more units, tanks and streams than a graph may have, and each arc joins two of its nodes; that of a

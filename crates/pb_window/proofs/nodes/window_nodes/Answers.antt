@@ -23,6 +23,14 @@ loop-t-preserved c =
     record {
       so_far = grown (window_nodes plant spans) made (flat_map f (enumerate_from (t + 1) (drop t spans))) (f (t + 1, get_or spans t d))
           (flat_map f (enumerate_from (t + 1 + 1) (drop (t + 1) spans))) _ c.loop-t.invariant.so_far next is;
-      few = omega (arith, ap length pushed, length-append made (map w (enumerate_from 1 list)), length-map w (enumerate_from 1 list), length-enumerate_from 1 list,
-          ap length c.deref.ensures.value, c.in_ok-list.ensures.few, c.loop-t.invariant.few);
+      few = omega (
+        arith,
+        ap length pushed,
+        length-append made (map w (enumerate_from 1 list)),
+        length-map (enumerate_from 1 list) w,
+        length-enumerate_from 1 list,
+        ap length c.deref.ensures.value,
+        c.in_ok-list.ensures.few,
+        c.loop-t.invariant.few,
+      );
     }
