@@ -8,7 +8,7 @@ use crate::elim::{stream_at, study_of};
 use pb_assay::{
     ComponentFault, Grade, MOST_GRADE, MOST_GRADE_VARIANCE, carried_by, component_graph,
 };
-use pb_graph::{Graph, Meas, Stage, Stream};
+use pb_graph::{Graph, Stage, Stream, Study};
 use std::alloc::{AllocError, Global};
 use std::process::Abort;
 
@@ -41,7 +41,7 @@ const CARRIED: &[Carried] = &[
     (i128::MIN, (1_000_000, 100_000_000), None),
 ];
 
-const fn grade(ppm: i64, variance: i64) -> Grade {
+fn grade(ppm: i64, variance: i64) -> Grade {
     Grade { ppm, variance }
 }
 
@@ -84,20 +84,23 @@ fn limits_of_a_grade(rt: HostRuntime) {
     }
 }
 
+/// A stream: its ends, and what was measured of it, with the variance.
+type Row = (u32, u32, Option<(i128, i128)>);
+
 /// A plant with grades of its streams, the streams of its component graph, and some of the flows that balance them.
 struct Case {
     name: &'static str,
     nodes: u32,
-    streams: &'static [Stream],
-    grades: &'static [Option<Grade>],
-    component: &'static [Stream],
+    streams: &'static [Row],
+    grades: &'static [Option<(i64, i64)>],
+    component: &'static [Row],
     flows: &'static [(usize, i128)],
 }
 
 /// A unit with a meter of what enters and one of what leaves, which disagree by two tonnes.
-const TWO_METERS: &[Stream] = &[
-    metered(0, 1, 102_000_000, 1_000_000_000_000),
-    metered(1, 0, 100_000_000, 1_000_000_000_000),
+const TWO_METERS: &[Row] = &[
+    (0, 1, Some((102_000_000, 1_000_000_000_000))),
+    (1, 0, Some((100_000_000, 1_000_000_000_000))),
 ];
 
 const CASES: &[Case] = &[
@@ -105,26 +108,26 @@ const CASES: &[Case] = &[
         name: "copper of two meters",
         nodes: 2,
         streams: TWO_METERS,
-        grades: &[Some(grade(20_000, 0)), Some(grade(20_000, 0))],
-        component: &[metered(0, 1, 2_020_000, 1), metered(1, 0, 2_020_000, 1)],
+        grades: &[Some((20_000, 0)), Some((20_000, 0))],
+        component: &[(0, 1, Some((2_020_000, 1))), (1, 0, Some((2_020_000, 1)))],
         flows: &[(0, 2_020_000), (1, 2_020_000)],
     },
     Case {
         name: "copper with one assay",
         nodes: 2,
         streams: TWO_METERS,
-        grades: &[Some(grade(20_000, 0)), None],
-        component: &[metered(0, 1, 2_020_000, 1), plain(1, 0)],
+        grades: &[Some((20_000, 0)), None],
+        component: &[(0, 1, Some((2_020_000, 1))), (1, 0, None)],
         flows: &[(0, 2_020_000), (1, 2_020_000)],
     },
     Case {
         name: "copper with an uncertain grade",
         nodes: 2,
         streams: TWO_METERS,
-        grades: &[Some(grade(20_000, 0)), Some(grade(20_000, 100))],
+        grades: &[Some((20_000, 0)), Some((20_000, 100))],
         component: &[
-            metered(0, 1, 2_020_000, 1),
-            metered(1, 0, 2_020_000, 1_020_101),
+            (0, 1, Some((2_020_000, 1))),
+            (1, 0, Some((2_020_000, 1_020_101))),
         ],
         flows: &[(0, 2_020_000), (1, 2_020_000)],
     },
@@ -133,22 +136,22 @@ const CASES: &[Case] = &[
         nodes: 2,
         streams: TWO_METERS,
         grades: &[None, None],
-        component: &[plain(0, 1), plain(1, 0)],
+        component: &[(0, 1, None), (1, 0, None)],
         flows: &[],
     },
     Case {
         name: "negative flows, one of them observable",
         nodes: 2,
-        streams: &[metered(0, 1, -3, 1), metered(1, 0, 4, 1), plain(1, 0)],
+        streams: &[(0, 1, Some((-3, 1))), (1, 0, Some((4, 1))), (1, 0, None)],
         grades: &[
-            Some(grade(333_333, 0)),
-            Some(grade(333_333, 9)),
-            Some(grade(333_333, 100_000_000)),
+            Some((333_333, 0)),
+            Some((333_333, 9)),
+            Some((333_333, 100_000_000)),
         ],
         component: &[
-            metered(0, 1, -1, 1),
-            metered(1, 0, 1, 2),
-            metered(1, 0, -3, 2),
+            (0, 1, Some((-1, 1))),
+            (1, 0, Some((1, 2))),
+            (1, 0, Some((-3, 2))),
         ],
         flows: &[(0, -2), (1, 1), (2, -3)],
     },
@@ -156,24 +159,53 @@ const CASES: &[Case] = &[
         name: "an assay of an unobservable stream",
         nodes: 3,
         streams: &[
-            plain(1, 2),
-            plain(1, 2),
-            metered(0, 1, 1_000, 1),
-            metered(2, 0, 1_000, 1),
+            (1, 2, None),
+            (1, 2, None),
+            (0, 1, Some((1_000, 1))),
+            (2, 0, Some((1_000, 1))),
         ],
-        grades: &[Some(grade(10, 0)), None, Some(grade(20_000, 4)), None],
-        component: &[plain(1, 2), plain(1, 2), metered(0, 1, 20, 2), plain(2, 0)],
+        grades: &[Some((10, 0)), None, Some((20_000, 4)), None],
+        component: &[
+            (1, 2, None),
+            (1, 2, None),
+            (0, 1, Some((20, 2))),
+            (2, 0, None),
+        ],
         flows: &[(2, 20), (3, 20)],
     },
     Case {
         name: "the greatest flow at the greatest grade",
         nodes: 2,
-        streams: &[metered(0, 1, MOST, 1), plain(1, 0)],
-        grades: &[Some(grade(1_000_000, 0)), None],
-        component: &[metered(0, 1, MOST, 1), plain(1, 0)],
+        streams: &[(0, 1, Some((MOST, 1))), (1, 0, None)],
+        grades: &[Some((1_000_000, 0)), None],
+        component: &[(0, 1, Some((MOST, 1))), (1, 0, None)],
         flows: &[(0, MOST), (1, MOST)],
     },
 ];
+
+fn stream_of(row: &Row) -> Stream {
+    let &(from, to, meas) = row;
+    match meas {
+        None => plain(from, to),
+        Some((value, variance)) => metered(from, to, value, variance),
+    }
+}
+
+fn streams_of(alloc: Global, rows: &[Row]) -> Result<Vec<Stream>, AllocError> {
+    let mut streams = Vec::new(alloc);
+    for row in rows {
+        streams.push(stream_of(row))?;
+    }
+    Ok(streams)
+}
+
+fn grades_of(alloc: Global, rows: &[Option<(i64, i64)>]) -> Result<Vec<Option<Grade>>, AllocError> {
+    let mut grades = Vec::new(alloc);
+    for row in rows {
+        grades.push(row.map(|(ppm, variance)| grade(ppm, variance)))?;
+    }
+    Ok(grades)
+}
 
 /// Whether a grade, if there is one, is within its limits.
 fn is_grade(grade: &Option<Grade>) -> bool
@@ -199,17 +231,29 @@ fn component_by(
     component_graph(alloc, &stage.graph, stage.streams.as_slice(), grades)
 }
 
+/// The component graph by the flows of a study of one stage.
+fn component_after(
+    rt: &impl Abort,
+    alloc: Global,
+    s: &Study,
+    grades: &[Option<Grade>],
+) -> Result<Graph, ComponentFault> {
+    assert!(rt; s.stages.len() == 1, "one stage");
+    component_by(rt, alloc, s.stages.at(0), grades)
+}
+
 /// The component graph by the flows of the study of a graph of these streams.
 fn component_of(
     rt: &impl Abort,
     alloc: Global,
     nodes: u32,
-    streams: &[Stream],
-    grades: &[Option<Grade>],
+    streams: &[Row],
+    grades: &[Option<(i64, i64)>],
 ) -> Result<Graph, ComponentFault> {
-    let s = study_of(rt, alloc, nodes, streams, 10, 5_000)?;
-    assert!(rt; s.stages.len() == 1, "one stage");
-    component_by(rt, alloc, s.stages.at(0), grades)
+    let grades = grades_of(alloc, grades)?;
+    let streams = streams_of(alloc, streams)?;
+    let s = study_of(rt, alloc, nodes, &streams, 10, 5_000)?;
+    component_after(rt, alloc, &s, &grades)
 }
 
 fn assert_flows(rt: &impl Abort, stage: &Stage, flows: &[(usize, i128)]) {
@@ -231,10 +275,18 @@ fn assert_balance(
     Ok(())
 }
 
+fn assert_component(rt: &impl Abort, case: &Case, component: &Graph) {
+    assert_eq!(rt; component.nodes(), case.nodes, "{}", case.name);
+    let streams = component.streams();
+    assert_eq!(rt; streams.len(), case.component.len(), "{}", case.name);
+    for (stream, row) in streams.iter().zip(case.component) {
+        assert_eq!(rt; *stream, stream_of(row), "{}", case.name);
+    }
+}
+
 fn assert_case(rt: &impl Abort, alloc: Global, case: &Case) -> Result<(), ComponentFault> {
     let component = component_of(rt, alloc, case.nodes, case.streams, case.grades)?;
-    assert_eq!(rt; component.nodes(), case.nodes, "{}", case.name);
-    assert_eq!(rt; component.streams(), case.component, "{}", case.name);
+    assert_component(rt, case, &component);
     assert_balance(rt, alloc, &component, case.flows)?;
     Ok(())
 }
@@ -249,21 +301,21 @@ fn component_graphs(rt: HostRuntime) -> Result<(), ComponentFault> {
 }
 
 /// Two batches, the greatest one and one of a gram, and what leaves with both.
-const BATCHES: &[Stream] = &[metered(0, 1, MOST, 1), metered(0, 1, 1, 1), plain(1, 0)];
+const BATCHES: &[Row] = &[(0, 1, Some((MOST, 1))), (0, 1, Some((1, 1))), (1, 0, None)];
 
 /// Grades of these three, and the first stream that is over the limits.
-const OVERS: &[([Option<Grade>; 3], u32)] = &[
+const OVERS: &[(&[Option<(i64, i64)>], u32)] = &[
     // what leaves is a gram too much to be squared
-    ([Some(grade(1_000_000, 0)), None, Some(grade(1, 0))], 2),
+    (&[Some((1_000_000, 0)), None, Some((1, 0))], 2),
     // a variance above the limit comes before it
-    ([Some(grade(0, 10_000)), None, Some(grade(1, 0))], 0),
+    (&[Some((0, 10_000)), None, Some((1, 0))], 0),
 ];
 
 /// The first stream that is over the limits is named.
 #[test]
 fn over_the_limits(rt: HostRuntime) {
-    for (grades, j) in OVERS {
+    for &(grades, j) in OVERS {
         let found = component_of(&rt, rt.alloc(), 2, BATCHES, grades).map(|g| g.len());
-        assert_eq!(&rt; found, Err(ComponentFault::Over(*j)), "stream {j}");
+        assert_eq!(&rt; found, Err(ComponentFault::Over(j)), "stream {j}");
     }
 }

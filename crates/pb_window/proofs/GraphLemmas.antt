@@ -4,8 +4,9 @@ use Rattle.std.proofs.Common.{◌≡◌, ◌∙◌, ℕ, zero, suc, ◌+◌, ◌
 use Rattle.std.proofs.lemmas.Option.{get_or_from_slice_get, same_Some, slice_get_within}
 use Rattle.pb_graph.specs.declared.records.Meas.{Meas}
 use Rattle.pb_graph.specs.declared.records.Stream.{Stream}
-use Rattle.pb_graph.specs.ProcessGraph.{IsWithinLimits}
+use Rattle.pb_graph.specs.ProcessGraph.{IsStream, IsWithinLimits}
 use Rattle.pb_window.specs.declared.window.WindowStream.{WindowStream}
+use Rattle.pb_window.specs.Window.{IsWindowStream}
 use Rattle.pb_window.specs.Graph.{graph_stream, graph_streams}
 
 -- the stream at a place
@@ -35,3 +36,13 @@ among_first [] j k x lt at = cc at
 among_first (y ∷ xs) zero k x lt at = absurd (omega (arith, lt))
 among_first (y ∷ xs) (suc j) zero x lt at = at
 among_first (y ∷ xs) (suc j) (suc k) x lt at = among_first xs j k x (omega (arith, lt)) at
+
+-- a stream of a window joins nodes, whatever was measured of it
+pub joins_at : (nodes : ℕ) (ss : List WindowStream) (j : ℕ) (s : WindowStream) (meas : Option Meas) → All (IsWindowStream nodes) ss → slice_get ss j ≡ Some s
+    → IsStream nodes (graph_stream s meas)
+joins_at nodes ss j s meas joins at =
+    let is = subst (IsWindowStream nodes) (get_or_from_slice_get ss j s s at) (joins j s (slice_get_within ss j s at)) in
+    record { from = is.from; to = is.to; apart = is.apart }
+
+pub limits_at : (ss : List Stream) (k : ℕ) (s : Stream) → All IsWithinLimits ss → slice_get ss k ≡ Some s → IsWithinLimits s
+limits_at ss k s within at = subst IsWithinLimits (get_or_from_slice_get ss k s s at) (within k s (slice_get_within ss k s at))

@@ -88,7 +88,7 @@ stay_there : (plant : Plant) (nodes : List WindowNode) (spans : List Span) (arc 
     → AllByRecursion (HasNodes plant nodes) (numbered_spans spans) → IsArcOf plant arc → arc.is_tank ≡ true → stay_of spans arc period ≡ Some span
     → list_any (stands_for period arc.from) nodes ≡ true
 stay_there plant nodes spans arc period span have is tank stay = elim (cases_Bool (period == 0)) [
-  | inl zero ↦ cc (rw zero at stay)
+  | inl none ↦ cc (rw none at stay)
   | inr some ↦
       let later = eqb-false period 0 some in
       let parts = stay_parts arc span (slice_get spans (period - 1)) (rw some at stay) in

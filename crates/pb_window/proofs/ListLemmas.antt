@@ -31,10 +31,10 @@ pub filter_map_range_next : {B : Type 0} (h : ℕ → Option B) (a n k : ℕ) �
 filter_map_range_next h a n k lt = ap (filter_map h) (range_next a n k lt) ∙ filter_map-append h (a ∷ []) (range_with_len (a + 1) (n - (k + 1)))
 
 pub filter_yes : {A : Type 0} (p : A → Bool) (x : A) → p x ≡ true → filter p (x ∷ []) ≡ x ∷ []
-filter_yes p x yes = rw yes refl
+filter_yes p x passes = rw passes refl
 
 pub filter_no : {A : Type 0} (p : A → Bool) (x : A) → p x ≡ false → filter p (x ∷ []) ≡ []
-filter_no p x no = rw no refl
+filter_no p x fails = rw fails refl
 
 pub filter_map_some : {A B : Type 0} (h : A → Option B) (x : A) (y : B) → h x ≡ Some y → filter_map h (x ∷ []) ≡ y ∷ []
 filter_map_some h x y is = rw is refl
@@ -77,8 +77,8 @@ all_numbered P n (x ∷ xs) are = (are.0, all_numbered P (n + 1) xs are.1)
 pub all_kept : {A : Type 0} (P : A → Type 0) (p : A → Bool) (xs : List A) → AllByRecursion P xs → AllByRecursion (λ (x : A). P x × (p x ≡ true)) (filter p xs)
 all_kept P p [] are = tt
 all_kept P p (x ∷ xs) are = elim (cases_Bool (p x)) [
-  | inl yes ↦ rw yes ((are.0, yes), all_kept P p xs are.1)
-  | inr no ↦ rw no (all_kept P p xs are.1)
+  | inl passes ↦ rw passes ((are.0, passes), all_kept P p xs are.1)
+  | inr fails ↦ rw fails (all_kept P p xs are.1)
 ]
 
 all_cons : {B : Type 0} (Q : B → Type 0) (o : Option B) (ys : List B) → IfSome o Q → AllByRecursion Q ys → AllByRecursion Q (cons_option o ys)

@@ -108,8 +108,8 @@ nodes_apart nodes period a b differ a_there b_there = λ same. by (position (sta
     by : (o p : Option ℕ) → position (stands_for period a) nodes ≡ o → position (stands_for period b) nodes ≡ p
         → option_map_or (λ (place : ℕ). 1 + place) o 0 ≡ option_map_or (λ (place : ℕ). 1 + place) p 0 → ⊥
     by None None a_at b_at same = elim (cases_Bool (a == 0)) [
-      | inl zero ↦
-          let a_is = eqb-true a 0 zero in
+      | inl none ↦
+          let a_is = eqb-true a 0 none in
           cc (sym (b_there (omega (arith, a_is, differ))) ∙ none_passes (stands_for period b) some_node nodes b_at)
       | inr some ↦
           let a_some = eqb-false a 0 some in

@@ -40,13 +40,13 @@ nodes_named names periods period i (x ∷ xs) there are = (record { period = the
 
 kept_below : (q : ℕ → Bool) (e : ℕ) (xs : List ℕ) → AllByRecursion (λ (m : ℕ). m < e) xs → AllByRecursion (λ (m : ℕ). m < e) (filter q xs)
 kept_below q e [] are = tt
-kept_below q e (x ∷ xs) are = elim (cases_Bool (q x)) [ inl yes ↦ rw yes (are.0, kept_below q e xs are.1) | inr no ↦ rw no (kept_below q e xs are.1) ]
+kept_below q e (x ∷ xs) are = elim (cases_Bool (q x)) [ inl passes ↦ rw passes (are.0, kept_below q e xs are.1) | inr fails ↦ rw fails (kept_below q e xs are.1) ]
 
 -- ---- contents
 
 stay_short : (spans : List Span) (arc : PlantArc) (period : ℕ) (span : Span) → stay_of spans arc period ≡ Some span → period - 1 < length spans
 stay_short spans arc period span stay = elim (cases_Bool (period == 0)) [
-  | inl zero ↦ cc (rw zero at stay)
+  | inl none ↦ cc (rw none at stay)
   | inr some ↦ slice_get_within spans (period - 1) span (stay_parts arc span (slice_get spans (period - 1)) (rw some at stay)).0
 ]
 

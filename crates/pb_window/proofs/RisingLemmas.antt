@@ -43,7 +43,7 @@ rise_within key b m (x ∷ xs) e le is =
 
 length_filter : {A : Type 0} (p : A → Bool) (xs : List A) → length (filter p xs) ≤ length xs
 length_filter p [] = omega arith
-length_filter p (x ∷ xs) = let more = length_filter p xs in elim (cases_Bool (p x)) [ inl yes ↦ rw yes (omega (arith, more)) | inr no ↦ rw no (omega (arith, more)) ]
+length_filter p (x ∷ xs) = let more = length_filter p xs in elim (cases_Bool (p x)) [ inl passes ↦ rw passes (omega (arith, more)) | inr fails ↦ rw fails (omega (arith, more)) ]
 
 -- ---- nodes
 

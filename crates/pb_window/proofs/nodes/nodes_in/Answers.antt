@@ -10,7 +10,7 @@ pub loop-k-init : goal.loop-k-init
 loop-k-init c =
     let n = c.args.plant.now.nodes in
     let e : n - 0 ≡ n = omega arith in
-    record { so_far = rw e refl; few = omega arith }
+    record { so_far = rw (e, c.new-list.ensures.items) refl; few = rw c.new-list.ensures.items (omega arith) }
 
 pub loop-k-preserved : goal.loop-k-preserved
 loop-k-preserved c =
