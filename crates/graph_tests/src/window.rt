@@ -10,60 +10,31 @@ use pb_window::{
 use std::alloc::{AllocError, Global};
 use std::process::Abort;
 
-const fn arc(from: u32, to: u32) -> PlantArc {
-    PlantArc {
-        from,
-        to,
-        is_tank: false,
-        service: None,
-    }
-}
-
-const fn tank(node: u32) -> PlantArc {
-    PlantArc {
-        from: node,
-        to: 0,
-        is_tank: true,
-        service: None,
-    }
-}
-
-const fn serving(arc: PlantArc, since: i32, until: i32) -> PlantArc {
-    PlantArc {
-        service: Some(Service { since, until }),
-        ..arc
-    }
-}
-
-const fn day(day: i32) -> Span {
-    Span {
-        first: day,
-        last: day,
-    }
-}
+// An arc of a plant: its ends, whether it is a tank's inventory, and its days of service.
+type Row = (u32, u32, bool, Option<(i32, i32)>);
 
 // What a window is to have: its nodes by name with their numbers in the plant, its streams by name with their ends, and the days
 // of its contents.
 struct Case {
     name: &'static str,
     nodes: u32,
-    arcs: &'static [PlantArc],
+    arcs: &'static [Row],
     keeps_idle: bool,
-    spans: &'static [Span],
+    spans: &'static [(i32, i32)],
     window_nodes: &'static [(&'static str, u32)],
     window_streams: &'static [(&'static str, u32, u32)],
     days: &'static [i32],
 }
 
 // A tank with a stream into it and one out of it.
-const TANK: &[PlantArc] = &[tank(1), arc(0, 1), arc(1, 0)];
+const TANK: &[Row] = &[(1, 0, true, None), (0, 1, false, None), (1, 0, false, None)];
 
 // The same, in service on the days 2 and 3, with its first stream; then another stream takes its place.
-const COMMISSIONED: &[PlantArc] = &[
-    serving(tank(1), 2, 3),
-    serving(arc(0, 1), 2, 3),
-    serving(arc(1, 0), 1, 4),
-    serving(arc(0, 1), 4, 4),
+const COMMISSIONED: &[Row] = &[
+    (1, 0, true, Some((2, 3))),
+    (0, 1, false, Some((2, 3))),
+    (1, 0, false, Some((1, 4))),
+    (0, 1, false, Some((4, 4))),
 ];
 
 const CASES: &[Case] = &[
@@ -82,7 +53,7 @@ const CASES: &[Case] = &[
         nodes: 1,
         arcs: TANK,
         keeps_idle: true,
-        spans: &[day(10)],
+        spans: &[(10, 10)],
         window_nodes: &[("n1.1", 1)],
         window_streams: &[
             ("s1.1", 0, 1),
@@ -97,7 +68,7 @@ const CASES: &[Case] = &[
         nodes: 1,
         arcs: TANK,
         keeps_idle: true,
-        spans: &[day(10), day(11)],
+        spans: &[(10, 10), (11, 11)],
         window_nodes: &[("n1.1", 1), ("n2.1", 1)],
         window_streams: &[
             ("s1.1", 0, 1),
@@ -115,7 +86,7 @@ const CASES: &[Case] = &[
         nodes: 1,
         arcs: COMMISSIONED,
         keeps_idle: false,
-        spans: &[day(1), day(2), day(3), day(4)],
+        spans: &[(1, 1), (2, 2), (3, 3), (4, 4)],
         window_nodes: &[("n1.1", 1), ("n2.1", 1), ("n3.1", 1), ("n4.1", 1)],
         window_streams: &[
             ("s1.0", 1, 0),
@@ -134,12 +105,9 @@ const CASES: &[Case] = &[
     Case {
         name: "a tank commissioned and taken out within one period",
         nodes: 1,
-        arcs: &[arc(0, 1), serving(tank(1), 12, 15)],
+        arcs: &[(0, 1, false, None), (1, 0, true, Some((12, 15)))],
         keeps_idle: false,
-        spans: &[Span {
-            first: 10,
-            last: 19,
-        }],
+        spans: &[(10, 19)],
         window_nodes: &[("n1.1", 1)],
         window_streams: &[("s1.0", 0, 1), ("c0.1", 0, 1), ("c1.1", 1, 0)],
         days: &[11, 15],
@@ -147,9 +115,9 @@ const CASES: &[Case] = &[
     Case {
         name: "idle units kept",
         nodes: 2,
-        arcs: &[serving(arc(0, 2), 5, 5)],
+        arcs: &[(0, 2, false, Some((5, 5)))],
         keeps_idle: true,
-        spans: &[day(4), day(5)],
+        spans: &[(4, 4), (5, 5)],
         window_nodes: &[("n1.1", 1), ("n1.2", 2), ("n2.1", 1), ("n2.2", 2)],
         window_streams: &[("s2.0", 0, 4)],
         days: &[],
@@ -157,37 +125,78 @@ const CASES: &[Case] = &[
     Case {
         name: "idle units left out",
         nodes: 2,
-        arcs: &[serving(arc(0, 2), 5, 5)],
+        arcs: &[(0, 2, false, Some((5, 5)))],
         keeps_idle: false,
-        spans: &[day(4), day(5)],
+        spans: &[(4, 4), (5, 5)],
         window_nodes: &[("n2.1", 2)],
         window_streams: &[("s2.0", 0, 1)],
         days: &[],
     },
 ];
 
+fn arcs_of(alloc: Global, rows: &[Row]) -> Result<List<PlantArc>, AllocError> {
+    let mut arcs = List::new(alloc);
+    for &(from, to, is_tank, days) in rows {
+        arcs.push(PlantArc {
+            from,
+            to,
+            is_tank,
+            service: days.map(|(since, until)| Service { since, until }),
+        })?;
+    }
+    Ok(arcs)
+}
+
+fn spans_of(alloc: Global, days: &[(i32, i32)]) -> Result<Vec<Span>, AllocError> {
+    let mut spans = Vec::new(alloc);
+    for &(first, last) in days {
+        spans.push(Span { first, last })?;
+    }
+    Ok(spans)
+}
+
+fn plant_of(
+    alloc: Global,
+    nodes: u32,
+    rows: &[Row],
+    keeps_idle: bool,
+) -> Result<Plant, AllocError> {
+    Ok(Plant {
+        nodes,
+        arcs: arcs_of(alloc, rows)?,
+        keeps_idle,
+    })
+}
+
+// The window of a plant over some periods.
+fn window_over(
+    rt: &impl Abort,
+    alloc: Global,
+    plant: &Plant,
+    spans: &[Span],
+) -> Result<Window, WindowFault>
+    ensures { IfOk result IsWindow }
+{
+    assert!(rt; is_plant(plant), "a plant");
+    assert!(rt; spans.len() <= 31, "periods");
+    assert!(rt; spans.iter().all(|span| span.first >= 0), "periods");
+    window_of(alloc, plant, spans)
+}
+
 // The window of a plant of these arcs.
 fn window_by(
     rt: &impl Abort,
     alloc: Global,
     nodes: u32,
-    arcs: &[PlantArc],
+    rows: &[Row],
     keeps_idle: bool,
-    spans: &[Span],
+    days: &[(i32, i32)],
 ) -> Result<Window, WindowFault>
     ensures { IfOk result IsWindow }
 {
-    let plant = Plant {
-        nodes,
-        arcs: List::from_vec(Vec::from_slice(alloc, arcs)?),
-        keeps_idle,
-    };
-    let within = is_plant(&plant) && spans.len() <= 31;
-    assert!(rt;
-        within && spans.iter().all(|span| span.first >= 0),
-        "a plant and periods"
-    );
-    window_of(alloc, &plant, spans)
+    let plant = plant_of(alloc, nodes, rows, keeps_idle)?;
+    let spans = spans_of(alloc, days)?;
+    window_over(rt, alloc, &plant, &spans)
 }
 
 fn assert_node(
@@ -289,33 +298,45 @@ fn windows(rt: HostRuntime) -> Result<(), WindowFault> {
     Ok(())
 }
 
-// How many nodes and streams a window of that many days has, of a plant of 100 units with a stream each.
-fn size_of(rt: &impl Abort, alloc: Global, days: usize) -> Result<(usize, usize), WindowFault> {
-    let mut arcs = Vec::new(alloc);
+// A hundred units with a stream each.
+fn units(alloc: Global) -> Result<Vec<Row>, AllocError> {
+    let mut rows: Vec<Row> = Vec::new(alloc);
     for unit in 1..101 {
-        arcs.push(arc(0, unit))?;
+        rows.push((0, unit, false, None))?;
     }
-    let spans = vec![in alloc; day(1); days]?;
-    let window = window_by(rt, alloc, 100, &arcs, true, &spans)?;
+    Ok(rows)
+}
+
+// The window of that many days of these units.
+fn window_of_units(
+    rt: &impl Abort,
+    alloc: Global,
+    days: &[(i32, i32)],
+) -> Result<Window, WindowFault> {
+    let rows = units(alloc)?;
+    window_by(rt, alloc, 100, &rows, true, days)
+}
+
+// How many nodes and streams it has.
+fn size_of(
+    rt: &impl Abort,
+    alloc: Global,
+    days: &[(i32, i32)],
+) -> Result<(usize, usize), WindowFault> {
+    let window = window_of_units(rt, alloc, days)?;
     Ok((window.nodes.len(), window.streams.len()))
 }
 
 /// As many nodes as a graph may have, and a period more.
 #[test]
 fn greatest_window(rt: HostRuntime) {
-    assert_eq!(&rt;
-        size_of(&rt, rt.alloc(), 10),
-        Ok((1_000, 1_000)),
-        "ten days"
-    );
-    assert_eq!(&rt;
-        size_of(&rt, rt.alloc(), 11),
-        Err(WindowFault::TooGreat),
-        "eleven days"
-    );
+    let ten = size_of(&rt, rt.alloc(), &[(1, 1); 10]);
+    assert_eq!(&rt; ten, Ok((1_000, 1_000)), "ten days");
+    let eleven = size_of(&rt, rt.alloc(), &[(1, 1); 11]);
+    assert_eq!(&rt; eleven, Err(WindowFault::TooGreat), "eleven days");
 }
 
-const fn read(value: i128) -> Option<Meas> {
+fn read(value: i128) -> Option<Meas> {
     Some(Meas { value, variance: 1 })
 }
 
@@ -325,7 +346,7 @@ fn graph_by(
     alloc: Global,
     measured: &[Option<Meas>],
 ) -> Result<Graph, WindowAssembly> {
-    let Ok(window) = window_by(rt, alloc, 1, TANK, true, &[day(10), day(11)]) else {
+    let Ok(window) = window_by(rt, alloc, 1, TANK, true, &[(10, 10), (11, 11)]) else {
         return Err(WindowAssembly::NoMemory);
     };
     assert!(rt;
