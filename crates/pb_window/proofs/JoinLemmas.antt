@@ -1,9 +1,9 @@
 -- Each stream of a window joins two nodes of its graph.
-use Rattle.std.specs.Prelude.{All, IfSome, slice_get, option_map, filter, nat_lt, if◌then◌else◌}
-use Rattle.std.specs.List.{AllByRecursion, enumerate_from, filter_map, list_any, range_with_len}
-use Rattle.std.proofs.Common.{◌≡◌, ◌≢◌, ◌∙◌, ℕ, zero, suc, ◌+◌, ◌-◌, ◌<◌, ◌≤◌, ℤ, Bool, true, false, ◌||◌, ◌&&◌, List, [], ◌∷◌, ◌++◌, length, get_or, Option, None, Some, Ok, Err, Result, inl, inr, refl, sym, ap, subst, arith}
+use Rattle.std.specs.Prelude.{IfSome, slice_get, option_map, nat_lt}
+use Rattle.std.specs.List.{AllByRecursion, enumerate_from, list_any, range_with_len}
+use Rattle.std.proofs.Common.{◌≡◌, ◌∙◌, ℕ, ◌+◌, ◌-◌, ◌≤◌, ℤ, Bool, true, ◌||◌, ◌&&◌, List, [], length, get_or, Option, None, Some, Ok, inl, inr, refl, sym, ap, subst, arith}
 use Rattle.std.specs.Prelude.{◌==◌}
-use Rattle.std.proofs.lemmas.Bool.{cases_Bool, eq-eqb, eqb-false, eqb-true, ltb-false, or_cases, or_parts}
+use Rattle.std.proofs.lemmas.Bool.{cases_Bool, eq-eqb, eqb-false, ltb-false, or_parts}
 use Rattle.std.proofs.lemmas.Option.{cond_some, get_or_from_slice_get, slice_get_within}
 use Rattle.std.proofs.lemmas.List.Elements.{All-from_recursion, recursion_from_All}
 use Rattle.std.proofs.lemmas.List.Folds.{list_any_at}
@@ -14,11 +14,10 @@ use Rattle.pb_window.specs.declared.plant.PlantArc.{PlantArc}
 use Rattle.pb_window.specs.declared.plant.Span.{Span}
 use Rattle.pb_window.specs.declared.window.Source.TheVariants.{Content}
 use Rattle.pb_window.specs.declared.window.Window.{Window}
-use Rattle.pb_window.specs.declared.window.WindowFault.{WindowFault}
 use Rattle.pb_window.specs.declared.window.WindowNode.{WindowNode}
 use Rattle.pb_window.specs.declared.window.WindowStream.{WindowStream}
 use Rattle.pb_window.specs.Plant.{IsPlant, IsPlantArc, NumberedArc, arcs_in, is_end, is_node_in, is_served}
-use Rattle.pb_window.specs.Window.{IsWindow, IsWindowStream, NumberedSpan, content_day, content_end, content_of, contents_of_arc, flow_of, flows_of_period, if_served, is_too_great, number_of, span_of, stands_for, stay_of, numbered_spans, unless_too_great, window_contents, window_flows, window_nodes, window_shape, window_streams}
+use Rattle.pb_window.specs.Window.{IsWindow, IsWindowStream, NumberedSpan, content_day, content_end, content_of, contents_of_arc, flow_of, flows_of_period, if_served, is_too_great, stands_for, stay_of, numbered_spans, unless_too_great, window_contents, window_flows, window_nodes, window_shape, window_streams}
 use Rattle.pb_window.specs.Laws.{WindowFormLaw}
 use Rattle.pb_window.proofs.ListLemmas.{all_flat, all_join, all_kept, all_mapped, all_numbered, all_range, or_true}
 use Rattle.pb_window.proofs.NumberLemmas.{HasNodes, nodes_apart, number_small, number_some, periods_apart, periods_have}

@@ -1,4 +1,4 @@
-use Rattle.std.proofs.Common.{◌+◌, ◌++◌, ℕ, List, drop, get_or, None, false}
+use Rattle.std.proofs.Common.{◌+◌, List, drop, get_or, None, false}
 use Rattle.std.specs.List.{enumerate_from, flat_map}
 use Rattle.std.proofs.lemmas.List.{at_drop_more}
 use Rattle.pb_window.specs.declared.plant.PlantArc.{PlantArc}

@@ -1,4 +1,4 @@
-use Rattle.std.proofs.Common.{◌∙◌, ◌+◌, ◌++◌, ℕ, pos, List, drop, get_or, ap}
+use Rattle.std.proofs.Common.{◌∙◌, ◌+◌, ◌++◌, pos, List, drop, get_or, ap}
 use Rattle.std.specs.List.{enumerate_from, filter_map, flat_map}
 use Rattle.std.proofs.lemmas.List.{at_drop_more}
 use Rattle.pb_window.specs.declared.plant.Span.{Span}

@@ -1,10 +1,9 @@
-use Rattle.std.proofs.Common.{◌≡◌, ◌∙◌, ◌<◌, ◌+◌, ◌++◌, ◌∷◌, [], ℕ, List, length, get_or, slice_get, None, Some, take, ap, ap₂, sym, subst, arith}
-use Rattle.std.specs.Prelude.{All}
+use Rattle.std.proofs.Common.{◌∙◌, ◌+◌, ◌++◌, ◌∷◌, [], ℕ, List, length, get_or, slice_get, None, Some, ap, ap₂, sym, subst, arith}
 use Rattle.std.proofs.lemmas.List.{length-take-le, take_all}
 use Rattle.std.proofs.lemmas.List.Elements.{All-push}
 use Rattle.pb_graph.specs.declared.records.Stream.{Stream}
 use Rattle.pb_graph.specs.ProcessGraph.{Fits, IsStream, IsWithinLimits, ProcessGraph}
-use Rattle.pb_window.specs.Graph.{graph_stream, graph_streams, window_graph}
+use Rattle.pb_window.specs.Graph.{graph_streams}
 use Rattle.pb_window.proofs.GraphLemmas.{among_first, joins_at, limits_at, one_more, stream_at, streams_long}
 use Rattle.pb_window.proofs.graph.window_graph.Goals as goal
 

@@ -1,4 +1,4 @@
-use Rattle.std.proofs.Common.{◌+◌, ◌++◌, [], ◌∷◌, ℕ, List, map, drop, get_or}
+use Rattle.std.proofs.Common.{◌+◌, [], ◌∷◌, ℕ, List, map, drop, get_or}
 use Rattle.std.specs.List.{enumerate_from}
 use Rattle.std.proofs.lemmas.List.{at_drop_more}
 use Rattle.pb_window.specs.Window.{window_node}

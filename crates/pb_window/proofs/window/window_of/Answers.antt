@@ -1,9 +1,8 @@
-use Rattle.std.proofs.Common.{◌≡◌, ◌∙◌, ◌++◌, List, Ok, ap, sym, false}
+use Rattle.std.proofs.Common.{◌≡◌, ◌∙◌, ◌++◌, List, Ok, ap, sym}
 use Rattle.pb_window.specs.declared.plant.PlantArc.{PlantArc}
-use Rattle.pb_window.specs.declared.window.Window.{Window}
 use Rattle.pb_window.specs.declared.window.WindowNode.{WindowNode}
 use Rattle.pb_window.specs.declared.window.WindowStream.{WindowStream}
-use Rattle.pb_window.specs.Window.{is_too_great, window_contents, window_flows, window_of, window_shape}
+use Rattle.pb_window.specs.Window.{window_contents, window_flows, window_of}
 use Rattle.pb_window.proofs.JoinLemmas.{form_is}
 use Rattle.pb_window.proofs.NameLemmas.{names_are}
 use Rattle.pb_window.proofs.ShapeLemmas.{fits_is, made, shape_is}
