@@ -1,4 +1,4 @@
-//! Tests of the graph, its groups, its forest, its points, its classes and its advice, by their public names alone.
+//! Tests of the graph, its groups, its forest, its points, its classes, its advice and its windows, by their public names alone.
 #![tactic(auto)]
 
 #[cfg(test)]
@@ -15,3 +15,5 @@ mod graphs;
 mod merge;
 #[cfg(test)]
 mod points;
+#[cfg(test)]
+mod window;

@@ -53,7 +53,7 @@ fn no_critical(alloc: Global) -> Critical
 }
 
 /// The study of a graph of these streams, without tests.
-fn study_of(
+pub fn study_of(
     rt: &impl Abort,
     alloc: Global,
     nodes: u32,
@@ -100,7 +100,7 @@ fn numbers_of(stage: &Stage) -> Numbers {
 }
 
 /// The result of a stream.
-fn stream_at<'a>(rt: &impl Abort, stage: &'a Stage, j: usize) -> &'a StreamResult {
+pub fn stream_at<'a>(rt: &impl Abort, stage: &'a Stage, j: usize) -> &'a StreamResult {
     assert!(rt; j < stage.streams.len(), "stream {j}");
     stage.streams.at(j)
 }

@@ -1,6 +1,8 @@
-//! Tests of prices, flows and bounds, of gross error tests, elimination and checks, by their public names alone.
+//! Tests of prices, flows and bounds, of gross error tests, elimination, component balances and checks, by their public names alone.
 #![tactic(auto)]
 
+#[cfg(test)]
+mod assay;
 #[cfg(test)]
 mod check;
 #[cfg(test)]

@@ -1,0 +1,92 @@
+-- Statement. The component graph: a plant whose streams are measured by what their printed flows carry of one component.
+use Rattle.std.specs.Prelude.{◌≡◌, ◌≢◌, ℕ, ◌<◌, Bool, true, false, List, [], ◌∷◌, length, position, option_map, slice_get, Option, Some, None, IsSomeAnd, Result, Ok, Err}
+use Rattle.std.specs.Option.{option_map_or}
+use Rattle.pb_graph.specs.declared.records.Stream.{Stream}
+use Rattle.pb_graph.specs.declared.records.Class.{Class}
+use Rattle.pb_graph.specs.declared.records.Class.TheVariants.{Unobservable}
+use Rattle.pb_graph.specs.declared.results.StreamResult.{StreamResult}
+use Rattle.pb_graph.specs.ProcessGraph.{ProcessGraph}
+use Rattle.pb_assay.specs.declared.grade.Grade.{Grade}
+use Rattle.pb_assay.specs.declared.component.ComponentFault.{ComponentFault}
+use Rattle.pb_assay.specs.declared.component.ComponentFault.TheVariants.{NoMemory, Over}
+use Rattle.pb_assay.specs.Grade.{IsCarried, carried, carries_too_much}
+
+-- the grade by which a stream is measured: its own, unless its flow is unobservable and so isn't known
+abbrev pub counted_grade : Class → Option Grade → Option Grade
+counted_grade Unobservable grade = None
+counted_grade class grade = grade
+
+-- a stream of the component graph: the stream's ends, measured by what its printed flow carries
+abbrev pub component_stream : StreamResult → Option Grade → Stream → Stream
+component_stream printed grade stream = record {
+  from = stream.from;
+  to = stream.to;
+  meas = option_map (carried printed.flow) (counted_grade printed.classified.class grade);
+}
+
+-- a stream to be measured that is over the limits
+abbrev pub is_component_over : StreamResult → Option Grade → Bool
+is_component_over printed grade = option_map_or (carries_too_much printed.flow) (counted_grade printed.classified.class grade) false
+
+-- the streams of the component graph, each by what is printed of it and by its grade
+abbrev pub component_streams : List Stream → List StreamResult → List (Option Grade) → List Stream
+component_streams [] printed grades = []
+component_streams (stream ∷ streams) [] grades = []
+component_streams (stream ∷ streams) (result ∷ printed) [] = []
+component_streams (stream ∷ streams) (result ∷ printed) (grade ∷ grades) =
+    component_stream result grade stream ∷ component_streams streams printed grades
+
+-- which of them are over the limits
+abbrev pub component_overs : List StreamResult → List (Option Grade) → List Bool
+component_overs [] grades = []
+component_overs (result ∷ printed) [] = []
+component_overs (result ∷ printed) (grade ∷ grades) = is_component_over result grade ∷ component_overs printed grades
+
+-- the graph, unless a stream is over the limits
+abbrev pub component_unless_over : ProcessGraph → Option ℕ → Result ProcessGraph ComponentFault
+component_unless_over graph (Some stream) = Err (Over stream)
+component_unless_over graph None = Ok graph
+
+-- The component graph of a graph, or its first stream that is over the limits.
+abbrev pub component_of : ProcessGraph → List StreamResult → List (Option Grade) → Result ProcessGraph ComponentFault
+component_of graph printed grades =
+    component_unless_over (record { nodes = graph.nodes; streams = component_streams graph.streams printed grades })
+    (position (λ over. over) (component_overs printed grades))
+
+-- a stream that is named as over the limits is one of the graph's
+abbrev pub NamesAStreamOf : ProcessGraph → ComponentFault → Type 0
+NamesAStreamOf graph (Over stream) = stream < length graph.streams
+NamesAStreamOf graph NoMemory = Unit {0}
+
+-- A stream of the component graph, by meaning: the stream's ends, measured exactly if it has a grade and isn't unobservable, and then by
+-- what its printed flow carries.
+pub record IsComponentStream (printed : StreamResult) (grade : Option Grade) (stream component : Stream) : Type 0 where
+  pub from : component.from ≡ stream.from
+  pub to : component.to ≡ stream.to
+  pub bare : grade ≡ None → component.meas ≡ None
+  pub unknown : printed.classified.class ≡ Unobservable → component.meas ≡ None
+  pub measured : (known : Grade) → grade ≡ Some known → printed.classified.class ≢ Unobservable
+      → IsSomeAnd component.meas (IsCarried printed.flow known)
+
+-- the stream at a place is to be measured, and its flow or its variance is above the limits
+pub record IsOverAt (printed : List StreamResult) (grades : List (Option Grade)) (j : ℕ) : Type 0 where
+  pub result : StreamResult
+  pub grade : Grade
+  pub there : slice_get printed j ≡ Some result
+  pub assayed : slice_get grades j ≡ Some (Some grade)
+  pub known : result.classified.class ≢ Unobservable
+  pub over : carries_too_much result.flow grade ≡ true
+
+-- The component graph, by meaning: the graph's nodes and, in order, its streams, none of which is over the limits.
+pub record IsComponentGraph (graph : ProcessGraph) (printed : List StreamResult) (grades : List (Option Grade)) (component : ProcessGraph) : Type 0 where
+  pub nodes : component.nodes ≡ graph.nodes
+  pub each : length component.streams ≡ length graph.streams
+  pub streams : (j : ℕ) (stream measured : Stream) (result : StreamResult) (grade : Option Grade)
+      → slice_get graph.streams j ≡ Some stream → slice_get printed j ≡ Some result → slice_get grades j ≡ Some grade
+      → slice_get component.streams j ≡ Some measured → IsComponentStream result grade stream measured
+  pub within : (j : ℕ) → IsOverAt printed grades j → ⊥
+
+-- the first stream that is over the limits
+pub record IsFirstOver (printed : List StreamResult) (grades : List (Option Grade)) (j : ℕ) : Type 0 where
+  pub over : IsOverAt printed grades j
+  pub before : (k : ℕ) → k < j → IsOverAt printed grades k → ⊥

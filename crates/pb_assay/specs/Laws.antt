@@ -1,0 +1,37 @@
+-- Statement. What is proved of component graphs, law by law.
+use Rattle.std.specs.Prelude.{◌≡◌, ℕ, ◌+◌, ◌^◌, pos, ◌-ℤ◌, ◌*ℤ◌, ◌≤ℤ◌, ℤ, List, length, All, Option, IfSome, Ok, Err}
+use Rattle.pb_graph.specs.declared.results.StreamResult.{StreamResult}
+use Rattle.pb_graph.specs.ProcessGraph.{ProcessGraph, IsProcessGraph}
+use Rattle.pb_assay.specs.declared.grade.Grade.{Grade}
+use Rattle.pb_assay.specs.declared.grade.TheConstants.{MOST_GRADE, MOST_GRADE_VARIANCE}
+use Rattle.pb_assay.specs.declared.component.ComponentFault.TheVariants.{Over}
+use Rattle.pb_assay.specs.Grade.{IsGrade, carried_variance, grams_error, most_grade, most_grade_variance, squared}
+use Rattle.pb_assay.specs.Component.{IsComponentGraph, IsFirstOver, component_of}
+
+-- the constants of the code are the numbers of the definitions
+abbrev pub GradeLimitsLaw : Type 0
+GradeLimitsLaw = (MOST_GRADE ≡ pos most_grade) × (MOST_GRADE_VARIANCE ≡ pos most_grade_variance)
+
+-- the component graph is what its meaning says
+abbrev pub ComponentLaw : Type 0
+ComponentLaw = (graph component : ProcessGraph) (printed : List StreamResult) (grades : List (Option Grade))
+    → length printed ≡ length graph.streams → length grades ≡ length graph.streams
+    → component_of graph printed grades ≡ Ok component → IsComponentGraph graph printed grades component
+
+-- the component graph of a process graph is one
+abbrev pub ComponentFormLaw : Type 0
+ComponentFormLaw = (graph component : ProcessGraph) (printed : List StreamResult) (grades : List (Option Grade)) → IsProcessGraph graph
+    → length printed ≡ length graph.streams → length grades ≡ length graph.streams → All (λ (grade : Option Grade). IfSome grade IsGrade) grades
+    → component_of graph printed grades ≡ Ok component → IsProcessGraph component
+
+-- the stream that is named as over the limits is the first that is
+abbrev pub FirstOverLaw : Type 0
+FirstOverLaw = (graph : ProcessGraph) (printed : List StreamResult) (grades : List (Option Grade)) (j : ℕ)
+    → component_of graph printed grades ≡ Err (Over j) → IsFirstOver printed grades j
+
+-- What the variance answers for: if the square of the error of a grade is at most k times its variance, the square of the error of the
+-- grams is at most k + 1 times theirs, their rounding included.
+abbrev pub ErrorLaw : Type 0
+ErrorLaw = (flow ppm : ℤ) (grade : Grade) (k : ℕ) → IsGrade grade
+    → squared (ppm -ℤ grade.ppm) ≤ℤ (pos k *ℤ grade.variance)
+    → squared (grams_error flow ppm grade) ≤ℤ (pos (k + 1) *ℤ (pos (10 ^ 12) *ℤ carried_variance flow grade))

@@ -1,0 +1,30 @@
+// Grades, as assays give them.
+
+ghost use Rattle.std.specs.Prelude.{◌↔◌, IsTrue};
+ghost use Rattle.pb_assay.specs.Grade.{IsGrade};
+
+/// The greatest grade, in parts per million: the stream is the component alone.
+pub const MOST_GRADE: i64 = 1_000_000;
+
+/// The greatest variance of a grade, in squares of parts per million.
+pub const MOST_GRADE_VARIANCE: i64 = 100_000_000;
+
+/// The grade of a component in a stream, as an assay gives it: parts per million of the stream's mass, and the variance of their
+/// error, in squares of parts per million.
+#[derive(Clone, Copy, Debug, PartialEq, Eq)]
+pub struct Grade {
+    pub ppm: i64,
+    pub variance: i64,
+}
+
+impl Grade {
+    /// Whether the grade is from 0 to `MOST_GRADE` and its variance from 0 to `MOST_GRADE_VARIANCE`.
+    pub fn is_within_limits(&self) -> bool
+        ensures { IsTrue result ↔ IsGrade self.now }
+    {
+        self.ppm >= 0
+            && self.ppm <= MOST_GRADE
+            && self.variance >= 0
+            && self.variance <= MOST_GRADE_VARIANCE
+    }
+}

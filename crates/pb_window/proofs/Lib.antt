@@ -1,0 +1,9 @@
+mod CodeLemmas
+mod GraphLemmas
+mod JoinLemmas
+mod ListLemmas
+mod NameLemmas
+mod NumberLemmas
+mod PlaceLemmas
+mod RisingLemmas
+mod ShapeLemmas

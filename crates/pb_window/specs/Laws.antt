@@ -1,0 +1,24 @@
+-- Statement. What is proved of windows, law by law.
+use Rattle.std.specs.Prelude.{◌≡◌, ℕ, ◌+◌, ◌≤◌, List, length, Ok}
+use Rattle.pb_rows.specs.declared.name.Names.{Names}
+use Rattle.pb_window.specs.declared.plant.Plant.{Plant}
+use Rattle.pb_window.specs.declared.plant.Span.{Span}
+use Rattle.pb_window.specs.declared.window.Window.{Window}
+use Rattle.pb_window.specs.Plant.{IsPlant}
+use Rattle.pb_window.specs.Window.{IsWindow, most_periods_of_window, window_of}
+use Rattle.pb_window.specs.Codes.{AreWindowNames}
+use Rattle.pb_window.specs.Places.{HaveNames}
+
+-- a window has the form of a graph
+abbrev pub WindowFormLaw : Type 0
+WindowFormLaw = (plant : Plant) (spans : List Span) (window : Window) → IsPlant plant → window_of plant spans ≡ Ok window → IsWindow window
+
+-- the names of a window's nodes are names and differ, and so are those of its streams
+abbrev pub WindowNamesLaw : Type 0
+WindowNamesLaw = (plant : Plant) (spans : List Span) (window : Window) → IsPlant plant → length spans ≤ most_periods_of_window
+    → window_of plant spans ≡ Ok window → AreWindowNames window
+
+-- names of a plant and of periods, one for each, are found by each node and stream of their window
+abbrev pub WindowPlacesLaw : Type 0
+WindowPlacesLaw = (plant : Plant) (spans : List Span) (window : Window) (names : Names) (periods : List (List ℕ)) → window_of plant spans ≡ Ok window
+    → length names.nodes ≡ 1 + plant.nodes → length names.streams ≡ length plant.arcs → length periods ≡ length spans → HaveNames names periods window

@@ -1,0 +1,7 @@
+-- Statement
+pub mod Plant
+pub mod Window
+pub mod Graph
+pub mod Codes
+pub mod Places
+pub mod Laws

@@ -1,0 +1,69 @@
+-- Statement. A plant with its days of service, and what of it is there in a period.
+use Rattle.std.specs.Prelude.{◌≡◌, ◌≢◌, ℕ, ◌≤◌, ◌==◌, ◌&&◌, ◌||◌, ℤ, pos, ◌-ℤ◌, ◌≤ℤ◌, int_le, Bool, true, List, length, filter, All, Option, Some, None}
+use Rattle.std.specs.Int.{int_max, int_min}
+use Rattle.std.specs.List.{enumerate_from, list_any, range_with_len}
+use Rattle.pb_limits.specs.Limits.{most_streams, most_units_and_tanks}
+use Rattle.pb_window.specs.declared.plant.Plant.{Plant}
+use Rattle.pb_window.specs.declared.plant.PlantArc.{PlantArc}
+use Rattle.pb_window.specs.declared.plant.Service.{Service}
+use Rattle.pb_window.specs.declared.plant.Span.{Span}
+
+-- in service on some day of a period; without days of service on every day
+abbrev pub is_in_service : Option Service → Span → Bool
+is_in_service None span = true
+is_in_service (Some service) span = int_le service.since span.last && int_le span.first service.until
+
+-- an arc that is in service in a period
+abbrev pub is_served : Span → PlantArc → Bool
+is_served span arc = is_in_service arc.service span
+
+-- what a tank holds opens in a period at the end of the day before its first day of service there
+abbrev pub opening_day : Option Service → Span → ℤ
+opening_day None span = span.first -ℤ pos 1
+opening_day (Some service) span = int_max span.first service.since -ℤ pos 1
+
+-- and closes at the end of its last one
+abbrev pub closing_day : Option Service → Span → ℤ
+closing_day None span = span.last
+closing_day (Some service) span = int_min span.last service.until
+
+-- a node is an end of an arc
+abbrev pub is_end : ℕ → PlantArc → Bool
+is_end node arc = (arc.from == node) || (arc.to == node)
+
+-- an arc in service joins a node in a period
+abbrev pub is_joined : List PlantArc → Span → ℕ → Bool
+is_joined arcs span node = list_any (λ (arc : PlantArc). is_served span arc && is_end node arc) arcs
+
+-- A unit or tank is a node of the graph of a period if an arc in service joins it, or if idle ones are kept.
+abbrev pub is_node_in : Plant → Span → ℕ → Bool
+is_node_in plant span node = plant.keeps_idle || is_joined plant.arcs span node
+
+-- these units and tanks, in order
+abbrev pub nodes_in : Plant → Span → List ℕ
+nodes_in plant span = filter (is_node_in plant span) (range_with_len 1 plant.nodes)
+
+-- an arc after its number in the plant
+abbrev pub NumberedArc : Type 0
+NumberedArc = ℕ × PlantArc
+
+-- the arcs that are in service in a period, in order
+abbrev pub arcs_in : List PlantArc → Span → List NumberedArc
+arcs_in arcs span = filter (λ (numbered : NumberedArc). is_served span numbered.1) (enumerate_from 0 arcs)
+
+-- the ends of an arc are nodes and differ, and a tank's second end is the environment
+pub record IsPlantArc (nodes : ℕ) (arc : PlantArc) : Type 0 where
+  pub from : arc.from ≤ nodes
+  pub to : arc.to ≤ nodes
+  pub apart : arc.from ≢ arc.to
+  pub tank : arc.is_tank ≡ true → arc.to ≡ 0
+
+-- a plant within the limits
+pub record IsPlant (plant : Plant) : Type 0 where
+  pub few_nodes : plant.nodes ≤ most_units_and_tanks
+  pub few_arcs : length plant.arcs ≤ most_streams
+  pub arcs : All (IsPlantArc plant.nodes) plant.arcs
+
+-- a period since 1970-01-01
+abbrev pub IsSpan : Span → Type 0
+IsSpan span = pos 0 ≤ℤ span.first

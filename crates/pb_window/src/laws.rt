@@ -1,0 +1,18 @@
+// What is proved of the definitions alone. The functions are empty: the contract of each is a law.
+
+ghost use Rattle.pb_window.specs.Laws.{WindowFormLaw, WindowNamesLaw, WindowPlacesLaw};
+
+/// A window has the form of a graph: each of its streams joins two of its nodes.
+pub fn window_form_law()
+    ensures { WindowFormLaw }
+{}
+
+/// The names of a window's nodes are names, and no two of them are the same; so are those of its streams.
+pub fn window_names_law()
+    ensures { WindowNamesLaw }
+{}
+
+/// Names of a plant and of periods, one for each, are found by each node and stream of their window.
+pub fn window_places_law()
+    ensures { WindowPlacesLaw }
+{}

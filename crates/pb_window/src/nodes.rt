@@ -1,0 +1,83 @@
+// The nodes of a window.
+
+ghost use Rattle.std.specs.Prelude.{◌≡◌, ◌<◌, ◌≤◌, ◌*◌, ◌^◌, ◌++◌, length, map, position, IfOk, OnOk};
+ghost use Rattle.std.specs.List.{enumerate_from};
+ghost use Rattle.pb_limits.specs.Limits.{most_units_and_tanks};
+ghost use Rattle.pb_window.specs.Plant.{IsPlant, nodes_in};
+ghost use Rattle.pb_window.specs.Window.{most_periods_of_window, nodes_of_period, number_of, stands_for, window_node, window_nodes};
+
+use crate::plant::{Plant, Span, is_node_in};
+use crate::window::WindowNode;
+use std::alloc::{AllocError, Global};
+
+// The units and tanks that are nodes of the graph of a period.
+fn nodes_in(alloc: Global, plant: &Plant, span: &Span) -> Result<Vec<u32>, AllocError>
+    requires { plant.now.nodes ≤ most_units_and_tanks }
+    ensures value { IfOk result (λ list. list.items ≡ nodes_in plant.now span.now) }
+    ensures few { IfOk result (λ list. length list.items ≤ most_units_and_tanks) }
+{
+    let mut list = Vec::new(alloc);
+    for k in 0..plant.nodes {
+        if is_node_in(plant, span, k + 1) {
+            list.push(k + 1)?;
+        }
+    }
+    Ok(list)
+}
+
+// Appends the nodes of a period, which are those units and tanks.
+fn push_nodes(period: u32, list: &[u32], nodes: &mut Vec<WindowNode>) -> Result<(), AllocError>
+    requires { length list.now ≤ most_units_and_tanks }
+    ensures { OnOk result (nodes.new.items
+        ≡ nodes.old.items ++ map (window_node period) (enumerate_from 1 list.now)) }
+{
+    for (i, &node) in list.iter().enumerate() {
+        nodes.push(WindowNode {
+            period,
+            place: i as u32 + 1,
+            node,
+        })?;
+    }
+    Ok(())
+}
+
+/// The nodes of a window but the environment, period after period.
+pub fn window_nodes(
+    alloc: Global,
+    plant: &Plant,
+    spans: &[Span],
+) -> Result<Vec<WindowNode>, AllocError>
+    requires nodes { plant.now.nodes ≤ most_units_and_tanks }
+    requires few { length spans.now ≤ most_periods_of_window }
+    ensures value { IfOk result (λ nodes. nodes.items ≡ window_nodes plant.now spans.now) }
+    ensures few { IfOk result (λ nodes.
+        length nodes.items ≤ most_units_and_tanks * most_periods_of_window) }
+{
+    let mut nodes = Vec::new(alloc);
+    for (t, span) in spans.iter().enumerate() {
+        let list = nodes_in(alloc, plant, span)?;
+        push_nodes(t as u32 + 1, &list, &mut nodes)?;
+    }
+    Ok(nodes)
+}
+
+// The place of a node of the plant in a period among the nodes of a window.
+fn place_of(nodes: &[WindowNode], period: u32, node: u32) -> Option<usize>
+    ensures { result ≡ position (stands_for period node) nodes.now }
+{
+    nodes
+        .iter()
+        .position(|one| one.period == period && one.node == node)
+}
+
+/// The number of a node of the plant in a period among the nodes of a window's graph; 0 for the environment, and for what is no
+/// node of the period.
+pub fn number_of(nodes: &[WindowNode], period: u32, node: u32) -> u32
+    requires { length nodes.now < 2 ^ 31 }
+    ensures { result ≡ number_of nodes.now period node }
+{
+    match place_of(nodes, period, node) {
+        Some(place) => 1 + place as u32,
+        None => 0,
+    }
+}
