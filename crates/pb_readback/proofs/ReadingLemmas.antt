@@ -45,16 +45,19 @@ told_among P row kinds kind all told = by (find (is_row_of row) kinds) refl (no_
         let same : other ≡ kind = cc told in
         rw (← same) (found_among P row kinds other all is)
 
+going : (draft : Draft) (last : OutputKind) → draft.last ≡ last → last ≢ End → draft.last ≢ End
+going draft last is apart = λ ends. apart (sym is ∙ ends)
+
 -- behind the last stream
 after_all : (draft : Draft) → HasAll draft → (last : OutputKind) → draft.last ≡ last → AllByRecursion (MayCome draft) (kinds_after last)
-after_all draft all Report is = ((all, λ ends. cc (sym is ∙ ends)), tt)
-after_all draft all Node is = ((all, λ ends. cc (sym is ∙ ends)), tt)
-after_all draft all Stream is = ((all, λ ends. cc (sym is ∙ ends)), tt)
-after_all draft all StreamBefore is = ((all, λ ends. cc (sym is ∙ ends)), tt)
-after_all draft all Solved is = let on = λ (ends : draft.last ≡ End). cc (sym is ∙ ends) in ((all, on), ((all, on), tt))
-after_all draft all Global is = let on = λ (ends : draft.last ≡ End). cc (sym is ∙ ends) in ((all, on), ((all, on), ((all, on), tt)))
-after_all draft all Nodal is = let on = λ (ends : draft.last ≡ End). cc (sym is ∙ ends) in ((all, on), ((all, on), ((all, on), tt)))
-after_all draft all Measure is = let on = λ (ends : draft.last ≡ End). cc (sym is ∙ ends) in ((all, on), ((all, on), tt))
+after_all draft all Report is = ((all, going draft Report is (λ e. cc e)), tt)
+after_all draft all Node is = ((all, going draft Node is (λ e. cc e)), tt)
+after_all draft all Stream is = ((all, going draft Stream is (λ e. cc e)), tt)
+after_all draft all StreamBefore is = ((all, going draft StreamBefore is (λ e. cc e)), tt)
+after_all draft all Solved is = let on = going draft Solved is (λ e. cc e) in ((all, on), ((all, on), tt))
+after_all draft all Global is = let on = going draft Global is (λ e. cc e) in ((all, on), ((all, on), ((all, on), tt)))
+after_all draft all Nodal is = let on = going draft Nodal is (λ e. cc e) in ((all, on), ((all, on), ((all, on), tt)))
+after_all draft all Measure is = let on = going draft Measure is (λ e. cc e) in ((all, on), ((all, on), tt))
 after_all draft all last is = tt
 
 of_stream : (draft : Draft) → AwaitsStreams draft → (last : OutputKind) → AllByRecursion (MayCome draft) (stream_kinds last)

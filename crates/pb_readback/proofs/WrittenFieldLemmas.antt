@@ -46,7 +46,7 @@ pub record IsBetween (lo hi z : ℤ) : Type 0 where
 le_true : (a b : ℤ) → a ≤ℤ b → int_le a b ≡ true
 le_true a b h = grind (arith, ints)
 
-within_back : (lo hi z : ℤ) → IsBetween lo hi z → within lo hi (Some z) ≡ Some z
+pub within_back : (lo hi z : ℤ) → IsBetween lo hi z → within lo hi (Some z) ≡ Some z
 within_back lo hi z h = rw (le_true lo z h.least, le_true z hi h.most) refl
 
 pub number_back : HaveOneNumberText → (key : List ℕ) (lo hi z : ℤ) → IsBetween lo hi z → field_read (column key (NumberColumn lo hi)) (whole_text z) ≡ Ok (Number z)

@@ -157,13 +157,13 @@ stream_then_solved kind [] order = order
 stream_then_solved kind (x ∷ xs) order = stream_then_solved Stream xs refl
 
 -- behind nodes no stream has come without least bounds
+node_then_least : {A : Type 0} (xs : List A) → takes_least (last_of Node Node xs) ≡ true
+node_then_least [] = refl
+node_then_least (x ∷ xs) = node_then_least xs
+
 nodes_then_least : {A : Type 0} (xs : List A) → takes_least (last_of Node Report xs) ≡ true
 nodes_then_least [] = refl
-nodes_then_least (x ∷ xs) = more xs
-  where
-    more : (ys : List _) → takes_least (last_of Node Node ys) ≡ true
-    more [] = refl
-    more (y ∷ ys) = more ys
+nodes_then_least (x ∷ xs) = node_then_least xs
 
 -- the draft behind the rows of nodes, behind those of streams, and behind the solution
 abbrev first_draft : List ℕ → Options → ℕ → Stage → Draft
