@@ -2,9 +2,9 @@
 use Rattle.std.proofs.Common.{◌≡◌, ◌∙◌, ◌⊎◌, inl, inr, ℕ, ℤ, zero, suc, ◌+◌, ◌-◌, ◌<◌, ◌≤◌, List, [], ◌∷◌, ◌++◌, length, map, All, ap, ap₂, sym, refl, subst, arith, length-append}
 use Rattle.std.proofs.lemmas.List.Elements.{All-cons, All-head, All-nil, All-tail}
 use Rattle.pb_readback.specs.declared.block.Block.{Block}
-use Rattle.pb_readback.specs.declared.fault.RowFault.{RowFault}
+use Rattle.pb_blocks.specs.declared.fault.RowFault.{RowFault}
 use Rattle.pb_readback.specs.Laws.{FormedLaw, NextLaw}
-use Rattle.pb_readback.specs.Next.{AreBlocks, Found, IsFound, IsNext, IsRefusedAtOpening, IsRefusedWithin, Next, NoBlock, Refused}
+use Rattle.pb_readback.specs.Next.{AreBlocks, Found, IsFound, IsNext, Next, NoBlock, Refused}
 use Rattle.pb_check.specs.declared.faults.Place.{Place}
 use Rattle.pb_check.specs.declared.faults.Test.{Test}
 use Rattle.pb_check.specs.Verdict.{IsFirstFault}
@@ -22,17 +22,17 @@ fewer_found records rest block found =
     let whole = ap (λ (l : List Record). length l) found.split in
     omega (arith, whole, length-append found.passed (found.first ∷ (found.rows ++ rest)), length-append found.rows rest)
 
-some_refused : (at : ℕ) (records : List Record) (number : ℕ) (fault : RowFault) → IsNext at records (Refused number fault) → 0 < length records
-some_refused at records number fault (inl r) =
-    omega (arith, ap (λ (l : List Record). length l) r.split, length-append r.passed (r.first ∷ r.rest))
-some_refused at records number fault (inr r) =
+some_refused : (at : ℕ) (records left : List Record) (number : ℕ) (fault : RowFault) → IsNext at records (Refused number fault left) → 0 < length records
+some_refused at records left number fault (inl r) =
+    omega (arith, ap (λ (l : List Record). length l) r.split, length-append r.passed (r.first ∷ left))
+some_refused at records left number fault (inr r) =
     omega (arith, ap (λ (l : List Record). length l) r.split, length-append r.passed (r.first ∷ (r.rows ++ r.rest)))
 
 pub fewer_behind : (at : ℕ) (records behind : List Record) (finding : Finding) → Finds at records finding behind → length behind < length records
 fewer_behind at records behind (passed block) found = fewer_found records behind block found.0
 fewer_behind at records behind (failed block test place stated what) found = fewer_found records behind block found.0
 fewer_behind at records behind (unreadable number fault) found =
-    omega (arith, some_refused at records number fault found.0, ap (λ (l : List Record). length l) found.1)
+    omega (arith, some_refused at records found.0.0 number fault found.0.1, ap (λ (l : List Record). length l) found.1)
 
 -- ---- something is found
 
@@ -56,7 +56,7 @@ some_of next formed verdict (suc n) at records le =
     by (Found block rest, is) behind =
         let fine = formed records rest block is in
         with_block at records rest block is (verdict block.stage block.gap block.sweeps fine.graph fine.formed) (behind rest (fewer_found records rest block is))
-    by (Refused number fault, is) behind = (unreadable number fault ∷ [], ([], (is, refl), refl))
+    by (Refused number fault left, is) behind = (unreadable number fault ∷ [], ([], ((left, is), refl), refl))
 
 pub some_findings : NextLaw → FormedLaw → SomeVerdictLaw → (at : ℕ) (records : List Record) → (findings : List Finding) × AreFindings at records findings
 some_findings next formed verdict at records = some_of next formed verdict (length records) at records (omega arith)
@@ -92,7 +92,7 @@ same_found law at records (passed b) (failed c test place stated found) behind l
     absurd
     (law.apart c.stage c.gap c.sweeps fine.graph fine.formed (subst (λ (x : Block). IsPassedBlock x) block p.1) (fault_of c test place stated found q.1))
 same_found law at records (passed b) (unreadable number fault) behind left p q =
-    let e = law.next.only at records (Found b behind) (Refused number fault) p.0 q.0 in
+    let e = law.next.only at records (Found b behind) (Refused number fault q.0.0) p.0 q.0.1 in
     cc e
 same_found law at records (failed b test place stated found) (passed c) behind left p q =
     let e = law.next.only at records (Found b behind) (Found c left) p.0 q.0 in
@@ -109,16 +109,16 @@ same_found law at records (failed b test place stated found) (failed c other els
     law.only b.stage b.gap b.sweeps (fault_of b test place stated found p.1) (fault_of b other elsewhere given had here) fine.graph fine.formed in
     record { finding = λ i. failed (block i) (tests i) (places i) (states i) (finds i); rest = cc e }
 same_found law at records (failed b test place stated found) (unreadable number fault) behind left p q =
-    let e = law.next.only at records (Found b behind) (Refused number fault) p.0 q.0 in
+    let e = law.next.only at records (Found b behind) (Refused number fault q.0.0) p.0 q.0.1 in
     cc e
 same_found law at records (unreadable number fault) (passed c) behind left p q =
-    let e = law.next.only at records (Refused number fault) (Found c left) p.0 q.0 in
+    let e = law.next.only at records (Refused number fault p.0.0) (Found c left) p.0.1 q.0 in
     cc e
 same_found law at records (unreadable number fault) (failed c test place stated found) behind left p q =
-    let e = law.next.only at records (Refused number fault) (Found c left) p.0 q.0 in
+    let e = law.next.only at records (Refused number fault p.0.0) (Found c left) p.0.1 q.0 in
     cc e
 same_found law at records (unreadable number fault) (unreadable another cause) behind left p q =
-    let e = law.next.only at records (Refused number fault) (Refused another cause) p.0 q.0 in
+    let e = law.next.only at records (Refused number fault p.0.0) (Refused another cause q.0.0) p.0.1 q.0.1 in
     let numbers : number ≡ another = cc e in
     let faults : fault ≡ cause = cc e in
     record { finding = λ i. unreadable (numbers i) (faults i); rest = p.1 ∙ sym q.1 }
@@ -127,7 +127,7 @@ same_found law at records (unreadable number fault) (unreadable another cause) b
 none_found : NextLaw → (at : ℕ) (records : List Record) (finding : Finding) (behind : List Record) → IsNext at records NoBlock → Finds at records finding behind → ⊥
 none_found next at records (passed block) behind none found = let e = next.only at records NoBlock (Found block behind) none found.0 in cc e
 none_found next at records (failed block test place stated what) behind none found = let e = next.only at records NoBlock (Found block behind) none found.0 in cc e
-none_found next at records (unreadable number fault) behind none found = let e = next.only at records NoBlock (Refused number fault) none found.0 in cc e
+none_found next at records (unreadable number fault) behind none found = let e = next.only at records NoBlock (Refused number fault found.0.0) none found.0.1 in cc e
 
 pub one_findings : AreSettled → (at : ℕ) (records : List Record) (one other : List Finding) → AreFindings at records one → AreFindings at records other → one ≡ other
 one_findings law at records [] [] p q = refl

@@ -3,7 +3,7 @@
 use Rattle.std.specs.Prelude.{◌≡◌, ℕ, ℤ, ◌+◌, ◌-◌, Bool, true, false, List, [], ◌∷◌, ◌++◌, length, map, All}
 use Rattle.std.specs.List.{list_any}
 use Rattle.pb_readback.specs.declared.block.Block.{Block}
-use Rattle.pb_readback.specs.declared.fault.RowFault.{RowFault}
+use Rattle.pb_blocks.specs.declared.fault.RowFault.{RowFault}
 use Rattle.pb_readback.specs.Next.{Found, IsNext, NoBlock, Refused}
 use Rattle.pb_check.specs.declared.faults.Place.{Place}
 use Rattle.pb_check.specs.declared.faults.Test.{Test}
@@ -25,13 +25,17 @@ pub data Finding : Type 0 where
 abbrev pub IsPassedBlock : Block → Type 0
 IsPassedBlock block = IsPassed block.stage block.gap block.sweeps
 
+-- the row of this number is the first that can't be read
+abbrev pub IsRefusedAt : ℕ → List (List (List ℕ)) → ℕ → RowFault → Type 0
+IsRefusedAt at records number fault = (left : List (List (List ℕ))) × IsNext at records (Refused number fault left)
+
 -- what is found next in the records behind so many, and those that are judged behind it: behind a row that can't be read none is
 abbrev pub Finds : ℕ → List (List (List ℕ)) → Finding → List (List (List ℕ)) → Type 0
 Finds at records (passed block) behind = IsNext at records (Found block behind) × IsPassedBlock block
 Finds at records (failed block test place stated found) behind =
     IsNext at records (Found block behind)
     × IsFirstFault block.stage block.gap block.sweeps test place stated found
-Finds at records (unreadable number fault) behind = IsNext at records (Refused number fault) × (behind ≡ [])
+Finds at records (unreadable number fault) behind = IsRefusedAt at records number fault × (behind ≡ [])
 
 -- there is nothing more to be found: no block, and each record can be passed over
 abbrev pub FindsNothing : ℕ → List (List (List ℕ)) → Type 0

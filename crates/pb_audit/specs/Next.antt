@@ -1,6 +1,7 @@
 -- Statement. One finding at a time.
 use Rattle.std.specs.Prelude.{◌≡◌, ℕ, ◌+◌, ◌-◌, List, [], ◌∷◌, ◌++◌, length, Option, Some, None}
 use Rattle.pb_rows.specs.RecordsLeft.{RecordsLeft}
+use Rattle.pb_readback.specs.Next.{AreCounted, IsNext, Refused}
 use Rattle.pb_audit.specs.declared.judge.Judged.{Judged}
 use Rattle.pb_audit.specs.declared.judge.Judged.TheVariants.{Passed, Failed, Unreadable}
 use Rattle.pb_audit.specs.Judgement.{Finding, Finds, FindsNothing, failed, passed, text_of_findings, unreadable}
@@ -11,10 +12,15 @@ judged_of (passed block) = Passed
 judged_of (failed block test place stated found) = Failed
 judged_of (unreadable number fault) = Unreadable
 
--- the records of a block were taken; what is left behind a row that can't be read isn't said
+-- the records of a block were taken
 abbrev pub GoesOn : RecordsLeft → RecordsLeft → List (List (List ℕ)) → Judged → Type 0
 GoesOn old new behind Unreadable = Unit {0}
 GoesOn old new behind judged = new ≡ record { taken = old.taken + (length old.left - length behind); left = behind }
+
+-- the row that shows what can't be read was taken, and none after it
+abbrev pub TakesNoMore : RecordsLeft → RecordsLeft → Finding → Type 0
+TakesNoMore old new (unreadable number fault) = IsNext old.taken old.left (Refused number fault new.left) × AreCounted old new
+TakesNoMore old new finding = Unit {0}
 
 -- What is found next among records that are taken one at a time is of this kind, and this is the text of its row.
 pub record IsNextFinding (old new : RecordsLeft) (judged : Judged) (text : List ℕ) : Type 0 where
@@ -24,6 +30,7 @@ pub record IsNextFinding (old new : RecordsLeft) (judged : Judged) (text : List 
   pub is : judged ≡ judged_of finding
   pub text_is : text ≡ text_of_findings (finding ∷ [])
   pub goes_on : GoesOn old new behind judged
+  pub no_more : TakesNoMore old new finding
 
 -- what is found next, if there is something
 abbrev pub Tells : RecordsLeft → RecordsLeft → Option Judged → List ℕ → Type 0

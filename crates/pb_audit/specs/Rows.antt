@@ -5,8 +5,8 @@ use Rattle.pb_rows.specs.declared.name.Names.{Names}
 use Rattle.pb_form.specs.Value.{Value, Missing, Name, Number, Word}
 use Rattle.pb_form.specs.declared.output.OutputKind.TheVariants as kind
 use Rattle.pb_readback.specs.declared.block.Block.{Block}
-use Rattle.pb_readback.specs.declared.fault.RowFault.{RowFault}
-use Rattle.pb_readback.specs.Codes as codes_of_faults
+use Rattle.pb_blocks.specs.declared.fault.RowFault.{RowFault}
+use Rattle.pb_blocks.specs.Codes as codes_of_faults
 use Rattle.pb_check.specs.declared.faults.Test.{Test}
 use Rattle.pb_check.specs.declared.faults.Place.{Place}
 use Rattle.pb_check.specs.declared.faults.Place.TheVariants.{Node, Stream, Whole}

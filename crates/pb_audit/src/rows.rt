@@ -3,7 +3,7 @@
 ghost use Rattle.std.specs.Prelude.{◌≡◌, ◌-◌, ◌∷◌, [], OnOk, OnErr};
 ghost use Rattle.pb_form.specs.Given.{value_as};
 ghost use Rattle.pb_form.specs.Holds as holds;
-ghost use Rattle.pb_readback.specs.Codes as codes_of_faults;
+ghost use Rattle.pb_blocks.specs.Codes as codes_of_faults;
 ghost use Rattle.pb_check.specs.Verdict as tests;
 ghost use Rattle.pb_report.specs.Form.{AppendsRows};
 ghost use Rattle.pb_report.specs.Given.{given_row};
@@ -11,9 +11,10 @@ ghost use Rattle.pb_report.specs.declared.form.Form.TheVariants.{Csv};
 ghost use Rattle.pb_audit.specs.Rows.{no_row, place_name, unreadable_row, yes_row};
 ghost use Rattle.pb_audit.specs.Judging.{IsPlaceOf};
 
+use pb_blocks::RowFault;
 use pb_check::{Place, Test};
 use pb_form::{OutputKind, Value};
-use pb_readback::{Block, RowFault};
+use pb_readback::Block;
 use pb_report::{Form, write_row};
 use pb_rows::Names;
 use std::alloc::{AllocError, Global};

@@ -1,125 +1,131 @@
 -- A block that is read is well formed.
-use Rattle.std.specs.Prelude.{◌||◌, ◌&&◌, not, int_le, int_lt, unsigned_abs, is_some, All, IfSome, codes, bytes_eq, if◌then◌else◌, slice_index_or, position, option_map, unwrap_or}
+use Rattle.std.specs.Prelude.{◌||◌, ◌&&◌, not, int_lt, unsigned_abs, All, IfSome, codes, bytes_eq, if◌then◌else◌, slice_index_or, position, option_map, Result, Ok, Err}
 use Rattle.std.specs.Cmp.Lexicographic.{bytes_decides}
 use Rattle.std.specs.List.{list_any}
-use Rattle.std.proofs.Common.{◌≡◌, ◌∙◌, ℕ, ◌-◌, ◌^◌, ◌<◌, ◌≤◌, ◌==◌, ℤ, pos, negsuc, neg_ℤ, List, [], ◌∷◌, ◌++◌, length, map, Bool, true, false, true≢false, Option, Some, None, refl, sym, arith, inl, inr}
-use Rattle.std.proofs.lemmas.Bool.{and_parts, cases_Bool, or_parts}
+use Rattle.std.proofs.Common.{◌≡◌, ◌∙◌, ℕ, ◌-◌, ◌^◌, ◌<◌, ◌≤◌, ◌==◌, ℤ, pos, negsuc, neg_ℤ, List, [], ◌∷◌, ◌++◌, length, map, Bool, true, false, Option, Some, None, refl, sym, ap, arith, inl, inr}
+use Rattle.std.proofs.lemmas.Bool.{cases_Bool, or_parts}
 use Rattle.std.proofs.lemmas.Int.{ints}
 use Rattle.std.proofs.lemmas.List.{length-map}
 use Rattle.std.proofs.lemmas.List.Elements.{All-cons, All-head, All-map, All-nil, All-push, All-tail, All-weaker}
 use Rattle.pb_limits.specs.Limits.{most_critical, most_freedom, most_gap, most_nodes, most_streams, most_sweeps, most_value, most_variance}
 use Rattle.pb_limits.specs.Ranges.{IsCriticalValue}
 use Rattle.pb_rows.specs.Name.{is_name}
-use Rattle.pb_rows.specs.Number.{number, within}
 use Rattle.pb_graph.specs.declared.results.NodalTest.{NodalTest}
 use Rattle.pb_graph.specs.declared.results.MeasureTest.{MeasureTest}
+use Rattle.pb_graph.specs.declared.results.Solved.TheVariants.{Converged, Unconverged}
 use Rattle.pb_graph.specs.declared.results.Tests.{Tests}
 use Rattle.pb_graph.specs.Prices.{most_price}
 use Rattle.pb_graph.specs.ProcessGraph.{IsMeasurement, IsStream, IsWithinLimits, ProcessGraph}
 use Rattle.pb_graph.specs.WellFormed.{AreBoundsWithin, AreTestsWithin, IsFlow, IsMeasureWithin, IsMember, IsNodalWithin, IsPrice, IsResultWithin, IsSign, IsStep, IsWide, IsWitnessWithin, sweeps_of}
+use Rattle.pb_form.specs.OutputRows.{output_schema}
+use Rattle.pb_form.specs.Reading.{row_read}
+use Rattle.pb_form.specs.Value.{Value}
+use Rattle.pb_form.specs.declared.fault.FormFault.{FormFault}
+use Rattle.pb_form.specs.declared.output.OutputKind.{OutputKind}
+use Rattle.pb_form.specs.declared.output.OutputKind.TheVariants.{Report, Node, Stream, StreamBefore, Solved, Global, Nodal, Measure, End}
+use Rattle.pb_blocks.specs.declared.fault.RowFault.{RowFault}
+use Rattle.pb_blocks.specs.declared.fault.RowFault.TheVariants.{Number as NumberFault, Unknown, Duplicate, Shape, Count, Env}
+use Rattle.pb_blocks.specs.declared.rows.Heading.{Heading}
+use Rattle.pb_blocks.specs.declared.rows.Shape.{Shape as ShapeKind}
+use Rattle.pb_blocks.specs.declared.rows.Shape.TheVariants.{Cut, Cycle}
+use Rattle.pb_blocks.specs.declared.rows.Solution.{Solution}
+use Rattle.pb_blocks.specs.declared.rows.StreamRow.{StreamRow}
+use Rattle.pb_blocks.specs.Beside.{are_miscounted, form_fault, leads_to_itself, has_unknown_node, heading_fault, heading_in, is_half_told, opening_by, opening_fault}
+use Rattle.pb_blocks.specs.Codes.{lowest}
+use Rattle.pb_blocks.specs.Counts.{IsHeading}
+use Rattle.pb_blocks.specs.Kinds.{kind_among}
+use Rattle.pb_blocks.specs.Laws.{LiesWithin}
+use Rattle.pb_blocks.specs.Lists.{is_among, is_plus, items, member_of, names_no_stream, part_name, side_of, step_of}
+use Rattle.pb_blocks.specs.Results.{has_unknown_part, result_of, witness_by}
+use Rattle.pb_blocks.specs.Texts.{name_field, side_field}
+use Rattle.pb_blocks.specs.Values.{said_arc, both_bounds, choice_at, said_least, both_meas, said_measure, most_round, natural_at, said_nodal, number_at, optional_at, said_price, said_stream, values_in, values_or_none}
+use Rattle.pb_blocks.proofs.NameLemmas.{some_found}
+use Rattle.pb_blocks.proofs.RowLaws.{name_read, number_read, optional_read}
 use Rattle.pb_readback.specs.declared.draft.Draft.{Draft}
-use Rattle.pb_readback.specs.declared.draft.Heading.{Heading}
-use Rattle.pb_readback.specs.declared.draft.Shape.{Shape as ShapeKind}
-use Rattle.pb_readback.specs.declared.draft.Shape.TheVariants.{Cut, Cycle}
-use Rattle.pb_readback.specs.declared.draft.Solution.{Solution}
-use Rattle.pb_readback.specs.declared.draft.StreamForm.{StreamForm}
-use Rattle.pb_readback.specs.declared.draft.StreamRow.{StreamRow}
-use Rattle.pb_readback.specs.declared.fault.RowFault.TheVariants.{Fields, Name as NameFault, Number as NumberFault, Unknown, Duplicate, Word, Shape, Count, Env}
-use Rattle.pb_readback.specs.declared.kind.RowKind.{RowKind}
-use Rattle.pb_readback.specs.declared.kind.RowKind.TheVariants.{Report, Node, Stream, Solved, Global, Nodal, Measure, End}
-use Rattle.pb_readback.specs.Columns.{Number, Optional, columns_of, critical_column, flow_column, gap_column, has_all_fields, is_bad_number, is_half_told, most_round, price_column, round_column, some_bad, sweeps_column, value_column, variance_column, wide_column, wide_or_none_column}
-use Rattle.pb_readback.specs.Fields.{IsBetween}
-use Rattle.pb_readback.specs.Forms.{form_of, in_full}
-use Rattle.pb_readback.specs.Kinds.{field, is_blank, kind_of}
-use Rattle.pb_readback.specs.Lists.{is_among, is_plus, items, member_of, name_in, names_no_stream, side_of, step_of}
-use Rattle.pb_readback.specs.Values.{bounds_of, heading_in, meas_of, measure_in, natural_in, nodal_in, solved_by, state_in, stream_in, stream_row_in, value_in}
-use Rattle.pb_readback.specs.Faults.{fault_behind, fault_if, fault_of, first_unknown, has_bad_name, has_bad_number, has_bad_word, has_other_fields, has_unknown_part, is_duplicate, is_loop, is_miscounted, is_misshapen, is_other_env, is_unknown, may_stand, opening_fault, opening_if}
-use Rattle.pb_readback.specs.Drafts.{told_if, told_with, with_measure, with_nodal, with_row, with_rows, with_stream}
-use Rattle.pb_readback.specs.Reading.{IsHeading, IsUnderWay}
-use Rattle.pb_readback.specs.Next.{AreSound, opened}
-use Rattle.pb_readback.specs.Blocks.{block_of, result_of, witness_by}
+use Rattle.pb_readback.specs.Blocks.{block_of}
+use Rattle.pb_readback.specs.Drafts.{kinds_next, told_if, told_with, with_measure, with_nodal, with_row, with_rows, with_stream}
+use Rattle.pb_readback.specs.Faults.{fault_behind, fault_beside, fault_if, fault_of, first_unknown, is_duplicate, is_loop, is_misshapen, is_other_env, is_unknown}
 use Rattle.pb_readback.specs.Laws.{FormedLaw}
+use Rattle.pb_readback.specs.Next.{AreSound, opened}
+use Rattle.pb_readback.specs.Reading.{AwaitsStreams, IsUnderWay, MayCome}
 use Rattle.pb_readback.specs.WellFormed.{AreNames, IsWellFormedBlock}
-use Rattle.pb_readback.proofs.NameLemmas.{some_found}
-use Rattle.pb_readback.proofs.StreamLemmas.{known_ends, names_more, not_false, place_within, places_apart}
-use Rattle.pb_readback.proofs.ReadingLemmas.{all_nodes, begins_under_way, no_heading, one_more, stands, still_under, stream_under}
+use Rattle.pb_readback.proofs.StreamLemmas.{arc_joins, names_more, not_false, place_within}
+use Rattle.pb_readback.proofs.ReadingLemmas.{all_nodes, begins_under_way, may_come, one_more, still_under, stream_under}
 use Rattle.pb_readback.proofs.NextLemmas.{ended_complete}
 
 -- ---- numbers
 
--- a number that a column takes lies in its range
-between : (lo hi : ℤ) (text : List ℕ) → is_bad_number (Number lo hi) text ≡ false → IsBetween lo hi (value_in text)
-between lo hi text fine = by (number text) fine
-  where
-    by : (o : Option ℤ) → not (is_some (within lo hi o)) ≡ false → IsBetween lo hi (unwrap_or o (pos 0))
-    by None fine = cc fine
-    by (Some z) fine = elim (cases_Bool (int_le lo z && int_le z hi)) [
-      | inl inside ↦
-          let parts = and_parts (int_le lo z) (int_le z hi) inside in
-          (omega (arith, ints, parts.0), omega (arith, ints, parts.1))
-      | inr outside ↦ let e = rw outside at fine in cc e
-    ]
-
--- the same where it may be left out
-between_if : (lo hi : ℤ) (text : List ℕ) → is_bad_number (Optional lo hi) text ≡ false → IfSome (number text) (IsBetween lo hi)
-between_if lo hi text fine = elim (cases_Bool (is_blank text)) [
-  | inl blank ↦ rw (left_out text blank) tt
-  | inr there ↦ by (number text) (rw there at fine)
-]
-  where
-    left_out : (t : List ℕ) → is_blank t ≡ true → number t ≡ None
-    left_out [] blank = refl
-    left_out (byte ∷ bytes) blank = absurd (grind (arith, blank))
-
-    by : (o : Option ℤ) → not (is_some (within lo hi o)) ≡ false → IfSome o (IsBetween lo hi)
-    by None fine = cc fine
-    by (Some z) fine = elim (cases_Bool (int_le lo z && int_le z hi)) [
-      | inl inside ↦
-          let parts = and_parts (int_le lo z) (int_le z hi) inside in
-          (omega (arith, ints, parts.0), omega (arith, ints, parts.1))
-      | inr outside ↦ let e = rw outside at fine in cc e
-    ]
-
-abs_within : (m : ℕ) (z : ℤ) → IsBetween (neg_ℤ (pos m)) (pos m) z → unsigned_abs z ≤ m
+abs_within : (m : ℕ) (z : ℤ) → LiesWithin (neg_ℤ (pos m)) (pos m) z → unsigned_abs z ≤ m
 abs_within m (pos n) h = omega (arith, ints, h.1)
 abs_within m (negsuc n) h = omega (arith, ints, h.0)
 
-natural_within : (lo hi : ℕ) (z : ℤ) → IsBetween (pos lo) (pos hi) z → (lo ≤ unsigned_abs z) × (unsigned_abs z ≤ hi)
+natural_within : (lo hi : ℕ) (z : ℤ) → LiesWithin (pos lo) (pos hi) z → (lo ≤ unsigned_abs z) × (unsigned_abs z ≤ hi)
 natural_within lo hi (pos n) h = (omega (arith, ints, h.0), omega (arith, ints, h.1))
 natural_within lo hi (negsuc n) h = absurd (omega (arith, ints, h.0))
 
+wide_if : (number : Option ℤ) → IfSome number (LiesWithin (neg_ℤ (pos (2 ^ 126))) (pos (2 ^ 126))) → IfSome number IsWide
+wide_if None h = tt
+wide_if (Some z) h = abs_within (2 ^ 126) z h
+
+meas_in : (value variance : Option ℤ) → IfSome value (LiesWithin (neg_ℤ (pos most_value)) (pos most_value)) → IfSome variance (LiesWithin (pos 1) (pos most_variance))
+    → IfSome (both_meas value variance) IsMeasurement
+meas_in None variance h k = tt
+meas_in (Some value) None h k = tt
+meas_in (Some value) (Some variance) h k = record { value = abs_within most_value value h; least = k.0; greatest = k.1 }
+
+bounds_in : (lo hi : Option ℤ) → IfSome lo IsWide → IfSome hi IsWide → IfSome (both_bounds lo hi) AreBoundsWithin
+bounds_in None hi h k = tt
+bounds_in (Some lo) None h k = tt
+bounds_in (Some lo) (Some hi) h k = record { lo = h; hi = k }
+
 -- ---- a row without a fault
 
--- none of the faults holds
-pub record IsFine (kind : RowKind) (draft : Draft) (row : List (List ℕ)) : Type 0 where
-  pub names : has_bad_name kind row ≡ false
-  pub numbers : has_bad_number kind row ≡ false
+-- the row is read, and none of the faults beside its form holds
+pub record IsFine (kind : OutputKind) (draft : Draft) (row : List (List ℕ)) : Type 0 where
+  pub read : row_read (output_schema kind) row ≡ Ok (values_in kind row)
   pub known : is_unknown kind draft row ≡ false
   pub new : is_duplicate kind draft row ≡ false
   pub apart : is_loop kind row ≡ false
   pub env : is_other_env kind draft row ≡ false
 
-first_of : (a b c d e f g h i : Bool)
-    → (if a then Some Fields else if b then Some NameFault else if c then Some NumberFault else if d then Some Unknown else if e then Some Duplicate
-    else if f then Some Word else if g then Some Shape else if h then Some Count else if i then Some Env else None) ≡ None
-    → (b ≡ false) × (c ≡ false) × (d ≡ false) × (e ≡ false) × (h ≡ false) × (i ≡ false)
-first_of true b c d e f g h i is = cc is
-first_of false true c d e f g h i is = cc is
-first_of false false true d e f g h i is = cc is
-first_of false false false true e f g h i is = cc is
-first_of false false false false true f g h i is = cc is
-first_of false false false false false true g h i is = cc is
-first_of false false false false false false true h i is = cc is
-first_of false false false false false false false true i is = cc is
-first_of false false false false false false false false true is = cc is
-first_of false false false false false false false false false is = (refl, refl, refl, refl, refl, refl)
+first_of : (a b c d e f : Bool)
+    → (if a then Some NumberFault else if b then Some Unknown else if c then Some Duplicate else if d then Some Shape else if e then Some Count
+    else if f then Some Env else None) ≡ None
+    → (b ≡ false) × (c ≡ false) × (e ≡ false) × (f ≡ false)
+first_of true b c d e f is = cc is
+first_of false true c d e f is = cc is
+first_of false false true d e f is = cc is
+first_of false false false true e f is = cc is
+first_of false false false false true f is = cc is
+first_of false false false false false true is = cc is
+first_of false false false false false false is = (refl, refl, refl, refl)
 
-pub fine : (kind : RowKind) (draft : Draft) (row : List (List ℕ)) → fault_of kind draft row ≡ None → IsFine kind draft (in_full kind row)
+none_lowest : (one other : Option RowFault) → lowest one other ≡ None → (one ≡ None) × (other ≡ None)
+none_lowest None other none = (refl, none)
+none_lowest (Some one) None none = cc none
+none_lowest (Some one) (Some other) none = cc none
+
+pub is_read : (kind : OutputKind) (row : List (List ℕ)) → form_fault (row_read (output_schema kind) row) ≡ None → row_read (output_schema kind) row ≡ Ok (values_in kind row)
+is_read kind row none = by (row_read (output_schema kind) row) none
+  where
+    by : (read : Result (List Value) FormFault) → form_fault read ≡ None → read ≡ Ok (values_or_none read)
+    by (Ok values) none = refl
+    by (Err fault) none = cc none
+
+-- no fault beside the form
+pub beside_fine : (kind : OutputKind) (draft : Draft) (row : List (List ℕ)) → fault_beside kind draft row ≡ None
+    → (is_unknown kind draft row ≡ false) × (is_duplicate kind draft row ≡ false) × (is_loop kind row ≡ false) × (is_other_env kind draft row ≡ false)
+beside_fine kind draft row none =
+    first_of (is_half_told kind row) (is_unknown kind draft row) (is_duplicate kind draft row) (is_misshapen kind draft row) (is_loop kind row) (is_other_env kind draft row) none
+
+pub read_values : (kind : OutputKind) (row : List (List ℕ)) (values : List Value) → row_read (output_schema kind) row ≡ Ok values → values_in kind row ≡ values
+read_values kind row values read = ap values_or_none read
+
+pub fine : (kind : OutputKind) (draft : Draft) (row : List (List ℕ)) → fault_of kind draft row ≡ None → IsFine kind draft row
 fine kind draft row none =
-    let full = in_full kind row in
-    let each = first_of (has_other_fields kind draft row) (has_bad_name kind full) (has_bad_number kind full) (is_unknown kind draft full) (is_duplicate kind draft full)
-    (has_bad_word kind full) (is_misshapen kind draft full) (is_loop kind full) (is_other_env kind draft full) none in
-    record { names = each.0; numbers = each.1; known = each.2; new = each.3; apart = each.4; env = each.5 }
+    let both = none_lowest (form_fault (row_read (output_schema kind) row)) (fault_beside kind draft row) none in
+    let each = beside_fine kind draft row both.1 in
+    record { read = is_read kind row both.0; known = each.0; new = each.1; apart = each.2; env = each.3 }
 
 -- ---- what a draft keeps
 
@@ -181,153 +187,135 @@ record IsFormed (draft : Draft) : Type 0 where
   solution : IsFormedSolution draft.solution
   tests : IfSome draft.tests (AreFormedTests draft.heading)
 
-wide_in : (text : List ℕ) → is_bad_number wide_column text ≡ false → IsWide (value_in text)
-wide_in text fine = abs_within (2 ^ 126) (value_in text) (between (neg_ℤ (pos (2 ^ 126))) (pos (2 ^ 126)) text fine)
-
-wide_if : (text : List ℕ) → is_bad_number wide_or_none_column text ≡ false → IfSome (number text) IsWide
-wide_if text fine = by (number text) (between_if (neg_ℤ (pos (2 ^ 126))) (pos (2 ^ 126)) text fine)
-  where
-    by : (o : Option ℤ) → IfSome o (IsBetween (neg_ℤ (pos (2 ^ 126))) (pos (2 ^ 126))) → IfSome o IsWide
-    by None h = tt
-    by (Some z) h = abs_within (2 ^ 126) z h
-
-critical_if : (text : List ℕ) → is_bad_number critical_column text ≡ false → IfSome (number text) IsCriticalValue
-critical_if text fine = between_if (pos 0) (pos most_critical) text fine
-
-flow_in : (text : List ℕ) → is_bad_number flow_column text ≡ false → IsFlow (value_in text)
-flow_in text fine = let most = abs_within (2 ^ 68 - 1) (value_in text) (between (neg_ℤ (pos (2 ^ 68 - 1))) (pos (2 ^ 68 - 1)) text fine) in omega (arith, most)
-
--- a value and a variance, both in their ranges
-meas_in : (value variance : Option ℤ) → IfSome value (IsBetween (neg_ℤ (pos most_value)) (pos most_value)) → IfSome variance (IsBetween (pos 1) (pos most_variance))
-    → IfSome (meas_of value variance) IsMeasurement
-meas_in None variance h k = tt
-meas_in (Some value) None h k = tt
-meas_in (Some value) (Some variance) h k = record { value = abs_within most_value value h; least = k.0; greatest = k.1 }
-
-bounds_in : (lo hi : Option ℤ) → IfSome lo IsWide → IfSome hi IsWide → IfSome (bounds_of lo hi) AreBoundsWithin
-bounds_in None hi h k = tt
-bounds_in (Some lo) None h k = tt
-bounds_in (Some lo) (Some hi) h k = record { lo = h; hi = k }
-
 -- ---- rows that are read
 
-node_formed : (draft : Draft) (row : List (List ℕ)) → IsFormed draft → may_stand draft Node ≡ true → IsFine Node draft row → IsFormed (told_with Node draft row)
+node_formed : (draft : Draft) (row : List (List ℕ)) → IsFormed draft → MayCome draft Node → IsFine Node draft row → IsFormed (told_with Node draft row)
 node_formed draft row formed may fine =
-    let name = not_false (is_name (field row 1)) ((or_parts (not (is_name (field row 1))) false fine.names).0) in
-    let price = (or_parts (is_bad_number price_column (field row 2)) false ((or_parts (is_bad_number price_column (field row 2) || false) false fine.numbers).0)).0 in
-    let names = one_more draft.nodes (field row 1) in
-    let prices = one_more draft.prices (value_in (field row 2)) in
+    let values = values_in Node row in
+    let name = name_read Node row values 1 (codes "name") fine.read refl in
+    let price = number_read Node row values 2 (codes "price") (neg_ℤ (pos most_price)) (pos most_price) fine.read refl in
+    let names = one_more draft.nodes (name_field row) in
+    let prices = one_more draft.prices (said_price values) in
     let each = formed.nodes.each in
     record {
       way = still_under draft Node row formed.way may;
       heading = formed.heading;
       nodes = record {
-        names = names_more draft.nodes (field row 1) formed.nodes.names name fine.new;
+        names = names_more draft.nodes (name_field row) formed.nodes.names name fine.new;
         env = first draft.nodes formed.nodes.env fine.env;
         each = omega (arith, names, prices, each);
-        ranges = All-push IsPrice draft.prices (value_in (field row 2)) formed.nodes.ranges (abs_within most_price (value_in (field row 2)) (between (neg_ℤ (pos most_price)) (pos most_price) (field row 2) price));
+        ranges = All-push IsPrice draft.prices (said_price values) formed.nodes.ranges (abs_within most_price (said_price values) price);
       };
       streams = record { names = formed.streams.names; joins = formed.streams.joins; limits = formed.streams.limits; rows = formed.streams.rows };
       solution = formed.solution;
       tests = formed.tests;
     }
   where
-    first : (nodes : List (List ℕ)) → (0 < length nodes → slice_index_or nodes 0 [] ≡ codes "env") → ((length nodes == 0) && not (bytes_eq (field row 1) (codes "env"))) ≡ false
-        → 0 < length (nodes ++ field row 1 ∷ []) → slice_index_or (nodes ++ field row 1 ∷ []) 0 [] ≡ codes "env"
-    first [] env other some = (bytes_decides (field row 1) (codes "env")).0 (not_false (bytes_eq (field row 1) (codes "env")) other)
+    first : (nodes : List (List ℕ)) → (0 < length nodes → slice_index_or nodes 0 [] ≡ codes "env") → ((length nodes == 0) && not (bytes_eq (name_field row) (codes "env"))) ≡ false
+        → 0 < length (nodes ++ name_field row ∷ []) → slice_index_or (nodes ++ name_field row ∷ []) 0 [] ≡ codes "env"
+    first [] env other some = (bytes_decides (name_field row) (codes "env")).0 (not_false (bytes_eq (name_field row) (codes "env")) other)
     first (node ∷ nodes) env other some = env (omega arith)
+
+-- what the row of a stream says is within the limits
+record IsSaidStream (kind : OutputKind) (row : List (List ℕ)) : Type 0 where
+  name : is_name (name_field row) ≡ true
+  meas : IfSome (both_meas (optional_at (values_in kind row) 4) (optional_at (values_in kind row) 5)) IsMeasurement
+  flow : IsFlow (number_at (values_in kind row) 7)
+  bounds : IfSome (both_bounds (optional_at (values_in kind row) 8) (optional_at (values_in kind row) 9)) AreBoundsWithin
+  least : IfSome (said_least kind (values_in kind row)) AreBoundsWithin
+
+flow_in : (z : ℤ) → LiesWithin (neg_ℤ (pos (2 ^ 68 - 1))) (pos (2 ^ 68 - 1)) z → IsFlow z
+flow_in z h = let most = abs_within (2 ^ 68 - 1) z h in omega (arith, most)
+
+stream_within : (row : List (List ℕ)) → row_read (output_schema Stream) row ≡ Ok (values_in Stream row) → IsSaidStream Stream row
+stream_within row read =
+    let values = values_in Stream row in
+    let wide = λ (place : ℕ) (number : IfSome (optional_at values place) (LiesWithin (neg_ℤ (pos (2 ^ 126))) (pos (2 ^ 126)))). wide_if (optional_at values place) number in
+    record {
+      name = name_read Stream row values 1 (codes "name") read refl;
+      meas = meas_in (optional_at values 4) (optional_at values 5) (optional_read Stream row values 4 (codes "value") (neg_ℤ (pos most_value)) (pos most_value) read refl)
+          (optional_read Stream row values 5 (codes "variance") (pos 1) (pos most_variance) read refl);
+      flow = flow_in (number_at values 7) (number_read Stream row values 7 (codes "flow") (neg_ℤ (pos (2 ^ 68 - 1))) (pos (2 ^ 68 - 1)) read refl);
+      bounds = bounds_in (optional_at values 8) (optional_at values 9)
+          (wide 8 (optional_read Stream row values 8 (codes "lo") (neg_ℤ (pos (2 ^ 126))) (pos (2 ^ 126)) read refl))
+          (wide 9 (optional_read Stream row values 9 (codes "hi") (neg_ℤ (pos (2 ^ 126))) (pos (2 ^ 126)) read refl));
+      least = bounds_in (optional_at values 10) (optional_at values 11)
+          (wide 10 (optional_read Stream row values 10 (codes "least_lo") (neg_ℤ (pos (2 ^ 126))) (pos (2 ^ 126)) read refl))
+          (wide 11 (optional_read Stream row values 11 (codes "least_hi") (neg_ℤ (pos (2 ^ 126))) (pos (2 ^ 126)) read refl));
+    }
+
+before_within : (row : List (List ℕ)) → row_read (output_schema StreamBefore) row ≡ Ok (values_in StreamBefore row) → IsSaidStream StreamBefore row
+before_within row read =
+    let values = values_in StreamBefore row in
+    let wide = λ (place : ℕ) (number : IfSome (optional_at values place) (LiesWithin (neg_ℤ (pos (2 ^ 126))) (pos (2 ^ 126)))). wide_if (optional_at values place) number in
+    record {
+      name = name_read StreamBefore row values 1 (codes "name") read refl;
+      meas = meas_in (optional_at values 4) (optional_at values 5) (optional_read StreamBefore row values 4 (codes "value") (neg_ℤ (pos most_value)) (pos most_value) read refl)
+          (optional_read StreamBefore row values 5 (codes "variance") (pos 1) (pos most_variance) read refl);
+      flow = flow_in (number_at values 7) (number_read StreamBefore row values 7 (codes "flow") (neg_ℤ (pos (2 ^ 68 - 1))) (pos (2 ^ 68 - 1)) read refl);
+      bounds = bounds_in (optional_at values 8) (optional_at values 9)
+          (wide 8 (optional_read StreamBefore row values 8 (codes "lo") (neg_ℤ (pos (2 ^ 126))) (pos (2 ^ 126)) read refl))
+          (wide 9 (optional_read StreamBefore row values 9 (codes "hi") (neg_ℤ (pos (2 ^ 126))) (pos (2 ^ 126)) read refl));
+      least = tt;
+    }
 
 -- for a side as many items as nodes
 side_long : (nodes names : List (List ℕ)) → length (side_of nodes names) ≡ length nodes
 side_long nodes names = length-map nodes (is_among names)
 
-stream_formed : (draft : Draft) (form : Option StreamForm) (row : List (List ℕ)) → IsFormed draft → may_stand draft Stream ≡ true → IsFine Stream draft row
-    → IsFormed (record (with_stream row draft) { form = form })
-stream_formed draft form row formed may fine =
-    let names = or_parts (not (is_name (field row 1))) (not (is_name (field row 2)) || (not (is_name (field row 3)) || false)) fine.names in
-    let name = not_false (is_name (field row 1)) names.0 in
-    let numbers = or_parts (some_bad is_bad_number (columns_of Stream) 1 row) (is_half_told Stream row) fine.numbers in
-    let behind_lo = is_bad_number wide_or_none_column (field row 9) || (is_bad_number wide_or_none_column (field row 10) || (is_bad_number wide_or_none_column (field row 11) || false)) in
-    let behind_flow = is_bad_number wide_or_none_column (field row 8) || behind_lo in
-    let behind_variance = is_bad_number flow_column (field row 7) || behind_flow in
-    let value = or_parts (is_bad_number value_column (field row 4)) (is_bad_number variance_column (field row 5) || behind_variance) numbers.0 in
-    let variance = or_parts (is_bad_number variance_column (field row 5)) behind_variance value.1 in
-    let flow = or_parts (is_bad_number flow_column (field row 7)) behind_flow variance.1 in
-    let lo = or_parts (is_bad_number wide_or_none_column (field row 8)) behind_lo flow.1 in
-    let hi =
-    or_parts (is_bad_number wide_or_none_column (field row 9)) (is_bad_number wide_or_none_column (field row 10) || (is_bad_number wide_or_none_column (field row 11) || false)) lo.1 in
-    let least_lo = or_parts (is_bad_number wide_or_none_column (field row 10)) (is_bad_number wide_or_none_column (field row 11) || false) hi.1 in
-    let least_hi = or_parts (is_bad_number wide_or_none_column (field row 11)) false least_lo.1 in
-    let ends = known_ends draft row fine.known in
+stream_formed : (draft : Draft) (kind : OutputKind) (row : List (List ℕ)) → IsFormed draft → AwaitsStreams draft → IsSaidStream kind row
+    → has_unknown_node draft.nodes kind row ≡ false → is_among draft.streams (name_field row) ≡ false → leads_to_itself row ≡ false
+    → IsFormed (record (with_stream kind row draft) { last = kind })
+stream_formed draft kind row formed may said known new apart =
+    let values = values_in kind row in
     let nodes = all_nodes draft formed.way may in
-    let from = place_within draft.nodes (field row 2) ends.0 in
-    let to = place_within draft.nodes (field row 3) ends.1 in
-    let long = side_long draft.nodes (items (field row 13)) in
+    let long = side_long draft.nodes (items (side_field kind row)) in
     record {
-      way = stream_under draft form row formed.way may;
+      way = stream_under draft kind row formed.way may;
       heading = formed.heading;
       nodes = formed.nodes;
       streams = record {
-        names = names_more draft.streams (field row 1) formed.streams.names name fine.new;
-        joins = All-push (IsStream draft.heading.nodes) draft.graph.streams (stream_in draft.nodes row) formed.streams.joins (record {
-          from = omega (arith, from, nodes);
-          to = omega (arith, to, nodes);
-          apart = places_apart draft.nodes (field row 2) (field row 3) ends.0 ends.1 fine.apart;
-        });
-        limits = All-push IsWithinLimits draft.graph.streams (stream_in draft.nodes row) formed.streams.limits
-            (meas_in (number (field row 4)) (number (field row 5)) (between_if (neg_ℤ (pos most_value)) (pos most_value) (field row 4) value.0)
-            (between_if (pos 1) (pos most_variance) (field row 5) variance.0));
-        rows = All-push (IsFormedRow draft.heading.nodes) draft.rows (stream_row_in draft.nodes row) formed.streams.rows (record {
+        names = names_more draft.streams (name_field row) formed.streams.names said.name new;
+        joins = All-push (IsStream draft.heading.nodes) draft.graph.streams (said_arc draft.nodes row values) formed.streams.joins
+            (arc_joins draft.nodes kind row values draft.heading.nodes formed.way.nodes known apart);
+        limits = All-push IsWithinLimits draft.graph.streams (said_arc draft.nodes row values) formed.streams.limits said.meas;
+        rows = All-push (IsFormedRow draft.heading.nodes) draft.rows (said_stream draft.nodes kind row values) formed.streams.rows (record {
           side = long ∙ nodes;
-          flow = flow_in (field row 7) flow.0;
-          bounds = bounds_in (number (field row 8)) (number (field row 9)) (wide_if (field row 8) lo.0) (wide_if (field row 9) hi.0);
-          least = bounds_in (number (field row 10)) (number (field row 11)) (wide_if (field row 10) least_lo.0) (wide_if (field row 11) least_hi.0);
+          flow = said.flow;
+          bounds = said.bounds;
+          least = said.least;
         });
       };
       solution = formed.solution;
       tests = formed.tests;
     }
 
-solved_formed : (draft : Draft) (row : List (List ℕ)) → IsFormed draft → may_stand draft Solved ≡ true → IsFine Solved draft row → IsFormed (told_with Solved draft row)
+sweeps_within : (met : Bool) (k : ℕ) → k ≤ most_sweeps → sweeps_of (if met then Converged k else Unconverged k) ≤ most_sweeps
+sweeps_within true k h = h
+sweeps_within false k h = h
+
+solved_formed : (draft : Draft) (row : List (List ℕ)) → IsFormed draft → MayCome draft Solved → IsFine Solved draft row → IsFormed (told_with Solved draft row)
 solved_formed draft row formed may fine =
-    let numbers = or_parts (some_bad is_bad_number (columns_of Solved) 1 row) false fine.numbers in
-    let k = or_parts (is_bad_number sweeps_column (field row 1)) (is_bad_number (Number (pos 0) (pos (2 ^ 63))) (field row 3) || (is_bad_number (Number (pos 0) (pos 32)) (field row 4)
-    || (is_bad_number (Number (pos 0) (pos most_freedom)) (field row 5) || (is_bad_number wide_column (field row 6) || (is_bad_number wide_or_none_column (field row 7) || false))))) numbers.0 in
-    let g = or_parts (is_bad_number (Number (pos 0) (pos (2 ^ 63))) (field row 3)) (is_bad_number (Number (pos 0) (pos 32)) (field row 4)
-    || (is_bad_number (Number (pos 0) (pos most_freedom)) (field row 5) || (is_bad_number wide_column (field row 6) || (is_bad_number wide_or_none_column (field row 7) || false)))) k.1 in
-    let h = or_parts (is_bad_number (Number (pos 0) (pos 32)) (field row 4))
-    (is_bad_number (Number (pos 0) (pos most_freedom)) (field row 5) || (is_bad_number wide_column (field row 6) || (is_bad_number wide_or_none_column (field row 7) || false))) g.1 in
-    let dof = or_parts (is_bad_number (Number (pos 0) (pos most_freedom)) (field row 5)) (is_bad_number wide_column (field row 6) || (is_bad_number wide_or_none_column (field row 7) || false)) h.1 in
-    let low = or_parts (is_bad_number wide_column (field row 6)) (is_bad_number wide_or_none_column (field row 7) || false) dof.1 in
-    let high = or_parts (is_bad_number wide_or_none_column (field row 7)) false low.1 in
+    let values = values_in Solved row in
+    let count = λ (place most : ℕ) (number : LiesWithin (pos 0) (pos most) (number_at values place)). (natural_within 0 most (number_at values place) number).1 in
     record {
       way = still_under draft Solved row formed.way may;
       heading = formed.heading;
       nodes = formed.nodes;
       streams = record { names = formed.streams.names; joins = formed.streams.joins; limits = formed.streams.limits; rows = formed.streams.rows };
       solution = record {
-        sweeps = sweeps (state_in (field row 2)) (natural_in (field row 1)) (natural_within 0 most_sweeps (value_in (field row 1)) (between (pos 0) (pos most_sweeps) (field row 1) k.0)).1;
-        g = (natural_within 0 (2 ^ 63) (value_in (field row 3)) (between (pos 0) (pos (2 ^ 63)) (field row 3) g.0)).1;
-        h = (natural_within 0 32 (value_in (field row 4)) (between (pos 0) (pos 32) (field row 4) h.0)).1;
-        dof = (natural_within 0 most_freedom (value_in (field row 5)) (between (pos 0) (pos most_freedom) (field row 5) dof.0)).1;
-        low = wide_in (field row 6) low.0;
-        high = wide_if (field row 7) high.0;
+        sweeps = sweeps_within (choice_at values 2 == 0) (natural_at values 1) (count 1 most_sweeps (number_read Solved row values 1 (codes "k") (pos 0) (pos most_sweeps) fine.read refl));
+        g = count 3 (2 ^ 63) (number_read Solved row values 3 (codes "g") (pos 0) (pos (2 ^ 63)) fine.read refl);
+        h = count 4 32 (number_read Solved row values 4 (codes "h") (pos 0) (pos 32) fine.read refl);
+        dof = count 5 most_freedom (number_read Solved row values 5 (codes "dof") (pos 0) (pos most_freedom) fine.read refl);
+        low = abs_within (2 ^ 126) (number_at values 6) (number_read Solved row values 6 (codes "low") (neg_ℤ (pos (2 ^ 126))) (pos (2 ^ 126)) fine.read refl);
+        high = wide_if (optional_at values 7) (optional_read Solved row values 7 (codes "high") (neg_ℤ (pos (2 ^ 126))) (pos (2 ^ 126)) fine.read refl);
       };
       tests = formed.tests;
     }
-  where
-    sweeps : (met : Bool) (k : ℕ) → k ≤ most_sweeps → sweeps_of (solved_by met k) ≤ most_sweeps
-    sweeps true k h = h
-    sweeps false k h = h
 
--- the rest of a draft stays
-same_streams : (draft : Draft) (kind : RowKind) → AreFormedStreams draft.heading.nodes draft → AreFormedStreams draft.heading.nodes (record draft { last = kind })
-same_streams draft kind s = record { names = s.names; joins = s.joins; limits = s.limits; rows = s.rows }
-
-global_formed : (draft : Draft) (row : List (List ℕ)) → IsFormed draft → may_stand draft Global ≡ true → IsFine Global draft row → IsFormed (told_with Global draft row)
+global_formed : (draft : Draft) (row : List (List ℕ)) → IsFormed draft → MayCome draft Global → IsFine Global draft row → IsFormed (told_with Global draft row)
 global_formed draft row formed may fine =
-    let numbers = or_parts (some_bad is_bad_number (columns_of Global) 1 row) false fine.numbers in
-    let critical = or_parts (is_bad_number critical_column (field row 1)) false numbers.0 in
     let nodal = All-nil (IsFormedNodal draft.heading) in
     let measure = All-nil (IsFormedMeasure draft.heading) in
     record {
@@ -336,22 +324,23 @@ global_formed draft row formed may fine =
       nodes = formed.nodes;
       streams = record { names = formed.streams.names; joins = formed.streams.joins; limits = formed.streams.limits; rows = formed.streams.rows };
       solution = formed.solution;
-      tests = record { overall = critical_if (field row 1) critical.0; nodal = nodal; measure = measure };
+      tests = record {
+        overall = optional_read Global row (values_in Global row) 1 (codes "critical") (pos 0) (pos most_critical) fine.read refl;
+        nodal = nodal;
+        measure = measure;
+      };
     }
 
-nodal_formed : (draft : Draft) (row : List (List ℕ)) → IsFormed draft → may_stand draft Nodal ≡ true → IsFine Nodal draft row → IsFormed (told_with Nodal draft row)
+nodal_formed : (draft : Draft) (row : List (List ℕ)) → IsFormed draft → MayCome draft Nodal → IsFine Nodal draft row → IsFormed (told_with Nodal draft row)
 nodal_formed draft row formed may fine =
-    let numbers = or_parts (some_bad is_bad_number (columns_of Nodal) 1 row) false fine.numbers in
-    let net = or_parts (is_bad_number wide_column (field row 2)) (is_bad_number wide_column (field row 3) || (is_bad_number critical_column (field row 4) || false)) numbers.0 in
-    let variance = or_parts (is_bad_number wide_column (field row 3)) (is_bad_number critical_column (field row 4) || false) net.1 in
-    let critical = or_parts (is_bad_number critical_column (field row 4)) false variance.1 in
-    let at = place_within draft.nodes (field row 1) (not_false (is_among draft.nodes (field row 1)) fine.known) in
+    let values = values_in Nodal row in
+    let at = place_within draft.nodes (name_field row) (not_false (is_among draft.nodes (name_field row)) fine.known) in
     let few = formed.way.nodes in
-    let test : IsFormedNodal draft.heading (nodal_in draft.nodes row) = record {
+    let test : IsFormedNodal draft.heading (said_nodal draft.nodes row values) = record {
       node = omega (arith, at, few);
-      net = wide_in (field row 2) net.0;
-      variance = wide_in (field row 3) variance.0;
-      critical = critical_if (field row 4) critical.0;
+      net = abs_within (2 ^ 126) (number_at values 2) (number_read Nodal row values 2 (codes "net") (neg_ℤ (pos (2 ^ 126))) (pos (2 ^ 126)) fine.read refl);
+      variance = abs_within (2 ^ 126) (number_at values 3) (number_read Nodal row values 3 (codes "variance") (neg_ℤ (pos (2 ^ 126))) (pos (2 ^ 126)) fine.read refl);
+      critical = optional_read Nodal row values 4 (codes "critical") (pos 0) (pos most_critical) fine.read refl;
     } in
     record {
       way = still_under draft Nodal row formed.way may;
@@ -362,24 +351,25 @@ nodal_formed draft row formed may fine =
       tests = by draft.tests formed.tests test;
     }
   where
-    by : (tests : Option Tests) → IfSome tests (AreFormedTests draft.heading) → IsFormedNodal draft.heading (nodal_in draft.nodes row)
-        → IfSome (option_map (with_nodal (nodal_in draft.nodes row)) tests) (AreFormedTests draft.heading)
+    by : (tests : Option Tests) → IfSome tests (AreFormedTests draft.heading) → IsFormedNodal draft.heading (said_nodal draft.nodes row (values_in Nodal row))
+        → IfSome (option_map (with_nodal (said_nodal draft.nodes row (values_in Nodal row))) tests) (AreFormedTests draft.heading)
     by None h test = tt
-    by (Some tests) h test = record { overall = h.overall; nodal = All-push (IsFormedNodal draft.heading) tests.nodal (nodal_in draft.nodes row) h.nodal test; measure = h.measure }
+    by (Some tests) h test = record {
+      overall = h.overall;
+      nodal = All-push (IsFormedNodal draft.heading) tests.nodal (said_nodal draft.nodes row (values_in Nodal row)) h.nodal test;
+      measure = h.measure;
+    }
 
-measure_formed : (draft : Draft) (row : List (List ℕ)) → IsFormed draft → may_stand draft Measure ≡ true → IsFine Measure draft row → IsFormed (told_with Measure draft row)
+measure_formed : (draft : Draft) (row : List (List ℕ)) → IsFormed draft → MayCome draft Measure → IsFine Measure draft row → IsFormed (told_with Measure draft row)
 measure_formed draft row formed may fine =
-    let numbers = or_parts (some_bad is_bad_number (columns_of Measure) 1 row) false fine.numbers in
-    let low = or_parts (is_bad_number wide_column (field row 2)) (is_bad_number wide_or_none_column (field row 3) || (is_bad_number critical_column (field row 4) || false)) numbers.0 in
-    let high = or_parts (is_bad_number wide_or_none_column (field row 3)) (is_bad_number critical_column (field row 4) || false) low.1 in
-    let critical = or_parts (is_bad_number critical_column (field row 4)) false high.1 in
-    let at = place_within draft.streams (field row 1) (not_false (is_among draft.streams (field row 1)) fine.known) in
+    let values = values_in Measure row in
+    let at = place_within draft.streams (name_field row) (not_false (is_among draft.streams (name_field row)) fine.known) in
     let few = formed.way.streams in
-    let test : IsFormedMeasure draft.heading (measure_in draft.streams row) = record {
+    let test : IsFormedMeasure draft.heading (said_measure draft.streams row values) = record {
       stream = omega (arith, at, few);
-      low = wide_in (field row 2) low.0;
-      high = wide_if (field row 3) high.0;
-      critical = critical_if (field row 4) critical.0;
+      low = abs_within (2 ^ 126) (number_at values 2) (number_read Measure row values 2 (codes "low") (neg_ℤ (pos (2 ^ 126))) (pos (2 ^ 126)) fine.read refl);
+      high = wide_if (optional_at values 3) (optional_read Measure row values 3 (codes "high") (neg_ℤ (pos (2 ^ 126))) (pos (2 ^ 126)) fine.read refl);
+      critical = optional_read Measure row values 4 (codes "critical") (pos 0) (pos most_critical) fine.read refl;
     } in
     record {
       way = still_under draft Measure row formed.way may;
@@ -390,16 +380,19 @@ measure_formed draft row formed may fine =
       tests = by draft.tests formed.tests test;
     }
   where
-    by : (tests : Option Tests) → IfSome tests (AreFormedTests draft.heading) → IsFormedMeasure draft.heading (measure_in draft.streams row)
-        → IfSome (option_map (with_measure (measure_in draft.streams row)) tests) (AreFormedTests draft.heading)
+    by : (tests : Option Tests) → IfSome tests (AreFormedTests draft.heading) → IsFormedMeasure draft.heading (said_measure draft.streams row (values_in Measure row))
+        → IfSome (option_map (with_measure (said_measure draft.streams row (values_in Measure row))) tests) (AreFormedTests draft.heading)
     by None h test = tt
-    by (Some tests) h test = record { overall = h.overall; nodal = h.nodal; measure = All-push (IsFormedMeasure draft.heading) tests.measure (measure_in draft.streams row) h.measure test }
+    by (Some tests) h test = record {
+      overall = h.overall;
+      nodal = h.nodal;
+      measure = All-push (IsFormedMeasure draft.heading) tests.measure (said_measure draft.streams row (values_in Measure row)) h.measure test;
+    }
 
-kind_formed : (draft : Draft) (kind : RowKind) (row : List (List ℕ)) → IsFormed draft → may_stand draft kind ≡ true → IsFine kind draft (in_full kind row)
-    → IsFormed (told_with kind draft row)
-kind_formed draft Report row formed may fine = let e = no_heading draft in absurd (true≢false (sym may ∙ e))
+kind_formed : (draft : Draft) (kind : OutputKind) (row : List (List ℕ)) → IsFormed draft → MayCome draft kind → IsFine kind draft row → IsFormed (told_with kind draft row)
 kind_formed draft Node row formed may fine = node_formed draft row formed may fine
-kind_formed draft Stream row formed may fine = stream_formed draft (Some (form_of row)) (in_full Stream row) formed may fine
+kind_formed draft Stream row formed may fine = stream_formed draft Stream row formed may (stream_within row fine.read) fine.known fine.new fine.apart
+kind_formed draft StreamBefore row formed may fine = stream_formed draft StreamBefore row formed may (before_within row fine.read) fine.known fine.new fine.apart
 kind_formed draft Solved row formed may fine = solved_formed draft row formed may fine
 kind_formed draft Global row formed may fine = global_formed draft row formed may fine
 kind_formed draft Nodal row formed may fine = nodal_formed draft row formed may fine
@@ -412,15 +405,14 @@ kind_formed draft End row formed may fine = record {
   solution = formed.solution;
   tests = formed.tests;
 }
+kind_formed draft kind row formed may fine = absurd may
 
 row_formed : (draft : Draft) (row : List (List ℕ)) → IsFormed draft → fault_behind draft row ≡ None → IsFormed (with_row draft row)
-row_formed draft row formed none = by (kind_of row) none
+row_formed draft row formed none = by (kind_among (kinds_next draft) row) refl none
   where
-    by : (kind : Option RowKind) → fault_if kind draft row ≡ None → IsFormed (told_if kind draft row)
-    by None none = cc none
-    by (Some kind) none =
-        let may = stands draft kind row none in
-        kind_formed draft kind row formed may (fine kind draft row (rw may at none))
+    by : (kind : Result OutputKind RowFault) → kind_among (kinds_next draft) row ≡ kind → fault_if kind draft row ≡ None → IsFormed (told_if kind draft row)
+    by (Err fault) is none = cc none
+    by (Ok kind) is none = kind_formed draft kind row formed (may_come draft row kind is) (fine kind draft row none)
 
 rows_formed : (draft : Draft) (rows : List (List (List ℕ))) → IsFormed draft → AreSound draft rows → IsFormed (with_rows draft rows)
 rows_formed draft [] formed sound = formed
@@ -429,39 +421,32 @@ rows_formed draft (row ∷ rows) formed sound = rows_formed (with_row draft row)
 -- ---- the heading
 
 record IsFineHeading (row : List (List ℕ)) : Type 0 where
-  names : has_bad_name Report row ≡ false
-  numbers : has_bad_number Report row ≡ false
-  counts : is_miscounted row ≡ false
+  read : row_read (output_schema Report) row ≡ Ok (values_in Report row)
+  counts : are_miscounted (number_at (values_in Report row) 3) (number_at (values_in Report row) 4) ≡ false
+
+not_miscounted : (b : Bool) → (if b then Some Count else None) ≡ None → b ≡ false
+not_miscounted true none = cc none
+not_miscounted false none = refl
+
+heading_read : (read : Result (List Value) FormFault) → heading_fault read ≡ None
+    → (read ≡ Ok (values_or_none read)) × (are_miscounted (number_at (values_or_none read) 3) (number_at (values_or_none read) 4) ≡ false)
+heading_read (Err fault) none = cc none
+heading_read (Ok values) none = (refl, not_miscounted (are_miscounted (number_at values 3) (number_at values 4)) none)
 
 heading_fine : (row : List (List ℕ)) → opening_fault row ≡ None → IsFineHeading row
-heading_fine row opens = by (kind_of row) opens
+heading_fine row opens = by (kind_among (Report ∷ []) row) opens
   where
-    by_faults : (a b c d : Bool) → has_bad_name Report row ≡ b → has_bad_number Report row ≡ c → is_miscounted row ≡ d
-        → (if a then Some Fields else if b then Some NameFault else if c then Some NumberFault else if d then Some Count else None) ≡ None → IsFineHeading row
-    by_faults true b c d names numbers counts none = cc none
-    by_faults false true c d names numbers counts none = cc none
-    by_faults false false true d names numbers counts none = cc none
-    by_faults false false false true names numbers counts none = cc none
-    by_faults false false false false names numbers counts none = record { names = names; numbers = numbers; counts = counts }
-
-    by : (kind : Option RowKind) → opening_if kind row ≡ None → IsFineHeading row
-    by None none = cc none
-    by (Some Report) none = by_faults (not (has_all_fields Report row)) (has_bad_name Report row) (has_bad_number Report row) (is_miscounted row) refl refl refl none
-    by (Some Node) none = cc none
-    by (Some Stream) none = cc none
-    by (Some Solved) none = cc none
-    by (Some Global) none = cc none
-    by (Some Nodal) none = cc none
-    by (Some Measure) none = cc none
-    by (Some End) none = cc none
+    by : (kind : Result OutputKind RowFault) → opening_by kind row ≡ None → IsFineHeading row
+    by (Err fault) none = cc none
+    by (Ok kind) none = let h = heading_read (row_read (output_schema Report) row) none in record { read = h.0; counts = h.1 }
 
 count_within : (lo hi : ℕ) (z : ℤ) → int_lt z (pos lo) ≡ false → int_lt (pos hi) z ≡ false → (lo ≤ unsigned_abs z) × (unsigned_abs z ≤ hi)
 count_within lo hi z least most = natural_within lo hi z (omega (arith, ints, least), omega (arith, ints, most))
 
-pub heading_counts : (row : List (List ℕ)) → is_miscounted row ≡ false → IsHeading (heading_in row)
+heading_counts : (row : List (List ℕ)) → are_miscounted (number_at (values_in Report row) 3) (number_at (values_in Report row) 4) ≡ false → IsHeading (heading_in row)
 heading_counts row fine =
-    let nodes = value_in (field row 3) in
-    let streams = value_in (field row 4) in
+    let nodes = number_at (values_in Report row) 3 in
+    let streams = number_at (values_in Report row) 4 in
     let c = or_parts (int_lt nodes (pos 1) || int_lt (pos most_nodes) nodes || int_lt streams (pos 0)) (int_lt (pos most_streams) streams) fine in
     let b = or_parts (int_lt nodes (pos 1) || int_lt (pos most_nodes) nodes) (int_lt streams (pos 0)) c.0 in
     let a = or_parts (int_lt nodes (pos 1)) (int_lt (pos most_nodes) nodes) b.0 in
@@ -472,30 +457,23 @@ heading_counts row fine =
 opened_formed : (row : List (List ℕ)) → opening_fault row ≡ None → IsFormed (opened row)
 opened_formed row opens =
     let fine = heading_fine row opens in
-    let name = not_false (is_name (field row 1)) ((or_parts (not (is_name (field row 1))) false fine.names).0) in
-    let numbers = (or_parts (some_bad is_bad_number (columns_of Report) 1 row) false fine.numbers).0 in
-    let round = or_parts (is_bad_number round_column (field row 2)) (is_bad_number wide_column (field row 3) || (is_bad_number wide_column (field row 4)
-    || (is_bad_number gap_column (field row 5) || (is_bad_number sweeps_column (field row 6) || false)))) numbers in
-    let nodes = or_parts (is_bad_number wide_column (field row 3)) (is_bad_number wide_column (field row 4) || (is_bad_number gap_column (field row 5) || (is_bad_number sweeps_column (field row 6) || false))) round.1 in
-    let streams = or_parts (is_bad_number wide_column (field row 4)) (is_bad_number gap_column (field row 5) || (is_bad_number sweeps_column (field row 6) || false)) nodes.1 in
-    let gap = or_parts (is_bad_number gap_column (field row 5)) (is_bad_number sweeps_column (field row 6) || false) streams.1 in
-    let sweeps = or_parts (is_bad_number sweeps_column (field row 6)) false gap.1 in
-    let gap_range = natural_within 1 most_gap (value_in (field row 5)) (between (pos 1) (pos most_gap) (field row 5) gap.0) in
+    let values = values_in Report row in
+    let gap = natural_within 1 most_gap (number_at values 5) (number_read Report row values 5 (codes "gap") (pos 1) (pos most_gap) fine.read refl) in
     record {
       way = begins_under_way (heading_in row) (heading_counts row fine.counts);
       heading = record {
-        name = name;
-        greatest_round = (natural_within 0 most_round (value_in (field row 2)) (between (pos 0) (pos most_round) (field row 2) round.0)).1;
-        some_gap = gap_range.0;
-        greatest_gap = gap_range.1;
-        greatest_sweeps = (natural_within 0 most_sweeps (value_in (field row 6)) (between (pos 0) (pos most_sweeps) (field row 6) sweeps.0)).1;
+        name = name_read Report row values 1 (codes "period") fine.read refl;
+        greatest_round = (natural_within 0 most_round (number_at values 2) (number_read Report row values 2 (codes "round") (pos 0) (pos most_round) fine.read refl)).1;
+        some_gap = gap.0;
+        greatest_gap = gap.1;
+        greatest_sweeps = (natural_within 0 most_sweeps (number_at values 6) (number_read Report row values 6 (codes "sweeps") (pos 0) (pos most_sweeps) fine.read refl)).1;
       };
       nodes = record { names = record { forms = refl; different = refl }; env = λ none. absurd (omega (arith, none)); each = refl; ranges = All-nil IsPrice };
       streams = record {
         names = record { forms = refl; different = refl };
-        joins = All-nil (IsStream (natural_in (field row 3)));
+        joins = All-nil (IsStream (natural_at values 3));
         limits = All-nil IsWithinLimits;
-        rows = All-nil (IsFormedRow (natural_in (field row 3)));
+        rows = All-nil (IsFormedRow (natural_at values 3));
       };
       solution = record { sweeps = omega arith; g = omega arith; h = omega arith; dof = omega arith; low = omega arith; high = tt };
       tests = tt;
@@ -518,7 +496,7 @@ none_at test xs none = elim (cases_Bool (list_any test xs)) [
 member_within : (graph : ProcessGraph) (streams : List (List ℕ)) (part : List ℕ) → length streams ≡ length graph.streams → names_no_stream streams part ≡ false
     → IsMember graph (member_of streams part)
 member_within graph streams part each known =
-    let at = place_within streams (name_in part) (not_false (is_among streams (name_in part)) known) in
+    let at = place_within streams (part_name part) (not_false (is_among streams (part_name part)) known) in
     record { stream = omega (arith, at, each); sign = by (is_plus part) }
   where
     by : (b : Bool) → IsSign (if b then pos 1 else negsuc 0)
@@ -528,7 +506,7 @@ member_within graph streams part each known =
 step_within : (graph : ProcessGraph) (streams : List (List ℕ)) (part : List ℕ) → length streams ≡ length graph.streams → names_no_stream streams part ≡ false
     → IsStep graph (step_of streams part)
 step_within graph streams part each known =
-    let at = place_within streams (name_in part) (not_false (is_among streams (name_in part)) known) in
+    let at = place_within streams (part_name part) (not_false (is_among streams (part_name part)) known) in
     omega (arith, at, each)
 
 witness_within : (graph : ProcessGraph) (streams : List (List ℕ)) (row : StreamRow) (shape : ShapeKind) → length streams ≡ length graph.streams → length row.side ≡ graph.nodes

@@ -1,12 +1,9 @@
-mod FieldLemmas
-mod FormLemmas
-mod ItemLemmas
-mod NameLemmas
 mod StreamLemmas
 mod ReadingLemmas
 mod NextLemmas
 mod ResultLemmas
 mod FormedLemmas
+mod AddingLemmas
 mod WrittenFieldLemmas
 mod WrittenListLemmas
 mod WrittenPartLemmas

@@ -1,50 +1,45 @@
 -- What comes next: there is one thing, and no other; blocks put behind others.
-use Rattle.std.specs.Prelude.{◌≢◌, ◌⊎◌, nat_lt, bytes_eq, codes, if◌then◌else◌}
+use Rattle.std.specs.Prelude.{◌≢◌, ◌⊎◌, ◌&&◌, bytes_eq, codes, Result, Ok, Err, if◌then◌else◌}
 use Rattle.std.specs.Cmp.Lexicographic.{bytes_decides}
 use Rattle.std.specs.List.{list_all}
-use Rattle.std.proofs.Common.{◌≡◌, ◌∙◌, ℕ, ◌+◌, ◌≤◌, List, [], ◌∷◌, ◌++◌, length, Bool, true, false, true≢false, Option, Some, None, refl, sym, ap, arith, inl, inr, append_assoc, length-append}
+use Rattle.std.proofs.Common.{◌≡◌, ◌∙◌, ℕ, ◌+◌, ◌≤◌, List, [], ◌∷◌, ◌++◌, length, drop, Bool, true, false, true≢false, Option, Some, None, refl, sym, ap, arith, inl, inr, append_assoc, length-append}
 use Rattle.std.proofs.lemmas.Bool.{and_parts, cases_Bool}
+use Rattle.pb_form.specs.OutputRows.{output_columns, output_schema}
+use Rattle.pb_form.specs.Reading.{has_count}
+use Rattle.pb_form.specs.Telling.{agrees}
+use Rattle.pb_form.specs.declared.output.OutputKind.{OutputKind}
+use Rattle.pb_form.specs.declared.output.OutputKind.TheVariants.{Report, Node, Stream, StreamBefore, Solved, Global, Nodal, Measure, End}
+use Rattle.pb_blocks.specs.declared.fault.RowFault.{RowFault}
+use Rattle.pb_blocks.specs.declared.fault.RowFault.TheVariants.{Unknown, Ended}
+use Rattle.pb_blocks.specs.Beside.{opening_by, opening_fault}
+use Rattle.pb_blocks.specs.Kinds.{is_passed_over, is_row_of, kind_among}
 use Rattle.pb_readback.specs.declared.block.Block.{Block}
 use Rattle.pb_readback.specs.declared.draft.Draft.{Draft}
-use Rattle.pb_readback.specs.declared.fault.RowFault.{RowFault}
-use Rattle.pb_readback.specs.declared.fault.RowFault.TheVariants.{Unknown, Ended}
-use Rattle.pb_readback.specs.declared.kind.RowKind.{RowKind}
-use Rattle.pb_readback.specs.declared.kind.RowKind.TheVariants.{Report, Node, Stream, Solved, Global, Nodal, Measure, End}
 use Rattle.pb_readback.specs.Blocks.{block_of}
-use Rattle.pb_readback.specs.Drafts.{told_if, with_row, with_rows}
-use Rattle.pb_readback.specs.Faults.{fault_behind, fault_if, first_unknown, opening_fault, opening_if}
-use Rattle.pb_readback.specs.Kinds.{field, is_passed_over, kind_by, kind_of, may_come_after}
+use Rattle.pb_readback.specs.Drafts.{kinds_next, told_if, with_row, with_rows}
+use Rattle.pb_readback.specs.Faults.{fault_behind, fault_if, first_unknown}
 use Rattle.pb_readback.specs.Laws.{JoinLaw, NextLaw}
 use Rattle.pb_readback.specs.Next.{AreBlocks, ArePassedOver, AreSound, Found, IsFault, IsFound, IsNext, Next, NoBlock, Refused, fault_next, opened}
-use Rattle.pb_readback.specs.Reading.{IsReadWhole}
-use Rattle.pb_readback.proofs.ReadingLemmas.{not_below, sound_more, stands, unended, with_rows_more}
+use Rattle.pb_readback.specs.Reading.{HasAll, IsReadWhole, MayCome}
+use Rattle.pb_readback.proofs.ReadingLemmas.{may_come, not_below, sound_more, unended, with_rows_more}
 
 -- the row that ends a block
-abbrev pub is_end : RowKind → Bool
+abbrev pub is_end : OutputKind → Bool
 is_end End = true
 is_end kind = false
 
-pub at_end : (kind : RowKind) → is_end kind ≡ true → kind ≡ End
-at_end Report h = cc h
-at_end Node h = cc h
-at_end Stream h = cc h
-at_end Solved h = cc h
-at_end Global h = cc h
-at_end Nodal h = cc h
-at_end Measure h = cc h
+pub at_end : (kind : OutputKind) → is_end kind ≡ true → kind ≡ End
 at_end End h = refl
+at_end kind h = cc h
 
-pub not_at_end : (kind : RowKind) → is_end kind ≡ false → kind ≢ End
+pub not_at_end : (kind : OutputKind) → is_end kind ≡ false → kind ≢ End
 not_at_end kind h = λ e. true≢false (sym (ap is_end e) ∙ h)
 
-not_end : (kind : RowKind) → kind ≢ End → is_end kind ≡ false
+not_end : (kind : OutputKind) → kind ≢ End → is_end kind ≡ false
 not_end kind h = elim (cases_Bool (is_end kind)) [
   | inl holds ↦ absurd (h (at_end kind holds))
   | inr fails ↦ fails
 ]
-
-both : {A B : Type 0} {a c : A} {b d : B} → a ≡ c → b ≡ d → (let p : A × B = (a, b) in p) ≡ (c, d)
-both e f = rw (e, f) refl
 
 the_fault : {f g : RowFault} → (let o : Option RowFault = Some f in o) ≡ Some g → f ≡ g
 the_fault h = cc h
@@ -52,74 +47,67 @@ the_fault h = cc h
 -- ---- what reading on from a draft gives: the block and what is behind it, or the place in the block and the fault
 
 abbrev Outcome : Type 0
-Outcome = (Block × List (List (List ℕ))) ⊎ (ℕ × RowFault)
+Outcome = (Block × List (List (List ℕ))) ⊎ (ℕ × (RowFault × List (List (List ℕ))))
 
-abbrev by_fault : Option RowFault → ℕ → Outcome → Outcome
-by_fault None rows more = more
-by_fault (Some fault) rows more = inr (rows + 2, fault)
+abbrev by_fault : Option RowFault → ℕ → List (List (List ℕ)) → Outcome → Outcome
+by_fault None rows rest more = more
+by_fault (Some fault) rows rest more = inr (rows + 2, (fault, rest))
 
 abbrev by_end : Bool → Draft → List (List (List ℕ)) → Outcome → Outcome
 by_end true draft rest more = inl (block_of draft, rest)
 by_end false draft rest more = more
 
-abbrev by_known : Option ℕ → Draft → Outcome → Outcome
-by_known None draft more = more
-by_known (Some stream) draft more = inr (draft.heading.nodes + stream + 2, Unknown)
+abbrev by_known : Option ℕ → Draft → List (List (List ℕ)) → Outcome → Outcome
+by_known None draft left more = more
+by_known (Some stream) draft left more = inr (draft.heading.nodes + stream + 2, (Unknown, left))
 
 abbrev outcome : Draft → ℕ → List (List (List ℕ)) → Outcome
-outcome draft rows [] = by_known (first_unknown draft) draft (by_end (is_end draft.last) draft [] (inr (rows + 2, Ended)))
+outcome draft rows [] = by_known (first_unknown draft) draft [] (by_end (is_end draft.last) draft [] (inr (rows + 2, (Ended, []))))
 outcome draft rows (row ∷ rest) =
-    by_known (first_unknown draft) draft
-    (by_end (is_end draft.last) draft (row ∷ rest) (by_fault (fault_behind draft row) rows (outcome (with_row draft row) (rows + 1) rest)))
+    by_known (first_unknown draft) draft (row ∷ rest)
+    (by_end (is_end draft.last) draft (row ∷ rest) (by_fault (fault_behind draft row) rows rest (outcome (with_row draft row) (rows + 1) rest)))
 
 -- a draft whose last row is the end has all its nodes and streams
 abbrev pub EndsComplete : Draft → Type 0
-EndsComplete draft = is_end draft.last ≡ true → (nat_lt (length draft.nodes) draft.heading.nodes ≡ false) × (nat_lt (length draft.streams) draft.heading.streams ≡ false)
+EndsComplete draft = is_end draft.last ≡ true → HasAll draft
 
-behind_nodes : (a b z : Bool) → (if a then false else if b then false else z) ≡ true → (a ≡ false) × (b ≡ false)
-behind_nodes true b z h = cc h
-behind_nodes false true z h = cc h
-behind_nodes false false z h = (refl, refl)
+-- after a row of a kind that may come it is so
+complete_after : (draft : Draft) (kind : OutputKind) (row : List (List ℕ)) → MayCome draft kind → EndsComplete (told_if (Ok kind) draft row)
+complete_after draft End row may = λ ends. may.0
+complete_after draft Node row may = λ ends. cc ends
+complete_after draft Stream row may = λ ends. cc ends
+complete_after draft StreamBefore row may = λ ends. cc ends
+complete_after draft Solved row may = λ ends. cc ends
+complete_after draft Global row may = λ ends. cc ends
+complete_after draft Nodal row may = λ ends. cc ends
+complete_after draft Measure row may = λ ends. cc ends
+complete_after draft kind row may = absurd may
 
 stays_complete : (draft : Draft) (row : List (List ℕ)) → EndsComplete draft → fault_behind draft row ≡ None → EndsComplete (with_row draft row)
-stays_complete draft row complete none = by (kind_of row) none
+stays_complete draft row complete none = by (kind_among (kinds_next draft) row) refl none
   where
-    by : (kind : Option RowKind) → fault_if kind draft row ≡ None → EndsComplete (told_if kind draft row)
-    by None none = cc none
-    by (Some Report) none = λ ends. cc ends
-    by (Some Node) none = λ ends. cc ends
-    by (Some Stream) none = λ ends. cc ends
-    by (Some Solved) none = λ ends. cc ends
-    by (Some Global) none = λ ends. cc ends
-    by (Some Nodal) none = λ ends. cc ends
-    by (Some Measure) none = λ ends. cc ends
-    by (Some End) none = λ _. behind_nodes (nat_lt (length draft.nodes) draft.heading.nodes) (nat_lt (length draft.streams) draft.heading.streams) (may_come_after draft.last End) (stands draft End row none)
+    by : (kind : Result OutputKind RowFault) → kind_among (kinds_next draft) row ≡ kind → fault_if kind draft row ≡ None → EndsComplete (told_if kind draft row)
+    by (Err fault) is none = cc none
+    by (Ok kind) is none = complete_after draft kind row (may_come draft row kind is)
 
-nothing_after : (kind : RowKind) → may_come_after End kind ≡ false
-nothing_after Report = refl
-nothing_after Node = refl
-nothing_after Stream = refl
-nothing_after Solved = refl
-nothing_after Global = refl
-nothing_after Nodal = refl
-nothing_after Measure = refl
-nothing_after End = refl
+-- no row comes after the end
+none_after : (draft : Draft) (kind : OutputKind) → MayCome draft kind → EndsComplete draft → draft.last ≢ End
+none_after draft Node may complete = λ ends. let all = complete (ap is_end ends) in absurd (true≢false (sym may ∙ all.0))
+none_after draft Stream may complete = λ ends. let all = complete (ap is_end ends) in absurd (true≢false (sym may.1 ∙ all.1))
+none_after draft StreamBefore may complete = λ ends. let all = complete (ap is_end ends) in absurd (true≢false (sym may.1 ∙ all.1))
+none_after draft Solved may complete = may.1
+none_after draft Global may complete = may.1
+none_after draft Nodal may complete = may.1
+none_after draft Measure may complete = may.1
+none_after draft End may complete = may.1
+none_after draft kind may complete = absurd may
 
--- no row stands behind the end
 not_ended : (draft : Draft) (row : List (List ℕ)) → EndsComplete draft → fault_behind draft row ≡ None → is_end draft.last ≡ false
-not_ended draft row complete none = elim (cases_Bool (is_end draft.last)) [
-  | inl ends ↦ absurd (by (kind_of row) ends none)
-  | inr fails ↦ fails
-]
+not_ended draft row complete none = by (kind_among (kinds_next draft) row) refl none
   where
-    by : (kind : Option RowKind) → is_end draft.last ≡ true → fault_if kind draft row ≡ None → ⊥
-    by None ends none = cc none
-    by (Some kind) ends none =
-        let counts = complete ends in
-        let may = stands draft kind row none in
-        let last = at_end draft.last ends in
-        let e = rw (counts.0, counts.1, last, nothing_after kind) at may in
-        cc e
+    by : (kind : Result OutputKind RowFault) → kind_among (kinds_next draft) row ≡ kind → fault_if kind draft row ≡ None → is_end draft.last ≡ false
+    by (Err fault) is none = cc none
+    by (Ok kind) is none = not_end draft.last (none_after draft kind (may_come draft row kind is) complete)
 
 goes_on : (draft : Draft) (n : ℕ) (rows rest : List (List (List ℕ))) → EndsComplete draft → AreSound draft rows
     → outcome draft n (rows ++ rest) ≡ outcome (with_rows draft rows) (n + length rows) rest
@@ -138,20 +126,27 @@ ends_whole draft n [] known last = rw (known, last) refl
 ends_whole draft n (row ∷ rest) known last = rw (known, last) refl
 
 -- before it a fault
-ends_broken : (draft : Draft) (n : ℕ) (rest : List (List (List ℕ))) (within : ℕ) (fault : RowFault) → IsFault draft n rest within fault → outcome draft n rest ≡ inr (within, fault)
-ends_broken draft n [] within fault (inl unknown) = rw (unknown.1) (ap (λ (p : ℕ × RowFault). let o : Outcome = inr p in o) (both (sym unknown.2) (sym unknown.3)))
-ends_broken draft n (row ∷ rest) within fault (inl unknown) = rw (unknown.1) (ap (λ (p : ℕ × RowFault). let o : Outcome = inr p in o) (both (sym unknown.2) (sym unknown.3)))
-ends_broken draft n [] within fault (inr next) = rw (next.0, not_end draft.last next.1) (ap (λ (p : ℕ × RowFault). let o : Outcome = inr p in o) (both (sym next.3) (the_fault next.2)))
-ends_broken draft n (row ∷ rest) within fault (inr next) = rw (next.0, not_end draft.last next.1, next.2) (ap (λ m. let o : Outcome = inr (m, fault) in o) (sym next.3))
+broken_as : (m within : ℕ) (f fault : RowFault) (l left : List (List (List ℕ))) → within ≡ m → fault ≡ f → left ≡ l
+    → (let o : Outcome = inr (m, (f, l)) in o) ≡ inr (within, (fault, left))
+broken_as m within f fault l left e g h = rw (e, g, h) refl
+
+ends_broken : (draft : Draft) (n : ℕ) (rest : List (List (List ℕ))) (within : ℕ) (fault : RowFault) (left : List (List (List ℕ))) → IsFault draft n rest within fault left
+    → outcome draft n rest ≡ inr (within, (fault, left))
+ends_broken draft n [] within fault left (inl unknown) = rw (unknown.1) (broken_as _ within _ fault _ left unknown.2 unknown.3 unknown.4)
+ends_broken draft n (row ∷ rest) within fault left (inl unknown) = rw (unknown.1) (broken_as _ within _ fault _ left unknown.2 unknown.3 unknown.4)
+ends_broken draft n [] within fault left (inr next) =
+    rw (next.0, not_end draft.last next.1) (broken_as _ within _ fault _ left next.3 (sym (the_fault next.2)) next.4)
+ends_broken draft n (row ∷ rest) within fault left (inr next) =
+    rw (next.0, not_end draft.last next.1, next.2) (broken_as _ within _ fault _ left next.3 refl next.4)
 
 -- ---- records
 
 abbrev told_by : ℕ → Outcome → Next
 told_by at (inl found) = Found found.0 found.1
-told_by at (inr broken) = Refused (at + broken.0) broken.1
+told_by at (inr broken) = Refused (at + broken.0) broken.1.0 broken.1.1
 
 abbrev by_opening : Option RowFault → ℕ → List (List ℕ) → List (List (List ℕ)) → Next
-by_opening (Some fault) at row rest = Refused (at + 1) fault
+by_opening (Some fault) at row rest = Refused (at + 1) fault rest
 by_opening None at row rest = told_by at (outcome (opened row) 0 rest)
 
 -- what comes next, by a walk
@@ -173,42 +168,24 @@ append_nil : (rows : List (List (List ℕ))) → rows ++ [] ≡ rows
 append_nil [] = refl
 append_nil (row ∷ rows) = ap (λ (more : List (List (List ℕ))). row ∷ more) (append_nil rows)
 
--- another word is of another kind
-other_kind : (word : List ℕ) → bytes_eq word (codes "report") ≡ false → kind_by word ≢ Some Report
-other_kind word other = λ is.
-    by (bytes_eq word (codes "node")) (bytes_eq word (codes "stream")) (bytes_eq word (codes "solved")) (bytes_eq word (codes "global")) (bytes_eq word (codes "nodal"))
-    (bytes_eq word (codes "measure")) (bytes_eq word (codes "end")) (rw other at is)
-  where
-    by : (b c d e f g h : Bool)
-        → (if b then Some Node else if c then Some Stream else if d then Some Solved else if e then Some Global else if f then Some Nodal else if g then Some Measure
-        else if h then Some End else None) ≡ Some Report
-        → ⊥
-    by true c d e f g h is = cc is
-    by false true d e f g h is = cc is
-    by false false true e f g h is = cc is
-    by false false false true f g h is = cc is
-    by false false false false true g h is = cc is
-    by false false false false false true h is = cc is
-    by false false false false false false true is = cc is
-    by false false false false false false false is = cc is
+-- a row of a report's heading isn't passed over
+heading_new : (row : List (List ℕ)) → is_row_of row Report ≡ true → is_passed_over row ≡ false
+heading_new [] is = let none : false ≡ true = is in cc none
+heading_new (word ∷ row) is =
+    let parts = and_parts (has_count (output_schema Report) (length (word ∷ row))) (agrees (output_columns Report) (word ∷ row)) is in
+    let here = and_parts (bytes_eq word (codes "report")) (agrees (drop 1 (output_columns Report)) row) parts.1 in
+    rw ((bytes_decides word (codes "report")).0 here.0) refl
 
 -- a row that opens a block isn't passed over
 opens_new : (row : List (List ℕ)) → opening_fault row ≡ None → is_passed_over row ≡ false
-opens_new row opens = elim (cases_Bool (bytes_eq (field row 0) (codes "report"))) [
-  | inl report ↦ rw ((bytes_decides (field row 0) (codes "report")).0 report) refl
-  | inr other ↦ absurd (by (kind_by (field row 0)) (other_kind (field row 0) other) opens)
-]
+opens_new row opens = by (kind_among (Report ∷ []) row) refl opens
   where
-    by : (kind : Option RowKind) → kind ≢ Some Report → opening_if kind row ≡ None → ⊥
-    by None other opens = cc opens
-    by (Some Report) other opens = other refl
-    by (Some Node) other opens = cc opens
-    by (Some Stream) other opens = cc opens
-    by (Some Solved) other opens = cc opens
-    by (Some Global) other opens = cc opens
-    by (Some Nodal) other opens = cc opens
-    by (Some Measure) other opens = cc opens
-    by (Some End) other opens = cc opens
+    by : (kind : Result OutputKind RowFault) → kind_among (Report ∷ []) row ≡ kind → opening_by kind row ≡ None → is_passed_over row ≡ false
+    by (Err fault) is opens = cc opens
+    by (Ok kind) is opens = elim (cases_Bool (is_row_of row Report)) [
+      | inl report ↦ heading_new row report
+      | inr other ↦ let none = rw other at is in cc none
+    ]
 
 complete_at_first : (row : List (List ℕ)) → EndsComplete (opened row)
 complete_at_first row = λ ends. cc ends
@@ -238,19 +215,19 @@ is_walked at records (Found block rest) found =
     let all = on ∙ ends in
     sym (ap (next_of at) found.split ∙ over at found.passed (found.first ∷ (found.rows ++ rest)) found.skipped
     ∙ rw (opens_new found.first opens, opens, all) (ap (λ (b : Block). Found b rest) (sym w.value)))
-is_walked at records (Refused number fault) (inl refused) =
-    sym (ap (next_of at) refused.split ∙ over at refused.passed (refused.first ∷ refused.rest) refused.skipped
-    ∙ rw (refused.other, refused.cause) (ap (λ (n : ℕ). Refused n fault) (sym refused.place)))
-is_walked at records (Refused number fault) (inr refused) =
+is_walked at records (Refused number fault left) (inl refused) =
+    sym (ap (next_of at) refused.split ∙ over at refused.passed (refused.first ∷ left) refused.skipped
+    ∙ rw (refused.other, refused.cause) (ap (λ (n : ℕ). Refused n fault left) (sym refused.place)))
+is_walked at records (Refused number fault left) (inr refused) =
     let opens = refused.opens in
     let on = goes_on (opened refused.first) 0 refused.rows refused.rest (complete_at_first refused.first) refused.sound in
-    let ends = ends_broken (with_rows (opened refused.first) refused.rows) (0 + length refused.rows) refused.rest refused.within fault (count refused.cause) in
+    let ends = ends_broken (with_rows (opened refused.first) refused.rows) (0 + length refused.rows) refused.rest refused.within fault left (count refused.cause) in
     let all = on ∙ ends in
     sym (ap (next_of at) refused.split ∙ over at refused.passed (refused.first ∷ (refused.rows ++ refused.rest)) refused.skipped
-    ∙ rw (opens_new refused.first opens, opens, all) (ap (λ (n : ℕ). Refused n fault) (sym refused.place)))
+    ∙ rw (opens_new refused.first opens, opens, all) (ap (λ (n : ℕ). Refused n fault left) (sym refused.place)))
   where
-    count : IsFault (with_rows (opened refused.first) refused.rows) (length refused.rows) refused.rest refused.within fault
-        → IsFault (with_rows (opened refused.first) refused.rows) (0 + length refused.rows) refused.rest refused.within fault
+    count : IsFault (with_rows (opened refused.first) refused.rows) (length refused.rows) refused.rest refused.within fault left
+        → IsFault (with_rows (opened refused.first) refused.rows) (0 + length refused.rows) refused.rest refused.within fault left
     count h = let e : length refused.rows ≡ 0 + length refused.rows = omega arith in rw (← e) h
 
 -- ---- one thing comes next
@@ -264,25 +241,25 @@ record IsSoundTo (start : Draft) (all : List (List (List ℕ))) (draft : Draft) 
   count : n ≡ length rows
 
 -- what an outcome says of the records behind a first one
-record Breaks (start : Draft) (all : List (List (List ℕ))) (within : ℕ) (fault : RowFault) : Type 0 where
+record Breaks (start : Draft) (all : List (List (List ℕ))) (within : ℕ) (fault : RowFault) (left : List (List (List ℕ))) : Type 0 where
   rows : List (List (List ℕ))
   rest : List (List (List ℕ))
   split : all ≡ rows ++ rest
   sound : AreSound start rows
-  cause : IsFault (with_rows start rows) (length rows) rest within fault
+  cause : IsFault (with_rows start rows) (length rows) rest within fault left
 
 abbrev IsOutcome : Draft → List (List (List ℕ)) → Outcome → Type 0
 IsOutcome start all (inl found) = IsReadWhole start all found.1 found.0
-IsOutcome start all (inr broken) = Breaks start all broken.0 broken.1
+IsOutcome start all (inr broken) = Breaks start all broken.0 broken.1.0 broken.1.1
 
 broken_before : (start draft : Draft) (all left : List (List (List ℕ))) (n stream : ℕ) → IsSoundTo start all draft left n → first_unknown draft ≡ Some stream
-    → Breaks start all (draft.heading.nodes + stream + 2) Unknown
+    → Breaks start all (draft.heading.nodes + stream + 2) Unknown left
 broken_before start draft all left n stream s unknown = record {
   rows = s.rows;
   rest = left;
   split = s.split;
   sound = s.sound;
-  cause = inl (stream, ap first_unknown (sym s.told) ∙ unknown, ap (λ (d : Draft). d.heading.nodes + stream + 2) s.told, refl);
+  cause = inl (stream, ap first_unknown (sym s.told) ∙ unknown, ap (λ (d : Draft). d.heading.nodes + stream + 2) s.told, refl, refl);
 }
 
 whole_at : (start draft : Draft) (all left : List (List (List ℕ))) (n : ℕ) → IsSoundTo start all draft left n → first_unknown draft ≡ None → draft.last ≡ End
@@ -297,13 +274,13 @@ whole_at start draft all left n s known last = record {
 }
 
 broken_at : (start draft : Draft) (all left : List (List (List ℕ))) (n : ℕ) (fault : RowFault) → IsSoundTo start all draft left n → first_unknown draft ≡ None
-    → draft.last ≢ End → fault_next draft left ≡ Some fault → Breaks start all (n + 2) fault
+    → draft.last ≢ End → fault_next draft left ≡ Some fault → Breaks start all (n + 2) fault (drop 1 left)
 broken_at start draft all left n fault s known on cause = record {
   rows = s.rows;
   rest = left;
   split = s.split;
   sound = s.sound;
-  cause = inr (ap first_unknown (sym s.told) ∙ known, unended start draft s.rows s.told on, ap (λ (d : Draft). fault_next d left) (sym s.told) ∙ cause, ap (λ (m : ℕ). m + 2) s.count);
+  cause = inr (ap first_unknown (sym s.told) ∙ known, unended start draft s.rows s.told on, ap (λ (d : Draft). fault_next d left) (sym s.told) ∙ cause, ap (λ (m : ℕ). m + 2) s.count, refl);
 }
 
 sound_next : (start draft : Draft) (all left : List (List (List ℕ))) (row : List (List ℕ)) (n : ℕ) → IsSoundTo start all draft (row ∷ left) n → first_unknown draft ≡ None
@@ -319,30 +296,30 @@ sound_next start draft all left row n s known fine = record {
 gives : (start all : _) (left : List (List (List ℕ))) (draft : Draft) (n : ℕ) → IsSoundTo start all draft left n → IsOutcome start all (outcome draft n left)
 gives start all [] draft n s = by (first_unknown draft) refl
   where
-    by_last : (b : Bool) → is_end draft.last ≡ b → first_unknown draft ≡ None → IsOutcome start all (by_end b draft [] (inr (n + 2, Ended)))
+    by_last : (b : Bool) → is_end draft.last ≡ b → first_unknown draft ≡ None → IsOutcome start all (by_end b draft [] (inr (n + 2, (Ended, []))))
     by_last true last known = whole_at start draft all [] n s known (at_end draft.last last)
     by_last false last known = broken_at start draft all [] n Ended s known (not_at_end draft.last last) refl
 
-    by : (k : Option ℕ) → first_unknown draft ≡ k → IsOutcome start all (by_known k draft (by_end (is_end draft.last) draft [] (inr (n + 2, Ended))))
+    by : (k : Option ℕ) → first_unknown draft ≡ k → IsOutcome start all (by_known k draft [] (by_end (is_end draft.last) draft [] (inr (n + 2, (Ended, [])))))
     by (Some stream) unknown = broken_before start draft all [] n stream s unknown
     by None known = by_last (is_end draft.last) refl known
 gives start all (row ∷ left) draft n s = by (gives start all left (with_row draft row) (n + 1)) (first_unknown draft) refl
   where
     by_row : (IsSoundTo start all (with_row draft row) left (n + 1) → IsOutcome start all (outcome (with_row draft row) (n + 1) left))
         → (f : Option RowFault) → fault_behind draft row ≡ f → first_unknown draft ≡ None → draft.last ≢ End
-        → IsOutcome start all (by_fault f n (outcome (with_row draft row) (n + 1) left))
+        → IsOutcome start all (by_fault f n left (outcome (with_row draft row) (n + 1) left))
     by_row more None fine known on = more (sound_next start draft all left row n s known fine)
     by_row more (Some fault) cause known on = broken_at start draft all (row ∷ left) n fault s known on cause
 
     by_last : (IsSoundTo start all (with_row draft row) left (n + 1) → IsOutcome start all (outcome (with_row draft row) (n + 1) left))
         → (b : Bool) → is_end draft.last ≡ b → first_unknown draft ≡ None
-        → IsOutcome start all (by_end b draft (row ∷ left) (by_fault (fault_behind draft row) n (outcome (with_row draft row) (n + 1) left)))
+        → IsOutcome start all (by_end b draft (row ∷ left) (by_fault (fault_behind draft row) n left (outcome (with_row draft row) (n + 1) left)))
     by_last more true last known = whole_at start draft all (row ∷ left) n s known (at_end draft.last last)
     by_last more false last known = by_row more (fault_behind draft row) refl known (not_at_end draft.last last)
 
     by : (IsSoundTo start all (with_row draft row) left (n + 1) → IsOutcome start all (outcome (with_row draft row) (n + 1) left))
         → (k : Option ℕ) → first_unknown draft ≡ k
-        → IsOutcome start all (by_known k draft (by_end (is_end draft.last) draft (row ∷ left) (by_fault (fault_behind draft row) n (outcome (with_row draft row) (n + 1) left))))
+        → IsOutcome start all (by_known k draft (row ∷ left) (by_end (is_end draft.last) draft (row ∷ left) (by_fault (fault_behind draft row) n left (outcome (with_row draft row) (n + 1) left))))
     by more (Some stream) unknown = broken_before start draft all (row ∷ left) n stream s unknown
     by more None known = by_last more (is_end draft.last) refl known
 
@@ -357,17 +334,16 @@ one_over at row rest (Found block left) holds found = record {
   skipped = rw holds found.skipped;
   whole = found.whole;
 }
-one_over at row rest (Refused number fault) holds (inl refused) = inl (record {
+one_over at row rest (Refused number fault left) holds (inl refused) = inl (record {
   passed = row ∷ refused.passed;
   first = refused.first;
-  rest = refused.rest;
   split = ap (λ (more : List (List (List ℕ))). row ∷ more) refused.split;
   skipped = rw holds refused.skipped;
   other = refused.other;
   cause = refused.cause;
   place = refused.place ∙ omega arith;
 })
-one_over at row rest (Refused number fault) holds (inr refused) = inr (record {
+one_over at row rest (Refused number fault left) holds (inr refused) = inr (record {
   passed = row ∷ refused.passed;
   first = refused.first;
   rows = refused.rows;
@@ -411,7 +387,7 @@ comes_next at (row ∷ rest) = by (comes_next (at + 1) rest) (is_passed_over row
   where
     by_first : (f : Option RowFault) → opening_fault row ≡ f → is_passed_over row ≡ false → IsNext at (row ∷ rest) (by_opening f at row rest)
     by_first (Some fault) cause other =
-        inl (record { passed = []; first = row; rest = rest; split = refl; skipped = refl; other = other; cause = cause; place = omega arith })
+        inl (record { passed = []; first = row; split = refl; skipped = refl; other = other; cause = cause; place = omega arith })
     by_first None opens other =
         by_outcome at row rest (outcome (opened row) 0 rest) opens
         (gives (opened row) rest rest (opened row) 0 (record { rows = []; split = refl; sound = tt; told = refl; count = refl }))

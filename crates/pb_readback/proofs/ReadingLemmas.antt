@@ -1,95 +1,102 @@
 -- Reading on: what one row more shows of the records.
-use Rattle.std.specs.Prelude.{◌≢◌, nat_eq, nat_lt, if◌then◌else◌}
-use Rattle.std.specs.List.{list_all}
+use Rattle.std.specs.Prelude.{◌≢◌, nat_eq, nat_lt, find, Result, Ok, Err, if◌then◌else◌}
+use Rattle.std.specs.List.{list_all, AllByRecursion}
 use Rattle.std.proofs.Common.{◌≡◌, ◌∙◌, ℕ, ◌+◌, ◌<◌, ◌≤◌, List, [], ◌∷◌, ◌++◌, length, Bool, true, false, Option, Some, None, refl, sym, ap, arith, inl, inr, append_assoc, length-append}
 use Rattle.std.proofs.lemmas.Bool.{and_parts, cases_Bool}
+use Rattle.pb_form.specs.declared.output.OutputKind.{OutputKind}
+use Rattle.pb_form.specs.declared.output.OutputKind.TheVariants.{Report, Node, Stream, StreamBefore, Solved, Global, Nodal, Measure, End}
+use Rattle.pb_rows.specs.RecordsLeft.{RecordsLeft}
+use Rattle.pb_blocks.specs.declared.fault.RowFault.{RowFault}
+use Rattle.pb_blocks.specs.declared.fault.RowFault.TheVariants.{Unknown, Ended}
+use Rattle.pb_blocks.specs.declared.rows.Heading.{Heading}
+use Rattle.pb_blocks.specs.Counts.{IsHeading}
+use Rattle.pb_blocks.specs.Kinds.{is_passed_over, is_row_of, kind_among, kind_or, no_kind}
+use Rattle.pb_blocks.specs.Texts.{name_field}
+use Rattle.pb_blocks.specs.Values.{said_arc, said_stream, values_in}
 use Rattle.pb_readback.specs.declared.block.Block.{Block}
 use Rattle.pb_readback.specs.declared.draft.Draft.{Draft}
-use Rattle.pb_readback.specs.declared.draft.Heading.{Heading}
-use Rattle.pb_readback.specs.declared.draft.StreamForm.{StreamForm}
-use Rattle.pb_readback.specs.declared.fault.ReadRefused.{ReadRefused}
-use Rattle.pb_readback.specs.declared.fault.ReadRefused.TheVariants.{At, NoMemory}
-use Rattle.pb_readback.specs.declared.fault.RowFault.{RowFault}
-use Rattle.pb_readback.specs.declared.fault.RowFault.TheVariants.{Unknown, Ended}
-use Rattle.pb_readback.specs.declared.kind.RowKind.{RowKind}
-use Rattle.pb_readback.specs.declared.kind.RowKind.TheVariants.{Report, Node, Stream, Solved, Global, Nodal, Measure, End}
+use Rattle.pb_readback.specs.declared.reading.ReadRefused.{ReadRefused}
+use Rattle.pb_readback.specs.declared.reading.ReadRefused.TheVariants.{At, NoMemory}
 use Rattle.pb_readback.specs.Blocks.{block_of}
-use Rattle.pb_readback.specs.Drafts.{draft_of, told_if, told_with, with_row, with_rows, with_stream}
-use Rattle.pb_readback.specs.Faults.{fault_behind, fault_if, first_unknown, may_stand}
-use Rattle.pb_readback.specs.Forms.{form_of, in_full}
-use Rattle.pb_readback.specs.Kinds.{field, is_passed_over, kind_of, may_come_after}
-use Rattle.pb_readback.specs.Next.{ArePassedOver, AreSound, IsFound, Tells, opened}
-use Rattle.pb_readback.specs.Values.{stream_in, stream_row_in}
-use Rattle.pb_readback.specs.Reading.{Breaks, BreaksFrom, Ends, IsBroken, IsHeading, IsReadFrom, IsReadTo, IsReadWhole, IsUnderWay, RefusesPart, RefusesRow, Skips}
+use Rattle.pb_readback.specs.Drafts.{draft_of, kinds_after, kinds_next, stream_kinds, told_if, told_with, with_row, with_rows, with_stream}
+use Rattle.pb_readback.specs.Faults.{fault_behind, fault_if, first_unknown}
+use Rattle.pb_readback.specs.Next.{AreCounted, ArePassedOver, AreSound, IsFound, Tells, opened}
+use Rattle.pb_readback.specs.Reading.{AwaitsNodes, AwaitsStreams, Breaks, BreaksFrom, Ends, HasAll, IsBroken, IsReadFrom, IsReadTo, IsReadWhole, IsUnderWay, MayCome, RefusesPart, RefusesRow, Skips, is_stream_kind}
 
--- ---- what may stand
+-- ---- what may come
 
--- a row without a fault may stand where it does
-pub stands : (draft : Draft) (kind : RowKind) (row : List (List ℕ)) → fault_if (Some kind) draft row ≡ None → may_stand draft kind ≡ true
-stands draft kind row none = elim (cases_Bool (may_stand draft kind)) [
-  | inl holds ↦ holds
-  | inr fails ↦ let e = rw fails at none in cc e
+-- a kind that a row is found to have is one of those that were asked
+found_among : (P : OutputKind → Type 0) (row : List (List ℕ)) (kinds : List OutputKind) (kind : OutputKind) → AllByRecursion P kinds → find (is_row_of row) kinds ≡ Some kind → P kind
+found_among P row [] kind all found = cc found
+found_among P row (first ∷ kinds) kind all found = elim (cases_Bool (is_row_of row first)) [
+  | inl here ↦
+      let at = rw here at found in
+      let same : first ≡ kind = cc at in
+      rw (← same) all.0
+  | inr later ↦ found_among P row kinds kind all.1 (rw later at found)
 ]
 
--- behind the last stream comes no heading, no node and no stream
-no_more : (last : RowKind) → (may_come_after last Report ≡ false) × (may_come_after last Node ≡ false) × (may_come_after last Stream ≡ false)
-no_more Report = (refl, refl, refl)
-no_more Node = (refl, refl, refl)
-no_more Stream = (refl, refl, refl)
-no_more Solved = (refl, refl, refl)
-no_more Global = (refl, refl, refl)
-no_more Nodal = (refl, refl, refl)
-no_more Measure = (refl, refl, refl)
-no_more End = (refl, refl, refl)
+told_among : (P : OutputKind → Type 0) (row : List (List ℕ)) (kinds : List OutputKind) (kind : OutputKind) → AllByRecursion P kinds → kind_among kinds row ≡ Ok kind → P kind
+told_among P row kinds kind all told = by (find (is_row_of row) kinds) refl (no_kind kinds row) told
+  where
+    by : (found : Option OutputKind) → find (is_row_of row) kinds ≡ found → (fault : RowFault) → kind_or fault found ≡ Ok kind → P kind
+    by None is fault told = cc told
+    by (Some other) is fault told =
+        let same : other ≡ kind = cc told in
+        rw (← same) (found_among P row kinds other all is)
 
-by_counts : (a b x y z : Bool) → (if a then x else if b then y else z) ≡ true → y ≡ false → z ≡ false → a ≡ true
-by_counts true b x y z stands fails none = refl
-by_counts false true x y z stands fails none = cc (sym fails ∙ stands)
-by_counts false false x y z stands fails none = cc (sym none ∙ stands)
+going : (draft : Draft) (last : OutputKind) → draft.last ≡ last → last ≢ End → draft.last ≢ End
+going draft last is apart = λ ends. apart (sym is ∙ ends)
 
-by_counts_next : (a b x y z : Bool) → (if a then x else if b then y else z) ≡ true → x ≡ false → z ≡ false → b ≡ true
-by_counts_next true b x y z stands fails none = cc (sym fails ∙ stands)
-by_counts_next false true x y z stands fails none = refl
-by_counts_next false false x y z stands fails none = cc (sym none ∙ stands)
+-- behind the last stream
+after_all : (draft : Draft) → HasAll draft → (last : OutputKind) → draft.last ≡ last → AllByRecursion (MayCome draft) (kinds_after last)
+after_all draft all Report is = ((all, going draft Report is (λ e. cc e)), tt)
+after_all draft all Node is = ((all, going draft Node is (λ e. cc e)), tt)
+after_all draft all Stream is = ((all, going draft Stream is (λ e. cc e)), tt)
+after_all draft all StreamBefore is = ((all, going draft StreamBefore is (λ e. cc e)), tt)
+after_all draft all Solved is = let on = going draft Solved is (λ e. cc e) in ((all, on), ((all, on), tt))
+after_all draft all Global is = let on = going draft Global is (λ e. cc e) in ((all, on), ((all, on), ((all, on), tt)))
+after_all draft all Nodal is = let on = going draft Nodal is (λ e. cc e) in ((all, on), ((all, on), ((all, on), tt)))
+after_all draft all Measure is = let on = going draft Measure is (λ e. cc e) in ((all, on), ((all, on), tt))
+after_all draft all last is = tt
+
+of_stream : (draft : Draft) → AwaitsStreams draft → (last : OutputKind) → AllByRecursion (MayCome draft) (stream_kinds last)
+of_stream draft awaits Stream = (awaits, tt)
+of_stream draft awaits StreamBefore = (awaits, tt)
+of_stream draft awaits last = (awaits, (awaits, tt))
+
+-- a row of one of the kinds that may come next may
+may_next : (draft : Draft) → AllByRecursion (MayCome draft) (kinds_next draft)
+may_next draft = by (nat_lt (length draft.nodes) draft.heading.nodes) refl (nat_lt (length draft.streams) draft.heading.streams) refl
+  where
+    by : (a : Bool) → nat_lt (length draft.nodes) draft.heading.nodes ≡ a → (b : Bool) → nat_lt (length draft.streams) draft.heading.streams ≡ b
+        → AllByRecursion (MayCome draft) (if a then Node ∷ [] else if b then stream_kinds draft.last else kinds_after draft.last)
+    by true nodes b streams = (nodes, tt)
+    by false nodes true streams = of_stream draft (nodes, streams) draft.last
+    by false nodes false streams = after_all draft (nodes, streams) draft.last refl
+
+pub may_come : (draft : Draft) (row : List (List ℕ)) (kind : OutputKind) → kind_among (kinds_next draft) row ≡ Ok kind → MayCome draft kind
+may_come draft row kind told = told_among (MayCome draft) row (kinds_next draft) kind (may_next draft) told
 
 below : (m n : ℕ) → nat_lt m n ≡ true → m < n
 below m n is = grind (arith, is)
 
--- there is room for a node that may stand, and for a stream
-pub node_room : (draft : Draft) → may_stand draft Node ≡ true → length draft.nodes < draft.heading.nodes
-node_room draft may =
-    below (length draft.nodes) draft.heading.nodes
-    (by_counts (nat_lt (length draft.nodes) draft.heading.nodes) (nat_lt (length draft.streams) draft.heading.streams) true false (may_come_after draft.last Node) may refl (no_more draft.last).1)
+-- there is room for a node that may come, and for a stream
+pub node_room : (draft : Draft) → AwaitsNodes draft → length draft.nodes < draft.heading.nodes
+node_room draft may = below (length draft.nodes) draft.heading.nodes may
 
-pub stream_room : (draft : Draft) → may_stand draft Stream ≡ true → length draft.streams < draft.heading.streams
-stream_room draft may =
-    below (length draft.streams) draft.heading.streams
-    (by_counts_next (nat_lt (length draft.nodes) draft.heading.nodes) (nat_lt (length draft.streams) draft.heading.streams) false true (may_come_after draft.last Stream) may refl (no_more draft.last).2)
-
-by_counts_done : (a b x y z : Bool) → (if a then x else if b then y else z) ≡ true → x ≡ false → a ≡ false
-by_counts_done true b x y z stands fails = cc (sym fails ∙ stands)
-by_counts_done false b x y z stands fails = refl
+pub stream_room : (draft : Draft) → AwaitsStreams draft → length draft.streams < draft.heading.streams
+stream_room draft may = below (length draft.streams) draft.heading.streams may.1
 
 pub not_below : (m n : ℕ) → nat_lt m n ≡ false → n ≤ m
 not_below m n is = grind (arith, is)
 
--- where a stream may stand all nodes have come
-pub all_nodes : (draft : Draft) → IsUnderWay draft → may_stand draft Stream ≡ true → length draft.nodes ≡ draft.heading.nodes
+-- if a stream may come all nodes have
+pub all_nodes : (draft : Draft) → IsUnderWay draft → AwaitsStreams draft → length draft.nodes ≡ draft.heading.nodes
 all_nodes draft way may =
-    let done = by_counts_done (nat_lt (length draft.nodes) draft.heading.nodes) (nat_lt (length draft.streams) draft.heading.streams) false true (may_come_after draft.last Stream) may refl in
-    let most = not_below (length draft.nodes) draft.heading.nodes done in
+    let most = not_below (length draft.nodes) draft.heading.nodes may.0 in
     let few = way.nodes in
     omega (arith, most, few)
-
--- a heading comes nowhere behind another
-pub no_heading : (draft : Draft) → may_stand draft Report ≡ false
-no_heading draft =
-    by (nat_lt (length draft.nodes) draft.heading.nodes) (nat_lt (length draft.streams) draft.heading.streams) (may_come_after draft.last Report) (no_more draft.last).0
-  where
-    by : (a b z : Bool) → z ≡ false → (if a then false else if b then false else z) ≡ false
-    by true b z none = refl
-    by false true z none = refl
-    by false false z none = none
 
 -- ---- drafts
 
@@ -97,13 +104,13 @@ pub one_more : {A : Type 0} (xs : List A) (x : A) → length (xs ++ x ∷ []) �
 one_more xs x = length-append xs (x ∷ [])
 
 -- one stream more
-pub stream_under : (draft : Draft) (form : Option StreamForm) (row : List (List ℕ)) → IsUnderWay draft → may_stand draft Stream ≡ true
-    → IsUnderWay (record (with_stream row draft) { form = form })
-stream_under draft form row way may =
+pub stream_under : (draft : Draft) (kind : OutputKind) (row : List (List ℕ)) → IsUnderWay draft → AwaitsStreams draft
+    → IsUnderWay (record (with_stream kind row draft) { last = kind })
+stream_under draft kind row way may =
     let room = stream_room draft may in
-    let names = one_more draft.streams (field row 1) in
-    let streams = one_more draft.graph.streams (stream_in draft.nodes row) in
-    let rows = one_more draft.rows (stream_row_in draft.nodes row) in
+    let names = one_more draft.streams (name_field row) in
+    let streams = one_more draft.graph.streams (said_arc draft.nodes row (values_in kind row)) in
+    let rows = one_more draft.rows (said_stream draft.nodes kind row (values_in kind row)) in
     let each = way.each_stream in
     let each_row = way.each_row in
     record {
@@ -115,16 +122,17 @@ stream_under draft form row way may =
       each_row = omega (arith, names, rows, each_row);
     }
 
-pub still_under : (draft : Draft) (kind : RowKind) (row : List (List ℕ)) → IsUnderWay draft → may_stand draft kind ≡ true → IsUnderWay (told_with kind draft row)
+pub still_under : (draft : Draft) (kind : OutputKind) (row : List (List ℕ)) → IsUnderWay draft → MayCome draft kind → IsUnderWay (told_with kind draft row)
 still_under draft Node row way may = record {
   heading = way.heading;
   graph = way.graph;
-  nodes = let room = node_room draft may in let long = one_more draft.nodes (field row 1) in omega (arith, room, long);
+  nodes = let room = node_room draft may in let long = one_more draft.nodes (name_field row) in omega (arith, room, long);
   streams = way.streams;
   each_stream = way.each_stream;
   each_row = way.each_row;
 }
-still_under draft Stream row way may = stream_under draft (Some (form_of row)) (in_full Stream row) way may
+still_under draft Stream row way may = stream_under draft Stream row way may
+still_under draft StreamBefore row way may = stream_under draft StreamBefore row way may
 still_under draft kind row way may = record {
   heading = way.heading;
   graph = way.graph;
@@ -136,11 +144,11 @@ still_under draft kind row way may = record {
 
 -- a draft under way is so behind a row without a fault
 pub still_under_way : (draft : Draft) (row : List (List ℕ)) → IsUnderWay draft → fault_behind draft row ≡ None → IsUnderWay (with_row draft row)
-still_under_way draft row way none = by (kind_of row) none
+still_under_way draft row way none = by (kind_among (kinds_next draft) row) refl none
   where
-    by : (kind : Option RowKind) → fault_if kind draft row ≡ None → IsUnderWay (told_if kind draft row)
-    by None none = cc none
-    by (Some kind) none = still_under draft kind row way (stands draft kind row none)
+    by : (kind : Result OutputKind RowFault) → kind_among (kinds_next draft) row ≡ kind → fault_if kind draft row ≡ None → IsUnderWay (told_if kind draft row)
+    by (Err fault) is none = cc none
+    by (Ok kind) is none = still_under draft kind row way (may_come draft row kind is)
 
 pub begins_under_way : (heading : Heading) → IsHeading heading → IsUnderWay (draft_of heading)
 begins_under_way heading counts = record {
@@ -161,14 +169,16 @@ begins_known heading = by (nat_eq 0 heading.streams)
     by false = refl
 
 -- once all parts are known, they stay so: parts are asked behind a stream alone
-pub known_after : (draft : Draft) (row : List (List ℕ)) → first_unknown draft ≡ None → ((with_row draft row).last ≡ Stream → first_unknown (with_row draft row) ≡ None)
+pub known_after : (draft : Draft) (row : List (List ℕ)) → first_unknown draft ≡ None → (is_stream_kind (with_row draft row).last ≡ true → first_unknown (with_row draft row) ≡ None)
     → first_unknown (with_row draft row) ≡ None
-known_after draft row known at = by (kind_of row) at
+known_after draft row known at = by (kind_among (kinds_next draft) row) at
   where
-    by : (kind : Option RowKind) → ((told_if kind draft row).last ≡ Stream → first_unknown (told_if kind draft row) ≡ None) → first_unknown (told_if kind draft row) ≡ None
-    by None at = known
-    by (Some Stream) at = at refl
-    by (Some kind) at = known
+    by : (kind : Result OutputKind RowFault) → (is_stream_kind (told_if kind draft row).last ≡ true → first_unknown (told_if kind draft row) ≡ None)
+        → first_unknown (told_if kind draft row) ≡ None
+    by (Err fault) at = known
+    by (Ok Stream) at = at refl
+    by (Ok StreamBefore) at = at refl
+    by (Ok kind) at = known
 
 -- ---- rows
 
@@ -218,7 +228,7 @@ unended start draft rows told on = λ ends. on (ap (λ (d : Draft). d.last) told
 
 -- the records end within the block
 pub breaks_ended : (start draft : Draft) (all : List (List (List ℕ))) (opened taken : ℕ) → IsReadTo start all draft [] → draft.last ≢ End → taken + 0 ≡ opened + length all
-    → IsBroken start all opened (taken + 1) Ended
+    → IsBroken start all opened (taken + 1) Ended []
 breaks_ended start draft all opened taken read on counted =
     let behind = rows_read all read.rows [] opened taken read.split counted in
     record {
@@ -227,14 +237,14 @@ breaks_ended start draft all opened taken read on counted =
       within = length read.rows + 2;
       split = read.split;
       sound = read.sound;
-      cause = inr (ap first_unknown (sym read.told) ∙ read.known, unended start draft read.rows read.told on, refl, refl);
+      cause = inr (ap first_unknown (sym read.told) ∙ read.known, unended start draft read.rows read.told on, refl, refl, refl);
       place = omega (arith, behind);
     }
 
 -- the next row has a fault
 pub breaks_at : (start draft : Draft) (all left : List (List (List ℕ))) (row : List (List ℕ)) (fault : RowFault) (opened taken : ℕ)
     → IsReadTo start all draft (row ∷ left) → draft.last ≢ End → fault_behind draft row ≡ Some fault → taken + length left ≡ opened + length all
-    → IsBroken start all opened taken fault
+    → IsBroken start all opened taken fault left
 breaks_at start draft all left row fault opened taken read on cause counted =
     let long = ap length read.split ∙ length-append read.rows (row ∷ left) in
     record {
@@ -243,14 +253,14 @@ breaks_at start draft all left row fault opened taken read on cause counted =
       within = length read.rows + 2;
       split = read.split;
       sound = read.sound;
-      cause = inr (ap first_unknown (sym read.told) ∙ read.known, unended start draft read.rows read.told on, ap (λ (d : Draft). fault_behind d row) (sym read.told) ∙ cause, refl);
+      cause = inr (ap first_unknown (sym read.told) ∙ read.known, unended start draft read.rows read.told on, ap (λ (d : Draft). fault_behind d row) (sym read.told) ∙ cause, refl, refl);
       place = omega (arith, long, counted);
     }
 
 -- the last of the streams is read, and the parts of one name a stream that isn't there
 pub breaks_before : (start draft : Draft) (all left : List (List (List ℕ))) (row : List (List ℕ)) (stream opened : ℕ) → IsReadTo start all draft (row ∷ left)
     → fault_behind draft row ≡ None → first_unknown (with_row draft row) ≡ Some stream
-    → IsBroken start all opened (opened + (with_row draft row).heading.nodes + stream + 1) Unknown
+    → IsBroken start all opened (opened + (with_row draft row).heading.nodes + stream + 1) Unknown left
 breaks_before start draft all left row stream opened read fine unknown =
     let told = ap (λ (d : Draft). with_row d row) read.told ∙ sym (with_rows_more start read.rows row) in
     record {
@@ -259,38 +269,39 @@ breaks_before start draft all left row stream opened read fine unknown =
       within = (with_row draft row).heading.nodes + stream + 2;
       split = read.split ∙ sym (append_assoc read.rows (row ∷ []) left);
       sound = sound_more start read.rows row read.sound (ap first_unknown (sym read.told) ∙ read.known) (ap (λ (d : Draft). fault_behind d row) (sym read.told) ∙ fine);
-      cause = inl (stream, ap first_unknown (sym told) ∙ unknown, ap (λ (d : Draft). d.heading.nodes + stream + 2) told, refl);
+      cause = inl (stream, ap first_unknown (sym told) ∙ unknown, ap (λ (d : Draft). d.heading.nodes + stream + 2) told, refl, refl);
       place = omega arith;
     }
 
 -- ---- what a refusal says
 
-pub broke_ended : (start draft : Draft) (all left : List (List (List ℕ))) (opened taken : ℕ) (refused : ReadRefused) → IsReadTo start all draft left → draft.last ≢ End
-    → taken + length left ≡ opened + length all → Ends left taken refused → Breaks start all opened refused
-broke_ended start draft all left opened taken NoMemory read on counted ends = tt
-broke_ended start draft all left opened taken (At number fault) read on counted ends =
-    let at : IsReadTo start all draft [] = rw (← ends.0) read in
-    let count : taken + 0 ≡ opened + length all = rw (ends.0) at counted in
-    rw (ends.1, ends.2) (breaks_ended start draft all opened taken at on count)
+pub broke_ended : (start draft : Draft) (old now new : RecordsLeft) (refused : ReadRefused) → IsReadTo start old.left draft now.left → draft.last ≢ End
+    → AreCounted old now → Ends now new refused → Breaks start old new refused
+broke_ended start draft old now new NoMemory read on counted ends = tt
+broke_ended start draft old now new (At number fault) read on counted ends =
+    let none = ends.0 in
+    let at : IsReadTo start old.left draft [] = rw (← none) read in
+    let count : now.taken + 0 ≡ old.taken + length old.left = rw none at counted in
+    rw (ends.1, ends.2, ends.3, none) (breaks_ended start draft old.left old.taken now.taken at on count, count)
 
-pub broke_at : (start draft : Draft) (all left rest : List (List (List ℕ))) (row : List (List ℕ)) (opened taken number : ℕ) (refused : ReadRefused) → IsReadTo start all draft left
-    → draft.last ≢ End → left ≡ row ∷ rest → number + length rest ≡ opened + length all → RefusesRow draft row number refused → Breaks start all opened refused
-broke_at start draft all left rest row opened taken number NoMemory read on next counted breaks = tt
-broke_at start draft all left rest row opened taken number (At at fault) read on next counted breaks =
-    let now : IsReadTo start all draft (row ∷ rest) = rw (← next) read in
-    rw (breaks.1) (breaks_at start draft all rest row fault opened number now on breaks.0 counted)
+pub broke_at : (start draft : Draft) (old now new : RecordsLeft) (row : List (List ℕ)) (number : ℕ) (refused : ReadRefused) → IsReadTo start old.left draft now.left
+    → draft.last ≢ End → now.left ≡ row ∷ new.left → number ≡ new.taken → AreCounted old new → RefusesRow draft row number refused → Breaks start old new refused
+broke_at start draft old now new row number NoMemory read on next is counted breaks = tt
+broke_at start draft old now new row number (At at fault) read on next is counted breaks =
+    let here : IsReadTo start old.left draft (row ∷ new.left) = rw (← next) read in
+    rw (breaks.1, is) (breaks_at start draft old.left new.left row fault old.taken new.taken here on breaks.0 counted, counted)
 
-pub broke_before : (start draft after : Draft) (all left rest : List (List (List ℕ))) (row : List (List ℕ)) (opened : ℕ) (refused : ReadRefused) → IsReadTo start all draft left
-    → left ≡ row ∷ rest → fault_behind draft row ≡ None → after ≡ with_row draft row → RefusesPart after opened refused → Breaks start all opened refused
-broke_before start draft after all left rest row opened NoMemory read next fine told breaks = tt
-broke_before start draft after all left rest row opened (At number fault) read next fine told breaks =
-    let now : IsReadTo start all draft (row ∷ rest) = rw (← next) read in
+pub broke_before : (start draft after : Draft) (old now new : RecordsLeft) (row : List (List ℕ)) (refused : ReadRefused) → IsReadTo start old.left draft now.left
+    → now.left ≡ row ∷ new.left → fault_behind draft row ≡ None → after ≡ with_row draft row → AreCounted old new → RefusesPart after old.taken refused → Breaks start old new refused
+broke_before start draft after old now new row NoMemory read next fine told counted breaks = tt
+broke_before start draft after old now new row (At number fault) read next fine told counted breaks =
+    let here : IsReadTo start old.left draft (row ∷ new.left) = rw (← next) read in
     let unknown = ap first_unknown (sym told) ∙ breaks.1 in
-    rw (breaks.2, breaks.3, told) (breaks_before start draft all rest row breaks.0 opened now fine unknown)
+    rw (breaks.2, breaks.3, told) (breaks_before start draft old.left new.left row breaks.0 old.taken here fine unknown, counted)
 
 -- one row more is read
 pub read_one : (start draft after : Draft) (all left rest : List (List (List ℕ))) (row : List (List ℕ)) → IsReadTo start all draft left → left ≡ row ∷ rest
-    → fault_behind draft row ≡ None → after ≡ with_row draft row → (after.last ≡ Stream → first_unknown after ≡ None) → IsReadTo start all after rest
+    → fault_behind draft row ≡ None → after ≡ with_row draft row → (is_stream_kind after.last ≡ true → first_unknown after ≡ None) → IsReadTo start all after rest
 read_one start draft after all left rest row read next fine told at =
     let now : IsReadTo start all draft (row ∷ rest) = rw (← next) read in
     let known : first_unknown (with_row draft row) ≡ None = known_after draft row read.known (rw told at at) in
@@ -300,22 +311,22 @@ pub still_way : (draft after : Draft) (row : List (List ℕ)) → IsUnderWay dra
 still_way draft after row way fine told = rw told (still_under_way draft row way fine)
 
 -- a row keeps the heading
-heading_kept : (draft : Draft) (kind : RowKind) (row : List (List ℕ)) → (told_with kind draft row).heading ≡ draft.heading
-heading_kept draft Report row = refl
+heading_kept : (draft : Draft) (kind : OutputKind) (row : List (List ℕ)) → (told_with kind draft row).heading ≡ draft.heading
 heading_kept draft Node row = refl
 heading_kept draft Stream row = refl
+heading_kept draft StreamBefore row = refl
 heading_kept draft Solved row = refl
 heading_kept draft Global row = refl
 heading_kept draft Nodal row = refl
 heading_kept draft Measure row = refl
-heading_kept draft End row = refl
+heading_kept draft kind row = refl
 
 pub same_heading : (draft after : Draft) (row : List (List ℕ)) (heading : Heading) → draft.heading ≡ heading → after ≡ with_row draft row → after.heading ≡ heading
-same_heading draft after row heading same told = ap (λ (d : Draft). d.heading) told ∙ by (kind_of row) ∙ same
+same_heading draft after row heading same told = ap (λ (d : Draft). d.heading) told ∙ by (kind_among (kinds_next draft) row) ∙ same
   where
-    by : (kind : Option RowKind) → (told_if kind draft row).heading ≡ draft.heading
-    by None = refl
-    by (Some kind) = heading_kept draft kind row
+    by : (kind : Result OutputKind RowFault) → (told_if kind draft row).heading ≡ draft.heading
+    by (Err fault) = refl
+    by (Ok kind) = heading_kept draft kind row
 
 -- one row more that is passed over
 pub over_more : (all left rest : List (List (List ℕ))) (row : List (List ℕ)) → ((passed : List (List (List ℕ))) × (all ≡ passed ++ left) × ArePassedOver passed)
@@ -347,37 +358,41 @@ found_from all rest left row block skips read = record {
   whole = record { opens = read.0; sound = read.1.sound; known = read.1.known; ends = read.1.ends; value = read.1.value };
 }
 
-pub tells_from : (at taken : ℕ) (all rest : List (List (List ℕ))) (row : List (List ℕ)) (refused : ReadRefused) → Skips all rest (Some row) → taken + length rest ≡ at + length all
-    → BreaksFrom row rest taken refused → Tells at all refused
-tells_from at taken all rest row NoMemory skips counted breaks = tt
-tells_from at taken all rest row (At number fault) skips counted breaks =
-    let long = ap length skips.1 ∙ behind skips.0 rest row in
+pub tells_from : (old now new : RecordsLeft) (row : List (List ℕ)) (refused : ReadRefused) → Skips old.left now.left (Some row) → AreCounted old now
+    → BreaksFrom row now new refused → Tells old new refused
+tells_from old now new row NoMemory skips counted breaks = tt
+tells_from old now new row (At number fault) skips counted breaks =
+    let long = ap length skips.1 ∙ behind skips.0 now.left row in
     elim breaks [
       | inl opening ↦
-          inl (record {
-            passed = skips.0;
-            first = row;
-            rest = rest;
-            split = skips.1;
-            skipped = skips.2;
-            other = skips.3;
-            cause = opening.0;
-            place = opening.1 ∙ omega (arith, long, counted);
-          })
+          let same = opening.2 in (
+            inl (record {
+              passed = skips.0;
+              first = row;
+              split = skips.1 ∙ ap (λ (r : RecordsLeft). skips.0 ++ row ∷ r.left) (sym same);
+              skipped = skips.2;
+              other = skips.3;
+              cause = opening.0;
+              place = opening.1 ∙ omega (arith, long, counted);
+            }),
+            ap (λ (r : RecordsLeft). r.taken + length r.left) same ∙ counted,
+          )
       | inr within ↦
           let broken = within.1 in
-          let place = broken.place in
-          inr (record {
-            passed = skips.0;
-            first = row;
-            rows = broken.rows;
-            rest = broken.rest;
-            within = broken.within;
-            split = skips.1 ∙ ap (λ (more : List (List (List ℕ))). skips.0 ++ row ∷ more) broken.split;
-            skipped = skips.2;
-            opens = within.0;
-            sound = broken.sound;
-            cause = broken.cause;
-            place = omega (arith, long, counted, place);
-          })
+          let place = broken.place in (
+            inr (record {
+              passed = skips.0;
+              first = row;
+              rows = broken.rows;
+              rest = broken.rest;
+              within = broken.within;
+              split = skips.1 ∙ ap (λ (more : List (List (List ℕ))). skips.0 ++ row ∷ more) broken.split;
+              skipped = skips.2;
+              opens = within.0;
+              sound = broken.sound;
+              cause = broken.cause;
+              place = omega (arith, long, counted, place);
+            }),
+            within.2 ∙ counted,
+          )
     ]

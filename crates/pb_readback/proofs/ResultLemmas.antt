@@ -1,27 +1,28 @@
 -- Results that were looked up: a name that is none of the streams' has their number as its place.
-use Rattle.std.specs.Prelude.{◌≢◌, ◌==◌, not, map}
+use Rattle.std.specs.Prelude.{◌≢◌, ◌==◌, not, map, Result, Ok, Err}
 use Rattle.std.specs.List.{list_any, position, position_or_len}
-use Rattle.std.proofs.Common.{◌≡◌, ◌∙◌, ℕ, ◌≤◌, List, [], ◌∷◌, length, Bool, true, false, Option, Some, None, refl, sym, ap, arith, inl, inr}
+use Rattle.std.proofs.Common.{◌≡◌, ◌∙◌, ℕ, ◌≤◌, List, [], ◌∷◌, length, Bool, true, false, None, refl, sym, ap, arith, inl, inr}
 use Rattle.std.proofs.lemmas.Bool.{cases_Bool}
 use Rattle.std.proofs.lemmas.List.{length-map}
 use Rattle.pb_rows.specs.Name.{same_name}
 use Rattle.pb_graph.specs.declared.records.Member.{Member}
 use Rattle.pb_graph.specs.declared.records.Step.{Step}
 use Rattle.pb_graph.specs.declared.results.StreamResult.{StreamResult}
+use Rattle.pb_form.specs.declared.output.OutputKind.{OutputKind}
+use Rattle.pb_form.specs.declared.output.OutputKind.TheVariants.{Stream, StreamBefore, End}
+use Rattle.pb_blocks.specs.declared.fault.RowFault.{RowFault}
+use Rattle.pb_blocks.specs.declared.rows.Heading.{Heading}
+use Rattle.pb_blocks.specs.declared.rows.Shape.{Shape}
+use Rattle.pb_blocks.specs.declared.rows.Shape.TheVariants.{Cut, Cycle}
+use Rattle.pb_blocks.specs.declared.rows.StreamRow.{StreamRow}
+use Rattle.pb_blocks.specs.Kinds.{kind_among}
+use Rattle.pb_blocks.specs.Lists.{is_among, items, member_of, names_no_stream, part_name, place_of, step_of}
+use Rattle.pb_blocks.specs.Results.{has_unknown_part, result_of, witness_by}
+use Rattle.pb_blocks.proofs.NameLemmas.{any_place, none_place}
 use Rattle.pb_readback.specs.declared.draft.Draft.{Draft}
-use Rattle.pb_readback.specs.declared.draft.Heading.{Heading}
-use Rattle.pb_readback.specs.declared.draft.Shape.{Shape}
-use Rattle.pb_readback.specs.declared.draft.Shape.TheVariants.{Cut, Cycle}
-use Rattle.pb_readback.specs.declared.draft.StreamRow.{StreamRow}
-use Rattle.pb_readback.specs.declared.kind.RowKind.{RowKind}
-use Rattle.pb_readback.specs.declared.kind.RowKind.TheVariants.{Stream, End}
-use Rattle.pb_readback.specs.Blocks.{result_of, witness_by}
-use Rattle.pb_readback.specs.Drafts.{draft_of, told_if, with_row, with_rows}
-use Rattle.pb_readback.specs.Faults.{first_unknown, has_unknown_part}
-use Rattle.pb_readback.specs.Kinds.{kind_of}
-use Rattle.pb_readback.specs.Lists.{is_among, items, member_of, name_in, names_no_stream, place_of, step_of}
-use Rattle.pb_readback.specs.Reading.{IsReadTo, IsUnderWay, KeepsResults, has_stream, is_on_stream}
-use Rattle.pb_readback.proofs.NameLemmas.{any_place, none_place}
+use Rattle.pb_readback.specs.Drafts.{draft_of, kinds_next, told_if, with_row, with_rows}
+use Rattle.pb_readback.specs.Faults.{first_unknown}
+use Rattle.pb_readback.specs.Reading.{IsReadTo, IsUnderWay, KeepsResults, has_stream, is_on_stream, is_stream_kind}
 use Rattle.pb_readback.proofs.NextLemmas.{is_end, rows_complete}
 use Rattle.pb_readback.proofs.ReadingLemmas.{not_below}
 
@@ -64,9 +65,9 @@ first_of_made made test before xs same = rw (place_of_made made test before xs s
 
 unknown_in : (shape : Shape) (streams : List (List ℕ)) (row : StreamRow) → has_stream (length streams) (witness_by shape streams row) ≡ has_unknown_part streams row
 unknown_in Cut streams row =
-    any_of_made (member_of streams) (λ (m : Member). m.stream == length streams) (names_no_stream streams) (items row.parts) (λ part. unplaced streams (name_in part))
+    any_of_made (member_of streams) (λ (m : Member). m.stream == length streams) (names_no_stream streams) (items row.parts) (λ part. unplaced streams (part_name part))
 unknown_in Cycle streams row =
-    any_of_made (step_of streams) (λ (t : Step). t.stream == length streams) (names_no_stream streams) (items row.parts) (λ part. unplaced streams (name_in part))
+    any_of_made (step_of streams) (λ (t : Step). t.stream == length streams) (names_no_stream streams) (items row.parts) (λ part. unplaced streams (part_name part))
 
 -- the first unknown part is told by the results
 pub told_by_results : (draft : Draft) (results : List StreamResult) → length draft.streams ≡ draft.heading.streams → results ≡ map (result_of draft.streams) draft.rows
@@ -88,15 +89,16 @@ pub begins_kept : (heading : Heading) → KeepsResults (draft_of heading) []
 begins_kept heading = λ all. refl
 
 -- a row that isn't a stream's keeps them
-pub still_kept : (draft after : Draft) (row : List (List ℕ)) (results : List StreamResult) → KeepsResults draft results → after ≡ with_row draft row → after.last ≢ Stream
+pub still_kept : (draft after : Draft) (row : List (List ℕ)) (results : List StreamResult) → KeepsResults draft results → after ≡ with_row draft row → is_stream_kind after.last ≡ false
     → KeepsResults after results
 still_kept draft after row results kept told other =
-    rw told (by (kind_of row) (rw told at other))
+    rw told (by (kind_among (kinds_next draft) row) (rw told at other))
   where
-    by : (kind : Option RowKind) → (told_if kind draft row).last ≢ Stream → KeepsResults (told_if kind draft row) results
-    by None other = kept
-    by (Some Stream) other = absurd (other refl)
-    by (Some kind) other = kept
+    by : (kind : Result OutputKind RowFault) → is_stream_kind (told_if kind draft row).last ≡ false → KeepsResults (told_if kind draft row) results
+    by (Err fault) other = kept
+    by (Ok Stream) other = cc other
+    by (Ok StreamBefore) other = cc other
+    by (Ok kind) other = kept
 
 -- at the end of a block they are those of all its streams
 pub kept_whole : (heading : Heading) (draft : Draft) (all left : List (List (List ℕ))) (results : List StreamResult) → IsReadTo (draft_of heading) all draft left → IsUnderWay draft

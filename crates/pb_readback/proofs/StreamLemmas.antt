@@ -1,20 +1,19 @@
 -- A stream of a draft: its ends are two of the nodes.
-use Rattle.std.specs.Prelude.{◌≢◌, ◌||◌, not, IfSome}
+use Rattle.std.specs.Prelude.{◌≢◌, ◌||◌, not}
 use Rattle.std.specs.Cmp.Lexicographic.{bytes_decides}
 use Rattle.std.specs.List.{list_any}
-use Rattle.std.proofs.Common.{◌≡◌, ◌∙◌, ℕ, ◌<◌, List, [], ◌∷◌, ◌++◌, length, Bool, true, false, true≢false, Option, refl, sym, arith, inl, inr}
+use Rattle.std.proofs.Common.{◌≡◌, ◌∙◌, ℕ, ◌<◌, ◌≤◌, List, [], ◌∷◌, ◌++◌, length, Bool, true, false, true≢false, refl, sym, arith, inl, inr}
 use Rattle.std.proofs.lemmas.Bool.{cases_Bool, or_parts}
 use Rattle.pb_rows.specs.Name.{is_name, same_name}
-use Rattle.pb_graph.specs.declared.records.Meas.{Meas}
-use Rattle.pb_graph.specs.ProcessGraph.{IsMeasurement}
-use Rattle.pb_readback.specs.declared.draft.Draft.{Draft}
-use Rattle.pb_readback.specs.declared.kind.RowKind.TheVariants.{Stream}
-use Rattle.pb_readback.specs.Faults.{is_loop, is_unknown}
-use Rattle.pb_readback.specs.Kinds.{field}
-use Rattle.pb_readback.specs.Lists.{is_among, is_unknown_item, items, place_of}
-use Rattle.pb_readback.specs.Reading.{IsStreamOf, IsUnderWay}
+use Rattle.pb_graph.specs.ProcessGraph.{IsStream}
+use Rattle.pb_form.specs.declared.output.OutputKind.{OutputKind}
+use Rattle.pb_form.specs.Value.{Value}
+use Rattle.pb_blocks.specs.Beside.{leads_to_itself, has_unknown_node}
+use Rattle.pb_blocks.specs.Lists.{is_among, is_unknown_item, items, place_of}
+use Rattle.pb_blocks.specs.Texts.{from_field, side_field, to_field}
+use Rattle.pb_blocks.specs.Values.{said_arc}
+use Rattle.pb_blocks.proofs.NameLemmas.{all_more, any_place, differ_more}
 use Rattle.pb_readback.specs.WellFormed.{AreNames}
-use Rattle.pb_readback.proofs.NameLemmas.{all_more, any_place, differ_more}
 
 pub not_false : (b : Bool) → not b ≡ false → b ≡ true
 not_false true h = refl
@@ -51,27 +50,22 @@ names_more names name are form new = record {
 }
 
 -- the ends of a stream are nodes
-pub known_ends : (draft : Draft) (row : List (List ℕ)) → is_unknown Stream draft row ≡ false → (is_among draft.nodes (field row 2) ≡ true) × (is_among draft.nodes (field row 3) ≡ true)
-known_ends draft row known =
-    let parts = or_parts (not (is_among draft.nodes (field row 2)) || not (is_among draft.nodes (field row 3))) (list_any (is_unknown_item draft.nodes) (items (field row 13))) known in
-    let both = or_parts (not (is_among draft.nodes (field row 2))) (not (is_among draft.nodes (field row 3))) parts.0 in
-    (not_false (is_among draft.nodes (field row 2)) both.0, not_false (is_among draft.nodes (field row 3)) both.1)
+pub known_ends : (nodes : List (List ℕ)) (kind : OutputKind) (row : List (List ℕ)) → has_unknown_node nodes kind row ≡ false
+    → (is_among nodes (from_field row) ≡ true) × (is_among nodes (to_field row) ≡ true)
+known_ends nodes kind row known =
+    let parts = or_parts (not (is_among nodes (from_field row)) || not (is_among nodes (to_field row))) (list_any (is_unknown_item nodes) (items (side_field kind row))) known in
+    let both = or_parts (not (is_among nodes (from_field row))) (not (is_among nodes (to_field row))) parts.0 in
+    (not_false (is_among nodes (from_field row)) both.0, not_false (is_among nodes (to_field row)) both.1)
 
--- a stream between two nodes is one of the graph of a draft
-pub stream_of_draft : (draft : Draft) (row : List (List ℕ)) (from to : ℕ) (meas : Option Meas) → IsUnderWay draft → is_unknown Stream draft row ≡ false → is_loop Stream row ≡ false
-    → IfSome meas IsMeasurement → from ≡ place_of draft.nodes (field row 2) → to ≡ place_of draft.nodes (field row 3)
-    → IsStreamOf draft (record { from = from; to = to; meas = meas })
-stream_of_draft draft row from to meas way known apart limits is_from is_to =
-    let ends = known_ends draft row known in
-    let first = place_within draft.nodes (field row 2) ends.0 in
-    let second = place_within draft.nodes (field row 3) ends.1 in
-    let few = way.nodes in
-    let graph = way.graph in
+-- a stream between two of these nodes is one of a graph of them
+pub arc_joins : (nodes : List (List ℕ)) (kind : OutputKind) (row : List (List ℕ)) (values : List Value) (count : ℕ) → length nodes ≤ count → has_unknown_node nodes kind row ≡ false
+    → leads_to_itself row ≡ false → IsStream count (said_arc nodes row values)
+arc_joins nodes kind row values count few known apart =
+    let ends = known_ends nodes kind row known in
+    let first = place_within nodes (from_field row) ends.0 in
+    let second = place_within nodes (to_field row) ends.1 in
     record {
-      joins = record {
-        from = omega (arith, is_from, first, few, graph);
-        to = omega (arith, is_to, second, few, graph);
-        apart = λ same. places_apart draft.nodes (field row 2) (field row 3) ends.0 ends.1 apart (sym is_from ∙ same ∙ is_to);
-      };
-      limits = limits;
+      from = omega (arith, first, few);
+      to = omega (arith, second, few);
+      apart = places_apart nodes (from_field row) (to_field row) ends.0 ends.1 apart;
     }

@@ -11,17 +11,20 @@ use Rattle.pb_graph.specs.Prices.{most_price}
 use Rattle.pb_graph.specs.WellFormed.{IsPrice}
 use Rattle.pb_report.specs.Block.{node_row}
 use Rattle.pb_report.specs.Rows.{rows_with}
+use Rattle.pb_form.specs.OutputRows.{output_columns}
+use Rattle.pb_form.specs.Value.{Value, Name, Number, Word}
+use Rattle.pb_form.specs.declared.output.OutputKind.{OutputKind}
+use Rattle.pb_form.specs.declared.output.OutputKind.TheVariants.{Node}
+use Rattle.pb_blocks.specs.Lists.{is_among}
+use Rattle.pb_blocks.specs.Values.{said_price}
 use Rattle.pb_readback.specs.declared.draft.Draft.{Draft}
-use Rattle.pb_readback.specs.declared.kind.RowKind.{RowKind}
-use Rattle.pb_readback.specs.declared.kind.RowKind.TheVariants.{Node}
 use Rattle.pb_readback.specs.Drafts.{with_row, with_rows}
 use Rattle.pb_readback.specs.Faults.{fault_behind, first_unknown}
-use Rattle.pb_readback.specs.Lists.{is_among}
 use Rattle.pb_readback.specs.Next.{AreSound}
 use Rattle.pb_readback.specs.Written.{records_in}
-use Rattle.pb_readback.proofs.WrittenFieldLemmas.{AreNew, abs_between, good_number, value_back}
+use Rattle.pb_readback.proofs.WrittenFieldLemmas.{AreNew, abs_between, name_back, number_back}
 use Rattle.pb_readback.proofs.WrittenListLemmas.{AreNamed}
-use Rattle.pb_readback.proofs.WrittenRowLemmas.{node_sound}
+use Rattle.pb_readback.proofs.WrittenRowLemmas.{IsSoundRow, node_beside, row_back, row_leaves, row_sound, told_node, values_back}
 
 -- rows behind a draft have no fault, and leave this draft
 pub record Tells (draft : Draft) (rows : List (List (List ℕ))) (after : Draft) : Type 0 where
@@ -50,7 +53,7 @@ pub tells_to : (draft one other : Draft) (rows : List (List (List ℕ))) → one
 tells_to draft one other rows same tells = subst (λ (d : Draft). Tells draft rows d) same tells
 
 -- the kind of the last row behind rows of a kind
-abbrev pub last_of : {A : Type 0} → RowKind → RowKind → List A → RowKind
+abbrev pub last_of : {A : Type 0} → OutputKind → OutputKind → List A → OutputKind
 last_of kind last [] = last
 last_of kind last (x ∷ xs) = last_of kind kind xs
 
@@ -87,21 +90,25 @@ nodes_tell texts i draft (name ∷ names) [] long fine ranges room empty = absur
 nodes_tell texts i draft (name ∷ names) (price ∷ prices) long fine ranges room empty =
     let next : Draft = record draft { last = Node; nodes = draft.nodes ++ name ∷ []; prices = draft.prices ++ price ∷ [] } in
     let more : length (draft.nodes ++ name ∷ []) ≡ length draft.nodes + 1 = length-append draft.nodes (name ∷ []) in
-    let sound = node_sound draft name (whole_text price) (record {
-      place = lt-ltb (length draft.nodes) draft.heading.nodes (omega (arith, room));
-      form = fine.0;
-      good_price = good_number texts (neg_ℤ (pos most_price)) (pos most_price) price (abs_between most_price price ranges.0);
-      new = fine.1;
-      env = fine.2;
-    }) in
-    let leaves : with_row draft (codes "node" ∷ name ∷ whole_text price ∷ []) ≡ next =
-    ap (λ (value : ℤ). record draft { last = Node; nodes = draft.nodes ++ name ∷ []; prices = draft.prices ++ value ∷ [] }) (value_back texts price) in
+    let row = codes "node" ∷ name ∷ whole_text price ∷ [] in
+    let values : List Value = Word 0 ∷ Name name ∷ Number price ∷ [] in
+    let sound : IsSoundRow draft Node row values = record {
+      told = told_node draft row (lt-ltb (length draft.nodes) draft.heading.nodes (omega (arith, room))) refl;
+      read = row_back (output_columns Node) row values
+          (refl, (name_back (codes "name") name fine.0,
+          (number_back texts (codes "price") (neg_ℤ (pos most_price)) (pos most_price) price (abs_between most_price price ranges.0), tt)));
+      beside = node_beside draft name (whole_text price) (record { new = fine.1; env = fine.2 });
+    } in
+    let leaves : with_row draft row ≡ next =
+    row_leaves draft Node row values sound
+    ∙ ap (λ (said : List Value). record draft { last = Node; nodes = draft.nodes ++ name ∷ []; prices = draft.prices ++ said_price said ∷ [] })
+    (values_back Node row values sound.read) in
     let rest = nodes_tell texts (i + 1) next names prices (omega (arith, long)) fine.3 ranges.1 (omega (arith, more, room)) empty in
     let same : behind_nodes next names prices ≡ behind_nodes draft (name ∷ names) (price ∷ prices) =
     ap₂ (λ (ns : List (List ℕ)) (ps : List ℤ). record draft { last = last_of Node Node names; nodes = ns; prices = ps })
     (append_assoc draft.nodes (name ∷ []) names) (append_assoc draft.prices (price ∷ []) prices) in
-    tells_more draft next (codes "node" ∷ name ∷ whole_text price ∷ []) (records_in (rows_with (λ n name price. node_row name price) (i + 1) names prices))
-    (behind_nodes draft (name ∷ names) (price ∷ prices)) (unread draft empty) sound leaves
+    tells_more draft next row (records_in (rows_with (λ n name price. node_row name price) (i + 1) names prices))
+    (behind_nodes draft (name ∷ names) (price ∷ prices)) (unread draft empty) (row_sound draft Node row values sound) leaves
     (tells_to next (behind_nodes next names prices) (behind_nodes draft (name ∷ names) (price ∷ prices)) _ same rest)
 
 -- names that differ are those of nodes, where some stand before them

@@ -1,30 +1,27 @@
 -- What a single field reads as that was written: numbers, optional numbers and names.
-use Rattle.std.specs.Prelude.{◌==◌, ◌-◌, neg_ℤ, unsigned_abs, int_le, ◌≤ℤ◌, not, AllPairs, IfSome, is_some}
-use Rattle.std.specs.Option.{unwrap_or}
+use Rattle.std.specs.Prelude.{◌==◌, ◌-◌, neg_ℤ, unsigned_abs, int_le, ◌≤ℤ◌, not, AllPairs, IfSome, Ok, is_some}
 use Rattle.std.specs.Cmp.Lexicographic.{bytes_decides}
-use Rattle.std.proofs.Common.{◌≡◌, ◌∙◌, ℕ, ℤ, pos, suc, ◌+◌, ◌<◌, ◌≤◌, List, [], ◌∷◌, ◌++◌, length, get_or, Bool, true, false, Option, None, Some, refl, sym, ap, subst, arith, inl, inr, append_assoc, length-append}
+use Rattle.std.proofs.Common.{◌≡◌, ◌∙◌, ℕ, ℤ, pos, suc, ◌+◌, ◌<◌, ◌≤◌, List, [], ◌∷◌, ◌++◌, length, get_or, Bool, true, false, Option, None, Some, refl, sym, subst, arith, inl, inr, append_assoc, length-append}
 use Rattle.std.proofs.lemmas.Bool.{cases_Bool, ne_eqb}
 use Rattle.std.proofs.lemmas.Int.{ints}
 use Rattle.std.proofs.lemmas.List.{get_or_append_left}
 use Rattle.std.proofs.Math.Seq.{get_or-append_seam}
 use Rattle.std.proofs.lemmas.List.Folds.{list_any_at, list_any_none}
 use Rattle.std.proofs.lemmas.List.Sums.{position_or_len_is}
-use Rattle.pb_rows.specs.Name.{same_name}
+use Rattle.pb_rows.specs.Name.{is_name, same_name}
 use Rattle.pb_rows.specs.Number.{number, whole_text, within}
 use Rattle.pb_rows.specs.Texts.{HaveOneNumberText}
 use Rattle.pb_report.specs.Names.{name_at}
-use Rattle.pb_report.specs.Row.{optional}
-use Rattle.pb_readback.specs.Columns.{Number, Optional, is_bad_number}
-use Rattle.pb_readback.specs.Lists.{is_among, place_of}
-use Rattle.pb_readback.specs.Values.{natural_in, value_in}
+use Rattle.pb_report.specs.Row.{optional_number}
+use Rattle.pb_form.specs.Columns.{column, optional as optional_column}
+use Rattle.pb_form.specs.Field.{field_read}
+use Rattle.pb_form.specs.Holds.{Holds, Name as NameColumn, Number as NumberColumn}
+use Rattle.pb_form.specs.Texts.{value_text}
+use Rattle.pb_form.specs.Value.{Value, Missing, Name, Number}
+use Rattle.pb_form.specs.Values.{number_in}
+use Rattle.pb_blocks.specs.Lists.{is_among, place_of}
 
 -- ---- numbers
-
-pub value_back : HaveOneNumberText → (z : ℤ) → value_in (whole_text z) ≡ z
-value_back texts z = ap (λ (o : Option ℤ). unwrap_or o (pos 0)) (texts.read z)
-
-pub natural_back : HaveOneNumberText → (n : ℕ) → natural_in (whole_text (pos n)) ≡ n
-natural_back texts n = rw (value_back texts (pos n)) refl
 
 -- no byte
 abbrev pub is_empty : List ℕ → Bool
@@ -49,11 +46,11 @@ pub record IsBetween (lo hi z : ℤ) : Type 0 where
 le_true : (a b : ℤ) → a ≤ℤ b → int_le a b ≡ true
 le_true a b h = grind (arith, ints)
 
-within_back : (lo hi z : ℤ) → IsBetween lo hi z → within lo hi (Some z) ≡ Some z
+pub within_back : (lo hi z : ℤ) → IsBetween lo hi z → within lo hi (Some z) ≡ Some z
 within_back lo hi z h = rw (le_true lo z h.least, le_true z hi h.most) refl
 
-pub good_number : HaveOneNumberText → (lo hi z : ℤ) → IsBetween lo hi z → is_bad_number (Number lo hi) (whole_text z) ≡ false
-good_number texts lo hi z h = rw (texts.read z, within_back lo hi z h) refl
+pub number_back : HaveOneNumberText → (key : List ℕ) (lo hi z : ℤ) → IsBetween lo hi z → field_read (column key (NumberColumn lo hi)) (whole_text z) ≡ Ok (Number z)
+number_back texts key lo hi z h = rw (texts.read z, within_back lo hi z h) refl
 
 -- ---- optional numbers
 
@@ -62,23 +59,32 @@ abbrev pub optional_text : Option ℤ → List ℕ
 optional_text None = []
 optional_text (Some z) = whole_text z
 
-pub optional_value : (key : List ℕ) (o : Option ℤ) → (optional key o).value ≡ optional_text o
-optional_value key None = refl
-optional_value key (Some z) = refl
+pub optional_value : (takes : Holds) (o : Option ℤ) → value_text takes (optional_number o) ≡ optional_text o
+optional_value takes None = refl
+optional_value takes (Some z) = refl
 
-pub optional_back : HaveOneNumberText → (o : Option ℤ) → number (optional_text o) ≡ o
-optional_back texts None = refl
-optional_back texts (Some z) = texts.read z
+-- the value that it says
+abbrev pub optional_said : Option ℤ → Value
+optional_said None = Missing
+optional_said (Some z) = Number z
+
+pub said_back : (o : Option ℤ) → number_in (optional_said o) ≡ o
+said_back None = refl
+said_back (Some z) = refl
 
 pub optional_blank : HaveOneNumberText → (o : Option ℤ) → is_empty (optional_text o) ≡ not (is_some o)
 optional_blank texts None = refl
 optional_blank texts (Some z) = not_blank texts z
 
-pub good_optional : HaveOneNumberText → (lo hi : ℤ) (o : Option ℤ) → IfSome o (IsBetween lo hi) → is_bad_number (Optional lo hi) (optional_text o) ≡ false
-good_optional texts lo hi None h = refl
-good_optional texts lo hi (Some z) h = rw (texts.read z, within_back lo hi z h, not_blank texts z) refl
+pub optional_back : HaveOneNumberText → (key : List ℕ) (lo hi : ℤ) (o : Option ℤ) → IfSome o (IsBetween lo hi)
+    → field_read (optional_column key (NumberColumn lo hi)) (optional_text o) ≡ Ok (optional_said o)
+optional_back texts key lo hi None h = refl
+optional_back texts key lo hi (Some z) h = rw (not_blank texts z, texts.read z, within_back lo hi z h) refl
 
 -- ---- names
+
+pub name_back : (key text : List ℕ) → is_name text ≡ true → field_read (column key NameColumn) text ≡ Ok (Name text)
+name_back key text form = rw form refl
 
 pub same_self : (name : List ℕ) → same_name name name ≡ true
 same_self name = (bytes_decides name name).1 refl

@@ -1,88 +1,199 @@
--- When a row of each kind has no fault, column by column.
-use Rattle.std.specs.Prelude.{◌&&◌, not, ◌==◌, nat_lt, codes, bytes_eq, int_le, int_lt, is_none, ◌^◌}
+-- When a row of each kind has no fault, and what it says.
+use Rattle.std.specs.Prelude.{◌&&◌, not, ◌==◌, nat_le, codes, bytes_eq, int_le, int_lt, Result, Ok, Err, if◌then◌else◌}
 use Rattle.std.specs.List.{list_all, list_any}
-use Rattle.std.proofs.Common.{◌≡◌, ℕ, ℤ, pos, List, [], ◌∷◌, length, Bool, true, false, Option, Some, None, refl, arith}
+use Rattle.std.proofs.Common.{◌≡◌, ◌∙◌, ◌≤◌, ℕ, zero, suc, ◌-◌, ℤ, pos, List, [], ◌∷◌, length, drop, Bool, true, false, Option, Some, None, refl, ap, ap₂, arith}
+use Rattle.std.proofs.lemmas.Bool.{and_from, le-leb}
 use Rattle.std.proofs.lemmas.Int.{ints}
 use Rattle.pb_limits.specs.Limits.{most_nodes, most_streams}
-use Rattle.pb_rows.specs.Name.{is_name, same_name}
+use Rattle.pb_rows.specs.Name.{same_name}
+use Rattle.pb_form.specs.Columns.{Column}
+use Rattle.pb_form.specs.Field.{field_read}
+use Rattle.pb_form.specs.OutputRows.{output_schema}
+use Rattle.pb_form.specs.Reading.{before, fields_read, repeated, row_read}
+use Rattle.pb_form.specs.Value.{Value}
+use Rattle.pb_form.specs.declared.fault.FormFault.{FormFault}
+use Rattle.pb_form.specs.declared.fault.FormFault.TheVariants as fault
+use Rattle.pb_form.specs.declared.output.OutputKind.{OutputKind}
+use Rattle.pb_form.specs.declared.output.OutputKind.TheVariants.{Report, Node, Stream, StreamBefore, Solved, Global, Nodal, Measure, End}
+use Rattle.pb_blocks.specs.declared.fault.RowFault.{RowFault}
+use Rattle.pb_blocks.specs.declared.fault.RowFault.TheVariants.{Count}
+use Rattle.pb_blocks.specs.Beside.{are_miscounted, form_fault, heading_fault, is_half, opening_by, opening_fault}
+use Rattle.pb_blocks.specs.Codes.{lowest}
+use Rattle.pb_blocks.specs.Kinds.{is_row_of, kind_among}
+use Rattle.pb_blocks.specs.Lists.{is_among, is_part, is_side, is_unknown_item, items}
+use Rattle.pb_blocks.specs.Values.{number_at, values_in, values_or_none}
 use Rattle.pb_readback.specs.declared.draft.Draft.{Draft}
-use Rattle.pb_readback.specs.declared.draft.StreamForm.{StreamForm}
-use Rattle.pb_readback.specs.declared.draft.StreamForm.TheVariants.{WithLeast, WithoutLeast}
-use Rattle.pb_readback.specs.declared.kind.RowKind.{RowKind}
-use Rattle.pb_readback.specs.declared.kind.RowKind.TheVariants.{Solved, Global, Nodal, Measure, End}
-use Rattle.pb_readback.specs.Kinds.{may_come_after}
-use Rattle.pb_readback.specs.Columns.{Number, class_by, shape_by, state_by, verdict_by, is_bad_number, is_half, price_column, round_column, gap_column, sweeps_column, value_column, variance_column, flow_column, wide_column, wide_or_none_column, critical_column}
-use Rattle.pb_limits.specs.Limits.{most_freedom}
-use Rattle.pb_readback.specs.Forms.{form_of, form_wanted}
-use Rattle.pb_readback.specs.Faults.{fault_behind, opening_fault}
-use Rattle.pb_readback.specs.Lists.{is_among, is_part, is_side, is_unknown_item, items}
-use Rattle.pb_readback.specs.Values.{natural_in, value_in}
+use Rattle.pb_readback.specs.Drafts.{kinds_after, kinds_next, stream_kinds, told_if, told_with, with_row}
+use Rattle.pb_readback.specs.Faults.{fault_behind, fault_beside, fault_if}
+use Rattle.pb_readback.specs.Reading.{AwaitsNodes, AwaitsStreams, HasAll}
 use Rattle.pb_readback.proofs.WrittenFieldLemmas.{is_empty}
 
+-- ---- a row reads as its values
+
+-- each field reads by its column as its value
+abbrev pub EachReads : List Column → List (List ℕ) → List Value → Type 0
+EachReads [] [] [] = Unit {0}
+EachReads (column ∷ columns) (field ∷ fields) (value ∷ values) = (field_read column field ≡ Ok value) × EachReads columns fields values
+EachReads columns fields values = ⊥
+
+each_back : (columns : List Column) (fields : List (List ℕ)) (values : List Value) → EachReads columns fields values
+    → (fields_read columns fields ≡ Ok values) × (length fields ≡ length columns)
+each_back [] [] [] each = (refl, refl)
+each_back [] [] (value ∷ values) each = absurd each
+each_back [] (field ∷ fields) values each = absurd each
+each_back (column ∷ columns) [] values each = absurd each
+each_back (column ∷ columns) (field ∷ fields) [] each = absurd each
+each_back (column ∷ columns) (field ∷ fields) (value ∷ values) each =
+    let rest = each_back columns fields values each.1 in
+    (rw (each.0, rest.0) refl, ap suc rest.1)
+
+no_tail : (n : ℕ) → repeated [] [] n ≡ []
+no_tail zero = refl
+no_tail (suc n) = refl
+
+-- so the row does
+pub row_back : (columns : List Column) (fields : List (List ℕ)) (values : List Value) → EachReads columns fields values
+    → row_read (record { columns = columns; tail = [] }) fields ≡ Ok values
+row_back columns fields values each =
+    let back = each_back columns fields values each in
+    let long = back.1 in
+    let whole : nat_le (length columns) (length fields) ≡ true = le-leb (length columns) (length fields) (omega (arith, long)) in
+    let none : (length fields - length columns == 0) ≡ true = grind (arith, long) in
+    let rest : fields_read (repeated [] [] (length fields - length columns)) (drop (length columns) fields) ≡ Ok [] =
+    ap (λ (all : List Column). fields_read all (drop (length columns) fields)) (no_tail (length fields - length columns)) in
+    by (nat_le (length columns) (length fields) && (length fields - length columns == 0)) (and_from _ _ whole none)
+    (fields_read columns fields) back.0 (fields_read (repeated [] [] (length fields - length columns)) (drop (length columns) fields)) rest
+  where
+    by : (b : Bool) → b ≡ true → (front : Result (List Value) FormFault) → front ≡ Ok values → (rest : Result (List Value) FormFault) → rest ≡ Ok []
+        → (if b then before front rest else Err fault.Fields) ≡ Ok values
+    by b e front f rest g = rw (e, f, g) refl
+
+-- and its values are these
+pub values_back : (kind : OutputKind) (fields : List (List ℕ)) (values : List Value) → row_read (output_schema kind) fields ≡ Ok values → values_in kind fields ≡ values
+values_back kind fields values read = ap values_or_none read
+
+-- ---- a row without a fault
+
+-- a row of a kind that may come, which reads as values and has no fault beside its form
+pub record IsSoundRow (draft : Draft) (kind : OutputKind) (row : List (List ℕ)) (values : List Value) : Type 0 where
+  pub told : kind_among (kinds_next draft) row ≡ Ok kind
+  pub read : row_read (output_schema kind) row ≡ Ok values
+  pub beside : fault_beside kind draft row ≡ None
+
+pub row_sound : (draft : Draft) (kind : OutputKind) (row : List (List ℕ)) (values : List Value) → IsSoundRow draft kind row values → fault_behind draft row ≡ None
+row_sound draft kind row values sound =
+    ap (λ (k : Result OutputKind RowFault). fault_if k draft row) sound.told
+    ∙ ap₂ (λ (r : Result (List Value) FormFault) (b : Option RowFault). lowest (form_fault r) b) sound.read sound.beside
+
+pub row_leaves : (draft : Draft) (kind : OutputKind) (row : List (List ℕ)) (values : List Value) → IsSoundRow draft kind row values → with_row draft row ≡ told_with kind draft row
+row_leaves draft kind row values sound = ap (λ (k : Result OutputKind RowFault). told_if k draft row) sound.told
+
+-- ---- which kinds may come
+
+pub told_node : (draft : Draft) (row : List (List ℕ)) → AwaitsNodes draft → is_row_of row Node ≡ true → kind_among (kinds_next draft) row ≡ Ok Node
+told_node draft row may is = rw (may, is) refl
+
+-- rows of streams with least bounds may stand in a block behind a row of this kind
+abbrev pub takes_least : OutputKind → Bool
+takes_least StreamBefore = false
+takes_least kind = true
+
+least_told : (last : OutputKind) (row : List (List ℕ)) → takes_least last ≡ true → is_row_of row Stream ≡ true → kind_among (stream_kinds last) row ≡ Ok Stream
+least_told StreamBefore row takes is = cc takes
+least_told Stream row takes is = rw is refl
+least_told last row takes is = rw is refl
+
+pub told_stream : (draft : Draft) (row : List (List ℕ)) → AwaitsStreams draft → takes_least draft.last ≡ true → is_row_of row Stream ≡ true → kind_among (kinds_next draft) row ≡ Ok Stream
+told_stream draft row may takes is = rw (may.0, may.1) (least_told draft.last row takes is)
+
+-- a row of the second kind may follow one of the first behind the last stream
+abbrev pub may_follow : OutputKind → OutputKind → Bool
+may_follow Report Solved = true
+may_follow Node Solved = true
+may_follow Stream Solved = true
+may_follow StreamBefore Solved = true
+may_follow Solved Global = true
+may_follow Solved End = true
+may_follow Global Nodal = true
+may_follow Global Measure = true
+may_follow Global End = true
+may_follow Nodal Nodal = true
+may_follow Nodal Measure = true
+may_follow Nodal End = true
+may_follow Measure Measure = true
+may_follow Measure End = true
+may_follow last kind = false
+
+-- behind all nodes and streams
+pub told_behind : (draft : Draft) (kind : OutputKind) (row : List (List ℕ)) → HasAll draft → kind_among (kinds_after draft.last) row ≡ Ok kind → kind_among (kinds_next draft) row ≡ Ok kind
+told_behind draft kind row all told = rw (all.0, all.1) told
+
+pub solved_after : (last : OutputKind) (k state g h dof low high : List ℕ) → may_follow last Solved ≡ true
+    → kind_among (kinds_after last) (codes "solved" ∷ k ∷ state ∷ g ∷ h ∷ dof ∷ low ∷ high ∷ []) ≡ Ok Solved
+solved_after Report k state g h dof low high follows = refl
+solved_after Node k state g h dof low high follows = refl
+solved_after Stream k state g h dof low high follows = refl
+solved_after StreamBefore k state g h dof low high follows = refl
+solved_after last k state g h dof low high follows = cc follows
+
+pub global_after : (last : OutputKind) (critical verdict : List ℕ) → may_follow last Global ≡ true → kind_among (kinds_after last) (codes "global" ∷ critical ∷ verdict ∷ []) ≡ Ok Global
+global_after Solved critical verdict follows = refl
+global_after last critical verdict follows = cc follows
+
+pub nodal_after : (last : OutputKind) (node net variance critical verdict : List ℕ) → may_follow last Nodal ≡ true
+    → kind_among (kinds_after last) (codes "nodal" ∷ node ∷ net ∷ variance ∷ critical ∷ verdict ∷ []) ≡ Ok Nodal
+nodal_after Global node net variance critical verdict follows = refl
+nodal_after Nodal node net variance critical verdict follows = refl
+nodal_after last node net variance critical verdict follows = cc follows
+
+pub measure_after : (last : OutputKind) (stream low high critical verdict : List ℕ) → may_follow last Measure ≡ true
+    → kind_among (kinds_after last) (codes "measure" ∷ stream ∷ low ∷ high ∷ critical ∷ verdict ∷ []) ≡ Ok Measure
+measure_after Global stream low high critical verdict follows = refl
+measure_after Nodal stream low high critical verdict follows = refl
+measure_after Measure stream low high critical verdict follows = refl
+measure_after last stream low high critical verdict follows = cc follows
+
+pub end_after : (last : OutputKind) (period round : List ℕ) → may_follow last End ≡ true → kind_among (kinds_after last) (codes "end" ∷ period ∷ round ∷ []) ≡ Ok End
+end_after Solved period round follows = refl
+end_after Global period round follows = refl
+end_after Nodal period round follows = refl
+end_after Measure period round follows = refl
+end_after last period round follows = cc follows
+
+-- ---- the faults beside the form
+
 -- the row that opens a block
-pub record IsHeadingRow (period round nodes streams gap sweeps : List ℕ) : Type 0 where
-  pub name : is_name period ≡ true
-  pub good_round : is_bad_number round_column round ≡ false
-  pub good_nodes : is_bad_number wide_column nodes ≡ false
-  pub good_streams : is_bad_number wide_column streams ≡ false
-  pub good_gap : is_bad_number gap_column gap ≡ false
-  pub good_sweeps : is_bad_number sweeps_column sweeps ≡ false
-  pub some_node : int_le (pos 1) (value_in nodes) ≡ true
-  pub most_node : int_le (value_in nodes) (pos most_nodes) ≡ true
-  pub some_stream : int_le (pos 0) (value_in streams) ≡ true
-  pub most_stream : int_le (value_in streams) (pos most_streams) ≡ true
+pub record IsHeadingRow (row : List (List ℕ)) (values : List Value) : Type 0 where
+  pub told : kind_among (Report ∷ []) row ≡ Ok Report
+  pub read : row_read (output_schema Report) row ≡ Ok values
+  pub some_node : int_le (pos 1) (number_at values 3) ≡ true
+  pub most_node : int_le (number_at values 3) (pos most_nodes) ≡ true
+  pub some_stream : int_le (pos 0) (number_at values 4) ≡ true
+  pub most_stream : int_le (number_at values 4) (pos most_streams) ≡ true
 
 not_less : (x z : ℤ) → int_le x z ≡ true → int_lt z x ≡ false
 not_less x z at_least = grind (arith, ints, at_least)
 
-pub heading_opens : (period round nodes streams gap sweeps : List ℕ) → IsHeadingRow period round nodes streams gap sweeps
-    → opening_fault (codes "report" ∷ period ∷ round ∷ nodes ∷ streams ∷ gap ∷ sweeps ∷ []) ≡ None
-heading_opens period round nodes streams gap sweeps h =
-    let a = not_less (pos 1) (value_in nodes) h.some_node in
-    let b = not_less (value_in nodes) (pos most_nodes) h.most_node in
-    let c = not_less (pos 0) (value_in streams) h.some_stream in
-    let d = not_less (value_in streams) (pos most_streams) h.most_stream in
-    rw (h.name, h.good_round, h.good_nodes, h.good_streams, h.good_gap, h.good_sweeps, a, b, c, d) refl
+pub heading_opens : (row : List (List ℕ)) (values : List Value) → IsHeadingRow row values → opening_fault row ≡ None
+heading_opens row values h =
+    ap (λ (kind : Result OutputKind RowFault). opening_by kind row) h.told ∙ ap heading_fault h.read ∙ counted (number_at values 3) (number_at values 4)
+    (not_less (pos 1) (number_at values 3) h.some_node) (not_less (number_at values 3) (pos most_nodes) h.most_node)
+    (not_less (pos 0) (number_at values 4) h.some_stream) (not_less (number_at values 4) (pos most_streams) h.most_stream)
+  where
+    counted : (nodes streams : ℤ) → int_lt nodes (pos 1) ≡ false → int_lt (pos most_nodes) nodes ≡ false → int_lt streams (pos 0) ≡ false → int_lt (pos most_streams) streams ≡ false
+        → (if are_miscounted nodes streams then (let o : Option RowFault = Some Count in o) else None) ≡ None
+    counted nodes streams a b c d = rw (a, b, c, d) refl
 
 -- the row of a node
-pub record IsNodeRow (draft : Draft) (name price : List ℕ) : Type 0 where
-  pub place : nat_lt (length draft.nodes) draft.heading.nodes ≡ true
-  pub form : is_name name ≡ true
-  pub good_price : is_bad_number price_column price ≡ false
+pub record IsNodeFine (draft : Draft) (name : List ℕ) : Type 0 where
   pub new : is_among draft.nodes name ≡ false
   pub env : ((length draft.nodes == 0) && not (bytes_eq name (codes "env"))) ≡ false
 
-pub node_sound : (draft : Draft) (name price : List ℕ) → IsNodeRow draft name price → fault_behind draft (codes "node" ∷ name ∷ price ∷ []) ≡ None
-node_sound draft name price h = rw (h.place, h.form, h.good_price, h.new, h.env) refl
-
--- rows of streams with least bounds may stand in a block whose first stream has this form, if it has a stream
-abbrev pub takes_least : Option StreamForm → Bool
-takes_least None = true
-takes_least (Some WithLeast) = true
-takes_least (Some WithoutLeast) = false
-
-least_wanted : (form : Option StreamForm) (row : List (List ℕ)) → takes_least form ≡ true → form_of row ≡ WithLeast → form_wanted form row ≡ WithLeast
-least_wanted None row takes own = own
-least_wanted (Some WithLeast) row takes own = refl
-least_wanted (Some WithoutLeast) row takes own = cc takes
+pub node_beside : (draft : Draft) (name price : List ℕ) → IsNodeFine draft name → fault_beside Node draft (codes "node" ∷ name ∷ price ∷ []) ≡ None
+node_beside draft name price h = rw (h.new, h.env) refl
 
 -- the row of a stream
-pub record IsStreamRow (draft : Draft) (name from to value variance class flow lo hi least_lo least_hi shape side parts : List ℕ) : Type 0 where
-  pub nodes : nat_lt (length draft.nodes) draft.heading.nodes ≡ false
-  pub place : nat_lt (length draft.streams) draft.heading.streams ≡ true
-  pub with_least : takes_least draft.form ≡ true
-  pub form : is_name name ≡ true
-  pub form_from : is_name from ≡ true
-  pub form_to : is_name to ≡ true
-  pub good_value : is_bad_number value_column value ≡ false
-  pub good_variance : is_bad_number variance_column variance ≡ false
-  pub good_class : is_none (class_by class) ≡ false
-  pub good_flow : is_bad_number flow_column flow ≡ false
-  pub good_lo : is_bad_number wide_or_none_column lo ≡ false
-  pub good_hi : is_bad_number wide_or_none_column hi ≡ false
-  pub good_least_lo : is_bad_number wide_or_none_column least_lo ≡ false
-  pub good_least_hi : is_bad_number wide_or_none_column least_hi ≡ false
-  pub good_shape : is_none (shape_by shape) ≡ false
+pub record IsStreamFine (draft : Draft) (name from to value variance lo hi least_lo least_hi shape side parts : List ℕ) : Type 0 where
   pub whole_meas : is_half value variance ≡ false
   pub whole_bounds : is_half lo hi ≡ false
   pub whole_least : is_half least_lo least_hi ≡ false
@@ -95,26 +206,11 @@ pub record IsStreamRow (draft : Draft) (name from to value variance class flow l
   pub good_parts : list_all is_part (items parts) ≡ true
   pub apart : same_name from to ≡ false
 
-pub stream_sound : (draft : Draft) (name from to value variance class flow lo hi least_lo least_hi shape side parts : List ℕ)
-    → IsStreamRow draft name from to value variance class flow lo hi least_lo least_hi shape side parts
-    → fault_behind draft (codes "stream" ∷ name ∷ from ∷ to ∷ value ∷ variance ∷ class ∷ flow ∷ lo ∷ hi ∷ least_lo ∷ least_hi ∷ shape ∷ side ∷ parts ∷ []) ≡ None
-stream_sound draft name from to value variance class flow lo hi least_lo least_hi shape side parts h =
-    let row = codes "stream" ∷ name ∷ from ∷ to ∷ value ∷ variance ∷ class ∷ flow ∷ lo ∷ hi ∷ least_lo ∷ least_hi ∷ shape ∷ side ∷ parts ∷ [] in
-    let wanted : form_wanted draft.form row ≡ WithLeast = least_wanted draft.form row h.with_least refl in
+pub stream_beside : (draft : Draft) (name from to value variance class flow lo hi least_lo least_hi shape side parts : List ℕ)
+    → IsStreamFine draft name from to value variance lo hi least_lo least_hi shape side parts
+    → fault_beside Stream draft (codes "stream" ∷ name ∷ from ∷ to ∷ value ∷ variance ∷ class ∷ flow ∷ lo ∷ hi ∷ least_lo ∷ least_hi ∷ shape ∷ side ∷ parts ∷ []) ≡ None
+stream_beside draft name from to value variance class flow lo hi least_lo least_hi shape side parts h =
     rw (
-      h.nodes,
-      h.place,
-      wanted,
-      h.form,
-      h.form_from,
-      h.form_to,
-      h.good_value,
-      h.good_variance,
-      h.good_flow,
-      h.good_lo,
-      h.good_hi,
-      h.good_least_lo,
-      h.good_least_hi,
       h.whole_meas,
       h.whole_bounds,
       h.whole_least,
@@ -122,75 +218,8 @@ stream_sound draft name from to value variance class flow lo hi least_lo least_h
       h.known_to,
       h.known_side,
       h.new,
-      h.good_class,
-      h.good_shape,
       h.good_side,
       h.no_side,
       h.good_parts,
       h.apart,
     ) refl
-
--- a row of this kind may stand behind the streams
-pub record IsBehindStreams (draft : Draft) (kind : RowKind) : Type 0 where
-  pub nodes : nat_lt (length draft.nodes) draft.heading.nodes ≡ false
-  pub streams : nat_lt (length draft.streams) draft.heading.streams ≡ false
-  pub order : may_come_after draft.last kind ≡ true
-
--- the row that says how the stage was solved
-pub record IsSolvedRow (k state g h dof low high : List ℕ) : Type 0 where
-  pub good_k : is_bad_number sweeps_column k ≡ false
-  pub good_state : is_none (state_by state) ≡ false
-  pub good_g : is_bad_number (Number (pos 0) (pos (2 ^ 63))) g ≡ false
-  pub good_h : is_bad_number (Number (pos 0) (pos 32)) h ≡ false
-  pub good_dof : is_bad_number (Number (pos 0) (pos most_freedom)) dof ≡ false
-  pub good_low : is_bad_number wide_column low ≡ false
-  pub good_high : is_bad_number wide_or_none_column high ≡ false
-
-pub solved_sound : (draft : Draft) (k state g h dof low high : List ℕ) → IsBehindStreams draft Solved → IsSolvedRow k state g h dof low high
-    → fault_behind draft (codes "solved" ∷ k ∷ state ∷ g ∷ h ∷ dof ∷ low ∷ high ∷ []) ≡ None
-solved_sound draft k state g h dof low high b r =
-    rw (b.nodes, b.streams, b.order, r.good_k, r.good_state, r.good_g, r.good_h, r.good_dof, r.good_low, r.good_high) refl
-
--- the row of the global test
-pub global_sound : (draft : Draft) (critical verdict : List ℕ) → IsBehindStreams draft Global → is_bad_number critical_column critical ≡ false
-    → is_none (verdict_by verdict) ≡ false → fault_behind draft (codes "global" ∷ critical ∷ verdict ∷ []) ≡ None
-global_sound draft critical verdict b good_critical good_verdict = rw (b.nodes, b.streams, b.order, good_critical, good_verdict) refl
-
--- the row of the test of a balance
-pub record IsNodalRow (draft : Draft) (node net variance critical verdict : List ℕ) : Type 0 where
-  pub form : is_name node ≡ true
-  pub good_net : is_bad_number wide_column net ≡ false
-  pub good_variance : is_bad_number wide_column variance ≡ false
-  pub good_critical : is_bad_number critical_column critical ≡ false
-  pub known : is_among draft.nodes node ≡ true
-  pub good_verdict : is_none (verdict_by verdict) ≡ false
-
-pub nodal_sound : (draft : Draft) (node net variance critical verdict : List ℕ) → IsBehindStreams draft Nodal → IsNodalRow draft node net variance critical verdict
-    → fault_behind draft (codes "nodal" ∷ node ∷ net ∷ variance ∷ critical ∷ verdict ∷ []) ≡ None
-nodal_sound draft node net variance critical verdict b r =
-    rw (b.nodes, b.streams, b.order, r.form, r.good_net, r.good_variance, r.good_critical, r.known, r.good_verdict) refl
-
--- the row of the test of a measurement
-pub record IsMeasureRow (draft : Draft) (stream low high critical verdict : List ℕ) : Type 0 where
-  pub form : is_name stream ≡ true
-  pub good_low : is_bad_number wide_column low ≡ false
-  pub good_high : is_bad_number wide_or_none_column high ≡ false
-  pub good_critical : is_bad_number critical_column critical ≡ false
-  pub known : is_among draft.streams stream ≡ true
-  pub good_verdict : is_none (verdict_by verdict) ≡ false
-
-pub measure_sound : (draft : Draft) (stream low high critical verdict : List ℕ) → IsBehindStreams draft Measure → IsMeasureRow draft stream low high critical verdict
-    → fault_behind draft (codes "measure" ∷ stream ∷ low ∷ high ∷ critical ∷ verdict ∷ []) ≡ None
-measure_sound draft stream low high critical verdict b r =
-    rw (b.nodes, b.streams, b.order, r.form, r.good_low, r.good_high, r.good_critical, r.known, r.good_verdict) refl
-
--- the row that ends a block
-pub record IsEndRow (draft : Draft) (period round : List ℕ) : Type 0 where
-  pub form : is_name period ≡ true
-  pub good_round : is_bad_number round_column round ≡ false
-  pub same_period : same_name period draft.heading.period ≡ true
-  pub same_round : (natural_in round == draft.heading.round) ≡ true
-
-pub end_sound : (draft : Draft) (period round : List ℕ) → IsBehindStreams draft End → IsEndRow draft period round
-    → fault_behind draft (codes "end" ∷ period ∷ round ∷ []) ≡ None
-end_sound draft period round b r = rw (b.nodes, b.streams, b.order, r.form, r.good_round, r.same_period, r.same_round) refl

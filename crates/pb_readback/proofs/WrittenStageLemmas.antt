@@ -1,7 +1,7 @@
 -- The rows of streams, one after the other, and what follows them: how the stage was solved, its tests and the end.
 use Rattle.std.specs.Prelude.{◌==◌, nat_lt, map}
 use Rattle.std.specs.List.{AllByRecursion}
-use Rattle.std.proofs.Common.{◌≡◌, ◌∙◌, ℕ, ◌+◌, ◌<◌, ◌≤◌, List, [], ◌∷◌, ◌++◌, length, true, false, Option, Some, None, refl, sym, ap, ap₂, subst, arith, append_assoc, length-append}
+use Rattle.std.proofs.Common.{◌≡◌, ◌∙◌, ℕ, ◌+◌, ◌<◌, ◌≤◌, List, [], ◌∷◌, ◌++◌, length, true, false, None, refl, sym, ap, ap₂, subst, arith, append_assoc, length-append}
 use Rattle.std.proofs.lemmas.Bool.{ne_eqb, lt-ltb}
 use Rattle.std.proofs.lemmas.List.{append-nil}
 use Rattle.std.proofs.Math.Seq.{get_or-append_seam}
@@ -14,32 +14,25 @@ use Rattle.pb_graph.specs.WellFormed.{IsResultWithin}
 use Rattle.pb_report.specs.Block.{result_row}
 use Rattle.pb_report.specs.Names.{name_at}
 use Rattle.pb_report.specs.Rows.{rows_with}
+use Rattle.pb_form.specs.Value.{Value}
+use Rattle.pb_form.specs.declared.output.OutputKind.TheVariants.{Stream as StreamKind}
+use Rattle.pb_blocks.specs.declared.rows.StreamRow.{StreamRow}
+use Rattle.pb_blocks.specs.Lists.{is_among}
+use Rattle.pb_blocks.specs.Values.{said_arc, said_stream}
 use Rattle.pb_readback.specs.declared.draft.Draft.{Draft}
-use Rattle.pb_readback.specs.declared.draft.StreamForm.{StreamForm}
-use Rattle.pb_readback.specs.declared.draft.StreamForm.TheVariants.{WithLeast}
-use Rattle.pb_readback.specs.declared.draft.StreamRow.{StreamRow}
-use Rattle.pb_readback.specs.declared.kind.RowKind.TheVariants.{Stream as StreamKind}
 use Rattle.pb_readback.specs.Drafts.{with_row}
 use Rattle.pb_readback.specs.Faults.{first_unknown}
-use Rattle.pb_readback.specs.Lists.{is_among}
-use Rattle.pb_readback.specs.Values.{stream_in, stream_row_in}
 use Rattle.pb_readback.specs.Written.{records_in}
 use Rattle.pb_readback.proofs.WrittenFieldLemmas.{AreNew}
-use Rattle.pb_readback.proofs.WrittenRowLemmas.{takes_least}
-use Rattle.pb_readback.proofs.WrittenStreamLemmas.{AreKnownNames, fields_are, result_told, stream_back, stream_fields, stream_fine, told_of}
+use Rattle.pb_readback.proofs.WrittenRowLemmas.{row_leaves, row_sound, takes_least, values_back}
+use Rattle.pb_readback.proofs.WrittenStreamLemmas.{AreKnownNames, fields_are, result_told, stream_back, stream_fields, stream_fine, stream_values, told_of}
 use Rattle.pb_readback.proofs.WrittenBlockLemmas.{Tells, last_of, tells_more, tells_none, tells_to}
-
--- the form of a block's streams behind rows of them with least bounds
-abbrev pub form_behind : {A : Type 0} → Option StreamForm → List A → Option StreamForm
-form_behind form [] = form
-form_behind form (x ∷ xs) = form_behind (Some WithLeast) xs
 
 -- the draft behind the rows of streams
 abbrev pub behind_streams : Names → Draft → List (List ℕ) → List Stream → List StreamResult → Draft
 behind_streams names draft rest streams results =
     record draft {
       last = last_of StreamKind draft.last streams;
-      form = form_behind draft.form streams;
       streams = draft.streams ++ rest;
       graph = record draft.graph { streams = draft.graph.streams ++ streams };
       rows = draft.rows ++ map (told_of names) results;
@@ -52,7 +45,7 @@ pub record IsAmidStreams (names : Names) (draft : Draft) (rest : List (List ℕ)
   pub split : names.streams ≡ draft.streams ++ rest
   pub room : length draft.streams + length rest ≤ draft.heading.streams
   pub new : AreNew draft.streams rest
-  pub with_least : takes_least draft.form ≡ true
+  pub with_least : takes_least draft.last ≡ true
 
 -- not all streams are read
 unfinished : (draft : Draft) → length draft.streams < draft.heading.streams → first_unknown draft ≡ None
@@ -81,28 +74,33 @@ streams_tell texts names graph known draft (name ∷ rest) (stream ∷ streams) 
     let below : i < draft.heading.streams = omega (arith, at.room) in
     let row = stream_fields names i stream result in
     let fields = fields_are names i stream result in
+    let values = stream_values names i stream result in
     let fine = stream_fine texts draft names graph i stream result known joins.0 limits.0 within.0 (omega (arith, whole)) (record {
-      all_nodes = at.all_nodes;
-      place = lt-ltb i draft.heading.streams below;
+      awaits = (at.all_nodes, lt-ltb i draft.heading.streams below);
       nodes = at.nodes;
       new = subst (λ (n : List ℕ). is_among draft.streams n ≡ false) (sym here) at.new.0;
       with_least = at.with_least;
     }) in
     let next : Draft = record draft {
       last = StreamKind;
-      form = Some WithLeast;
       streams = draft.streams ++ name ∷ [];
       graph = record draft.graph { streams = draft.graph.streams ++ stream ∷ [] };
       rows = draft.rows ++ told_of names result ∷ [];
     } in
-    let told : stream_row_in draft.nodes row ≡ told_of names result =
-    ap (λ (nodes : List (List ℕ)). stream_row_in nodes row) at.nodes ∙ result_told texts names graph i stream result known within.0 in
-    let read : stream_in draft.nodes row ≡ stream =
-    ap (λ (nodes : List (List ℕ)). stream_in nodes row) at.nodes ∙ stream_back texts names graph i stream result known joins.0 in
-    let leaves : with_row draft row ≡ next =
-    ap₂ (λ (n : List ℕ) (p : Stream × StreamRow). record draft {
+    let told : said_stream draft.nodes StreamKind row values ≡ told_of names result =
+    ap (λ (nodes : List (List ℕ)). said_stream nodes StreamKind row values) at.nodes ∙ result_told names graph i stream result known within.0 in
+    let read : said_arc draft.nodes row values ≡ stream =
+    ap (λ (nodes : List (List ℕ)). said_arc nodes row values) at.nodes ∙ stream_back names graph i stream result known joins.0 in
+    let with = λ (said : List Value). record draft {
       last = StreamKind;
-      form = Some WithLeast;
+      streams = draft.streams ++ name_at names.streams i ∷ [];
+      graph = record draft.graph { streams = draft.graph.streams ++ said_arc draft.nodes row said ∷ [] };
+      rows = draft.rows ++ said_stream draft.nodes StreamKind row said ∷ [];
+    } in
+    let leaves : with_row draft row ≡ next =
+    row_leaves draft StreamKind row values fine ∙ ap with (values_back StreamKind row values fine.read)
+    ∙ ap₂ (λ (n : List ℕ) (p : Stream × StreamRow). record draft {
+      last = StreamKind;
       streams = draft.streams ++ n ∷ [];
       graph = record draft.graph { streams = draft.graph.streams ++ p.0 ∷ [] };
       rows = draft.rows ++ p.1 ∷ [];
@@ -117,12 +115,12 @@ streams_tell texts names graph known draft (name ∷ rest) (stream ∷ streams) 
     } in
     let behind = streams_tell texts names graph known next rest streams results (omega (arith, few)) (omega (arith, many)) joins.1 limits.1 within.1 after in
     let same : behind_streams names next rest streams results ≡ behind_streams names draft (name ∷ rest) (stream ∷ streams) (result ∷ results) =
-    ap₂ (λ (ns : List (List ℕ)) (p : List Stream × List StreamRow). record draft { last = last_of StreamKind StreamKind streams; form = form_behind (Some WithLeast) streams; streams = ns; graph = record draft.graph { streams = p.0 }; rows = p.1 })
+    ap₂ (λ (ns : List (List ℕ)) (p : List Stream × List StreamRow). record draft { last = last_of StreamKind StreamKind streams; streams = ns; graph = record draft.graph { streams = p.0 }; rows = p.1 })
     (append_assoc draft.streams (name ∷ []) rest)
     (ap₂ (λ (ss : List Stream) (rs : List StreamRow). (ss, rs)) (append_assoc draft.graph.streams (stream ∷ []) streams)
     (append_assoc draft.rows (told_of names result ∷ []) (map (told_of names) results))) in
     let all_rows = records_in (rows_with (result_row names) (i + 1) streams results) in
     let counted = subst (λ (n : ℕ). Tells next (records_in (rows_with (result_row names) n streams results)) (behind_streams names next rest streams results)) more behind in
     subst (λ (first : List (List ℕ)). Tells draft (first ∷ all_rows) (behind_streams names draft (name ∷ rest) (stream ∷ streams) (result ∷ results))) (sym fields)
-    (tells_more draft next row all_rows (behind_streams names draft (name ∷ rest) (stream ∷ streams) (result ∷ results)) (unfinished draft below) fine leaves
+    (tells_more draft next row all_rows (behind_streams names draft (name ∷ rest) (stream ∷ streams) (result ∷ results)) (unfinished draft below) (row_sound draft StreamKind row values fine) leaves
     (tells_to next (behind_streams names next rest streams results) (behind_streams names draft (name ∷ rest) (stream ∷ streams) (result ∷ results)) all_rows same counted))

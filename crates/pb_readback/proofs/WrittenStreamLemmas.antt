@@ -1,5 +1,5 @@
 -- The row of a stream: what it reads as.
-use Rattle.std.specs.Prelude.{◌&&◌, not, ◌-◌, ◌^◌, neg_ℤ, nat_lt, codes, bytes_eq, is_none, IfSome, option_map}
+use Rattle.std.specs.Prelude.{◌&&◌, not, ◌-◌, ◌^◌, neg_ℤ, codes, bytes_eq, IfSome, Ok, option_map}
 use Rattle.std.specs.List.{list_all, list_any}
 use Rattle.std.specs.Option.{option_and}
 use Rattle.std.proofs.Common.{◌≡◌, ◌∙◌, ℕ, ℤ, pos, ◌<◌, List, [], ◌∷◌, length, Bool, true, false, Option, None, Some, refl, sym, ap, ap₂, subst, arith, inl, inr}
@@ -23,50 +23,70 @@ use Rattle.pb_graph.specs.declared.results.StreamResult.{StreamResult}
 use Rattle.pb_graph.specs.ProcessGraph.{ProcessGraph, IsMeasurement, IsStream, IsWithinLimits}
 use Rattle.pb_graph.specs.WellFormed.{AreBoundsWithin, IsResultWithin, IsWitnessWithin}
 use Rattle.pb_report.specs.Block.{result_row, written_least}
-use Rattle.pb_report.specs.Certificate.{class_word, parts_text, shape_word, side_text}
+use Rattle.pb_report.specs.Certificate.{parts_text, side_text}
 use Rattle.pb_report.specs.Names.{name_at}
-use Rattle.pb_report.specs.Row.{values_of}
+use Rattle.pb_report.specs.Row.{fields_of}
+use Rattle.pb_form.specs.Columns.{column}
+use Rattle.pb_form.specs.Field.{field_read}
+use Rattle.pb_form.specs.Holds.{Word as WordColumn}
+use Rattle.pb_form.specs.OutputRows.{output_columns, output_schema, value_range, variance_range, wide_range}
+use Rattle.pb_form.specs.Reading.{row_read}
+use Rattle.pb_form.specs.Value.{Value, Items, Name, Number, Word}
+use Rattle.pb_form.specs.Words.{class_words, shape_words}
+use Rattle.pb_form.specs.Writing.{word_at}
+use Rattle.pb_choices.specs.Places.{class_place, shape_place, witness_shape}
+use Rattle.pb_form.specs.declared.output.OutputKind.TheVariants.{Stream as StreamKind}
+use Rattle.pb_blocks.specs.declared.rows.Shape.{Shape}
+use Rattle.pb_blocks.specs.declared.rows.Shape.TheVariants.{Cut, Cycle}
+use Rattle.pb_blocks.specs.declared.rows.StreamRow.{StreamRow}
+use Rattle.pb_blocks.specs.Beside.{is_half}
+use Rattle.pb_blocks.specs.Lists.{is_among, is_part, is_side, is_unknown_item, items, names_no_stream, place_of, side_of}
+use Rattle.pb_blocks.specs.Results.{has_unknown_part, result_of, witness_by}
+use Rattle.pb_blocks.specs.Values.{said_arc, both_bounds, chosen_class, both_meas, chosen_shape, said_stream}
 use Rattle.pb_readback.specs.declared.draft.Draft.{Draft}
-use Rattle.pb_readback.specs.declared.draft.Shape.{Shape}
-use Rattle.pb_readback.specs.declared.draft.Shape.TheVariants.{Cut, Cycle}
-use Rattle.pb_readback.specs.declared.draft.StreamRow.{StreamRow}
-use Rattle.pb_readback.specs.Blocks.{result_of, witness_by}
-use Rattle.pb_readback.specs.Columns.{class_by, is_half, shape_by}
-use Rattle.pb_readback.specs.Faults.{fault_behind, has_unknown_part}
-use Rattle.pb_readback.specs.Lists.{is_among, is_part, is_side, is_unknown_item, items, names_no_stream, place_of, side_of}
-use Rattle.pb_readback.specs.Values.{bounds_of, class_in, meas_of, shape_in, stream_in, stream_row_in}
+use Rattle.pb_readback.specs.Reading.{AwaitsStreams}
 use Rattle.pb_readback.specs.Written.{HasBoundsForLeast}
-use Rattle.pb_readback.proofs.WrittenFieldLemmas.{is_empty, AreApart, IsBetween, abs_between, among_at, good_number, good_optional, not_blank, optional_back, optional_text, optional_value, place_at, under_between, value_back}
+use Rattle.pb_readback.proofs.WrittenFieldLemmas.{is_empty, AreApart, IsBetween, abs_between, among_at, name_back, not_blank, number_back, optional_back, optional_said, optional_text, optional_value, place_at, said_back, under_between}
 use Rattle.pb_readback.proofs.WrittenListLemmas.{AreNamed, in_known, in_named, in_order, named_at, side_back, side_items}
 use Rattle.pb_readback.proofs.WrittenPartLemmas.{AreStreamNames, members_back, steps_back}
-use Rattle.pb_readback.proofs.WrittenRowLemmas.{stream_sound, takes_least}
+use Rattle.pb_readback.proofs.WrittenRowLemmas.{IsSoundRow, row_back, stream_beside, takes_least, told_stream}
 
 -- ---- words
 
-pub class_back : (class : Class) → class_in (class_word class) ≡ class
+-- the word of a class
+abbrev pub class_word : Class → List ℕ
+class_word class = word_at class_words (class_place class)
+
+class_said : (class : Class) → field_read (column (codes "class") (WordColumn class_words)) (class_word class) ≡ Ok (Word (class_place class))
+class_said Observable = refl
+class_said Unobservable = refl
+class_said Redundant = refl
+class_said Nonredundant = refl
+
+class_back : (class : Class) → chosen_class (class_place class) ≡ class
 class_back Observable = refl
 class_back Unobservable = refl
 class_back Redundant = refl
 class_back Nonredundant = refl
 
-pub good_class : (class : Class) → is_none (class_by (class_word class)) ≡ false
-good_class Observable = refl
-good_class Unobservable = refl
-good_class Redundant = refl
-good_class Nonredundant = refl
-
--- the shape of a certificate
+-- the shape of a certificate, and its place among the words of shapes
 abbrev pub shape_of : Witness → Shape
 shape_of (CutWitness side members) = Cut
 shape_of (CycleWitness steps) = Cycle
 
-pub shape_back : (witness : Witness) → shape_in (shape_word witness) ≡ shape_of witness
+abbrev pub place_of_shape : Witness → ℕ
+place_of_shape witness = shape_place (witness_shape witness)
+
+abbrev pub shape_word : Witness → List ℕ
+shape_word witness = word_at shape_words (place_of_shape witness)
+
+shape_said : (witness : Witness) → field_read (column (codes "shape") (WordColumn shape_words)) (shape_word witness) ≡ Ok (Word (place_of_shape witness))
+shape_said (CutWitness side members) = refl
+shape_said (CycleWitness steps) = refl
+
+shape_back : (witness : Witness) → chosen_shape (place_of_shape witness) ≡ shape_of witness
 shape_back (CutWitness side members) = refl
 shape_back (CycleWitness steps) = refl
-
-pub good_shape : (witness : Witness) → is_none (shape_by (shape_word witness)) ≡ false
-good_shape (CutWitness side members) = refl
-good_shape (CycleWitness steps) = refl
 
 -- ---- measurements and bounds
 
@@ -82,11 +102,11 @@ lo_of bounds = option_map (λ (b : Bounds). b.lo) bounds
 abbrev pub hi_of : Option Bounds → Option ℤ
 hi_of bounds = option_map (λ (b : Bounds). b.hi) bounds
 
-pub meas_back : (meas : Option Meas) → meas_of (value_of meas) (variance_of meas) ≡ meas
+pub meas_back : (meas : Option Meas) → both_meas (value_of meas) (variance_of meas) ≡ meas
 meas_back None = refl
 meas_back (Some meas) = refl
 
-pub bounds_back : (bounds : Option Bounds) → bounds_of (lo_of bounds) (hi_of bounds) ≡ bounds
+pub bounds_back : (bounds : Option Bounds) → both_bounds (lo_of bounds) (hi_of bounds) ≡ bounds
 bounds_back None = refl
 bounds_back (Some bounds) = refl
 
@@ -150,28 +170,38 @@ stream_fields names i stream result =
     ∷ shape_word result.classified.witness ∷ side_text names.nodes result.classified.witness
     ∷ parts_text names.streams result.classified.witness ∷ []
 
-pub fields_are : (names : Names) (i : ℕ) (stream : Stream) (result : StreamResult) → values_of (result_row names i stream result) ≡ stream_fields names i stream result
+pub fields_are : (names : Names) (i : ℕ) (stream : Stream) (result : StreamResult) → fields_of (result_row names i stream result) ≡ stream_fields names i stream result
 fields_are names i stream result =
     rw (
-      optional_value (codes "value") (value_of stream.meas),
-      optional_value (codes "variance") (variance_of stream.meas),
-      optional_value (codes "lo") (lo_of result.bounds),
-      optional_value (codes "hi") (hi_of result.bounds),
-      optional_value (codes "least_lo") (lo_of (written_least result)),
-      optional_value (codes "least_hi") (hi_of (written_least result)),
+      optional_value value_range (value_of stream.meas),
+      optional_value variance_range (variance_of stream.meas),
+      optional_value wide_range (lo_of result.bounds),
+      optional_value wide_range (hi_of result.bounds),
+      optional_value wide_range (lo_of (written_least result)),
+      optional_value wide_range (hi_of (written_least result)),
     ) refl
 
+-- the values of that row
+abbrev pub stream_values : Names → ℕ → Stream → StreamResult → List Value
+stream_values names i stream result =
+    Word 0 ∷ Name (name_at names.streams i) ∷ Name (name_at names.nodes stream.from) ∷ Name (name_at names.nodes stream.to)
+    ∷ optional_said (value_of stream.meas) ∷ optional_said (variance_of stream.meas) ∷ Word (class_place result.classified.class)
+    ∷ Number result.flow ∷ optional_said (lo_of result.bounds) ∷ optional_said (hi_of result.bounds)
+    ∷ optional_said (lo_of (written_least result)) ∷ optional_said (hi_of (written_least result))
+    ∷ Word (place_of_shape result.classified.witness) ∷ Items (side_text names.nodes result.classified.witness)
+    ∷ Items (parts_text names.streams result.classified.witness) ∷ []
+
 -- what the row tells of a stream
-pub stream_back : HaveOneNumberText → (names : Names) (graph : ProcessGraph) (i : ℕ) (stream : Stream) (result : StreamResult) → AreKnownNames names graph
-    → IsStream graph.nodes stream → stream_in names.nodes (stream_fields names i stream result) ≡ stream
-stream_back texts names graph i stream result known joins =
+pub stream_back : (names : Names) (graph : ProcessGraph) (i : ℕ) (stream : Stream) (result : StreamResult) → AreKnownNames names graph → IsStream graph.nodes stream
+    → said_arc names.nodes (stream_fields names i stream result) (stream_values names i stream result) ≡ stream
+stream_back names graph i stream result known joins =
     let from : stream.from < length names.nodes = omega (arith, joins.from, known.each_node) in
     let to : stream.to < length names.nodes = omega (arith, joins.to, known.each_node) in
     rw (
       place_at names.nodes stream.from known.apart_nodes from,
       place_at names.nodes stream.to known.apart_nodes to,
-      optional_back texts (value_of stream.meas),
-      optional_back texts (variance_of stream.meas),
+      said_back (value_of stream.meas),
+      said_back (variance_of stream.meas),
       meas_back stream.meas,
     ) refl
 
@@ -198,17 +228,16 @@ side_told names graph (CutWitness side members) known within =
     rw (side_items side names.nodes known.form_nodes) (side_back side names.nodes (within.0 ∙ sym known.each_node) known.apart_nodes)
 side_told names graph (CycleWitness steps) known within = refl
 
-pub result_told : HaveOneNumberText → (names : Names) (graph : ProcessGraph) (i : ℕ) (stream : Stream) (result : StreamResult) → AreKnownNames names graph
-    → IsResultWithin graph result → stream_row_in names.nodes (stream_fields names i stream result) ≡ told_of names result
-result_told texts names graph i stream result known within =
+pub result_told : (names : Names) (graph : ProcessGraph) (i : ℕ) (stream : Stream) (result : StreamResult) → AreKnownNames names graph → IsResultWithin graph result
+    → said_stream names.nodes StreamKind (stream_fields names i stream result) (stream_values names i stream result) ≡ told_of names result
+result_told names graph i stream result known within =
     rw (
       class_back result.classified.class,
-      value_back texts result.flow,
-      optional_back texts (lo_of result.bounds),
-      optional_back texts (hi_of result.bounds),
+      said_back (lo_of result.bounds),
+      said_back (hi_of result.bounds),
       bounds_back result.bounds,
-      optional_back texts (lo_of (written_least result)),
-      optional_back texts (hi_of (written_least result)),
+      said_back (lo_of (written_least result)),
+      said_back (hi_of (written_least result)),
       bounds_back (written_least result),
       shape_back result.classified.witness,
       side_told names graph result.classified.witness known within.witness,
@@ -259,55 +288,64 @@ ends_apart names graph stream known joins = elim (cases_Bool (same_name (name_at
 
 -- where the row of a stream stands
 pub record IsAtStream (draft : Draft) (names : Names) (i : ℕ) : Type 0 where
-  pub all_nodes : nat_lt (length draft.nodes) draft.heading.nodes ≡ false
-  pub place : nat_lt (length draft.streams) draft.heading.streams ≡ true
+  pub awaits : AwaitsStreams draft
   pub nodes : draft.nodes ≡ names.nodes
   pub new : is_among draft.streams (name_at names.streams i) ≡ false
-  pub with_least : takes_least draft.form ≡ true
+  pub with_least : takes_least draft.last ≡ true
 
-pub stream_fine : HaveOneNumberText → (draft : Draft) (names : Names) (graph : ProcessGraph) (i : ℕ) (stream : Stream) (result : StreamResult) → AreKnownNames names graph
-    → IsStream graph.nodes stream → IsWithinLimits stream → IsResultWithin graph result → i < length names.streams → IsAtStream draft names i
-    → fault_behind draft (stream_fields names i stream result) ≡ None
-stream_fine texts draft names graph i stream result known joins limits within lt at =
+stream_read : HaveOneNumberText → (names : Names) (graph : ProcessGraph) (i : ℕ) (stream : Stream) (result : StreamResult) → AreKnownNames names graph
+    → IsStream graph.nodes stream → IsWithinLimits stream → IsResultWithin graph result → i < length names.streams
+    → row_read (output_schema StreamKind) (stream_fields names i stream result) ≡ Ok (stream_values names i stream result)
+stream_read texts names graph i stream result known joins limits within lt =
     let from : stream.from < length names.nodes = omega (arith, joins.from, known.each_node) in
     let to : stream.to < length names.nodes = omega (arith, joins.to, known.each_node) in
     let least = least_within result within.least in
+    let wide = λ (key : List ℕ) (o : Option ℤ) (h : IfSome o (IsBetween (neg_ℤ (pos (2 ^ 126))) (pos (2 ^ 126)))). optional_back texts key (neg_ℤ (pos (2 ^ 126))) (pos (2 ^ 126)) o h in
+    row_back (output_columns StreamKind) (stream_fields names i stream result) (stream_values names i stream result)
+    (refl, (name_back (codes "name") (name_at names.streams i) (named_at names.streams i known.of_streams.forms lt),
+    (name_back (codes "from") (name_at names.nodes stream.from) (named_at names.nodes stream.from known.form_nodes from),
+    (name_back (codes "to") (name_at names.nodes stream.to) (named_at names.nodes stream.to known.form_nodes to),
+    (optional_back texts (codes "value") (neg_ℤ (pos most_value)) (pos most_value) (value_of stream.meas) (value_range stream.meas limits),
+    (optional_back texts (codes "variance") (pos 1) (pos most_variance) (variance_of stream.meas) (variance_range stream.meas limits),
+    (class_said result.classified.class,
+    (number_back texts (codes "flow") (neg_ℤ (pos (2 ^ 68 - 1))) (pos (2 ^ 68 - 1)) result.flow (under_between (2 ^ 68) result.flow within.flow),
+    (wide (codes "lo") (lo_of result.bounds) (lo_range result.bounds within.bounds),
+    (wide (codes "hi") (hi_of result.bounds) (hi_range result.bounds within.bounds),
+    (wide (codes "least_lo") (lo_of (written_least result)) (lo_range (written_least result) least),
+    (wide (codes "least_hi") (hi_of (written_least result)) (hi_range (written_least result) least),
+    (shape_said result.classified.witness, (refl, (refl, tt)))))))))))))))
+
+pub stream_fine : HaveOneNumberText → (draft : Draft) (names : Names) (graph : ProcessGraph) (i : ℕ) (stream : Stream) (result : StreamResult) → AreKnownNames names graph
+    → IsStream graph.nodes stream → IsWithinLimits stream → IsResultWithin graph result → i < length names.streams → IsAtStream draft names i
+    → IsSoundRow draft StreamKind (stream_fields names i stream result) (stream_values names i stream result)
+stream_fine texts draft names graph i stream result known joins limits within lt at =
+    let from : stream.from < length names.nodes = omega (arith, joins.from, known.each_node) in
+    let to : stream.to < length names.nodes = omega (arith, joins.to, known.each_node) in
     let side = good_side names graph result.classified.witness known in
     let parts = good_parts names graph result.classified.witness known within.witness in
     let of_nodes = λ (P : List (List ℕ) → Type 0) (h : P names.nodes). subst P (sym at.nodes) h in
-    stream_sound draft (name_at names.streams i) (name_at names.nodes stream.from) (name_at names.nodes stream.to)
-    (optional_text (value_of stream.meas)) (optional_text (variance_of stream.meas)) (class_word result.classified.class)
-    (whole_text result.flow) (optional_text (lo_of result.bounds)) (optional_text (hi_of result.bounds))
-    (optional_text (lo_of (written_least result))) (optional_text (hi_of (written_least result)))
-    (shape_word result.classified.witness) (side_text names.nodes result.classified.witness) (parts_text names.streams result.classified.witness)
-    (record {
-      nodes = at.all_nodes;
-      place = at.place;
-      with_least = at.with_least;
-      form = named_at names.streams i known.of_streams.forms lt;
-      form_from = named_at names.nodes stream.from known.form_nodes from;
-      form_to = named_at names.nodes stream.to known.form_nodes to;
-      good_value = good_optional texts (neg_ℤ (pos most_value)) (pos most_value) (value_of stream.meas) (value_range stream.meas limits);
-      good_variance = good_optional texts (pos 1) (pos most_variance) (variance_of stream.meas) (variance_range stream.meas limits);
-      good_class = good_class result.classified.class;
-      good_flow = good_number texts (neg_ℤ (pos (2 ^ 68 - 1))) (pos (2 ^ 68 - 1)) result.flow (under_between (2 ^ 68) result.flow within.flow);
-      good_lo = good_optional texts (neg_ℤ (pos (2 ^ 126))) (pos (2 ^ 126)) (lo_of result.bounds) (lo_range result.bounds within.bounds);
-      good_hi = good_optional texts (neg_ℤ (pos (2 ^ 126))) (pos (2 ^ 126)) (hi_of result.bounds) (hi_range result.bounds within.bounds);
-      good_least_lo = good_optional texts (neg_ℤ (pos (2 ^ 126))) (pos (2 ^ 126)) (lo_of (written_least result)) (lo_range (written_least result) least);
-      good_least_hi = good_optional texts (neg_ℤ (pos (2 ^ 126))) (pos (2 ^ 126)) (hi_of (written_least result)) (hi_range (written_least result) least);
-      good_shape = good_shape result.classified.witness;
-      whole_meas = whole_meas texts stream.meas;
-      whole_bounds = whole_bounds texts result.bounds;
-      whole_least = whole_bounds texts (written_least result);
-      known_from = of_nodes (λ nodes. is_among nodes (name_at names.nodes stream.from) ≡ true) (among_at names.nodes stream.from from);
-      known_to = of_nodes (λ nodes. is_among nodes (name_at names.nodes stream.to) ≡ true) (among_at names.nodes stream.to to);
-      known_side = of_nodes (λ nodes. list_any (is_unknown_item nodes) (items (side_text names.nodes result.classified.witness)) ≡ false) side.known;
-      new = at.new;
-      good_side = of_nodes (λ nodes. is_side nodes (items (side_text names.nodes result.classified.witness)) ≡ true) side.form;
-      no_side = side.of_cut;
-      good_parts = parts.forms;
-      apart = ends_apart names graph stream known joins;
-    })
+    record {
+      told = told_stream draft (stream_fields names i stream result) at.awaits at.with_least refl;
+      read = stream_read texts names graph i stream result known joins limits within lt;
+      beside = stream_beside draft (name_at names.streams i) (name_at names.nodes stream.from) (name_at names.nodes stream.to)
+          (optional_text (value_of stream.meas)) (optional_text (variance_of stream.meas)) (class_word result.classified.class)
+          (whole_text result.flow) (optional_text (lo_of result.bounds)) (optional_text (hi_of result.bounds))
+          (optional_text (lo_of (written_least result))) (optional_text (hi_of (written_least result)))
+          (shape_word result.classified.witness) (side_text names.nodes result.classified.witness) (parts_text names.streams result.classified.witness)
+          (record {
+            whole_meas = whole_meas texts stream.meas;
+            whole_bounds = whole_bounds texts result.bounds;
+            whole_least = whole_bounds texts (written_least result);
+            known_from = of_nodes (λ nodes. is_among nodes (name_at names.nodes stream.from) ≡ true) (among_at names.nodes stream.from from);
+            known_to = of_nodes (λ nodes. is_among nodes (name_at names.nodes stream.to) ≡ true) (among_at names.nodes stream.to to);
+            known_side = of_nodes (λ nodes. list_any (is_unknown_item nodes) (items (side_text names.nodes result.classified.witness)) ≡ false) side.known;
+            new = at.new;
+            good_side = of_nodes (λ nodes. is_side nodes (items (side_text names.nodes result.classified.witness)) ≡ true) side.form;
+            no_side = side.of_cut;
+            good_parts = parts.forms;
+            apart = ends_apart names graph stream known joins;
+          });
+    }
 
 -- no part of it is unknown
 pub parts_known : (names : Names) (graph : ProcessGraph) (result : StreamResult) → AreKnownNames names graph → IsResultWithin graph result

@@ -1,5 +1,5 @@
 -- The rows of a study read back: its blocks, and the rows between them.
-use Rattle.std.specs.Prelude.{◌==◌, ◌^◌, neg_ℤ, nat_lt, codes, if◌then◌else◌, map, All, position}
+use Rattle.std.specs.Prelude.{◌==◌, ◌^◌, neg_ℤ, nat_lt, codes, if◌then◌else◌, map, All, Ok, position}
 use Rattle.std.specs.List.{AllByRecursion, position_or_len}
 use Rattle.std.proofs.Common.{◌≡◌, ◌∙◌, ℕ, pos, ◌+◌, ◌≤◌, List, [], ◌∷◌, ◌++◌, length, Bool, true, false, Option, None, Some, refl, sym, ap, ap₂, subst, arith, append_assoc}
 use Rattle.std.proofs.lemmas.Bool.{le-ltb}
@@ -20,28 +20,31 @@ use Rattle.pb_graph.specs.ProcessGraph.{IsProcessGraph, IsStream, IsWithinLimits
 use Rattle.pb_graph.specs.WellFormed.{HasShapeOf, IsPrice, IsResultWithin, IsWellFormed}
 use Rattle.pb_report.specs.Block.{block_rows, end_row, node_rows, report_row, result_rows, solved_row}
 use Rattle.pb_report.specs.Names.{IsNamed}
-use Rattle.pb_report.specs.Row.{Columns, values_of}
+use Rattle.pb_report.specs.Row.{OutputRow, fields_of}
 use Rattle.pb_report.specs.Study.{round_rows, stage_rows, stop_rows, taken_row}
 use Rattle.pb_report.specs.Tests.{tests_rows}
+use Rattle.pb_form.specs.OutputRows.{output_columns, output_schema}
+use Rattle.pb_form.specs.Reading.{row_read}
+use Rattle.pb_form.specs.Value.{Value, Name, Number, Word}
+use Rattle.pb_form.specs.declared.output.OutputKind.{OutputKind}
+use Rattle.pb_form.specs.declared.output.OutputKind.TheVariants.{Report, Node, Stream, Solved, End}
+use Rattle.pb_blocks.specs.declared.rows.Heading.{Heading}
+use Rattle.pb_blocks.specs.declared.rows.StreamRow.{StreamRow}
+use Rattle.pb_blocks.specs.Beside.{heading_in, opening_fault}
+use Rattle.pb_blocks.specs.Results.{has_unknown_part, result_of}
+use Rattle.pb_blocks.specs.Values.{said_heading, most_round}
 use Rattle.pb_readback.specs.declared.draft.Draft.{Draft}
-use Rattle.pb_readback.specs.declared.draft.Heading.{Heading}
-use Rattle.pb_readback.specs.declared.draft.StreamRow.{StreamRow}
-use Rattle.pb_readback.specs.declared.kind.RowKind.{RowKind}
-use Rattle.pb_readback.specs.declared.kind.RowKind.TheVariants.{Report, Node, Stream, Solved, End}
-use Rattle.pb_readback.specs.Blocks.{block_of, result_of}
-use Rattle.pb_readback.specs.Columns.{most_round}
+use Rattle.pb_readback.specs.Blocks.{block_of}
 use Rattle.pb_readback.specs.Drafts.{draft_of}
-use Rattle.pb_readback.specs.Faults.{first_unknown, has_unknown_part, opening_fault}
-use Rattle.pb_readback.specs.Kinds.{may_come_after}
+use Rattle.pb_readback.specs.Faults.{first_unknown}
 use Rattle.pb_readback.specs.Next.{AreBlocks, ArePassedOver, IsBlock, IsFound, opened}
-use Rattle.pb_readback.specs.Values.{heading_in}
 use Rattle.pb_readback.specs.Written.{AreBlockNames, AreOptionsWithin, HasBoundsForLeast, StudyRowsLaw, block_with, blocks_from, records_in}
 use Rattle.pb_readback.proofs.WrittenBlockLemmas.{Tells, all_nodes, behind_nodes, last_of, nodes_tell}
-use Rattle.pb_readback.proofs.WrittenFieldLemmas.{IsBetween, abs_between, count_between, good_number, le_count, natural_back, new_from, value_back}
-use Rattle.pb_readback.proofs.WrittenRowLemmas.{heading_opens}
+use Rattle.pb_readback.proofs.WrittenFieldLemmas.{IsBetween, abs_between, count_between, le_count, name_back, new_from, number_back}
+use Rattle.pb_readback.proofs.WrittenRowLemmas.{heading_opens, may_follow, row_back, takes_least, values_back}
 use Rattle.pb_readback.proofs.WrittenStageLemmas.{behind_streams, streams_tell}
 use Rattle.pb_readback.proofs.WrittenStreamLemmas.{AreKnownNames, parts_known, result_back, told_of}
-use Rattle.pb_readback.proofs.WrittenTestLemmas.{IsBehindAll, behind_tests, end_order, end_tells, solution_of, solved_tells, tests_tell, tells_both}
+use Rattle.pb_readback.proofs.WrittenTestLemmas.{IsBehindAll, behind_tests, end_order, end_tells, solution_in, solved_tells, tests_tell, tells_both}
 
 -- what is known of a stage that is written as a block
 pub record IsStageToWrite (names : Names) (period : List ℕ) (options : Options) (round : ℕ) (stage : Stage) : Type 0 where
@@ -65,8 +68,8 @@ known_names names graph all named = record {
 
 -- ---- the row that opens a block
 
-abbrev heading_of : List ℕ → Options → ℕ → Stage → Heading
-heading_of period options round stage = record {
+abbrev stage_heading : List ℕ → Options → ℕ → Stage → Heading
+stage_heading period options round stage = record {
   period = period;
   round = round;
   nodes = stage.graph.nodes;
@@ -80,32 +83,46 @@ heading_fields period options round stage =
     codes "report" ∷ period ∷ whole_text (pos round) ∷ whole_text (pos stage.graph.nodes) ∷ whole_text (pos (length stage.graph.streams))
     ∷ whole_text (pos options.gap) ∷ whole_text (pos options.sweeps) ∷ []
 
-heading_back : HaveOneNumberText → (period : List ℕ) (options : Options) (round : ℕ) (stage : Stage)
-    → heading_in (heading_fields period options round stage) ≡ heading_of period options round stage
-heading_back texts period options round stage =
-    rw (natural_back texts round, natural_back texts stage.graph.nodes, natural_back texts (length stage.graph.streams), natural_back texts options.gap, natural_back texts options.sweeps) refl
+abbrev heading_values : List ℕ → Options → ℕ → Stage → List Value
+heading_values period options round stage =
+    Word 0 ∷ Name period ∷ Number (pos round) ∷ Number (pos stage.graph.nodes) ∷ Number (pos (length stage.graph.streams)) ∷ Number (pos options.gap)
+    ∷ Number (pos options.sweeps) ∷ []
 
 -- a count within 2^126, since it is far smaller
 wide_between : (most n : ℕ) → most ≤ 2 ^ 126 → n ≤ most → IsBetween (neg_ℤ (pos (2 ^ 126))) (pos (2 ^ 126)) (pos n)
 wide_between most n small le = abs_between (2 ^ 126) (pos n) (omega (arith, small, le))
 
+heading_reads : HaveOneNumberText → (names : Names) (period : List ℕ) (options : Options) (round : ℕ) (stage : Stage) → IsStageToWrite names period options round stage
+    → row_read (output_schema Report) (heading_fields period options round stage) ≡ Ok (heading_values period options round stage)
+heading_reads texts names period options round stage h =
+    let nodes = stage.graph.nodes in
+    let streams = length stage.graph.streams in
+    row_back (output_columns Report) (heading_fields period options round stage) (heading_values period options round stage)
+    (refl, (name_back (codes "period") period h.name,
+    (number_back texts (codes "round") (pos 0) (pos most_round) (pos round) (count_between 0 most_round round (omega arith) h.greatest_round),
+    (number_back texts (codes "nodes") (neg_ℤ (pos (2 ^ 126))) (pos (2 ^ 126)) (pos nodes) (wide_between most_nodes nodes (omega arith) h.graph.few_nodes),
+    (number_back texts (codes "streams") (neg_ℤ (pos (2 ^ 126))) (pos (2 ^ 126)) (pos streams) (wide_between most_streams streams (omega arith) h.graph.few_streams),
+    (number_back texts (codes "gap") (pos 1) (pos most_gap) (pos options.gap) (count_between 1 most_gap options.gap h.asked.some_gap h.asked.greatest_gap),
+    (number_back texts (codes "sweeps") (pos 0) (pos most_sweeps) (pos options.sweeps) (count_between 0 most_sweeps options.sweeps (omega arith) h.asked.greatest_sweeps),
+    tt)))))))
+
+heading_back : HaveOneNumberText → (names : Names) (period : List ℕ) (options : Options) (round : ℕ) (stage : Stage) → IsStageToWrite names period options round stage
+    → heading_in (heading_fields period options round stage) ≡ stage_heading period options round stage
+heading_back texts names period options round stage h =
+    let row = heading_fields period options round stage in
+    ap (said_heading row) (values_back Report row (heading_values period options round stage) (heading_reads texts names period options round stage h))
+
 heading_fine : HaveOneNumberText → (names : Names) (period : List ℕ) (options : Options) (round : ℕ) (stage : Stage) → IsStageToWrite names period options round stage
     → opening_fault (heading_fields period options round stage) ≡ None
 heading_fine texts names period options round stage h =
-    let nodes = stage.graph.nodes in
-    let streams = length stage.graph.streams in
-    heading_opens period (whole_text (pos round)) (whole_text (pos nodes)) (whole_text (pos streams)) (whole_text (pos options.gap)) (whole_text (pos options.sweeps))
+    heading_opens (heading_fields period options round stage) (heading_values period options round stage)
     (record {
-      name = h.name;
-      good_round = good_number texts (pos 0) (pos most_round) (pos round) (count_between 0 most_round round (omega arith) h.greatest_round);
-      good_nodes = good_number texts (neg_ℤ (pos (2 ^ 126))) (pos (2 ^ 126)) (pos nodes) (wide_between most_nodes nodes (omega arith) h.graph.few_nodes);
-      good_streams = good_number texts (neg_ℤ (pos (2 ^ 126))) (pos (2 ^ 126)) (pos streams) (wide_between most_streams streams (omega arith) h.graph.few_streams);
-      good_gap = good_number texts (pos 1) (pos most_gap) (pos options.gap) (count_between 1 most_gap options.gap h.asked.some_gap h.asked.greatest_gap);
-      good_sweeps = good_number texts (pos 0) (pos most_sweeps) (pos options.sweeps) (count_between 0 most_sweeps options.sweeps (omega arith) h.asked.greatest_sweeps);
-      some_node = rw (value_back texts (pos nodes)) (le_count 1 nodes h.graph.env);
-      most_node = rw (value_back texts (pos nodes)) (le_count nodes most_nodes h.graph.few_nodes);
-      some_stream = rw (value_back texts (pos streams)) (le_count 0 streams (omega arith));
-      most_stream = rw (value_back texts (pos streams)) (le_count streams most_streams h.graph.few_streams);
+      told = refl;
+      read = heading_reads texts names period options round stage h;
+      some_node = le_count 1 stage.graph.nodes h.graph.env;
+      most_node = le_count stage.graph.nodes most_nodes h.graph.few_nodes;
+      some_stream = le_count 0 (length stage.graph.streams) (omega arith);
+      most_stream = le_count (length stage.graph.streams) most_streams h.graph.few_streams;
     })
 
 -- ---- a block
@@ -131,17 +148,26 @@ all_back names graph (result ∷ results) known within least =
     ap₂ (λ (first : StreamResult) (rest : List StreamResult). first ∷ rest) (result_back names graph result known within.0 least.0)
     (all_back names graph results known within.1 least.1)
 
-node_then_solved : {A : Type 0} (kind : RowKind) (xs : List A) → may_come_after kind Solved ≡ true → may_come_after (last_of Node kind xs) Solved ≡ true
+node_then_solved : {A : Type 0} (kind : OutputKind) (xs : List A) → may_follow kind Solved ≡ true → may_follow (last_of Node kind xs) Solved ≡ true
 node_then_solved kind [] order = order
 node_then_solved kind (x ∷ xs) order = node_then_solved Node xs refl
 
-stream_then_solved : {A : Type 0} (kind : RowKind) (xs : List A) → may_come_after kind Solved ≡ true → may_come_after (last_of Stream kind xs) Solved ≡ true
+stream_then_solved : {A : Type 0} (kind : OutputKind) (xs : List A) → may_follow kind Solved ≡ true → may_follow (last_of Stream kind xs) Solved ≡ true
 stream_then_solved kind [] order = order
 stream_then_solved kind (x ∷ xs) order = stream_then_solved Stream xs refl
 
+-- behind nodes no stream has come without least bounds
+node_then_least : {A : Type 0} (xs : List A) → takes_least (last_of Node Node xs) ≡ true
+node_then_least [] = refl
+node_then_least (x ∷ xs) = node_then_least xs
+
+nodes_then_least : {A : Type 0} (xs : List A) → takes_least (last_of Node Report xs) ≡ true
+nodes_then_least [] = refl
+nodes_then_least (x ∷ xs) = node_then_least xs
+
 -- the draft behind the rows of nodes, behind those of streams, and behind the solution
 abbrev first_draft : List ℕ → Options → ℕ → Stage → Draft
-first_draft period options round stage = draft_of (heading_of period options round stage)
+first_draft period options round stage = draft_of (stage_heading period options round stage)
 
 abbrev node_draft : Names → List ℕ → Options → ℕ → Stage → Draft
 node_draft names period options round stage = behind_nodes (first_draft period options round stage) names.nodes stage.prices
@@ -151,13 +177,13 @@ stream_draft names period options round stage =
     behind_streams names (node_draft names period options round stage) names.streams stage.graph.streams stage.streams
 
 abbrev solved_draft : Names → List ℕ → Options → ℕ → Stage → Draft
-solved_draft names period options round stage = record (stream_draft names period options round stage) { last = Solved; solution = solution_of stage }
+solved_draft names period options round stage = record (stream_draft names period options round stage) { last = Solved; solution = solution_in stage }
 
 abbrev whole_draft : Names → List ℕ → Options → ℕ → Stage → Draft
 whole_draft names period options round stage = record (behind_tests (solved_draft names period options round stage) stage.tests) { last = End }
 
 -- the rows behind the first
-abbrev body_rows : Names → List ℕ → ℕ → Stage → List Columns
+abbrev body_rows : Names → List ℕ → ℕ → Stage → List OutputRow
 body_rows names period round stage =
     node_rows names.nodes stage.prices
     ++ (result_rows names stage.graph.streams stage.streams
@@ -207,9 +233,9 @@ body_tells texts names period options round stage h =
       split = refl;
       room = omega (arith, h.named.streams);
       new = new_from [] names.streams h.all_names.streams_differ;
-      with_least = refl;
+      with_least = nodes_then_least names.nodes;
     }) in
-    let order : may_come_after d2.last Solved ≡ true =
+    let order : may_follow d2.last Solved ≡ true =
     stream_then_solved (last_of Node Report names.nodes) stage.graph.streams (node_then_solved Report names.nodes refl) in
     let solved = solved_tells texts names d2 stage behind order h.formed in
     let tests = tests_tell texts names stage.graph known d3 stage.tests at h.formed.tests in
@@ -228,12 +254,12 @@ whole_back names period options round stage h =
     ap (λ (results : List StreamResult). block_with names period options round (record stage { streams = results })) (all_back names stage.graph stage.streams known within least)
 
 block_back : HaveOneNumberText → (names : Names) (period : List ℕ) (options : Options) (round : ℕ) (stage : Stage) → IsStageToWrite names period options round stage
-    → IsBlock (values_of (report_row period round stage.graph options)) (records_in (body_rows names period round stage)) (block_with names period options round stage)
+    → IsBlock (fields_of (report_row period round stage.graph options)) (records_in (body_rows names period round stage)) (block_with names period options round stage)
 block_back texts names period options round stage h =
     let first = heading_fields period options round stage in
     let rows = records_in (body_rows names period round stage) in
     let whole = whole_draft names period options round stage in
-    let heading = heading_back texts period options round stage in
+    let heading = heading_back texts names period options round stage h in
     let tells : Tells (opened first) rows whole =
     subst (λ (head : Heading). Tells (draft_of head) rows whole) (sym heading) (body_tells texts names period options round stage h) in
     record {
@@ -248,18 +274,18 @@ block_back texts names period options round stage h =
 
 -- a block behind rows that are passed over, and whatever comes behind it
 found_back : HaveOneNumberText → (names : Names) (period : List ℕ) (options : Options) (round : ℕ) (stage : Stage) → IsStageToWrite names period options round stage
-    → (passed rest : List Columns) → ArePassedOver (records_in passed)
+    → (passed rest : List OutputRow) → ArePassedOver (records_in passed)
     → IsFound (records_in (passed ++ (block_rows names period options round stage ++ rest))) (block_with names period options round stage) (records_in rest)
 found_back texts names period options round stage h passed rest over =
-    let first = values_of (report_row period round stage.graph options) in
+    let first = fields_of (report_row period round stage.graph options) in
     let body = body_rows names period round stage in
     record {
       passed = records_in passed;
       first = first;
       rows = records_in body;
       split =
-          map-append values_of passed (block_rows names period options round stage ++ rest)
-          ∙ ap (λ (rows : List (List (List ℕ))). records_in passed ++ first ∷ rows) (map-append values_of body rest);
+          map-append fields_of passed (block_rows names period options round stage ++ rest)
+          ∙ ap (λ (rows : List (List (List ℕ))). records_in passed ++ first ∷ rows) (map-append fields_of body rest);
       skipped = over;
       whole = block_back texts names period options round stage h;
     }
@@ -291,7 +317,7 @@ to_write names period options round stage all good most = record {
 }
 
 rounds_back : HaveOneNumberText → (names : Names) (period : List ℕ) (options : Options) → AreStagesToWrite names period options → (round : ℕ) (taken : List Taken) (stages : List Stage)
-    (rest : List Columns) → ArePassedOver (records_in rest) → length stages ≡ length taken → round + length stages ≤ most_round + 1 → AllByRecursion (IsGoodStage names) stages
+    (rest : List OutputRow) → ArePassedOver (records_in rest) → length stages ≡ length taken → round + length stages ≤ most_round + 1 → AllByRecursion (IsGoodStage names) stages
     → AreBlocks (records_in (round_rows names period options round taken stages ++ rest)) (blocks_from names period options round stages)
 rounds_back texts names period options all round [] [] rest over long few good = over
 rounds_back texts names period options all round [] (stage ∷ stages) rest over long few good = absurd (omega (arith, long))
@@ -303,7 +329,7 @@ rounds_back texts names period options all round (suspect ∷ taken) (stage ∷ 
     let found = found_back texts names period options round stage (to_write names period options round stage all good.0 (omega (arith, few))) (row ∷ []) (more ++ rest) refl in
     let same : records_in (row ∷ (block_rows names period options round stage ++ (more ++ rest)))
     ≡ records_in (((row ∷ block_rows names period options round stage) ++ more) ++ rest) =
-    ap (λ (rows : List Columns). records_in (row ∷ rows)) (sym (append_assoc (block_rows names period options round stage) more rest)) in (
+    ap (λ (rows : List OutputRow). records_in (row ∷ rows)) (sym (append_assoc (block_rows names period options round stage) more rest)) in (
       records_in (more ++ rest),
       subst (λ (rows : List (List (List ℕ))). IsFound rows (block_with names period options round stage) (records_in (more ++ rest))) same found,
       behind,
@@ -314,7 +340,7 @@ stops_passed period rounds None = refl
 stops_passed period rounds (Some reason) = refl
 
 stages_back : HaveOneNumberText → (names : Names) (period : List ℕ) (options : Options) → AreStagesToWrite names period options → (taken : List Taken) (stages : List Stage)
-    (rest : List Columns) → ArePassedOver (records_in rest) → length stages ≡ length taken + 1 → length stages ≤ most_round + 1 → AllByRecursion (IsGoodStage names) stages
+    (rest : List OutputRow) → ArePassedOver (records_in rest) → length stages ≡ length taken + 1 → length stages ≤ most_round + 1 → AllByRecursion (IsGoodStage names) stages
     → AreBlocks (records_in (stage_rows names period options taken stages ++ rest)) (blocks_from names period options 0 stages)
 stages_back texts names period options all taken [] rest over long few good = absurd (omega (arith, long))
 stages_back texts names period options all taken (stage ∷ stages) rest over long few good =
@@ -322,7 +348,7 @@ stages_back texts names period options all taken (stage ∷ stages) rest over lo
     let behind = rounds_back texts names period options all 1 taken stages rest over (omega (arith, long)) (omega (arith, few)) good.1 in
     let found = found_back texts names period options 0 stage (to_write names period options 0 stage all good.0 (omega arith)) [] (more ++ rest) refl in (
       records_in (more ++ rest),
-      subst (λ (rows : List Columns). IsFound (records_in rows) (block_with names period options 0 stage) (records_in (more ++ rest)))
+      subst (λ (rows : List OutputRow). IsFound (records_in rows) (block_with names period options 0 stage) (records_in (more ++ rest)))
           (sym (append_assoc (block_rows names period options 0 stage) more rest)) found,
       behind,
     )

@@ -1,18 +1,20 @@
--- Statement. What the rows of a block have told so far, row by row.
-use Rattle.std.specs.Prelude.{ℕ, pos, List, [], ◌∷◌, ◌++◌, Option, Some, None}
+-- Statement. What the rows of a block have told so far, row by row, and of which kinds the next one may be.
+use Rattle.std.specs.Prelude.{ℕ, pos, nat_lt, List, [], ◌∷◌, ◌++◌, length, Some, None, Result, Ok, Err, if◌then◌else◌}
 use Rattle.std.specs.Option.{option_map}
+use Rattle.pb_form.specs.Value.{Value}
+use Rattle.pb_form.specs.declared.output.OutputKind.{OutputKind}
+use Rattle.pb_form.specs.declared.output.OutputKind.TheVariants.{Report, Node, Stream, StreamBefore, Solved, Global, Nodal, Measure, End}
 use Rattle.pb_graph.specs.declared.results.MeasureTest.{MeasureTest}
 use Rattle.pb_graph.specs.declared.results.NodalTest.{NodalTest}
 use Rattle.pb_graph.specs.declared.results.Solved.TheVariants.{Unconverged}
 use Rattle.pb_graph.specs.declared.results.Tests.{Tests}
+use Rattle.pb_blocks.specs.declared.fault.RowFault.{RowFault}
+use Rattle.pb_blocks.specs.declared.rows.Heading.{Heading}
+use Rattle.pb_blocks.specs.declared.rows.Solution.{Solution}
+use Rattle.pb_blocks.specs.Kinds.{kind_among}
+use Rattle.pb_blocks.specs.Texts.{name_field}
+use Rattle.pb_blocks.specs.Values.{said_arc, said_global, said_measure, said_nodal, said_price, said_solution, said_stream, values_in}
 use Rattle.pb_readback.specs.declared.draft.Draft.{Draft}
-use Rattle.pb_readback.specs.declared.draft.Heading.{Heading}
-use Rattle.pb_readback.specs.declared.draft.Solution.{Solution}
-use Rattle.pb_readback.specs.declared.kind.RowKind.{RowKind}
-use Rattle.pb_readback.specs.declared.kind.RowKind.TheVariants.{Report, Node, Stream, Solved, Global, Nodal, Measure, End}
-use Rattle.pb_readback.specs.Forms.{form_of, in_full}
-use Rattle.pb_readback.specs.Kinds.{field, kind_of}
-use Rattle.pb_readback.specs.Values.{global_in, measure_in, nodal_in, solution_in, stream_in, stream_row_in, value_in}
 
 -- the solution before its row has come
 abbrev pub no_solution : Solution
@@ -25,13 +27,42 @@ draft_of heading = record {
   heading = heading;
   nodes = [];
   prices = [];
-  form = None;
   streams = [];
   graph = record { nodes = heading.nodes; streams = [] };
   rows = [];
   solution = no_solution;
   tests = None;
 }
+
+-- after the last stream comes how the stage was solved; after that the end, or the tests and then the end: the global test, the
+-- tests of balances, and those of measurements
+abbrev pub kinds_after : OutputKind → List OutputKind
+kinds_after Report = Solved ∷ []
+kinds_after Node = Solved ∷ []
+kinds_after Stream = Solved ∷ []
+kinds_after StreamBefore = Solved ∷ []
+kinds_after Solved = Global ∷ End ∷ []
+kinds_after Global = Nodal ∷ Measure ∷ End ∷ []
+kinds_after Nodal = Nodal ∷ Measure ∷ End ∷ []
+kinds_after Measure = Measure ∷ End ∷ []
+kinds_after last = []
+
+-- all streams of a block have rows of one form, that of the first
+abbrev pub stream_kinds : OutputKind → List OutputKind
+stream_kinds Stream = Stream ∷ []
+stream_kinds StreamBefore = StreamBefore ∷ []
+stream_kinds last = Stream ∷ StreamBefore ∷ []
+
+-- the kinds of rows that may come next: as many nodes as the heading says, then as many streams, and then the rest
+abbrev pub kinds_next : Draft → List OutputKind
+kinds_next draft =
+    if nat_lt (length draft.nodes) draft.heading.nodes then Node ∷ []
+    else if nat_lt (length draft.streams) draft.heading.streams then stream_kinds draft.last
+    else kinds_after draft.last
+
+-- the global test, and no other test yet
+abbrev pub tests_begun : List Value → Tests
+tests_begun values = record { global = said_global values; nodal = []; measure = [] }
 
 -- tests with one of a balance more, or with one of a measurement
 abbrev pub with_nodal : NodalTest → Tests → Tests
@@ -40,47 +71,46 @@ with_nodal test tests = record tests { nodal = tests.nodal ++ test ∷ [] }
 abbrev pub with_measure : MeasureTest → Tests → Tests
 with_measure test tests = record tests { measure = tests.measure ++ test ∷ [] }
 
--- what is told of one stream more by its row with a field for each column
-abbrev pub with_stream : List (List ℕ) → Draft → Draft
-with_stream row draft = record draft {
-  last = Stream;
-  streams = draft.streams ++ field row 1 ∷ [];
-  graph = record draft.graph { streams = draft.graph.streams ++ stream_in draft.nodes row ∷ [] };
-  rows = draft.rows ++ stream_row_in draft.nodes row ∷ [];
+-- what is told of one node more
+abbrev pub with_node : List (List ℕ) → Draft → Draft
+with_node row draft = record draft {
+  nodes = draft.nodes ++ name_field row ∷ [];
+  prices = draft.prices ++ said_price (values_in Node row) ∷ [];
 }
 
--- what a row of a kind tells behind the rows before it
-abbrev pub told_with : RowKind → Draft → List (List ℕ) → Draft
-told_with Report draft row = record draft { last = Report }
-told_with Node draft row = record draft {
-  last = Node;
-  nodes = draft.nodes ++ field row 1 ∷ [];
-  prices = draft.prices ++ value_in (field row 2) ∷ [];
+-- what is told of one stream more, by its row in one of the two forms
+abbrev pub with_stream : OutputKind → List (List ℕ) → Draft → Draft
+with_stream kind row draft = record draft {
+  streams = draft.streams ++ name_field row ∷ [];
+  graph = record draft.graph { streams = draft.graph.streams ++ said_arc draft.nodes row (values_in kind row) ∷ [] };
+  rows = draft.rows ++ said_stream draft.nodes kind row (values_in kind row) ∷ [];
 }
-told_with Stream draft row = record (with_stream (in_full Stream row) draft) { form = Some (form_of row) }
-told_with Solved draft row = record draft { last = Solved; solution = solution_in row }
-told_with Global draft row = record draft {
-  last = Global;
-  tests = Some (record { global = global_in row; nodal = []; measure = [] });
-}
-told_with Nodal draft row = record draft {
-  last = Nodal;
-  tests = option_map (with_nodal (nodal_in draft.nodes row)) draft.tests;
-}
-told_with Measure draft row = record draft {
-  last = Measure;
-  tests = option_map (with_measure (measure_in draft.streams row)) draft.tests;
-}
-told_with End draft row = record draft { last = End }
 
--- the same of a row whose kind is told
-abbrev pub told_if : Option RowKind → Draft → List (List ℕ) → Draft
-told_if (Some kind) draft row = told_with kind draft row
-told_if None draft row = draft
+-- what a row of a kind adds to what the rows before it have told
+abbrev pub added : OutputKind → Draft → List (List ℕ) → Draft
+added Node draft row = with_node row draft
+added Stream draft row = with_stream Stream row draft
+added StreamBefore draft row = with_stream StreamBefore row draft
+added Solved draft row = record draft { solution = said_solution (values_in Solved row) }
+added Global draft row = record draft { tests = Some (tests_begun (values_in Global row)) }
+added Nodal draft row =
+    record draft { tests = option_map (with_nodal (said_nodal draft.nodes row (values_in Nodal row))) draft.tests }
+added Measure draft row =
+    record draft { tests = option_map (with_measure (said_measure draft.streams row (values_in Measure row))) draft.tests }
+added kind draft row = draft
+
+-- what is told then, and of which kind the last row is
+abbrev pub told_with : OutputKind → Draft → List (List ℕ) → Draft
+told_with kind draft row = record (added kind draft row) { last = kind }
+
+-- the same of a row whose kind was asked
+abbrev pub told_if : Result OutputKind RowFault → Draft → List (List ℕ) → Draft
+told_if (Ok kind) draft row = told_with kind draft row
+told_if (Err fault) draft row = draft
 
 -- what one row more tells
 abbrev pub with_row : Draft → List (List ℕ) → Draft
-with_row draft row = told_if (kind_of row) draft row
+with_row draft row = told_if (kind_among (kinds_next draft) row) draft row
 
 -- what several rows more tell
 abbrev pub with_rows : Draft → List (List (List ℕ)) → Draft

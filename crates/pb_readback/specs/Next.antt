@@ -1,31 +1,33 @@
 -- Statement. What comes next in records: a block, the first row that can't be read, or neither.
-use Rattle.std.specs.Prelude.{◌≡◌, ◌≢◌, ◌⊎◌, ℕ, ◌+◌, true, false, List, [], ◌∷◌, ◌++◌, length, Option, Some, None}
+use Rattle.std.specs.Prelude.{◌≡◌, ◌≢◌, ◌⊎◌, ℕ, ◌+◌, true, false, List, [], ◌∷◌, ◌++◌, length, drop, Option, Some, None}
 use Rattle.std.specs.List.{list_all}
+use Rattle.pb_form.specs.declared.output.OutputKind.TheVariants.{End}
+use Rattle.pb_rows.specs.RecordsLeft.{RecordsLeft}
+use Rattle.pb_blocks.specs.declared.fault.RowFault.{RowFault}
+use Rattle.pb_blocks.specs.declared.fault.RowFault.TheVariants.{Unknown, Ended}
+use Rattle.pb_blocks.specs.Beside.{heading_in, opening_fault}
+use Rattle.pb_blocks.specs.Kinds.{is_passed_over}
 use Rattle.pb_readback.specs.declared.block.Block.{Block}
 use Rattle.pb_readback.specs.declared.draft.Draft.{Draft}
-use Rattle.pb_readback.specs.declared.fault.ReadRefused.{ReadRefused}
-use Rattle.pb_readback.specs.declared.fault.ReadRefused.TheVariants.{At, NoMemory}
-use Rattle.pb_readback.specs.declared.fault.RowFault.{RowFault}
-use Rattle.pb_readback.specs.declared.fault.RowFault.TheVariants.{Unknown, Ended}
-use Rattle.pb_readback.specs.declared.kind.RowKind.TheVariants.{End}
-use Rattle.pb_readback.specs.Kinds.{is_passed_over}
+use Rattle.pb_readback.specs.declared.reading.ReadRefused.{ReadRefused}
+use Rattle.pb_readback.specs.declared.reading.ReadRefused.TheVariants.{At, NoMemory}
 use Rattle.pb_readback.specs.Drafts.{draft_of, with_row, with_rows}
-use Rattle.pb_readback.specs.Values.{heading_in}
-use Rattle.pb_readback.specs.Faults.{fault_behind, first_unknown, opening_fault}
+use Rattle.pb_readback.specs.Faults.{fault_behind, first_unknown}
 use Rattle.pb_readback.specs.Blocks.{block_of}
 
--- what comes next: no block; a block, and the records behind it; or the number of the first row that can't be read, with its fault
+-- what comes next: no block; a block, and the records after it; or the number of the first row that can't be read, with its fault,
+-- and the records after the row that shows it
 pub data Next : Type 0 where
   NoBlock : Next
   Found : Block → List (List (List ℕ)) → Next
-  Refused : ℕ → RowFault → Next
+  Refused : ℕ → RowFault → List (List (List ℕ)) → Next
 
 -- rows that are passed over
 abbrev pub ArePassedOver : List (List (List ℕ)) → Type 0
 ArePassedOver rows = list_all is_passed_over rows ≡ true
 
--- Each of these rows has no fault behind those before it. No row is read behind the last stream where a stream's parts name one
--- that the block hasn't.
+-- Each of these rows has no fault after those before it. No row is read after the last stream if a stream's parts name one that
+-- the block hasn't.
 abbrev pub AreSound : Draft → List (List (List ℕ)) → Type 0
 AreSound draft [] = Unit {0}
 AreSound draft (row ∷ rows) =
@@ -35,7 +37,7 @@ AreSound draft (row ∷ rows) =
 abbrev pub opened : List (List ℕ) → Draft
 opened row = draft_of (heading_in row)
 
--- the rows of a whole block: the one that opens it, and those behind it up to the end
+-- the rows of a whole block: the one that opens it, and those after it up to the end
 pub record IsBlock (first : List (List ℕ)) (rows : List (List (List ℕ))) (block : Block) : Type 0 where
   pub opens : opening_fault first ≡ None
   pub sound : AreSound (opened first) rows
@@ -43,19 +45,22 @@ pub record IsBlock (first : List (List ℕ)) (rows : List (List (List ℕ))) (bl
   pub ends : (with_rows (opened first) rows).last ≡ End
   pub value : block ≡ block_of (with_rows (opened first) rows)
 
--- the fault behind the rows of a block that isn't whole: that of the next row, or that there is none
+-- the fault after the rows of a block that isn't whole: that of the next row, or that there is none
 abbrev pub fault_next : Draft → List (List (List ℕ)) → Option RowFault
 fault_next draft [] = Some Ended
 fault_next draft (row ∷ rows) = fault_behind draft row
 
--- Behind the first row of a block and more, this is the number, counted in the block, of the first row that has a fault: that of
--- the first stream whose parts name an unknown one, once all streams are read; else that of the next row, before the end.
-abbrev pub IsFault : Draft → ℕ → List (List (List ℕ)) → ℕ → RowFault → Type 0
-IsFault draft rows rest number fault =
-    ((stream : ℕ) × (first_unknown draft ≡ Some stream) × (number ≡ draft.heading.nodes + stream + 2) × (fault ≡ Unknown))
-    ⊎ ((first_unknown draft ≡ None) × (draft.last ≢ End) × (fault_next draft rest ≡ Some fault) × (number ≡ rows + 2))
+-- After the first row of a block and more, this is the number, counted in the block, of the first row that has a fault: that of
+-- the first stream whose parts name an unknown one, once all streams are read; else that of the next row, before the end. These
+-- records are left: a row that has the fault itself is taken, and no row after it.
+abbrev pub IsFault : Draft → ℕ → List (List (List ℕ)) → ℕ → RowFault → List (List (List ℕ)) → Type 0
+IsFault draft rows rest number fault left =
+    ((stream : ℕ) × (first_unknown draft ≡ Some stream) × (number ≡ draft.heading.nodes + stream + 2) × (fault ≡ Unknown)
+    × (left ≡ rest))
+    ⊎ ((first_unknown draft ≡ None) × (draft.last ≢ End) × (fault_next draft rest ≡ Some fault) × (number ≡ rows + 2)
+    × (left ≡ drop 1 rest))
 
--- a block comes next, behind rows that are passed over, and these records are behind it
+-- a block comes next, after rows that are passed over, and these records are after it
 pub record IsFound (records : List (List (List ℕ))) (block : Block) (rest : List (List (List ℕ))) : Type 0 where
   pub passed : List (List (List ℕ))
   pub first : List (List ℕ)
@@ -64,19 +69,20 @@ pub record IsFound (records : List (List (List ℕ))) (block : Block) (rest : Li
   pub skipped : ArePassedOver passed
   pub whole : IsBlock first rows block
 
--- behind rows that are passed over comes a row that isn't passed over and doesn't open a block
-pub record IsRefusedAtOpening (at : ℕ) (records : List (List (List ℕ))) (number : ℕ) (fault : RowFault) : Type 0 where
+-- after rows that are passed over comes a row that isn't passed over and doesn't open a block
+pub record IsRefusedAtOpening (at : ℕ) (records : List (List (List ℕ))) (number : ℕ) (fault : RowFault)
+    (left : List (List (List ℕ))) : Type 0 where
   pub passed : List (List (List ℕ))
   pub first : List (List ℕ)
-  pub rest : List (List (List ℕ))
-  pub split : records ≡ passed ++ first ∷ rest
+  pub split : records ≡ passed ++ first ∷ left
   pub skipped : ArePassedOver passed
   pub other : is_passed_over first ≡ false
   pub cause : opening_fault first ≡ Some fault
   pub place : number ≡ at + length passed + 1
 
--- behind rows that are passed over begins a block that can't be read on
-pub record IsRefusedWithin (at : ℕ) (records : List (List (List ℕ))) (number : ℕ) (fault : RowFault) : Type 0 where
+-- after rows that are passed over begins a block that can't be read on
+pub record IsRefusedWithin (at : ℕ) (records : List (List (List ℕ))) (number : ℕ) (fault : RowFault)
+    (left : List (List (List ℕ))) : Type 0 where
   pub passed : List (List (List ℕ))
   pub first : List (List ℕ)
   pub rows : List (List (List ℕ))
@@ -86,27 +92,31 @@ pub record IsRefusedWithin (at : ℕ) (records : List (List (List ℕ))) (number
   pub skipped : ArePassedOver passed
   pub opens : opening_fault first ≡ None
   pub sound : AreSound (opened first) rows
-  pub cause : IsFault (with_rows (opened first) rows) (length rows) rest within fault
+  pub cause : IsFault (with_rows (opened first) rows) (length rows) rest within fault left
   pub place : number ≡ at + length passed + within
 
--- What comes next in the records behind so many.
+-- What comes next in the records after as many as this.
 abbrev pub IsNext : ℕ → List (List (List ℕ)) → Next → Type 0
 IsNext at records NoBlock = ArePassedOver records
 IsNext at records (Found block rest) = IsFound records block rest
-IsNext at records (Refused number fault) =
-    IsRefusedAtOpening at records number fault ⊎ IsRefusedWithin at records number fault
+IsNext at records (Refused number fault left) =
+    IsRefusedAtOpening at records number fault left ⊎ IsRefusedWithin at records number fault left
 
--- The records are these blocks in order, and rows that are passed over between, before and behind them.
+-- The records are these blocks in order, and rows that are passed over between, before and after them.
 abbrev pub AreBlocks : List (List (List ℕ)) → List Block → Type 0
 AreBlocks records [] = ArePassedOver records
 AreBlocks records (block ∷ blocks) = (rest : List (List (List ℕ))) × IsFound records block rest × AreBlocks rest blocks
 
--- what comes next, where a block was read or none
+-- what comes next, if a block was read or none
 abbrev pub next_by : Option Block → List (List (List ℕ)) → Next
 next_by None rest = NoBlock
 next_by (Some block) rest = Found block rest
 
--- what comes next, where no block was read: a row that can't be read; want of memory says nothing
-abbrev pub Tells : ℕ → List (List (List ℕ)) → ReadRefused → Type 0
-Tells at records (At number fault) = IsNext at records (Refused number fault)
-Tells at records NoMemory = Unit {0}
+-- records that were taken, and no others: each that isn't left counts
+abbrev pub AreCounted : RecordsLeft → RecordsLeft → Type 0
+AreCounted old new = new.taken + length new.left ≡ old.taken + length old.left
+
+-- what comes next, if a row can't be read, and that no record after it was taken; out of memory says nothing
+abbrev pub Tells : RecordsLeft → RecordsLeft → ReadRefused → Type 0
+Tells old new (At number fault) = IsNext old.taken old.left (Refused number fault new.left) × AreCounted old new
+Tells old new NoMemory = Unit {0}

@@ -1,7 +1,9 @@
 -- Inside. A draft under way, and what reading on has shown of the records.
-use Rattle.std.specs.Prelude.{◌≡◌, ◌⊎◌, ◌≤◌, ◌+◌, ◌≤ℤ◌, ◌==◌, ℕ, ℤ, Bool, pos, false, List, [], ◌∷◌, ◌++◌, length, map, Option, Some, None}
+use Rattle.std.specs.Prelude.{◌≡◌, ◌≢◌, ◌⊎◌, ◌≤◌, ◌+◌, ◌==◌, ℕ, Bool, true, false, nat_lt, List, [], ◌∷◌, ◌++◌, length, map, Option, Some, None}
 use Rattle.std.specs.List.{list_any}
-use Rattle.pb_limits.specs.Limits.{most_nodes, most_streams}
+use Rattle.pb_form.specs.declared.output.OutputKind.{OutputKind}
+use Rattle.pb_form.specs.declared.output.OutputKind.TheVariants.{Node, Stream as StreamKind, StreamBefore, Solved, Global, Nodal, Measure, End}
+use Rattle.pb_rows.specs.RecordsLeft.{RecordsLeft}
 use Rattle.pb_graph.specs.declared.records.Member.{Member}
 use Rattle.pb_graph.specs.declared.records.Step.{Step}
 use Rattle.pb_graph.specs.declared.records.Stream.{Stream}
@@ -9,32 +11,50 @@ use Rattle.pb_graph.specs.declared.records.Witness.{Witness}
 use Rattle.pb_graph.specs.declared.records.Witness.TheVariants.{Cut as CutWitness, Cycle as CycleWitness}
 use Rattle.pb_graph.specs.declared.results.StreamResult.{StreamResult}
 use Rattle.pb_graph.specs.ProcessGraph.{IsStream, IsWithinLimits}
+use Rattle.pb_blocks.specs.declared.fault.RowFault.{RowFault}
+use Rattle.pb_blocks.specs.declared.fault.RowFault.TheVariants.{Unknown, Ended}
+use Rattle.pb_blocks.specs.Beside.{opening_fault}
+use Rattle.pb_blocks.specs.Counts.{IsHeading}
+use Rattle.pb_blocks.specs.Kinds.{is_passed_over}
+use Rattle.pb_blocks.specs.Results.{result_of}
 use Rattle.pb_readback.specs.declared.block.Block.{Block}
 use Rattle.pb_readback.specs.declared.draft.Draft.{Draft}
-use Rattle.pb_readback.specs.declared.draft.Heading.{Heading}
-use Rattle.pb_readback.specs.declared.fault.ReadRefused.{ReadRefused}
-use Rattle.pb_readback.specs.declared.fault.ReadRefused.TheVariants.{At, NoMemory}
-use Rattle.pb_readback.specs.declared.fault.RowFault.{RowFault}
-use Rattle.pb_readback.specs.declared.fault.RowFault.TheVariants.{Unknown, Ended}
-use Rattle.pb_readback.specs.declared.kind.RowKind.TheVariants.{End}
-use Rattle.pb_readback.specs.Blocks.{block_of, result_of}
+use Rattle.pb_readback.specs.declared.reading.ReadRefused.{ReadRefused}
+use Rattle.pb_readback.specs.declared.reading.ReadRefused.TheVariants.{At, NoMemory}
+use Rattle.pb_readback.specs.Blocks.{block_of}
 use Rattle.pb_readback.specs.Drafts.{with_rows}
-use Rattle.pb_readback.specs.Faults.{fault_behind, first_unknown, opening_fault}
-use Rattle.pb_readback.specs.Kinds.{is_passed_over}
-use Rattle.pb_readback.specs.Next.{ArePassedOver, AreSound, IsFault, opened}
+use Rattle.pb_readback.specs.Faults.{fault_behind, first_unknown}
+use Rattle.pb_readback.specs.Next.{AreCounted, ArePassedOver, AreSound, IsFault, opened}
 
--- these are numbers of nodes and streams that a graph has
-pub record AreCounts (nodes streams : ℤ) : Type 0 where
-  pub env : pos 1 ≤ℤ nodes
-  pub few_nodes : nodes ≤ℤ pos most_nodes
-  pub natural : pos 0 ≤ℤ streams
-  pub few_streams : streams ≤ℤ pos most_streams
+-- not all nodes have come; all of them, and not all streams; or all of both
+abbrev pub AwaitsNodes : Draft → Type 0
+AwaitsNodes draft = nat_lt (length draft.nodes) draft.heading.nodes ≡ true
 
--- a heading's counts are those of a graph
-pub record IsHeading (heading : Heading) : Type 0 where
-  pub env : 1 ≤ heading.nodes
-  pub few_nodes : heading.nodes ≤ most_nodes
-  pub few_streams : heading.streams ≤ most_streams
+abbrev pub AwaitsStreams : Draft → Type 0
+AwaitsStreams draft =
+    (nat_lt (length draft.nodes) draft.heading.nodes ≡ false) × (nat_lt (length draft.streams) draft.heading.streams ≡ true)
+
+abbrev pub HasAll : Draft → Type 0
+HasAll draft =
+    (nat_lt (length draft.nodes) draft.heading.nodes ≡ false) × (nat_lt (length draft.streams) draft.heading.streams ≡ false)
+
+-- a row of this kind may come next
+abbrev pub MayCome : Draft → OutputKind → Type 0
+MayCome draft Node = AwaitsNodes draft
+MayCome draft StreamKind = AwaitsStreams draft
+MayCome draft StreamBefore = AwaitsStreams draft
+MayCome draft Solved = HasAll draft × (draft.last ≢ End)
+MayCome draft Global = HasAll draft × (draft.last ≢ End)
+MayCome draft Nodal = HasAll draft × (draft.last ≢ End)
+MayCome draft Measure = HasAll draft × (draft.last ≢ End)
+MayCome draft End = HasAll draft × (draft.last ≢ End)
+MayCome draft kind = ⊥
+
+-- the row of a stream, in either form
+abbrev pub is_stream_kind : OutputKind → Bool
+is_stream_kind StreamKind = true
+is_stream_kind StreamBefore = true
+is_stream_kind kind = false
 
 -- a draft has as many nodes and streams as it says, or fewer
 pub record IsUnderWay (draft : Draft) : Type 0 where
@@ -87,20 +107,21 @@ pub record IsReadWhole (start : Draft) (all rest : List (List (List ℕ))) (bloc
   pub ends : (with_rows start rows).last ≡ End
   pub value : block ≡ block_of (with_rows start rows)
 
--- a block that breaks off behind its first row, which has the number `opened`
-pub record IsBroken (start : Draft) (all : List (List (List ℕ))) (opened number : ℕ) (fault : RowFault) : Type 0 where
+-- a block that breaks off after its first row, which has the number `opened`
+pub record IsBroken (start : Draft) (all : List (List (List ℕ))) (opened number : ℕ) (fault : RowFault)
+    (left : List (List (List ℕ))) : Type 0 where
   pub rows : List (List (List ℕ))
   pub rest : List (List (List ℕ))
   pub within : ℕ
   pub split : all ≡ rows ++ rest
   pub sound : AreSound start rows
-  pub cause : IsFault (with_rows start rows) (length rows) rest within fault
+  pub cause : IsFault (with_rows start rows) (length rows) rest within fault left
   pub place : number + 1 ≡ opened + within
 
 -- a refusal where no record is left
-abbrev pub Ends : List (List (List ℕ)) → ℕ → ReadRefused → Type 0
-Ends left taken (At number fault) = (left ≡ []) × (number ≡ taken + 1) × (fault ≡ Ended)
-Ends left taken NoMemory = Unit {0}
+abbrev pub Ends : RecordsLeft → RecordsLeft → ReadRefused → Type 0
+Ends old new (At number fault) = (old.left ≡ []) × (new ≡ old) × (number ≡ old.taken + 1) × (fault ≡ Ended)
+Ends old new NoMemory = Unit {0}
 
 -- a refusal of a row behind a draft, which has this number
 abbrev pub RefusesRow : Draft → List (List ℕ) → ℕ → ReadRefused → Type 0
@@ -113,18 +134,18 @@ RefusesPart draft opened (At number fault) =
     (stream : ℕ) × (first_unknown draft ≡ Some stream) × (number ≡ opened + draft.heading.nodes + stream + 1) × (fault ≡ Unknown)
 RefusesPart draft opened NoMemory = Unit {0}
 
--- what a refusal behind a first row tells
-abbrev pub Breaks : Draft → List (List (List ℕ)) → ℕ → ReadRefused → Type 0
-Breaks start all opened (At number fault) = IsBroken start all opened number fault
-Breaks start all opened NoMemory = Unit {0}
+-- what a refusal after a first row tells, the last one taken before
+abbrev pub Breaks : Draft → RecordsLeft → RecordsLeft → ReadRefused → Type 0
+Breaks start old new (At number fault) = IsBroken start old.left old.taken number fault new.left × AreCounted old new
+Breaks start old new NoMemory = Unit {0}
 
 -- a block whose first row is this one
 abbrev pub IsReadFrom : List (List ℕ) → List (List (List ℕ)) → List (List (List ℕ)) → Block → Type 0
 IsReadFrom first all rest block = (opening_fault first ≡ None) × IsReadWhole (opened first) all rest block
 
--- what a refusal tells of a first row, the last one taken, and those behind it
-abbrev pub BreaksFrom : List (List ℕ) → List (List (List ℕ)) → ℕ → ReadRefused → Type 0
-BreaksFrom first all taken (At number fault) =
-    ((opening_fault first ≡ Some fault) × (number ≡ taken))
-    ⊎ ((opening_fault first ≡ None) × IsBroken (opened first) all taken number fault)
-BreaksFrom first all taken NoMemory = Unit {0}
+-- what a refusal tells of a first row, the last one taken before, and those after it
+abbrev pub BreaksFrom : List (List ℕ) → RecordsLeft → RecordsLeft → ReadRefused → Type 0
+BreaksFrom first old new (At number fault) =
+    ((opening_fault first ≡ Some fault) × (number ≡ old.taken) × (new ≡ old))
+    ⊎ ((opening_fault first ≡ None) × IsBroken (opened first) old.left old.taken number fault new.left × AreCounted old new)
+BreaksFrom first old new NoMemory = Unit {0}

@@ -7,8 +7,8 @@ use Rattle.pb_graph.specs.ProcessGraph.{IsProcessGraph}
 use Rattle.pb_graph.specs.WellFormed.{IsWellFormed}
 use Rattle.pb_report.specs.Names.{IsNamed}
 use Rattle.pb_readback.specs.declared.block.Block.{Block}
-use Rattle.pb_readback.specs.Columns.{most_round}
-use Rattle.pb_readback.specs.Lists.{differ}
+use Rattle.pb_blocks.specs.Lists.{differ}
+use Rattle.pb_blocks.specs.Values.{most_round}
 
 -- names, none of them twice
 pub record AreNames (names : List (List ℕ)) : Type 0 where

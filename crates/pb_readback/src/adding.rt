@@ -1,19 +1,28 @@
-// A draft, and what one row more adds to it.
+// What one row more adds to a draft.
 
-ghost use Rattle.std.specs.Prelude.{◌≡◌, true, Some, None, IfOk, OnOk};
+ghost use Rattle.std.specs.Prelude.{◌≡◌, ◌<◌, [], true, false, length, None, Ok, IfOk, OnOk};
 ghost use Rattle.std.specs.Option.{option_map};
-ghost use Rattle.pb_readback.specs.declared.kind.RowKind.TheVariants.{Node, Stream as StreamKind, Solved as SolvedKind, Global as GlobalKind, Nodal, Measure, End};
-ghost use Rattle.pb_readback.specs.Drafts.{draft_of, no_solution, told_with, with_measure, with_nodal, with_row, with_stream};
-ghost use Rattle.pb_readback.specs.Faults.{fault_behind, fault_if, fault_in, fault_of, may_stand};
-ghost use Rattle.pb_readback.specs.Reading.{IsHeading, IsUnderWay};
+ghost use Rattle.pb_limits.specs.Limits.{most_streams};
+ghost use Rattle.pb_rows.specs.Name.{is_name};
+ghost use Rattle.pb_graph.specs.ProcessGraph.{IsStream};
+ghost use Rattle.pb_form.specs.OutputRows.{output_columns, output_schema};
+ghost use Rattle.pb_form.specs.Reading.{row_read};
+ghost use Rattle.pb_form.specs.Writing.{FitEach};
+ghost use Rattle.pb_form.specs.declared.output.OutputKind.TheVariants.{Global as GlobalKind, Node};
+ghost use Rattle.pb_blocks.specs.Counts.{IsHeading, IsStreamKind};
+ghost use Rattle.pb_blocks.specs.Lists.{is_among};
+ghost use Rattle.pb_blocks.specs.Texts.{name_field};
+ghost use Rattle.pb_blocks.specs.Values.{said_arc, values_in};
+ghost use Rattle.pb_readback.specs.Drafts.{draft_of, no_solution, tests_begun, told_with, with_measure, with_nodal, with_node, with_row, with_stream};
+ghost use Rattle.pb_readback.specs.Faults.{fault_behind, fault_beside, fault_of};
+ghost use Rattle.pb_readback.specs.Reading.{IsUnderWay, MayCome};
 
-use crate::draft::{Draft, Heading, Solution, StreamRow};
-use crate::fault::RowFault;
-use crate::forms::{FullRow, form_of, has_form_wanted};
-use crate::kind::{RowKind, kind_of, may_come_after};
-use crate::known::Known;
-use crate::lists::side_of;
-use crate::rows;
+use crate::draft::Draft;
+use pb_blocks::{
+    Heading, Known, RowFault, Solution, said_arc, said_global, kind_among, lowest, said_measure,
+    name_field, said_nodal, said_price, said_solution, said_stream,
+};
+use pb_form::{Fields, OutputKind, Values, output_schema, read};
 use pb_graph::{Graph, List, MeasureTest, NodalTest, Solved, Tests};
 use pb_rows::Row;
 use std::alloc::{AllocError, Global};
@@ -25,11 +34,10 @@ impl Draft {
         ensures { result ≡ draft_of heading }
     {
         Draft {
-            last: RowKind::Report,
+            last: OutputKind::Report,
             heading,
             nodes: Known::new(alloc),
             prices: List::new(alloc),
-            form: None,
             streams: Known::new(alloc),
             graph: Graph::new(alloc, heading.nodes),
             rows: List::new(alloc),
@@ -38,15 +46,16 @@ impl Draft {
         }
     }
 
-    // Reads one row more: its first fault, or none, and then the draft has what the row tells.
+    // Reads one row more: its lowest fault, or none, and then the draft has what the row tells.
     pub(crate) fn read(&mut self, alloc: Global, row: &Row) -> Result<Option<RowFault>, AllocError>
         requires { IsUnderWay self.old }
         ensures fault { IfOk result (λ fault. fault ≡ fault_behind self.old row.now) }
         ensures told { IfOk result (λ fault. fault ≡ None → self.new ≡ with_row self.old row.now) }
     {
-        match kind_of(row) {
-            None => Ok(Some(RowFault::Kind)),
-            Some(kind) => self.read_as(alloc, kind, row),
+        let fields = Fields::all(row);
+        match kind_among(self.kinds_next(), &fields) {
+            Err(fault) => Ok(Some(fault)),
+            Ok(kind) => self.read_as(alloc, kind, &fields),
         }
     }
 
@@ -54,188 +63,99 @@ impl Draft {
     fn read_as(
         &mut self,
         alloc: Global,
-        kind: RowKind,
-        row: &Row,
+        kind: OutputKind,
+        fields: &Fields,
     ) -> Result<Option<RowFault>, AllocError>
-        requires { IsUnderWay self.old }
-        ensures fault { IfOk result (λ fault. fault ≡ fault_if (Some kind) self.old row.now) }
+        requires way { IsUnderWay self.old }
+        requires may { MayCome self.old kind }
+        ensures fault { IfOk result (λ fault. fault ≡ fault_of kind self.old fields.now) }
         ensures told { IfOk result
-            (λ fault. fault ≡ None → self.new ≡ told_with kind self.old row.now) }
+            (λ fault. fault ≡ None → self.new ≡ told_with kind self.old fields.now) }
     {
-        if !self.may_stand(kind) {
-            return Ok(Some(RowFault::Kind));
-        }
-        match kind {
-            RowKind::Report => Ok(Some(RowFault::Kind)),
-            RowKind::Node => self.add_node(row),
-            RowKind::Stream => self.add_stream(alloc, row),
-            RowKind::Solved => self.add_solution(row),
-            RowKind::Global => self.add_global(alloc, row),
-            RowKind::Nodal => self.add_nodal(row),
-            RowKind::Measure => self.add_measure(row),
-            RowKind::End => self.add_end(row),
+        let beside = self.fault_beside(kind, fields);
+        match read(output_schema(kind), fields) {
+            Err(fault) => Ok(lowest(Some(RowFault::from(fault)), beside)),
+            Ok(values) => match beside {
+                Some(fault) => Ok(Some(fault)),
+                None => {
+                    self.add(alloc, kind, fields, &values)?;
+                    Ok(None)
+                }
+            },
         }
     }
 
-    // Whether a row of a kind may stand behind those before it.
-    fn may_stand(&self, kind: RowKind) -> bool
-        ensures { result ≡ may_stand self.now kind }
+    // Adds what a row of a kind tells that has no fault.
+    fn add(
+        &mut self,
+        alloc: Global,
+        kind: OutputKind,
+        fields: &Fields,
+        values: &Values,
+    ) -> Result<(), AllocError>
+        requires way { IsUnderWay self.old }
+        requires may { MayCome self.old kind }
+        requires read { row_read (output_schema kind) fields.now ≡ Ok values.now }
+        requires fit { FitEach (output_columns kind) values.now }
+        requires fine { fault_beside kind self.old fields.now ≡ None }
+        ensures { OnOk result (self.new ≡ told_with kind self.old fields.now) }
     {
-        if self.nodes.len() < self.heading.nodes {
-            matches!(kind, RowKind::Node)
-        } else if self.streams.len() < self.heading.streams {
-            matches!(kind, RowKind::Stream)
-        } else {
-            may_come_after(self.last, kind)
+        match kind {
+            OutputKind::Node => self.add_node(fields, values)?,
+            OutputKind::Stream | OutputKind::StreamBefore => {
+                self.add_stream(alloc, kind, fields, values)?;
+            }
+            OutputKind::Solved => self.solution = said_solution(values),
+            OutputKind::Global => self.tests = Some(no_tests(alloc, values)),
+            OutputKind::Nodal => {
+                let test = said_nodal(&self.nodes, fields, values);
+                push_nodal(&mut self.tests, test)?;
+            }
+            OutputKind::Measure => {
+                let test = said_measure(&self.streams, fields, values);
+                push_measure(&mut self.tests, test)?;
+            }
+            _ => {}
         }
+        self.last = kind;
+        Ok(())
     }
 
     // Adds a node with its price.
-    fn add_node(&mut self, row: &Row) -> Result<Option<RowFault>, AllocError>
-        requires way { IsUnderWay self.old }
-        requires stands { may_stand self.old Node ≡ true }
-        ensures fault { IfOk result (λ fault. fault ≡ fault_of Node self.old row.now) }
-        ensures told { IfOk result
-            (λ fault. fault ≡ None → self.new ≡ told_with Node self.old row.now) }
+    fn add_node(&mut self, fields: &Fields, values: &Values) -> Result<(), AllocError>
+        requires form { is_name (name_field fields.now) ≡ true }
+        requires room { length self.old.nodes < most_streams }
+        requires new { is_among self.old.nodes (name_field fields.now) ≡ false }
+        requires values { values.now ≡ values_in Node fields.now }
+        ensures { OnOk result (self.new ≡ with_node fields.now self.old) }
     {
-        match rows::node(self, row) {
-            Err(fault) => Ok(Some(fault)),
-            Ok(node) => {
-                self.nodes.add(node.name)?;
-                self.prices.push(node.price)?;
-                self.last = RowKind::Node;
-                Ok(None)
-            }
-        }
-    }
-
-    // Adds a stream whose row has the form of the first of its block, or is the first itself.
-    fn add_stream(&mut self, alloc: Global, row: &Row) -> Result<Option<RowFault>, AllocError>
-        requires way { IsUnderWay self.old }
-        requires stands { may_stand self.old StreamKind ≡ true }
-        ensures fault { IfOk result (λ fault. fault ≡ fault_of StreamKind self.old row.now) }
-        ensures told { IfOk result
-            (λ fault. fault ≡ None → self.new ≡ told_with StreamKind self.old row.now) }
-    {
-        if !has_form_wanted(self.form, row) {
-            return Ok(Some(RowFault::Fields));
-        }
-        let fault = self.add_full_row(alloc, &FullRow::of(row))?;
-        self.form = Some(form_of(row));
-        Ok(fault)
+        self.nodes.add(name_field(fields))?;
+        self.prices.push(said_price(values))
     }
 
     // Adds a stream with its ends, and what its row tells beside them.
-    fn add_full_row(&mut self, alloc: Global, row: &FullRow) -> Result<Option<RowFault>, AllocError>
-        requires way { IsUnderWay self.old }
-        requires stands { may_stand self.old StreamKind ≡ true }
-        ensures fault { IfOk result (λ fault. fault ≡ fault_in StreamKind self.old row.now) }
-        ensures told { IfOk result
-            (λ fault. fault ≡ None → self.new ≡ with_stream row.now self.old) }
+    fn add_stream(
+        &mut self,
+        alloc: Global,
+        kind: OutputKind,
+        fields: &Fields,
+        values: &Values,
+    ) -> Result<(), AllocError>
+        requires stream { IsStreamKind kind }
+        requires fit { FitEach (output_columns kind) values.now }
+        requires form { is_name (name_field fields.now) ≡ true }
+        requires room { length self.old.streams < most_streams }
+        requires new { is_among self.old.streams (name_field fields.now) ≡ false }
+        requires few { length self.old.graph.streams < most_streams }
+        requires joins { IsStream self.old.graph.nodes
+            (said_arc self.old.nodes fields.now values.now) }
+        requires values { values.now ≡ values_in kind fields.now }
+        ensures { OnOk result (self.new ≡ with_stream kind fields.now self.old) }
     {
-        match rows::stream(self, row) {
-            Err(fault) => Ok(Some(fault)),
-            Ok(stream) => {
-                let side = side_of(alloc, &self.nodes, row.field(13))?;
-                let parts = Vec::from_slice(alloc, row.field(14))?;
-                self.streams.add(stream.name)?;
-                self.graph.push(stream.arc)?;
-                self.rows.push(StreamRow {
-                    class: stream.class,
-                    flow: stream.flow,
-                    bounds: stream.bounds,
-                    least: stream.least,
-                    shape: stream.shape,
-                    side,
-                    parts: List::from_vec(parts),
-                })?;
-                self.last = RowKind::Stream;
-                Ok(None)
-            }
-        }
-    }
-
-    // Adds how the stage was solved.
-    fn add_solution(&mut self, row: &Row) -> Result<Option<RowFault>, AllocError>
-        ensures fault { IfOk result (λ fault. fault ≡ fault_of SolvedKind self.old row.now) }
-        ensures told { IfOk result
-            (λ fault. fault ≡ None → self.new ≡ told_with SolvedKind self.old row.now) }
-    {
-        match rows::solved(self, row) {
-            Err(fault) => Ok(Some(fault)),
-            Ok(solution) => {
-                self.solution = solution;
-                self.last = RowKind::Solved;
-                Ok(None)
-            }
-        }
-    }
-
-    // Adds the global test, and no other test yet.
-    fn add_global(&mut self, alloc: Global, row: &Row) -> Result<Option<RowFault>, AllocError>
-        ensures fault { IfOk result (λ fault. fault ≡ fault_of GlobalKind self.old row.now) }
-        ensures told { IfOk result
-            (λ fault. fault ≡ None → self.new ≡ told_with GlobalKind self.old row.now) }
-    {
-        match rows::global(self, row) {
-            Err(fault) => Ok(Some(fault)),
-            Ok(global) => {
-                self.tests = Some(Tests {
-                    global,
-                    nodal: List::new(alloc),
-                    measure: List::new(alloc),
-                });
-                self.last = RowKind::Global;
-                Ok(None)
-            }
-        }
-    }
-
-    // Adds the test of a balance.
-    fn add_nodal(&mut self, row: &Row) -> Result<Option<RowFault>, AllocError>
-        ensures fault { IfOk result (λ fault. fault ≡ fault_of Nodal self.old row.now) }
-        ensures told { IfOk result
-            (λ fault. fault ≡ None → self.new ≡ told_with Nodal self.old row.now) }
-    {
-        match rows::nodal(self, row) {
-            Err(fault) => Ok(Some(fault)),
-            Ok(test) => {
-                push_nodal(&mut self.tests, test)?;
-                self.last = RowKind::Nodal;
-                Ok(None)
-            }
-        }
-    }
-
-    // Adds the test of a measurement.
-    fn add_measure(&mut self, row: &Row) -> Result<Option<RowFault>, AllocError>
-        ensures fault { IfOk result (λ fault. fault ≡ fault_of Measure self.old row.now) }
-        ensures told { IfOk result
-            (λ fault. fault ≡ None → self.new ≡ told_with Measure self.old row.now) }
-    {
-        match rows::measure(self, row) {
-            Err(fault) => Ok(Some(fault)),
-            Ok(test) => {
-                push_measure(&mut self.tests, test)?;
-                self.last = RowKind::Measure;
-                Ok(None)
-            }
-        }
-    }
-
-    // Ends the block.
-    fn add_end(&mut self, row: &Row) -> Result<Option<RowFault>, AllocError>
-        ensures fault { IfOk result (λ fault. fault ≡ fault_of End self.old row.now) }
-        ensures told { IfOk result
-            (λ fault. fault ≡ None → self.new ≡ told_with End self.old row.now) }
-    {
-        match rows::end(self, row) {
-            Err(fault) => Ok(Some(fault)),
-            Ok(()) => {
-                self.last = RowKind::End;
-                Ok(None)
-            }
-        }
+        let row = said_stream(alloc, &self.nodes, kind, fields, values)?;
+        self.graph.push(said_arc(&self.nodes, kind, fields, values))?;
+        self.streams.add(name_field(fields))?;
+        self.rows.push(row)
     }
 }
 
@@ -250,6 +170,18 @@ fn no_solution() -> Solution
         dof: 0,
         low: 0,
         high: None,
+    }
+}
+
+// The global test, and no other test yet.
+fn no_tests(alloc: Global, values: &Values) -> Tests
+    requires { FitEach (output_columns GlobalKind) values.now }
+    ensures { result ≡ tests_begun values.now }
+{
+    Tests {
+        global: said_global(values),
+        nodal: List::new(alloc),
+        measure: List::new(alloc),
     }
 }
 

@@ -4,15 +4,15 @@ ghost use Rattle.std.specs.Prelude.{◌≡◌, ◌≢◌, ◌==◌, ◌<◌, tru
 ghost use Rattle.std.specs.List.{list_any};
 ghost use Rattle.pb_graph.specs.declared.records.Member.{Member};
 ghost use Rattle.pb_graph.specs.declared.records.Step.{Step};
-ghost use Rattle.pb_readback.specs.declared.kind.RowKind.TheVariants.{Stream as StreamKind, End};
-ghost use Rattle.pb_readback.specs.Blocks.{block_of, result_of, witness_by};
-ghost use Rattle.pb_readback.specs.Reading.{has_stream, is_on_stream};
+ghost use Rattle.pb_form.specs.declared.output.OutputKind.TheVariants.{End};
+ghost use Rattle.pb_blocks.specs.Results.{result_of};
+ghost use Rattle.pb_readback.specs.Blocks.{block_of};
+ghost use Rattle.pb_readback.specs.Reading.{has_stream, is_on_stream, is_stream_kind};
 
-use crate::draft::{Draft, Shape, StreamRow};
-use crate::kind::RowKind;
-use crate::known::Known;
-use crate::lists::{members_of, steps_of};
-use pb_graph::{Classified, List, Member, Stage, Step, StreamResult, Witness};
+use crate::draft::Draft;
+use pb_blocks::{Known, StreamRow, result_of};
+use pb_form::OutputKind;
+use pb_graph::{List, Member, Stage, Step, StreamResult, Witness};
 use pb_rows::{Name, Names};
 use std::alloc::{AllocError, Global};
 
@@ -34,16 +34,17 @@ impl Draft {
         ensures ended { result ≡ true → self.now.last ≡ End }
         ensures going { result ≡ false → self.now.last ≢ End }
     {
-        matches!(self.last, RowKind::End)
+        matches!(self.last, OutputKind::End)
     }
 
     // Whether the last row is that of the last stream.
     pub(crate) fn is_at_last_stream(&self) -> bool
         ensures all { result ≡ true → length self.now.streams ≡ self.now.heading.streams }
-        ensures other { result ≡ false → self.now.last ≡ StreamKind
+        ensures other { result ≡ false → is_stream_kind self.now.last ≡ true
             → length self.now.streams ≢ self.now.heading.streams }
     {
-        matches!(self.last, RowKind::Stream) && self.streams.len() == self.heading.streams
+        matches!(self.last, OutputKind::Stream | OutputKind::StreamBefore)
+            && self.streams.len() == self.heading.streams
     }
 
     // The results of the streams, with the streams of their certificates looked up.
@@ -68,7 +69,6 @@ impl Draft {
             heading,
             nodes,
             prices,
-            form: _,
             streams,
             graph,
             rows: _,
@@ -102,7 +102,7 @@ impl Draft {
 }
 
 // The first of these results whose certificate has the stream of this number.
-#[tactic(auto, using(crate::proofs::NameLemmas::found_here, crate::proofs::NameLemmas::not_here, crate::proofs::NameLemmas::found_nowhere))]
+#[tactic(auto, using(pb_blocks::proofs::NameLemmas::found_here, pb_blocks::proofs::NameLemmas::not_here, pb_blocks::proofs::NameLemmas::found_nowhere))]
 pub(crate) fn first_on_stream(results: &[StreamResult], stream: u32) -> Option<usize>
     ensures value { result ≡ position (is_on_stream stream) results.now }
     ensures within { IfSome result (λ place. place < length results.now) }
@@ -155,35 +155,4 @@ fn results_of(
         results.push(result_of(alloc, streams, row)?)?;
     }
     Ok(results)
-}
-
-fn result_of(alloc: Global, streams: &Known, row: &StreamRow) -> Result<StreamResult, AllocError>
-    ensures { IfOk result (λ made. made ≡ result_of streams.now row.now) }
-{
-    let witness = witness_of(alloc, streams, row)?;
-    Ok(StreamResult {
-        classified: Classified {
-            class: row.class,
-            witness,
-        },
-        flow: row.flow,
-        bounds: row.bounds,
-        least: row.least,
-    })
-}
-
-// A certificate: the members of a cut with its side, or the steps of a cycle.
-fn witness_of(alloc: Global, streams: &Known, row: &StreamRow) -> Result<Witness, AllocError>
-    ensures { IfOk result (λ witness. witness ≡ witness_by row.now.shape streams.now row.now) }
-{
-    let parts = row.parts.as_slice();
-    match row.shape {
-        Shape::Cut => Ok(Witness::Cut {
-            side: row.side.copy(alloc)?,
-            members: members_of(alloc, streams, parts)?,
-        }),
-        Shape::Cycle => Ok(Witness::Cycle {
-            steps: steps_of(alloc, streams, parts)?,
-        }),
-    }
 }

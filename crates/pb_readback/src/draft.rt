@@ -1,74 +1,66 @@
-// What the rows of a block have told so far.
+// What the rows of a block have told so far, and of which kinds the next one may be.
 
-use crate::kind::RowKind;
-use crate::known::Known;
-use pb_graph::{Bounds, Class, Graph, List, Solved, Tests};
-use pb_rows::Name;
+ghost use Rattle.std.specs.Prelude.{◌≡◌};
+ghost use Rattle.pb_readback.specs.Drafts.{kinds_after, kinds_next, stream_kinds};
 
-/// What the row that opens a block tells: the period and the round, how many nodes and streams the block has, the gap in
-/// thousandths and the greatest number of sweeps.
-#[derive(Clone, Copy)]
-pub struct Heading {
-    pub period: Name,
-    pub round: u32,
-    pub nodes: u32,
-    pub streams: u32,
-    pub gap: u32,
-    pub sweeps: u32,
-}
+use pb_blocks::{Heading, Known, Solution, StreamRow};
+use pb_form::OutputKind;
+use pb_graph::{Graph, List, Tests};
 
-/// The shape of a certificate.
-#[derive(Clone, Copy, PartialEq, Eq, Debug)]
-pub enum Shape {
-    Cut,
-    Cycle,
-}
-
-/// The form of the rows of a block's streams: with the fields of least bounds, or without them, as rows were written before there
-/// were any.
-#[derive(Clone, Copy, PartialEq, Eq, Debug)]
-pub enum StreamForm {
-    WithLeast,
-    WithoutLeast,
-}
-
-/// What the row of a stream tells beside its name and its ends: the parts of the certificate are kept as they are written until
-/// all streams are named.
-#[derive(Drop)]
-pub struct StreamRow {
-    pub class: Class,
-    pub flow: i128,
-    pub bounds: Option<Bounds>,
-    pub least: Option<Bounds>,
-    pub shape: Shape,
-    pub side: List<bool>,
-    pub parts: List<u8>,
-}
-
-/// How a stage was solved: the sweeps done and whether the gap was met, its two numbers, the degrees of freedom, and the bounds
-/// of the weighted squares in thousandths.
-#[derive(Clone, Copy)]
-pub struct Solution {
-    pub solved: Solved,
-    pub g: u64,
-    pub h: u32,
-    pub dof: u32,
-    pub low: i128,
-    pub high: Option<i128>,
-}
-
-/// What the rows of a block have told so far, and the kind of the last one. The form is that of its first stream's row, and the
-/// solution that of the `solved` row, once they have come.
+/// What the rows of a block have told so far, and the kind of the last one. The solution is that of the `solved` row, once it has
+/// come.
 #[derive(Drop)]
 pub struct Draft {
-    pub last: RowKind,
+    pub last: OutputKind,
     pub heading: Heading,
     pub nodes: Known,
     pub prices: List<i128>,
-    pub form: Option<StreamForm>,
     pub streams: Known,
     pub graph: Graph,
     pub rows: List<StreamRow>,
     pub solution: Solution,
     pub tests: Option<Tests>,
+}
+
+impl Draft {
+    // The kinds of rows that may come next.
+    pub(crate) fn kinds_next(&self) -> &'static [OutputKind]
+        ensures { result.now ≡ kinds_next self.now }
+    {
+        if self.nodes.len() < self.heading.nodes {
+            &[OutputKind::Node]
+        } else if self.streams.len() < self.heading.streams {
+            stream_kinds(self.last)
+        } else {
+            kinds_after(self.last)
+        }
+    }
+}
+
+// The kinds of a stream's row: all streams of a block have that of the first.
+fn stream_kinds(last: OutputKind) -> &'static [OutputKind]
+    ensures { result.now ≡ stream_kinds last }
+{
+    match last {
+        OutputKind::Stream => &[OutputKind::Stream],
+        OutputKind::StreamBefore => &[OutputKind::StreamBefore],
+        _ => &[OutputKind::Stream, OutputKind::StreamBefore],
+    }
+}
+
+// The kinds of rows that may come after the last stream and the rows after it.
+fn kinds_after(last: OutputKind) -> &'static [OutputKind]
+    ensures { result.now ≡ kinds_after last }
+{
+    match last {
+        OutputKind::Report | OutputKind::Node | OutputKind::Stream | OutputKind::StreamBefore => {
+            &[OutputKind::Solved]
+        }
+        OutputKind::Solved => &[OutputKind::Global, OutputKind::End],
+        OutputKind::Global | OutputKind::Nodal => {
+            &[OutputKind::Nodal, OutputKind::Measure, OutputKind::End]
+        }
+        OutputKind::Measure => &[OutputKind::Measure, OutputKind::End],
+        _ => &[],
+    }
 }

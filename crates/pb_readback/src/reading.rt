@@ -1,36 +1,40 @@
 // Block after block out of records.
 
-ghost use Rattle.std.specs.Prelude.{◌≡◌, ◌≢◌, ◌+◌, ◌^◌, ◌<◌, length, map, Some, None, IfOk, IfErr, OnOk, IfSome};
-ghost use Rattle.pb_readback.specs.declared.kind.RowKind.TheVariants.{Stream as StreamKind};
-ghost use Rattle.pb_readback.specs.declared.fault.ReadRefused.TheVariants.{At};
+ghost use Rattle.std.specs.Prelude.{◌≡◌, ◌≢◌, ◌+◌, ◌^◌, ◌<◌, true, false, length, map, Some, None, IfOk, IfErr, OnOk, IfSome};
 ghost use Rattle.pb_rows.specs.RecordsLeft.{TakesNext};
 ghost use Rattle.pb_limits.specs.Limits.{most_streams};
-ghost use Rattle.pb_readback.specs.Blocks.{result_of};
+ghost use Rattle.pb_blocks.specs.Counts.{IsHeading};
+ghost use Rattle.pb_blocks.specs.Results.{result_of};
+ghost use Rattle.pb_readback.specs.declared.reading.ReadRefused.TheVariants.{At};
 ghost use Rattle.pb_readback.specs.Faults.{fault_behind, first_unknown};
 ghost use Rattle.pb_readback.specs.Drafts.{draft_of, with_row};
-ghost use Rattle.pb_readback.specs.Next.{IsNext, Tells, next_by};
-ghost use Rattle.pb_readback.specs.Reading.{Breaks, BreaksFrom, Ends, IsHeading, IsReadFrom, IsReadWhole, IsUnderWay, KeepsResults, RefusesPart, RefusesRow, Skips};
+ghost use Rattle.pb_readback.specs.Next.{AreCounted, IsNext, Tells, next_by};
+ghost use Rattle.pb_readback.specs.Reading.{Breaks, BreaksFrom, Ends, IsReadFrom, IsReadWhole, IsUnderWay, KeepsResults, RefusesPart, RefusesRow, Skips, is_stream_kind};
 ghost use Rattle.pb_readback.specs.WellFormed.{IsWellFormedBlock};
 
 use crate::block::{Block, first_on_stream};
-use crate::draft::{Draft, Heading};
-use crate::fault::{ReadRefused, RowFault};
-use crate::kind::is_passed_over;
-use crate::rows;
+use crate::draft::Draft;
+use pb_blocks::{Heading, RowFault, heading_in, is_passed_over};
 use pb_graph::{List, StreamResult};
 use pb_rows::{Records, Row};
 use std::alloc::{AllocError, Global};
 
-/// Reads the next block. `Ok(None)` exactly where none follows and each record left is one that is passed over; `At` exactly at the
-/// first record that can't be read, with the lowest of its faults. After a refusal nothing is said of the records left.
+/// Why no block is read: the number of the first row that has a fault, and its fault; or out of memory.
+#[derive(Clone, Copy, PartialEq, Eq, Debug)]
+pub enum ReadRefused {
+    At { row: u32, fault: RowFault },
+    NoMemory,
+}
+
+/// Reads the next block. `Ok(None)` exactly if none follows and each record left is one that is passed over; `At` exactly at the
+/// first record that can't be read, with the lowest of its faults. After `At` that record was taken and none after it; but if the
+/// fault is that of a name in a stream's parts, the records of all streams of the block were taken, and none after them.
 pub fn read(alloc: Global, records: &mut Records) -> Result<Option<Block>, ReadRefused>
     requires few { records.old.taken + length records.old.left < 2 ^ 31 }
     ensures next { IfOk result
         (λ found. IsNext records.old.taken records.old.left (next_by found records.new.left)) }
-    ensures refused { IfErr result (Tells records.old.taken records.old.left) }
-    ensures counted { OnOk result
-        (records.new.taken + length records.new.left
-        ≡ records.old.taken + length records.old.left) }
+    ensures refused { IfErr result (Tells records.old records.new) }
+    ensures counted { OnOk result (AreCounted records.old records.new) }
     ensures formed { IfOk result (λ found. IfSome found IsWellFormedBlock) }
 {
     match first_row(records) {
@@ -46,9 +50,7 @@ pub fn read(alloc: Global, records: &mut Records) -> Result<Option<Block>, ReadR
 // Takes the rows that are passed over, and the first other.
 fn first_row(records: &mut Records) -> Result<Option<Row>, AllocError>
     ensures skips { IfOk result (Skips records.old.left records.new.left) }
-    ensures counted { OnOk result
-        (records.new.taken + length records.new.left
-        ≡ records.old.taken + length records.old.left) }
+    ensures counted { OnOk result (AreCounted records.old records.new) }
 {
     while let Some(row) = records.next()? {
         if !is_passed_over(&row) {
@@ -62,12 +64,10 @@ fn first_row(records: &mut Records) -> Result<Option<Row>, AllocError>
 fn block_from(alloc: Global, first: &Row, records: &mut Records) -> Result<Block, ReadRefused>
     requires few { records.old.taken + length records.old.left < 2 ^ 31 }
     ensures ok { IfOk result (IsReadFrom first.now records.old.left records.new.left) }
-    ensures err { IfErr result (BreaksFrom first.now records.old.left records.old.taken) }
-    ensures counted { OnOk result
-        (records.new.taken + length records.new.left
-        ≡ records.old.taken + length records.old.left) }
+    ensures err { IfErr result (BreaksFrom first.now records.old records.new) }
+    ensures counted { OnOk result (AreCounted records.old records.new) }
 {
-    match rows::heading(first) {
+    match heading_in(first) {
         Ok(heading) => block_of(alloc, heading, records),
         Err(fault) => Err(ReadRefused::At {
             row: records.taken() as u32,
@@ -81,10 +81,8 @@ fn block_of(alloc: Global, heading: Heading, records: &mut Records) -> Result<Bl
     requires heading { IsHeading heading }
     requires few { records.old.taken + length records.old.left < 2 ^ 31 }
     ensures ok { IfOk result (IsReadWhole (draft_of heading) records.old.left records.new.left) }
-    ensures err { IfErr result (Breaks (draft_of heading) records.old.left records.old.taken) }
-    ensures counted { OnOk result
-        (records.new.taken + length records.new.left
-        ≡ records.old.taken + length records.old.left) }
+    ensures err { IfErr result (Breaks (draft_of heading) records.old records.new) }
+    ensures counted { OnOk result (AreCounted records.old records.new) }
 {
     let opened = records.taken() as u32;
     let mut draft = Draft::new(alloc, heading);
@@ -104,7 +102,7 @@ fn block_of(alloc: Global, heading: Heading, records: &mut Records) -> Result<Bl
 fn next_row(records: &mut Records) -> Result<Row, ReadRefused>
     requires few { records.old.taken < 2 ^ 31 }
     ensures ok { IfOk result (λ row. TakesNext records.old records.new (Some row)) }
-    ensures err { IfErr result (Ends records.old.left records.old.taken) }
+    ensures err { IfErr result (Ends records.old records.new) }
 {
     match records.next() {
         Ok(Some(row)) => Ok(row),
@@ -136,8 +134,9 @@ fn look_up(
 ) -> Result<(), ReadRefused>
     requires way { IsUnderWay draft.now }
     requires few { opened < 2 ^ 31 }
-    requires kept { draft.now.last ≢ StreamKind → KeepsResults draft.now results.old }
-    ensures ok { OnOk result (draft.now.last ≡ StreamKind → first_unknown draft.now ≡ None) }
+    requires kept { is_stream_kind draft.now.last ≡ false → KeepsResults draft.now results.old }
+    ensures ok { OnOk result
+        (is_stream_kind draft.now.last ≡ true → first_unknown draft.now ≡ None) }
     ensures kept { OnOk result (KeepsResults draft.now results.new) }
     ensures err { IfErr result (RefusesPart draft.now opened) }
 {

@@ -8,5 +8,6 @@ returns-in-Ok-clause-ok c =
 
 pub returns-in-Err-At-clause-ok : goal.returns-in-Err-At-clause-ok
 returns-in-Err-At-clause-ok c =
-    row_next c.args.records.now c.read.new.records c.in-Err-At.row c.in-Err-At.fault c.args.out.now.items c.write_unreadable.new.out.items (rw c.in-Err-At.field-0-is at c.in-Err-At.ensures.refused)
+    let told = rw c.in-Err-At.field-0-is at c.in-Err-At.ensures.refused in
+    row_next c.args.records.now c.read.new.records c.in-Err-At.row c.in-Err-At.fault c.args.out.now.items c.write_unreadable.new.out.items told.0 told.1
     c.in_ok-write_unreadable-in-Err-At.ensures.ok

@@ -1,5 +1,5 @@
 use Rattle.std.proofs.Common.{◌≡◌, ◌++◌, drop, map}
-use Rattle.pb_readback.specs.Blocks.{result_of}
+use Rattle.pb_blocks.specs.Results.{result_of}
 use Rattle.pb_readback.proofs.block.results_of.Given as goal
 
 abbrev pub invariant-loop-row : goal.invariant-loop-row

@@ -22,8 +22,8 @@ returns-in_err-row-clause-err c =
     let going = c.loop-records-test.true in
     let p = err_from_is_err_and c.from_residual.result c.from_residual.ensures.1 in
     rw (p.1, p.2)
-    (broke_ended (draft_of c.args.heading) c.loop-records.draft c.args.records.now.left c.loop-records.records.left c.args.records.now.taken c.loop-records.records.taken _ inv.read
-    (c.is_ended.ensures.going going) inv.counted c.in_err-row.ensures.err)
+    (broke_ended (draft_of c.args.heading) c.loop-records.draft c.args.records.now c.loop-records.records c.next_row.new.records _ inv.read (c.is_ended.ensures.going going) inv.counted
+    c.in_err-row.ensures.err)
 
 pub returns-in_err-add_row-clause-err : goal.returns-in_err-add_row-clause-err
 returns-in_err-add_row-clause-err c =
@@ -36,8 +36,8 @@ returns-in_err-add_row-clause-err c =
     let number = c.taken.ensures in
     let p = err_from_is_err_and c.from_residual-in_err-add_row.result c.from_residual-in_err-add_row.ensures.1 in
     rw (p.1, p.2)
-    (broke_at (draft_of c.args.heading) c.loop-records.draft c.args.records.now.left c.loop-records.records.left c.next_row.new.records.left c.in_ok-row.row c.args.records.now.taken
-    c.loop-records.records.taken c.taken.result _ inv.read (c.is_ended.ensures.going going) taken.0 (omega (arith, long, one, count, number)) c.in_err-add_row.ensures.err)
+    (broke_at (draft_of c.args.heading) c.loop-records.draft c.args.records.now c.loop-records.records c.next_row.new.records c.in_ok-row.row c.taken.result _ inv.read
+    (c.is_ended.ensures.going going) taken.0 number (omega (arith, long, one, count)) c.in_err-add_row.ensures.err)
 
 pub look_up-requires-clause-way : goal.look_up-requires-clause-way
 look_up-requires-clause-way c =
@@ -56,11 +56,14 @@ pub returns-in_err-look_up-clause-err : goal.returns-in_err-look_up-clause-err
 returns-in_err-look_up-clause-err c =
     let inv = c.loop-records.invariant in
     let taken = c.in_ok-row.ensures.ok in
+    let long = ap (λ (rows : List (List (List ℕ))). length rows) taken.0 in
+    let one = taken.1 in
+    let count = inv.counted in
     let opened = c.taken-opened.ensures in
     let p = err_from_is_err_and c.from_residual-in_err-look_up.result c.from_residual-in_err-look_up.ensures.1 in
     rw (p.1, p.2)
-    (broke_before (draft_of c.args.heading) c.loop-records.draft c.add_row.new.draft c.args.records.now.left c.loop-records.records.left c.next_row.new.records.left c.in_ok-row.row
-    c.args.records.now.taken _ inv.read taken.0 c.in_ok-add_row.ensures.fine c.in_ok-add_row.ensures.told (rw opened at c.in_err-look_up.ensures.err))
+    (broke_before (draft_of c.args.heading) c.loop-records.draft c.add_row.new.draft c.args.records.now c.loop-records.records c.next_row.new.records c.in_ok-row.row _ inv.read taken.0
+    c.in_ok-add_row.ensures.fine c.in_ok-add_row.ensures.told (omega (arith, long, one, count)) (rw opened at c.in_err-look_up.ensures.err))
 
 pub loop-records-preserved : goal.loop-records-preserved
 loop-records-preserved c =

@@ -1,0 +1,52 @@
+-- The kind of a row among one.
+use denote.Enum.Bare.{sameb}
+use Rattle.std.specs.Prelude.{◌&&◌, ◌||◌, not, is_ok, position, if◌then◌else◌}
+use Rattle.std.proofs.Common.{◌≡◌, ℕ, Bool, true, false, List, [], ◌∷◌, length, Some, None, Result, Ok, Err, refl, sym, inl, inr}
+use Rattle.std.proofs.lemmas.Bool.{and_parts, cases_Bool}
+use Rattle.pb_form.specs.contracts.fault.FormFault.{the_type}
+use Rattle.pb_form.specs.Columns.{Schema}
+use Rattle.pb_form.specs.Reading.{has_count}
+use Rattle.pb_form.specs.Telling.{agrees, has_words, is_of, schema_told, told_at}
+use Rattle.pb_form.specs.declared.fault.FormFault.{FormFault}
+use Rattle.pb_form.specs.declared.fault.FormFault.TheVariants as form
+
+-- the place of the one item that there is
+alone : {A : Type 0} (test : A → Bool) (x : A) → position test (x ∷ []) ≡ (if test x then Some 0 else None)
+alone test x = elim (cases_Bool (test x)) [
+  | inl holds ↦ rw holds refl
+  | inr fails ↦ rw fails refl
+]
+
+-- a row is told among one schema exactly if it is of it
+pub told_alone : (schema : Schema) (row : List (List ℕ)) → is_ok (schema_told (schema ∷ []) row) ≡ is_of row schema
+told_alone schema row = rw (alone (is_of row) schema) (by (is_of row schema))
+  where
+    by : (b : Bool) → is_ok (told_at (schema ∷ []) row (if b then Some 0 else None)) ≡ b
+    by true = refl
+    by false = refl
+
+-- a telling that isn't that no schema has the row's words
+abbrev pub tells_words : Result ℕ FormFault → Bool
+tells_words (Err form.Kind) = false
+tells_words told = true
+
+-- a fault that says whether a row has the words of one schema
+by_words : (has : Bool) → tells_words (Err (if has || false then form.Fields else form.Kind)) ≡ has
+by_words true = refl
+by_words false = refl
+
+-- a row has the words of one schema exactly if its telling says so
+pub words_alone : (schema : Schema) (row : List (List ℕ)) → tells_words (schema_told (schema ∷ []) row) ≡ has_words row schema
+words_alone schema row = elim (cases_Bool (is_of row schema)) [
+  | inl holds ↦ rw (alone (is_of row) schema, holds) (sym (and_parts (has_count schema (length row)) (agrees schema.columns row) holds).1)
+  | inr fails ↦ rw (alone (is_of row) schema, fails) (by_words (agrees schema.columns row))
+]
+
+-- a fault is another than `Kind` exactly if its telling says that there are the words
+pub another : (fault : FormFault) → not (sameb the_type fault form.Kind) ≡ tells_words (Err fault)
+another form.Kind = refl
+another form.Fields = refl
+another form.Name = refl
+another form.Number = refl
+another form.Date = refl
+another form.Word = refl

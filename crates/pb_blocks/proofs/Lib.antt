@@ -1,0 +1,5 @@
+mod FitLemmas
+mod ItemLemmas
+mod KindLemmas
+pub mod NameLemmas
+pub mod RowLaws

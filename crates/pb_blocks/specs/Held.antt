@@ -1,0 +1,44 @@
+-- Inside. What the code holds: the items of a list that are left, and names that are found without a walk.
+use Rattle.std.specs.Prelude.{◌≡◌, ◌≤◌, ℕ, Bool, true, ◌==◌, ◌||◌, ◌&&◌, not, nat_le, List, [], ◌∷◌, length, slice_index_or, if◌then◌else◌}
+use Rattle.std.specs.List.{list_all, position_or_len, slice_split}
+use Rattle.pb_limits.specs.Limits.{most_streams}
+use Rattle.pb_rows.specs.Bytes.{dash}
+use Rattle.pb_rows.specs.Name.{is_name, is_name_byte}
+use Rattle.pb_blocks.specs.Lists.{differ, is_plus, part_name, place_of, plus, space}
+
+-- the items left of a text
+abbrev pub items_left : List ℕ → Bool → List (List ℕ)
+items_left rest ended = if ended then [] else slice_split (λ byte. byte == space) rest
+
+-- where the first item of a text ends: at a space, or with the text
+abbrev pub item_end : List ℕ → ℕ
+item_end text = position_or_len (λ byte. byte == space) text
+
+-- an item ends at this place of a text
+abbrev pub ends_at : List ℕ → ℕ → Bool
+ends_at text place = (place == length text) || (slice_index_or text place 0 == space)
+
+-- how many bytes at the front of a text may stand in a name
+abbrev pub name_end : List ℕ → ℕ
+name_end text = position_or_len (λ byte. not (is_name_byte byte)) text
+
+-- so many bytes at the front of a text, all of which may stand in a name, are one and the whole of the first item
+abbrev pub is_whole_name : List ℕ → ℕ → Bool
+is_whole_name text end = not (end == 0) && nat_le end 32 && ends_at text end
+
+-- the sign of a part
+abbrev pub sign_if : Bool → ℕ
+sign_if positive = if positive then plus else dash
+
+-- the first item of a list and those behind it, and its name and its sign as a part
+pub record IsNextPart (streams old new : List (List ℕ)) (stream : ℕ) (positive : Bool) : Type 0 where
+  pub item : List ℕ
+  pub first : old ≡ item ∷ new
+  pub place : stream ≡ place_of streams (part_name item)
+  pub sign : positive ≡ is_plus item
+
+-- names, none of them twice, and no more than a graph has streams
+pub record AreKnown (names : List (List ℕ)) : Type 0 where
+  pub forms : list_all is_name names ≡ true
+  pub different : differ names ≡ true
+  pub few : length names ≤ most_streams

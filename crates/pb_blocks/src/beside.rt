@@ -1,0 +1,93 @@
+// What may be wrong with a row of a block beside its form.
+
+ghost use Rattle.std.specs.Prelude.{◌≡◌, bytes_eq};
+ghost use Rattle.pb_blocks.specs.Beside.{has_bad_list, leads_to_itself, has_unknown_node, is_half, is_half_at, is_half_told, is_round};
+
+use crate::known::Known;
+use crate::lists::{are_parts, has_unknown_item, is_side};
+use crate::texts::{
+    HI, LEAST_HI, LEAST_LO, LO, VALUE, VARIANCE, field, from_field, parts_field, shape_field,
+    side_field, to_field,
+};
+use pb_form::{Fields, OutputKind};
+use pb_rows::read_whole;
+
+// The greatest round of a block.
+const MOST_ROUND: i128 = 20;
+
+/// Whether a stream's value stands without a variance, or one bound or least bound without the other.
+pub fn is_half_told(kind: OutputKind, fields: &Fields) -> bool
+    ensures { result ≡ is_half_told kind fields.now }
+{
+    match kind {
+        OutputKind::Stream => {
+            is_half_at(fields, VALUE, VARIANCE)
+                || is_half_at(fields, LO, HI)
+                || is_half_at(fields, LEAST_LO, LEAST_HI)
+        }
+        OutputKind::StreamBefore => {
+            is_half_at(fields, VALUE, VARIANCE) || is_half_at(fields, LO, HI)
+        }
+        _ => false,
+    }
+}
+
+// Whether one of the fields at two places is left out and the other isn't.
+fn is_half_at(fields: &Fields, one: usize, other: usize) -> bool
+    ensures { result ≡ is_half_at fields.now one other }
+{
+    is_half(field(fields, one), field(fields, other))
+}
+
+fn is_half(one: &[u8], other: &[u8]) -> bool
+    ensures { result ≡ is_half one.now other.now }
+{
+    if one.is_empty() {
+        !other.is_empty()
+    } else {
+        other.is_empty()
+    }
+}
+
+/// Whether a stream leads from or to, or has in its side, what is none of these nodes.
+pub fn has_unknown_node(nodes: &Known, kind: OutputKind, fields: &Fields) -> bool
+    ensures { result ≡ has_unknown_node nodes.now kind fields.now }
+{
+    !nodes.has(from_field(fields))
+        || !nodes.has(to_field(fields))
+        || has_unknown_item(nodes, side_field(kind, fields))
+}
+
+/// Whether a stream's side isn't one of these nodes in order, a cycle has a side, or its parts aren't signs with names.
+pub fn has_bad_list(nodes: &Known, kind: OutputKind, fields: &Fields) -> bool
+    ensures { result ≡ has_bad_list nodes.now kind fields.now }
+{
+    let side = side_field(kind, fields);
+    !is_side(nodes, side)
+        || (is_word(shape_field(kind, fields), b"cycle") && !side.is_empty())
+        || !are_parts(parts_field(kind, fields))
+}
+
+/// Whether a stream leads from a node to itself.
+pub fn leads_to_itself(fields: &Fields) -> bool
+    ensures { result ≡ leads_to_itself fields.now }
+{
+    is_word(from_field(fields), to_field(fields))
+}
+
+/// Whether a field is this word.
+pub fn is_word(text: &[u8], word: &[u8]) -> bool
+    ensures { result ≡ bytes_eq text.now word.now }
+{
+    text == word
+}
+
+/// Whether the end of a block has this round.
+pub fn is_round(fields: &Fields, round: u32) -> bool
+    ensures { result ≡ is_round fields.now round }
+{
+    match read_whole(field(fields, 2), 0, MOST_ROUND) {
+        Some(number) => number == i128::from(round),
+        None => false,
+    }
+}
