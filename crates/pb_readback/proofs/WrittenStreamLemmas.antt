@@ -29,7 +29,7 @@ use Rattle.pb_report.specs.Row.{fields_of}
 use Rattle.pb_form.specs.Columns.{column}
 use Rattle.pb_form.specs.Field.{field_read}
 use Rattle.pb_form.specs.Holds.{Word as WordColumn}
-use Rattle.pb_form.specs.OutputRows.{output_columns, output_schema, value_range, variance_range, wide_range}
+use Rattle.pb_form.specs.OutputRows.{output_columns, output_schema, value_range as value_holds, variance_range as variance_holds, wide_range as wide_holds}
 use Rattle.pb_form.specs.Reading.{row_read}
 use Rattle.pb_form.specs.Value.{Value, Items, Name, Number, Word}
 use Rattle.pb_form.specs.Words.{class_words, shape_words}
@@ -173,12 +173,12 @@ stream_fields names i stream result =
 pub fields_are : (names : Names) (i : ℕ) (stream : Stream) (result : StreamResult) → fields_of (result_row names i stream result) ≡ stream_fields names i stream result
 fields_are names i stream result =
     rw (
-      optional_value value_range (value_of stream.meas),
-      optional_value variance_range (variance_of stream.meas),
-      optional_value wide_range (lo_of result.bounds),
-      optional_value wide_range (hi_of result.bounds),
-      optional_value wide_range (lo_of (written_least result)),
-      optional_value wide_range (hi_of (written_least result)),
+      optional_value value_holds (value_of stream.meas),
+      optional_value variance_holds (variance_of stream.meas),
+      optional_value wide_holds (lo_of result.bounds),
+      optional_value wide_holds (hi_of result.bounds),
+      optional_value wide_holds (lo_of (written_least result)),
+      optional_value wide_holds (hi_of (written_least result)),
     ) refl
 
 -- the values of that row
