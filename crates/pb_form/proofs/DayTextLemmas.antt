@@ -1,14 +1,13 @@
 -- The text of a day writes it: it stands among those of all dates.
 use Rattle.std.specs.Prelude.{◌==◌, ◌||◌, map, Option, Some, None, if◌then◌else◌}
 use Rattle.std.specs.List.{flat_map, range_with_len}
-use Rattle.std.specs.Ordering.{int_eq}
 use Rattle.std.proofs.Common.{◌≡◌, ◌∙◌, ◌⊎◌, inl, inr, ◌≤◌, ◌<◌, ◌+◌, ℕ, zero, suc, ℤ, pos, Bool, true, false, List, [], ◌∷◌, ◌++◌, refl, sym, ap, subst, arith}
 use Rattle.std.proofs.lemmas.Bool.{cases_Bool, eqb-false, eqb-true}
 use Rattle.std.proofs.lemmas.Bool.Decides.{Decides-int_eq}
 use Rattle.jiff_core.specs.Calendar.{days_in_month, is_leap_year}
 use Rattle.pb_rows.specs.Date.{IsDate, IsDay, date_text, day_of, first_year}
 use Rattle.pb_rows.specs.Texts.{HaveOneDateText}
-use Rattle.pb_form.specs.Days.{dates_of_month, dates_of_year, dates_of_years, day_text, first_writing, is_this_day}
+use Rattle.pb_form.specs.Days.{dates_of_month, dates_of_year, dates_of_years, text_of_day, first_writing, is_this_day}
 
 -- ---- items of lists
 
@@ -92,8 +91,8 @@ first_found day text (other ∷ texts) is reads = by (is_this_day day (day_of ot
     by false here (inr rest) later = later rest
 
 -- The text of a day writes it.
-pub day_reads : HaveOneDateText → (n : ℤ) → IsDay n → day_of (day_text n) ≡ Some n
-unfolding day_text
+pub day_reads : HaveOneDateText → (n : ℤ) → IsDay n → day_of (text_of_day n) ≡ Some n
+unfolding text_of_day
 day_reads law n range =
     let text = law.each n range in
     let date = law.only text.0 n text.1 in
@@ -109,6 +108,6 @@ none_found day none (other ∷ texts) = by (is_this_day day (day_of other)) refl
     by true here later = absurd (none other (this_day day (day_of other) here))
     by false here later = later
 
-pub no_text : HaveOneDateText → (n : ℤ) → (IsDay n → ⊥) → day_text n ≡ []
-unfolding day_text
+pub no_text : HaveOneDateText → (n : ℤ) → (IsDay n → ⊥) → text_of_day n ≡ []
+unfolding text_of_day
 no_text law n outside = none_found n (λ text reads. outside (law.within text n reads)) (dates_of_years 300)

@@ -1,25 +1,24 @@
 -- The texts of values.
-use Rattle.std.specs.Prelude.{◌&&◌, ◌==◌, IfOk, bytes_eq, int_le, map, position, Option, Some, Result, Ok, Err, if◌then◌else◌}
-use Rattle.std.proofs.Common.{◌≡◌, ◌∙◌, ◌<◌, ◌≤ℤ◌, ◌+◌, ℕ, ℤ, pos, negsuc, zero, suc, Bool, true, false, List, [], ◌∷◌, ◌++◌, length, drop, get_or, refl, sym, ap, arith, add-one, append_assoc, subst}
+use Rattle.std.specs.Prelude.{◌&&◌, ◌==◌, IfOk, int_le, map, Some, Result, Ok, Err, if◌then◌else◌}
+use Rattle.std.proofs.Common.{◌≡◌, ◌∙◌, ◌<◌, ◌≤ℤ◌, ◌+◌, ℕ, ℤ, suc, Bool, true, false, List, [], ◌∷◌, ◌++◌, length, drop, get_or, refl, sym, ap, arith, add-one, append_assoc, subst}
 use Rattle.std.proofs.lemmas.Bool.{ne_eqb}
 use Rattle.std.proofs.lemmas.Int.{ints}
 use Rattle.std.proofs.lemmas.List.{length-map}
 use Rattle.std.proofs.Math.Seq.{drop-cons}
 use Rattle.pb_rows.specs.Date.{day_of}
 use Rattle.pb_rows.specs.Name.{is_name}
-use Rattle.pb_rows.specs.Number.{number, whole_text, within}
+use Rattle.pb_rows.specs.Number.{number, whole_text}
 use Rattle.pb_rows.specs.Reason.{is_reason}
 use Rattle.pb_rows.specs.Texts.{HaveOneDateText, HaveOneNumberText}
-use Rattle.pb_rows.specs.Written.{begins_with_word}
 use Rattle.pb_form.specs.Columns.{Column, Schema}
-use Rattle.pb_form.specs.Days.{day_text}
+use Rattle.pb_form.specs.Days.{text_of_day}
 use Rattle.pb_form.specs.Field.{held_in}
 use Rattle.pb_form.specs.Given.{text_as, value_as, values_as}
 use Rattle.pb_form.specs.Holds.{Holds}
 use Rattle.pb_form.specs.Holds as holds
 use Rattle.pb_form.specs.TextLaws.{OutputWordLaw, TextLaw}
 use Rattle.pb_form.specs.OutputRows.{output_columns, output_schema}
-use Rattle.pb_form.specs.Reading.{fields_read, joined, one_read}
+use Rattle.pb_form.specs.Reading.{fields_read}
 use Rattle.pb_form.specs.Seen.{column_seen, holds_seen, schema_seen}
 use Rattle.pb_form.specs.Texts.{texts_of, value_text}
 use Rattle.pb_form.specs.Value.{Value, Missing}
@@ -136,7 +135,7 @@ one_back numbers dates (holds.Number lo hi) optional (value.Number z) fit =
     (rw (reads, le_true lo z fit.0, le_true z hi fit.1) refl)
 one_back numbers dates holds.Date optional (value.Date day) fit =
     let reads = day_reads dates day fit in
-    not_left optional (day_text day) (held_in holds.Date (day_text day)) (value.Date day) (not_empty optional (day_text day) (some_date (day_text day) day reads)) (rw reads refl)
+    not_left optional (text_of_day day) (held_in holds.Date (text_of_day day)) (value.Date day) (not_empty optional (text_of_day day) (some_date (text_of_day day) day reads)) (rw reads refl)
 one_back numbers dates holds.Items optional (value.Items text) fit = not_left optional text (held_in holds.Items text) (value.Items text) fit refl
 one_back numbers dates takes optional v fit = absurd fit
 

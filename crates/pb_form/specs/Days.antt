@@ -27,5 +27,5 @@ first_writing day [] = []
 first_writing day (text ∷ texts) = if is_this_day day (day_of text) then text else first_writing day texts
 
 -- The text `YYYY-MM-DD` of a day from 1900 to 2199: the one that writes it. Another day has no text.
-unfoldable pub day_text : ℤ → List ℕ
-day_text day = first_writing day (dates_of_years 300)
+unfoldable pub text_of_day : ℤ → List ℕ
+text_of_day day = first_writing day (dates_of_years 300)

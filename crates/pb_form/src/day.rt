@@ -2,7 +2,7 @@
 
 ghost use Rattle.std.specs.Prelude.{◌≡◌, ◌<◌, ◌∷◌, ◌++◌, [], All, IsUtf8, MatchOption, OnOk};
 ghost use Rattle.pb_rows.specs.Date.{date_text};
-ghost use Rattle.pb_form.specs.Days.{day_text};
+ghost use Rattle.pb_form.specs.Days.{text_of_day};
 
 use jiff_core::civil::Date;
 use pb_rows::{Row, date_text_law};
@@ -15,7 +15,7 @@ const LAST_DAY: i32 = 84_005;
 
 // Appends the text of a day, counted from 1970-01-01, or nothing if no date from 1900 to 2199 is the day's.
 pub(crate) fn push_day(day: i32, row: &mut Row) -> Result<(), AllocError>
-    ensures adds { OnOk result (row.new ≡ row.old ++ day_text day ∷ []) }
+    ensures adds { OnOk result (row.new ≡ row.old ++ text_of_day day ∷ []) }
     ensures texts { OnOk result (All IsUtf8 row.old → All IsUtf8 row.new) }
 {
     match day_text(day) {
@@ -26,7 +26,8 @@ pub(crate) fn push_day(day: i32, row: &mut Row) -> Result<(), AllocError>
 
 // The text `YYYY-MM-DD` of a day, if it has one.
 fn day_text(day: i32) -> Option<[u8; 10]>
-    ensures { MatchOption result (day_text day ≡ []) (λ text. (text ≡ day_text day) × IsUtf8 text) }
+    ensures { MatchOption result (text_of_day day ≡ [])
+        (λ text. (text ≡ text_of_day day) × IsUtf8 text) }
 {
     date_text_law();
     if day < FIRST_DAY || LAST_DAY < day {

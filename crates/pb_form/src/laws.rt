@@ -1,7 +1,6 @@
-// Laws: that values have one record, that of their texts, and fit, and that a record is of one kind.
+// Laws: that values have one record and fit, and that a record is of one kind.
 
 ghost use Rattle.pb_form.specs.Laws.{FittingLaw, OneKindLaw, OneRecordLaw};
-ghost use Rattle.pb_form.specs.TextLaws.{OutputWordLaw, TextLaw};
 
 use pb_rows::{date_text_law, number_text_law};
 
@@ -25,17 +24,4 @@ pub fn fitting_law()
 /// their number of fields in common, and none takes an empty field at its end.
 pub fn one_kind_law()
     ensures { OneKindLaw }
-{}
-
-/// The law that the texts of values which fit the columns of a schema read back as them.
-pub fn text_law()
-    ensures { TextLaw }
-{
-    number_text_law();
-    date_text_law();
-}
-
-/// The law that each row of an output begins with a word.
-pub fn output_word_law()
-    ensures { OutputWordLaw }
 {}

@@ -25,11 +25,14 @@ pub use column::{Column, Holds, Schema};
 pub use fault::FormFault;
 pub use fields::Fields;
 pub use json::write_json;
-pub use laws::{fitting_law, one_kind_law, one_record_law, output_word_law, text_law};
-pub use output::{OutputKind, output_json, output_record, output_schema, output_schemas};
+pub use laws::{fitting_law, one_kind_law, one_record_law};
+pub use output::{
+    OutputKind, output_json, output_record, output_schema, output_schemas, output_word_law,
+};
 pub use reading::{read, read_columns};
 pub use session::{SessionKind, session_kind, session_record, session_schema, session_schemas};
 pub use telling::tell;
+pub use texts::text_law;
 pub use value::{ROOM, Value, Values};
 pub use words::{
     CAUSE_WORDS, CLASS_WORDS, EDIT_WORDS, MEASURED_WORDS, PERIOD_WORDS, SHAPE_WORDS, STATE_WORDS,

@@ -5,6 +5,7 @@ ghost use Rattle.pb_form.specs.Given.{values_as};
 ghost use Rattle.pb_form.specs.Json.{record_line};
 ghost use Rattle.pb_form.specs.OutputRows.{output_columns, output_kinds, output_schema, output_schemas};
 ghost use Rattle.pb_form.specs.Seen.{schema_seen};
+ghost use Rattle.pb_form.specs.TextLaws.{OutputWordLaw};
 ghost use Rattle.pb_form.specs.Texts.{texts_of};
 
 use crate::column::{Column, Holds, Schema};
@@ -335,3 +336,8 @@ pub fn output_json(kind: OutputKind, row: &Row, out: &mut Vec<u8>) -> Result<(),
 {
     write_json(output_schema(kind), row, out)
 }
+
+/// The law that each row of an output begins with a word.
+pub fn output_word_law()
+    ensures { OutputWordLaw }
+{}

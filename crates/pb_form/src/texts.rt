@@ -4,13 +4,22 @@ ghost use Rattle.std.specs.Prelude.{◌≡◌, ◌∷◌, ◌++◌, [], length, 
 ghost use Rattle.pb_rows.specs.Number.{whole_text};
 ghost use Rattle.pb_form.specs.Given.{value_as, values_as};
 ghost use Rattle.pb_form.specs.Seen.{column_seen, holds_seen};
-ghost use Rattle.pb_form.specs.Texts.{texts_of, value_text, word_of};
+ghost use Rattle.pb_form.specs.TextLaws.{TextLaw};
+ghost use Rattle.pb_form.specs.Texts.{held_word, texts_of, value_text};
 
 use crate::column::{Column, Holds};
 use crate::day::push_day;
 use crate::value::Value;
-use pb_rows::{Row, whole_bytes};
+use pb_rows::{Row, date_text_law, number_text_law, whole_bytes};
 use std::alloc::{AllocError, Global};
+
+/// The law that the texts of values which fit the columns of a schema read back as them.
+pub fn text_law()
+    ensures { TextLaw }
+{
+    number_text_law();
+    date_text_law();
+}
 
 // The record of the texts of values, one a column.
 pub(crate) fn write_texts(
@@ -47,7 +56,7 @@ fn push_text(alloc: Global, column: &Column, value: Value, row: &mut Row) -> Res
 
 // The word at a place among those of a column.
 fn word_of(holds: &Holds, place: usize) -> &'static str
-    ensures { result.now ≡ word_of (holds_seen holds.now) place }
+    ensures { result.now ≡ held_word (holds_seen holds.now) place }
 {
     match holds {
         Holds::Word(words) if place < words.len() => words[place],

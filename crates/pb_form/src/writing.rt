@@ -6,8 +6,7 @@ ghost use Rattle.pb_form.specs.Seen.{column_seen, schema_seen};
 ghost use Rattle.pb_form.specs.Writing.{FitEach, Writes};
 
 use crate::column::Schema;
-use crate::laws::text_law;
-use crate::texts::write_texts;
+use crate::texts::{text_law, write_texts};
 use crate::value::Value;
 use pb_rows::Row;
 use std::alloc::{AllocError, Global};

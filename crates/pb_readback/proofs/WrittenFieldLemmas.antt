@@ -12,10 +12,11 @@ use Rattle.pb_rows.specs.Name.{is_name, same_name}
 use Rattle.pb_rows.specs.Number.{number, whole_text, within}
 use Rattle.pb_rows.specs.Texts.{HaveOneNumberText}
 use Rattle.pb_report.specs.Names.{name_at}
-use Rattle.pb_report.specs.Row.{optional}
+use Rattle.pb_report.specs.Row.{optional_number}
 use Rattle.pb_form.specs.Columns.{column, optional as optional_column}
 use Rattle.pb_form.specs.Field.{field_read}
-use Rattle.pb_form.specs.Holds.{Name as NameColumn, Number as NumberColumn}
+use Rattle.pb_form.specs.Holds.{Holds, Name as NameColumn, Number as NumberColumn}
+use Rattle.pb_form.specs.Texts.{value_text}
 use Rattle.pb_form.specs.Value.{Value, Missing, Name, Number}
 use Rattle.pb_form.specs.Values.{number_in}
 use Rattle.pb_blocks.specs.Lists.{is_among, place_of}
@@ -58,9 +59,9 @@ abbrev pub optional_text : Option ℤ → List ℕ
 optional_text None = []
 optional_text (Some z) = whole_text z
 
-pub optional_value : (key : List ℕ) (o : Option ℤ) → (optional key o).value ≡ optional_text o
-optional_value key None = refl
-optional_value key (Some z) = refl
+pub optional_value : (takes : Holds) (o : Option ℤ) → value_text takes (optional_number o) ≡ optional_text o
+optional_value takes None = refl
+optional_value takes (Some z) = refl
 
 -- the value that it says
 abbrev pub optional_said : Option ℤ → Value

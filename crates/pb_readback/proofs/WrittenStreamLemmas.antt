@@ -23,16 +23,18 @@ use Rattle.pb_graph.specs.declared.results.StreamResult.{StreamResult}
 use Rattle.pb_graph.specs.ProcessGraph.{ProcessGraph, IsMeasurement, IsStream, IsWithinLimits}
 use Rattle.pb_graph.specs.WellFormed.{AreBoundsWithin, IsResultWithin, IsWitnessWithin}
 use Rattle.pb_report.specs.Block.{result_row, written_least}
-use Rattle.pb_report.specs.Certificate.{class_word, parts_text, shape_word, side_text}
+use Rattle.pb_report.specs.Certificate.{parts_text, side_text}
 use Rattle.pb_report.specs.Names.{name_at}
-use Rattle.pb_report.specs.Row.{values_of}
+use Rattle.pb_report.specs.Row.{fields_of}
 use Rattle.pb_form.specs.Columns.{column}
 use Rattle.pb_form.specs.Field.{field_read}
 use Rattle.pb_form.specs.Holds.{Word as WordColumn}
-use Rattle.pb_form.specs.OutputRows.{output_columns, output_schema}
+use Rattle.pb_form.specs.OutputRows.{output_columns, output_schema, value_range as value_holds, variance_range as variance_holds, wide_range as wide_holds}
 use Rattle.pb_form.specs.Reading.{row_read}
 use Rattle.pb_form.specs.Value.{Value, Items, Name, Number, Word}
 use Rattle.pb_form.specs.Words.{class_words, shape_words}
+use Rattle.pb_form.specs.Writing.{word_at}
+use Rattle.pb_choices.specs.Places.{class_place, shape_place, witness_shape}
 use Rattle.pb_form.specs.declared.output.OutputKind.TheVariants.{Stream as StreamKind}
 use Rattle.pb_blocks.specs.declared.rows.Shape.{Shape}
 use Rattle.pb_blocks.specs.declared.rows.Shape.TheVariants.{Cut, Cycle}
@@ -51,12 +53,9 @@ use Rattle.pb_readback.proofs.WrittenRowLemmas.{IsSoundRow, row_back, stream_bes
 
 -- ---- words
 
--- the place of a class among the words of classes
-abbrev pub class_place : Class → ℕ
-class_place Observable = 0
-class_place Unobservable = 1
-class_place Redundant = 2
-class_place Nonredundant = 3
+-- the word of a class
+abbrev pub class_word : Class → List ℕ
+class_word class = word_at class_words (class_place class)
 
 class_said : (class : Class) → field_read (column (codes "class") (WordColumn class_words)) (class_word class) ≡ Ok (Word (class_place class))
 class_said Observable = refl
@@ -76,8 +75,10 @@ shape_of (CutWitness side members) = Cut
 shape_of (CycleWitness steps) = Cycle
 
 abbrev pub place_of_shape : Witness → ℕ
-place_of_shape (CutWitness side members) = 0
-place_of_shape (CycleWitness steps) = 1
+place_of_shape witness = shape_place (witness_shape witness)
+
+abbrev pub shape_word : Witness → List ℕ
+shape_word witness = word_at shape_words (place_of_shape witness)
 
 shape_said : (witness : Witness) → field_read (column (codes "shape") (WordColumn shape_words)) (shape_word witness) ≡ Ok (Word (place_of_shape witness))
 shape_said (CutWitness side members) = refl
@@ -169,15 +170,15 @@ stream_fields names i stream result =
     ∷ shape_word result.classified.witness ∷ side_text names.nodes result.classified.witness
     ∷ parts_text names.streams result.classified.witness ∷ []
 
-pub fields_are : (names : Names) (i : ℕ) (stream : Stream) (result : StreamResult) → values_of (result_row names i stream result) ≡ stream_fields names i stream result
+pub fields_are : (names : Names) (i : ℕ) (stream : Stream) (result : StreamResult) → fields_of (result_row names i stream result) ≡ stream_fields names i stream result
 fields_are names i stream result =
     rw (
-      optional_value (codes "value") (value_of stream.meas),
-      optional_value (codes "variance") (variance_of stream.meas),
-      optional_value (codes "lo") (lo_of result.bounds),
-      optional_value (codes "hi") (hi_of result.bounds),
-      optional_value (codes "least_lo") (lo_of (written_least result)),
-      optional_value (codes "least_hi") (hi_of (written_least result)),
+      optional_value value_holds (value_of stream.meas),
+      optional_value variance_holds (variance_of stream.meas),
+      optional_value wide_holds (lo_of result.bounds),
+      optional_value wide_holds (hi_of result.bounds),
+      optional_value wide_holds (lo_of (written_least result)),
+      optional_value wide_holds (hi_of (written_least result)),
     ) refl
 
 -- the values of that row

@@ -20,7 +20,7 @@ use Rattle.pb_graph.specs.ProcessGraph.{IsProcessGraph, IsStream, IsWithinLimits
 use Rattle.pb_graph.specs.WellFormed.{HasShapeOf, IsPrice, IsResultWithin, IsWellFormed}
 use Rattle.pb_report.specs.Block.{block_rows, end_row, node_rows, report_row, result_rows, solved_row}
 use Rattle.pb_report.specs.Names.{IsNamed}
-use Rattle.pb_report.specs.Row.{Columns, values_of}
+use Rattle.pb_report.specs.Row.{OutputRow, fields_of}
 use Rattle.pb_report.specs.Study.{round_rows, stage_rows, stop_rows, taken_row}
 use Rattle.pb_report.specs.Tests.{tests_rows}
 use Rattle.pb_form.specs.OutputRows.{output_columns, output_schema}
@@ -183,7 +183,7 @@ abbrev whole_draft : Names → List ℕ → Options → ℕ → Stage → Draft
 whole_draft names period options round stage = record (behind_tests (solved_draft names period options round stage) stage.tests) { last = End }
 
 -- the rows behind the first
-abbrev body_rows : Names → List ℕ → ℕ → Stage → List Columns
+abbrev body_rows : Names → List ℕ → ℕ → Stage → List OutputRow
 body_rows names period round stage =
     node_rows names.nodes stage.prices
     ++ (result_rows names stage.graph.streams stage.streams
@@ -254,7 +254,7 @@ whole_back names period options round stage h =
     ap (λ (results : List StreamResult). block_with names period options round (record stage { streams = results })) (all_back names stage.graph stage.streams known within least)
 
 block_back : HaveOneNumberText → (names : Names) (period : List ℕ) (options : Options) (round : ℕ) (stage : Stage) → IsStageToWrite names period options round stage
-    → IsBlock (values_of (report_row period round stage.graph options)) (records_in (body_rows names period round stage)) (block_with names period options round stage)
+    → IsBlock (fields_of (report_row period round stage.graph options)) (records_in (body_rows names period round stage)) (block_with names period options round stage)
 block_back texts names period options round stage h =
     let first = heading_fields period options round stage in
     let rows = records_in (body_rows names period round stage) in
@@ -274,18 +274,18 @@ block_back texts names period options round stage h =
 
 -- a block behind rows that are passed over, and whatever comes behind it
 found_back : HaveOneNumberText → (names : Names) (period : List ℕ) (options : Options) (round : ℕ) (stage : Stage) → IsStageToWrite names period options round stage
-    → (passed rest : List Columns) → ArePassedOver (records_in passed)
+    → (passed rest : List OutputRow) → ArePassedOver (records_in passed)
     → IsFound (records_in (passed ++ (block_rows names period options round stage ++ rest))) (block_with names period options round stage) (records_in rest)
 found_back texts names period options round stage h passed rest over =
-    let first = values_of (report_row period round stage.graph options) in
+    let first = fields_of (report_row period round stage.graph options) in
     let body = body_rows names period round stage in
     record {
       passed = records_in passed;
       first = first;
       rows = records_in body;
       split =
-          map-append values_of passed (block_rows names period options round stage ++ rest)
-          ∙ ap (λ (rows : List (List (List ℕ))). records_in passed ++ first ∷ rows) (map-append values_of body rest);
+          map-append fields_of passed (block_rows names period options round stage ++ rest)
+          ∙ ap (λ (rows : List (List (List ℕ))). records_in passed ++ first ∷ rows) (map-append fields_of body rest);
       skipped = over;
       whole = block_back texts names period options round stage h;
     }
@@ -317,7 +317,7 @@ to_write names period options round stage all good most = record {
 }
 
 rounds_back : HaveOneNumberText → (names : Names) (period : List ℕ) (options : Options) → AreStagesToWrite names period options → (round : ℕ) (taken : List Taken) (stages : List Stage)
-    (rest : List Columns) → ArePassedOver (records_in rest) → length stages ≡ length taken → round + length stages ≤ most_round + 1 → AllByRecursion (IsGoodStage names) stages
+    (rest : List OutputRow) → ArePassedOver (records_in rest) → length stages ≡ length taken → round + length stages ≤ most_round + 1 → AllByRecursion (IsGoodStage names) stages
     → AreBlocks (records_in (round_rows names period options round taken stages ++ rest)) (blocks_from names period options round stages)
 rounds_back texts names period options all round [] [] rest over long few good = over
 rounds_back texts names period options all round [] (stage ∷ stages) rest over long few good = absurd (omega (arith, long))
@@ -329,7 +329,7 @@ rounds_back texts names period options all round (suspect ∷ taken) (stage ∷ 
     let found = found_back texts names period options round stage (to_write names period options round stage all good.0 (omega (arith, few))) (row ∷ []) (more ++ rest) refl in
     let same : records_in (row ∷ (block_rows names period options round stage ++ (more ++ rest)))
     ≡ records_in (((row ∷ block_rows names period options round stage) ++ more) ++ rest) =
-    ap (λ (rows : List Columns). records_in (row ∷ rows)) (sym (append_assoc (block_rows names period options round stage) more rest)) in (
+    ap (λ (rows : List OutputRow). records_in (row ∷ rows)) (sym (append_assoc (block_rows names period options round stage) more rest)) in (
       records_in (more ++ rest),
       subst (λ (rows : List (List (List ℕ))). IsFound rows (block_with names period options round stage) (records_in (more ++ rest))) same found,
       behind,
@@ -340,7 +340,7 @@ stops_passed period rounds None = refl
 stops_passed period rounds (Some reason) = refl
 
 stages_back : HaveOneNumberText → (names : Names) (period : List ℕ) (options : Options) → AreStagesToWrite names period options → (taken : List Taken) (stages : List Stage)
-    (rest : List Columns) → ArePassedOver (records_in rest) → length stages ≡ length taken + 1 → length stages ≤ most_round + 1 → AllByRecursion (IsGoodStage names) stages
+    (rest : List OutputRow) → ArePassedOver (records_in rest) → length stages ≡ length taken + 1 → length stages ≤ most_round + 1 → AllByRecursion (IsGoodStage names) stages
     → AreBlocks (records_in (stage_rows names period options taken stages ++ rest)) (blocks_from names period options 0 stages)
 stages_back texts names period options all taken [] rest over long few good = absurd (omega (arith, long))
 stages_back texts names period options all taken (stage ∷ stages) rest over long few good =
@@ -348,7 +348,7 @@ stages_back texts names period options all taken (stage ∷ stages) rest over lo
     let behind = rounds_back texts names period options all 1 taken stages rest over (omega (arith, long)) (omega (arith, few)) good.1 in
     let found = found_back texts names period options 0 stage (to_write names period options 0 stage all good.0 (omega arith)) [] (more ++ rest) refl in (
       records_in (more ++ rest),
-      subst (λ (rows : List Columns). IsFound (records_in rows) (block_with names period options 0 stage) (records_in (more ++ rest)))
+      subst (λ (rows : List OutputRow). IsFound (records_in rows) (block_with names period options 0 stage) (records_in (more ++ rest)))
           (sym (append_assoc (block_rows names period options 0 stage) more rest)) found,
       behind,
     )

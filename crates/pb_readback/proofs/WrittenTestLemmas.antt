@@ -23,16 +23,19 @@ use Rattle.pb_graph.specs.declared.results.Verdict.{Verdict}
 use Rattle.pb_graph.specs.declared.results.Verdict.TheVariants.{Reject, Accept, Undecided, NoCritical, NoTest}
 use Rattle.pb_graph.specs.ProcessGraph.{ProcessGraph}
 use Rattle.pb_graph.specs.WellFormed.{AreTestsWithin, IsMeasureWithin, IsNodalWithin, IsWellFormed, IsWide, sweeps_of}
-use Rattle.pb_report.specs.Block.{end_row, solved_row, state_word}
+use Rattle.pb_report.specs.Block.{end_row, solved_row}
 use Rattle.pb_report.specs.Names.{name_at}
-use Rattle.pb_report.specs.Row.{Columns, values_of}
-use Rattle.pb_report.specs.Tests.{global_row, measure_row, nodal_row, tests_rows, verdict_word}
+use Rattle.pb_report.specs.Row.{OutputRow, fields_of}
+use Rattle.pb_report.specs.Tests.{global_row, measure_row, nodal_row, tests_rows}
 use Rattle.pb_form.specs.Columns.{column}
 use Rattle.pb_form.specs.Field.{field_read}
 use Rattle.pb_form.specs.Holds.{Word as WordColumn}
-use Rattle.pb_form.specs.OutputRows.{output_columns}
+use Rattle.pb_form.specs.OutputRows.{output_columns, wide_range as wide_holds}
+use Rattle.pb_form.specs.SessionRows.{critical_range as critical_holds}
 use Rattle.pb_form.specs.Value.{Value, Name, Number, Word}
 use Rattle.pb_form.specs.Words.{state_words, verdict_words}
+use Rattle.pb_form.specs.Writing.{word_at}
+use Rattle.pb_choices.specs.Places.{gap_met, truth_place, verdict_place}
 use Rattle.pb_form.specs.declared.output.OutputKind.{OutputKind}
 use Rattle.pb_form.specs.declared.output.OutputKind.TheVariants.{Solved, Global, Nodal, Measure, End}
 use Rattle.pb_blocks.specs.declared.rows.Solution.{Solution}
@@ -60,9 +63,11 @@ pub record IsBehindAll (names : Names) (draft : Draft) : Type 0 where
 -- ---- how the stage was solved
 
 -- the place of a state among the words of states
-abbrev state_place : Met → ℕ
-state_place (Converged sweeps) = 0
-state_place (Unconverged sweeps) = 1
+abbrev pub state_place : Met → ℕ
+state_place solved = truth_place (gap_met solved)
+
+abbrev pub state_word : Met → List ℕ
+state_word solved = word_at state_words (state_place solved)
 
 state_said : (solved : Met) → field_read (column (codes "state") (WordColumn state_words)) (state_word solved) ≡ Ok (Word (state_place solved))
 state_said (Converged sweeps) = refl
@@ -94,12 +99,12 @@ solved_values stage =
     ∷ Number (pos stage.dof) ∷ Number stage.low ∷ optional_said stage.high ∷ []
 
 pub solved_tells : HaveOneNumberText → (names : Names) (draft : Draft) (stage : Stage) → IsBehindAll names draft → may_follow draft.last Solved ≡ true → IsWellFormed stage
-    → Tells draft (values_of (solved_row stage) ∷ []) (record draft { last = Solved; solution = solution_in stage })
+    → Tells draft (fields_of (solved_row stage) ∷ []) (record draft { last = Solved; solution = solution_in stage })
 solved_tells texts names draft stage at order formed =
     let next : Draft = record draft { last = Solved; solution = solution_in stage } in
     let row = solved_fields stage in
     let values = solved_values stage in
-    let fields : values_of (solved_row stage) ≡ row = rw (optional_value (codes "high") stage.high) refl in
+    let fields : fields_of (solved_row stage) ≡ row = rw (optional_value wide_holds stage.high) refl in
     let sound : IsSoundRow draft Solved row values = record {
       told = told_behind draft Solved row (at.all_nodes, at.all_streams) (solved_after draft.last (whole_text (pos (sweeps_of stage.solved))) (state_word stage.solved)
           (whole_text (pos stage.g)) (whole_text (pos stage.h)) (whole_text (pos stage.dof)) (whole_text stage.low) (optional_text stage.high) order);
@@ -122,13 +127,9 @@ solved_tells texts names draft stage at order formed =
 
 -- ---- tests
 
--- the place of a verdict among the words of verdicts
-abbrev verdict_place : Verdict → ℕ
-verdict_place Reject = 0
-verdict_place Accept = 1
-verdict_place Undecided = 2
-verdict_place NoCritical = 3
-verdict_place NoTest = 4
+-- the word of a verdict
+abbrev pub verdict_word : Verdict → List ℕ
+verdict_word verdict = word_at verdict_words (verdict_place verdict)
 
 verdict_said : (verdict : Verdict) → field_read (column (codes "verdict") (WordColumn verdict_words)) (verdict_word verdict) ≡ Ok (Word (verdict_place verdict))
 verdict_said Reject = refl
@@ -155,12 +156,12 @@ abbrev only_global : GlobalTest → Tests
 only_global test = record { global = test; nodal = []; measure = [] }
 
 global_tells : HaveOneNumberText → (names : Names) (draft : Draft) (test : GlobalTest) → IsBehindAll names draft → may_follow draft.last Global ≡ true → IfSome test.critical IsCriticalValue
-    → Tells draft (values_of (global_row test) ∷ []) (with_tests draft Global (only_global test))
+    → Tells draft (fields_of (global_row test) ∷ []) (with_tests draft Global (only_global test))
 global_tells texts names draft test at order range =
     let next = with_tests draft Global (only_global test) in
     let row = global_fields test in
     let values : List Value = Word 0 ∷ optional_said test.critical ∷ Word (verdict_place test.verdict) ∷ [] in
-    let fields : values_of (global_row test) ≡ row = rw (optional_value (codes "critical") test.critical) refl in
+    let fields : fields_of (global_row test) ≡ row = rw (optional_value critical_holds test.critical) refl in
     let sound : IsSoundRow draft Global row values = record {
       told = told_behind draft Global row (at.all_nodes, at.all_streams) (global_after draft.last (optional_text test.critical) (verdict_word test.verdict) order);
       read = row_back (output_columns Global) row values
@@ -194,7 +195,7 @@ nodals_tell texts names graph known draft kind tests (test ∷ todo) at order wi
     let row = nodal_fields names test in
     let values : List Value =
     Word 0 ∷ Name (name_at names.nodes test.node) ∷ Number test.net ∷ Number test.variance ∷ optional_said test.critical ∷ Word (verdict_place test.verdict) ∷ [] in
-    let fields : values_of (nodal_row names test) ≡ row = rw (optional_value (codes "critical") test.critical) refl in
+    let fields : fields_of (nodal_row names test) ≡ row = rw (optional_value critical_holds test.critical) refl in
     let there : is_among draft.nodes (name_at names.nodes test.node) ≡ true =
     subst (λ (nodes : List (List ℕ)). is_among nodes (name_at names.nodes test.node) ≡ true) (sym at.nodes) (among_at names.nodes test.node below) in
     let sound : IsSoundRow told Nodal row values = record {
@@ -241,8 +242,8 @@ measures_tell texts names graph known draft kind tests (test ∷ todo) at order 
     let row = measure_fields names test in
     let values : List Value =
     Word 0 ∷ Name (name_at names.streams test.stream) ∷ Number test.low ∷ optional_said test.high ∷ optional_said test.critical ∷ Word (verdict_place test.verdict) ∷ [] in
-    let fields : values_of (measure_row names test) ≡ row =
-    rw (optional_value (codes "high") test.high, optional_value (codes "critical") test.critical) refl in
+    let fields : fields_of (measure_row names test) ≡ row =
+    rw (optional_value wide_holds test.high, optional_value critical_holds test.critical) refl in
     let there : is_among draft.streams (name_at names.streams test.stream) ≡ true =
     subst (λ (streams : List (List ℕ)). is_among streams (name_at names.streams test.stream) ≡ true) (sym at.streams) (among_at names.streams test.stream below) in
     let sound : IsSoundRow told Measure row values = record {
@@ -291,9 +292,9 @@ end_order None = refl
 end_order (Some tests) = measure_then_end (last_of Nodal Global tests.nodal) tests.measure (nodal_then_end Global tests.nodal refl)
 
 -- one list of rows after the other
-pub tells_both : (draft next after : Draft) (front back : List Columns) → Tells draft (records_in front) next → Tells next (records_in back) after → Tells draft (records_in (front ++ back)) after
+pub tells_both : (draft next after : Draft) (front back : List OutputRow) → Tells draft (records_in front) next → Tells next (records_in back) after → Tells draft (records_in (front ++ back)) after
 tells_both draft next after front back first second =
-    subst (λ (rows : List (List (List ℕ))). Tells draft rows after) (sym (map-append values_of front back)) (tells_append draft next (records_in front) (records_in back) after first second)
+    subst (λ (rows : List (List (List ℕ))). Tells draft rows after) (sym (map-append fields_of front back)) (tells_append draft next (records_in front) (records_in back) after first second)
 
 -- the draft before the tests, and behind them
 abbrev pub before_tests : Draft → Draft

@@ -5,15 +5,15 @@ use Rattle.pb_rows.specs.Texts.{WrittenRowsReadBack}
 use Rattle.pb_rows.specs.Written.{line_of, text_of_rows}
 use Rattle.pb_report.specs.declared.form.Form.TheVariants.{Csv}
 use Rattle.pb_report.specs.Form.{text_in}
-use Rattle.pb_report.specs.Row.{Columns, values_of}
+use Rattle.pb_report.specs.Row.{OutputRow, fields_of}
 use Rattle.pb_report.specs.Study.{study_rows}
 use Rattle.pb_readback.specs.Next.{AreBlocks}
 use Rattle.pb_readback.specs.Written.{RowTextLaw, RowWordsLaw, StudyRowsLaw, StudyTextLaw, blocks_from, records_in}
 
 -- the text of rows in CSV is that of their values
-csv_text : (rows : List Columns) → text_in Csv rows ≡ text_of_rows (records_in rows)
+csv_text : (rows : List OutputRow) → text_in Csv rows ≡ text_of_rows (records_in rows)
 csv_text [] = refl
-csv_text (row ∷ rows) = ap (λ (text : List ℕ). line_of (values_of row) ++ text) (csv_text rows)
+csv_text (row ∷ rows) = ap (λ (text : List ℕ). line_of (fields_of row) ++ text) (csv_text rows)
 
 pub text_back : WrittenRowsReadBack → RowTextLaw
 text_back written rows words = ap (λ (text : List ℕ). records_of text) (csv_text rows) ∙ written (records_in rows) words

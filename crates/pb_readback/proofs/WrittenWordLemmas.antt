@@ -15,28 +15,28 @@ use Rattle.pb_graph.specs.declared.results.Tests.{Tests}
 use Rattle.pb_report.specs.Block.{block_rows, end_row, node_row, node_rows, result_row, result_rows, solved_row}
 use Rattle.pb_report.specs.Design.{class_row}
 use Rattle.pb_report.specs.History.{edit_row}
-use Rattle.pb_report.specs.Row.{Columns, values_of}
+use Rattle.pb_report.specs.Row.{OutputRow, fields_of}
 use Rattle.pb_report.specs.Rows.{rows_with}
 use Rattle.pb_report.specs.Study.{round_rows, stage_rows, stop_rows}
 use Rattle.pb_report.specs.Tests.{measure_row, nodal_row, tests_rows}
 use Rattle.pb_readback.specs.Written.{BeginWithWords, RowWordsLaw, records_in}
 
-words_both : (front back : List Columns) → BeginWithWords front → BeginWithWords back → BeginWithWords (front ++ back)
+words_both : (front back : List OutputRow) → BeginWithWords front → BeginWithWords back → BeginWithWords (front ++ back)
 words_both front back first second =
-    ap (λ (rows : List (List (List ℕ))). list_all begins_with_word rows) (map-append values_of front back)
+    ap (λ (rows : List (List (List ℕ))). list_all begins_with_word rows) (map-append fields_of front back)
     ∙ (list_all-append begins_with_word (records_in front) (records_in back) ∙ and_from (list_all begins_with_word (records_in front)) (list_all begins_with_word (records_in back)) first second)
 
 -- rows of pairs, each of which begins with a word
-words_with : {A B : Type 0} (row : ℕ → A → B → Columns) → ((i : ℕ) (x : A) (y : B) → begins_with_word (values_of (row i x y)) ≡ true) → (i : ℕ) (xs : List A) (ys : List B)
+words_with : {A B : Type 0} (row : ℕ → A → B → OutputRow) → ((i : ℕ) (x : A) (y : B) → begins_with_word (fields_of (row i x y)) ≡ true) → (i : ℕ) (xs : List A) (ys : List B)
     → BeginWithWords (rows_with row i xs ys)
 words_with row each i [] ys = refl
 words_with row each i (x ∷ xs) [] = refl
 words_with row each i (x ∷ xs) (y ∷ ys) =
-    and_from (begins_with_word (values_of (row i x y))) (list_all begins_with_word (records_in (rows_with row (i + 1) xs ys))) (each i x y) (words_with row each (i + 1) xs ys)
+    and_from (begins_with_word (fields_of (row i x y))) (list_all begins_with_word (records_in (rows_with row (i + 1) xs ys))) (each i x y) (words_with row each (i + 1) xs ys)
 
-words_of : {A : Type 0} (row : A → Columns) → ((x : A) → begins_with_word (values_of (row x)) ≡ true) → (xs : List A) → BeginWithWords (map row xs)
+words_of : {A : Type 0} (row : A → OutputRow) → ((x : A) → begins_with_word (fields_of (row x)) ≡ true) → (xs : List A) → BeginWithWords (map row xs)
 words_of row each [] = refl
-words_of row each (x ∷ xs) = and_from (begins_with_word (values_of (row x))) (list_all begins_with_word (records_in (map row xs))) (each x) (words_of row each xs)
+words_of row each (x ∷ xs) = and_from (begins_with_word (fields_of (row x))) (list_all begins_with_word (records_in (map row xs))) (each x) (words_of row each xs)
 
 test_words : (names : Names) (tests : Option Tests) → BeginWithWords (tests_rows names tests)
 test_words names None = refl

@@ -21,15 +21,15 @@ use Rattle.pb_report.specs.History.{history_rows}
 use Rattle.pb_report.specs.Names.{IsNamedStudy}
 use Rattle.pb_report.specs.Over.{over_row}
 use Rattle.pb_report.specs.Refusal.{refused_row}
-use Rattle.pb_report.specs.Row.{Columns, values_of}
+use Rattle.pb_report.specs.Row.{OutputRow, fields_of}
 use Rattle.pb_report.specs.Study.{study_rows}
 use Rattle.pb_blocks.specs.Values.{most_round}
 use Rattle.pb_readback.specs.declared.block.Block.{Block}
 use Rattle.pb_readback.specs.Next.{AreBlocks}
 
 -- rows as the records that `csv` reads back
-abbrev pub records_in : List Columns → List (List (List ℕ))
-records_in rows = map values_of rows
+abbrev pub records_in : List OutputRow → List (List (List ℕ))
+records_in rows = map fields_of rows
 
 -- no two of these names are the same
 abbrev pub AreDistinct : List (List ℕ) → Type 0
@@ -95,7 +95,7 @@ pub record PassedRowsLaw : Type 0 where
   pub histories : (period : Period) (edits : List HistoryRow) → AreBlocks (records_in (history_rows period edits)) []
 
 -- rows that begin with a word, so that they read back from their text as they were written
-abbrev pub BeginWithWords : List Columns → Type 0
+abbrev pub BeginWithWords : List OutputRow → Type 0
 BeginWithWords rows = list_all begins_with_word (records_in rows) ≡ true
 
 -- Each row of a session's output begins with a word.
@@ -109,7 +109,7 @@ pub record RowWordsLaw : Type 0 where
 
 -- Rows that begin with a word read back from their text in CSV.
 abbrev pub RowTextLaw : Type 0
-RowTextLaw = (rows : List Columns) → BeginWithWords rows → records_of (text_in Csv rows) ≡ records_in rows
+RowTextLaw = (rows : List OutputRow) → BeginWithWords rows → records_of (text_in Csv rows) ≡ records_in rows
 
 -- The text of a study in CSV reads back as its stages, in order.
 abbrev pub StudyTextLaw : Type 0

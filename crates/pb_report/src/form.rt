@@ -5,7 +5,7 @@ ghost use Rattle.pb_form.specs.OutputRows.{output_columns};
 ghost use Rattle.pb_report.specs.Form.{row_text};
 ghost use Rattle.pb_report.specs.Given.{given_row};
 
-use pb_form::{OutputKind, Value, output_record, output_json};
+use pb_form::{OutputKind, Value, output_json, output_record};
 use std::alloc::{AllocError, Global};
 
 /// The form in which rows are written.

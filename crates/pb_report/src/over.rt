@@ -23,7 +23,13 @@ pub fn write_over(
         (over_row period.now stream.now ∷ [])) }
     ensures err { OnErr result (out.new.items ≡ out.old.items) }
 {
-    write_row(alloc, OutputKind::Over, &over_values(period, stream), form, out)
+    write_row(
+        alloc,
+        OutputKind::Over,
+        &over_values(period, stream),
+        form,
+        out,
+    )
 }
 
 fn over_values<'a>(period: &'a Name, stream: &'a Name) -> [Value<'a>; 3]

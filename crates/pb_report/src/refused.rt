@@ -23,7 +23,13 @@ pub fn write_refused(
         (refused_row at code ∷ [])) }
     ensures err { OnErr result (out.new.items ≡ out.old.items) }
 {
-    write_row(alloc, OutputKind::Refused, &refused_values(at, code), form, out)
+    write_row(
+        alloc,
+        OutputKind::Refused,
+        &refused_values(at, code),
+        form,
+        out,
+    )
 }
 
 fn refused_values(at: u32, code: u32) -> [Value<'static>; 4]

@@ -1,4 +1,4 @@
-use Rattle.std.proofs.Common.{◌≡◌, ◌∙◌, ◌≤◌, ◌<◌, length, arith, sym}
+use Rattle.std.proofs.Common.{◌∙◌, ◌≤◌, ◌<◌, length, arith, sym}
 use Rattle.std.proofs.lemmas.List.{append-nil, drop_all}
 use Rattle.pb_form.proofs.RowTextLemmas.{one_text}
 use Rattle.pb_form.proofs.texts.write_texts.Goals as goal
