@@ -1,7 +1,4 @@
 -- Statement
-pub mod Kinds
-pub mod Columns
-pub mod Requests
 pub mod Apart
 pub mod Rows
 pub mod Touching
@@ -18,5 +15,4 @@ pub mod Written
 pub mod Laws
 -- Inside
 pub mod Causes
-pub mod Fields
 pub mod Kept
