@@ -1,9 +1,26 @@
--- Statement. Records that write values: there is one, and only one.
-use Rattle.std.specs.Prelude.{◌≡◌, ℕ, List, []}
+-- Statement. Records that write values: there is one, and only one, its values fit, and it is of one kind.
+use Rattle.std.specs.Prelude.{◌≡◌, ℕ, List, [], Ok}
+use Rattle.pb_rows.specs.Records.{without_trailing_empty}
 use Rattle.pb_form.specs.Columns.{Schema}
+use Rattle.pb_form.specs.SessionRows.{session_schema, session_told}
 use Rattle.pb_form.specs.Value.{Value}
-use Rattle.pb_form.specs.Writing.{Writes}
+use Rattle.pb_form.specs.Writing.{FitEach, Writes}
+use Rattle.pb_form.specs.declared.session.SessionKind.{SessionKind}
 
 -- No two records write the same values by a schema without a tail. So a record that was read and is written again stays as it was.
 abbrev pub OneRecordLaw : Type 0
 OneRecordLaw = (schema : Schema) (values : List Value) (a b : List (List ℕ)) → schema.tail ≡ [] → Writes schema values a → Writes schema values b → a ≡ b
+
+-- The values that a record has by a schema fit its columns.
+abbrev pub FittingLaw : Type 0
+FittingLaw = (schema : Schema) (values : List Value) (fields : List (List ℕ)) → Writes schema values fields → FitEach schema.columns values
+
+-- a record is of a kind of a session, and no empty field stands at its end
+pub record IsOfKind (kind : SessionKind) (fields : List (List ℕ)) : Type 0 where
+  pub told : session_told fields ≡ Ok kind
+  pub filled : without_trailing_empty fields ≡ fields
+
+-- A record that has values by the schema of a kind is of this kind: no two kinds have their words and their number of fields in common,
+-- and none takes an empty field at its end.
+abbrev pub OneKindLaw : Type 0
+OneKindLaw = (kind : SessionKind) (values : List Value) (fields : List (List ℕ)) → Writes (session_schema kind) values fields → IsOfKind kind fields

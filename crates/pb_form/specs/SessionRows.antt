@@ -139,5 +139,5 @@ kind_in (Ok place) = kind_at (slice_get session_kinds place)
 kind_in (Err fault) = Err fault
 
 -- The kind of a row of a session, or why it has none.
-abbrev pub session_told : List (List ℕ) → Result SessionKind FormFault
+unfoldable pub session_told : List (List ℕ) → Result SessionKind FormFault
 session_told fields = kind_in (schema_told session_schemas fields)

@@ -24,10 +24,10 @@ pub use column::{Column, Holds, Schema};
 pub use fault::FormFault;
 pub use fields::Fields;
 pub use json::write_json;
-pub use laws::one_record_law;
+pub use laws::{fitting_law, one_kind_law, one_record_law};
 pub use output::{OutputKind, output_schema, output_schemas};
 pub use reading::{read, read_columns};
-pub use session::{SessionKind, session_kind, session_schema, session_schemas};
+pub use session::{SessionKind, session_kind, session_record, session_schema, session_schemas};
 pub use telling::tell;
 pub use value::{ROOM, Value, Values};
 pub use words::{

@@ -1,19 +1,25 @@
 // The rows of a session: the columns of each kind.
 
-ghost use Rattle.std.specs.Prelude.{◌≡◌, ◌≤◌, length, map, slice_get};
+ghost use Rattle.std.specs.Prelude.{◌≡◌, ◌≤◌, length, map, slice_get, IfOk};
+ghost use Rattle.pb_form.specs.Given.{values_as};
+ghost use Rattle.pb_form.specs.Laws.{IsOfKind};
 ghost use Rattle.pb_form.specs.Seen.{schema_seen};
-ghost use Rattle.pb_form.specs.SessionRows.{session_kinds, session_schema, session_schemas, session_told};
+ghost use Rattle.pb_form.specs.SessionRows.{session_columns, session_kinds, session_schema, session_schemas, session_told};
+ghost use Rattle.pb_form.specs.Writing.{FitEach, Writes};
 
 use crate::column::{Column, Holds, Schema};
 use crate::fault::FormFault;
 use crate::fields::Fields;
 use crate::table::{column, number, schema, word};
 use crate::telling::tell;
-use crate::value::ROOM;
+use crate::value::{ROOM, Value};
+use crate::writing::write;
 use pb_limits::{
     MOST_CRITICAL, MOST_DENSITY, MOST_FREEDOM, MOST_GRAMS, MOST_LEVEL, MOST_ROW_VARIANCE,
     MOST_VOLUME,
 };
+use pb_rows::Row;
+use std::alloc::{AllocError, Global};
 
 /// The kinds of the rows of a session.
 #[derive(Clone, Copy, PartialEq, Eq, Debug)]
@@ -226,4 +232,20 @@ pub fn session_kind(fields: &Fields) -> Result<SessionKind, FormFault>
 {
     let place = tell(session_schemas(), fields)?;
     Ok(KINDS[place])
+}
+
+/// The record of a kind that writes values, one a column: it reads back as them, it is of this kind, and no empty field stands at its
+/// end.
+pub fn session_record(
+    alloc: Global,
+    kind: SessionKind,
+    values: &[Value],
+) -> Result<Row, AllocError>
+    requires each { length values.now ≡ length (session_columns kind) }
+    requires fit { FitEach (session_columns kind) (values_as (session_columns kind) values.now) }
+    ensures value { IfOk result (Writes (session_schema kind)
+        (values_as (session_columns kind) values.now)) }
+    ensures kind { IfOk result (IsOfKind kind) }
+{
+    write(alloc, session_schema(kind), values)
 }

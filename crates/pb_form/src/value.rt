@@ -1,8 +1,13 @@
 // The values of a row.
 
-ghost use Rattle.std.specs.Prelude.{◌≡◌, ◌∷◌, length, slice_get};
+ghost use Rattle.std.specs.Prelude.{◌≡◌, ◌∷◌, length, slice_get, true};
 ghost use Rattle.std.specs.Option.{option_map};
+ghost use Rattle.pb_rows.specs.Name.{is_name};
+ghost use Rattle.pb_rows.specs.Reason.{is_reason};
+ghost use Rattle.pb_form.specs.Given.{value_as};
+ghost use Rattle.pb_form.specs.Holds as takes;
 ghost use Rattle.pb_form.specs.Kept.{said};
+ghost use Rattle.pb_form.specs.Value as says;
 ghost use Rattle.pb_form.specs.Values.{day_in, items_in, name_in, number_in, reason_in, value_at, word_in};
 
 use crate::fields::Fields;
@@ -24,6 +29,24 @@ pub enum Value<'a> {
     Number(i128),
     /// Days since 1970-01-01.
     Day(i32),
+}
+
+impl<'a> Value<'a> {
+    /// A name, for a column that takes names.
+    pub fn name(name: &'a Name) -> Value<'a>
+        ensures value { value_as takes.Name result ≡ says.Name name.now }
+        ensures form { is_name name.now ≡ true }
+    {
+        Value::Text(std::str::from_utf8(name.bytes()).unwrap())
+    }
+
+    /// A reason, for a column that takes reasons.
+    pub fn reason(reason: &'a Reason) -> Value<'a>
+        ensures value { value_as takes.Reason result ≡ says.Reason reason.now }
+        ensures form { is_reason reason.now ≡ true }
+    {
+        Value::Text(std::str::from_utf8(reason.bytes()).unwrap())
+    }
 }
 
 /// What is kept of a field that was read: its value, but for a text, which the field has.

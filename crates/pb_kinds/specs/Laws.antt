@@ -1,0 +1,22 @@
+-- Statement. Laws of what records ask.
+use Rattle.std.specs.Prelude.{◌≡◌, ℕ, List, Ok, true}
+use Rattle.std.specs.List.{list_all}
+use Rattle.pb_rows.specs.Name.{is_name}
+use Rattle.pb_form.specs.SessionRows.{session_schema}
+use Rattle.pb_form.specs.Value.{Value}
+use Rattle.pb_form.specs.Writing.{Writes}
+use Rattle.pb_form.specs.declared.session.SessionKind.{SessionKind}
+use Rattle.pb_kinds.specs.declared.rows.Effect.{Effect}
+use Rattle.pb_kinds.specs.declared.rows.Request.TheVariants.{Store}
+use Rattle.pb_kinds.specs.Effects.{effect_names}
+use Rattle.pb_kinds.specs.Ranges.{IsEffectInRange}
+use Rattle.pb_kinds.specs.Requests.{request_in, request_of}
+
+-- The numbers and days of what a record asks to be stored lie in their ranges, and its names are of the form.
+pub record StoredLaw : Type 0 where
+  pub in_range : (fields : List (List ℕ)) (effect : Effect) → request_in fields ≡ Ok (Store effect) → IsEffectInRange effect
+  pub named : (fields : List (List ℕ)) (effect : Effect) → request_in fields ≡ Ok (Store effect) → list_all is_name (effect_names effect) ≡ true
+
+-- A record that writes values by the schema of a kind asks what they ask in a row of this kind.
+abbrev pub AskingLaw : Type 0
+AskingLaw = (kind : SessionKind) (values : List Value) (fields : List (List ℕ)) → Writes (session_schema kind) values fields → request_in fields ≡ Ok (request_of kind values)

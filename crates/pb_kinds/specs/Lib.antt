@@ -1,0 +1,7 @@
+-- Statement
+pub mod Requests
+pub mod Ranges
+pub mod Effects
+pub mod Laws
+-- Inside
+pub mod There

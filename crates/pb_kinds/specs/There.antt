@@ -1,0 +1,53 @@
+-- Inside. What stands at a place of a row's values, and what a record writes.
+use Rattle.std.specs.Prelude.{◌≡◌, ◌≤ℤ◌, ◌^◌, ◌-◌, ℕ, ℤ, pos, neg_ℤ, true, List, Ok, Some}
+use Rattle.pb_rows.specs.Date.{IsDay}
+use Rattle.pb_rows.specs.Name.{is_name}
+use Rattle.pb_rows.specs.Records.{without_trailing_empty}
+use Rattle.pb_form.specs.Value.{Value}
+use Rattle.pb_form.specs.Values.{day_in, name_in, number_in, reason_in, value_at}
+use Rattle.pb_form.specs.declared.session.SessionKind.{SessionKind}
+use Rattle.pb_form.specs.declared.session.SessionKind.TheVariants.{StreamMetered, StreamBatch, StreamPlain}
+use Rattle.pb_site.specs.declared.declared.Kind.{Kind}
+use Rattle.pb_site.specs.declared.declared.Kind.TheVariants.{Metered, Batch, Plain}
+use Rattle.pb_kinds.specs.declared.rows.Effect.{Effect}
+use Rattle.pb_kinds.specs.declared.rows.Request.TheVariants.{Store}
+use Rattle.pb_kinds.specs.Requests.{request_in}
+
+-- a name
+pub record IsNameThere (values : List Value) (place : ℕ) : Type 0 where
+  pub name : List ℕ
+  pub is : value_at name_in values place ≡ Some name
+  pub form : is_name name ≡ true
+
+-- a reason
+pub record IsReasonThere (values : List Value) (place : ℕ) : Type 0 where
+  pub reason : List ℕ
+  pub is : value_at reason_in values place ≡ Some reason
+
+-- a day
+pub record IsDayThere (values : List Value) (place : ℕ) : Type 0 where
+  pub day : ℤ
+  pub is : value_at day_in values place ≡ Some day
+  pub range : IsDay day
+
+-- a number from lo to hi, both included
+pub record IsNumberThere (lo hi : ℤ) (values : List Value) (place : ℕ) : Type 0 where
+  pub number : ℤ
+  pub is : value_at number_in values place ≡ Some number
+  pub least : lo ≤ℤ number
+  pub most : number ≤ℤ hi
+
+-- a number of 64 bits
+abbrev pub IsLongThere : List Value → ℕ → Type 0
+IsLongThere values place = IsNumberThere (neg_ℤ (pos (2 ^ 63))) (pos (2 ^ 63 - 1)) values place
+
+-- a record asks that this effect be stored, and no empty field stands at its end
+pub record WritesEffect (effect : Effect) (fields : List (List ℕ)) : Type 0 where
+  pub asks : request_in fields ≡ Ok (Store effect)
+  pub filled : without_trailing_empty fields ≡ fields
+
+-- the kind of the row of a stream
+abbrev pub stream_kind : Kind → SessionKind
+stream_kind Metered = StreamMetered
+stream_kind Batch = StreamBatch
+stream_kind Plain = StreamPlain

@@ -1,0 +1,19 @@
+// Laws of what records ask.
+
+ghost use Rattle.pb_kinds.specs.Laws.{AskingLaw, StoredLaw};
+
+use pb_form::{fitting_law, one_kind_law};
+
+/// The law that the numbers and days of what a record asks to be stored lie in their ranges, and that its names are of the form.
+pub fn stored_law()
+    ensures { StoredLaw }
+{
+    fitting_law();
+}
+
+/// The law that a record which writes values by the schema of a kind asks what they ask in a row of this kind.
+pub fn asking_law()
+    ensures { AskingLaw }
+{
+    one_kind_law();
+}

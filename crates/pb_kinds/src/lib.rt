@@ -1,0 +1,18 @@
+//! What a record of a session asks, and what a stored row does: records are read by the table of kinds, and effects written as
+//! records by it.
+//!
+//! A new kind of rows is a line of the table in `pb_form`, a line of `request_of` (in `specs/Requests.antt` and `reading.rt`), and one
+//! arm of `write_effect`, if it is stored.
+#![tactic(auto)]
+
+mod facts;
+mod laws;
+mod reading;
+mod rows;
+mod there;
+mod writing;
+
+pub use laws::{asking_law, stored_law};
+pub use reading::read_request;
+pub use rows::{Edit, Effect, Request};
+pub use writing::write_effect;

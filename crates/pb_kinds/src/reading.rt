@@ -1,0 +1,214 @@
+// What a record asks, by the table of kinds.
+
+ghost use Rattle.std.specs.Prelude.{◌≡◌, IfOk};
+ghost use Rattle.pb_form.specs.SessionRows.{session_columns};
+ghost use Rattle.pb_form.specs.Writing.{FitEach};
+ghost use Rattle.pb_form.specs.declared.session.SessionKind.TheVariants as kinds;
+ghost use Rattle.pb_kinds.specs.Ranges.{IsRequestInRange};
+ghost use Rattle.pb_kinds.specs.Requests.{books, declares, request_in, request_of, stream_of};
+ghost use Rattle.pb_kinds.specs.There.{IsNameThere};
+
+use crate::facts::{dip_from, reading_from, transfer_from};
+use crate::rows::{Edit, Effect, Request};
+use crate::there::{day_there, dof_there, long_there, name_there, number_there, reason_there};
+use pb_facts::{Change, Fact};
+use pb_form::{Fields, FormFault, SessionKind, Values, read, session_kind, session_schema};
+use pb_rows::Row;
+use pb_site::{Declared, Kind};
+
+/// What a record asks, or the first fault of its fields. Empty fields at its end don't count.
+pub fn read_request(row: &Row) -> Result<Request, FormFault>
+    ensures value { result ≡ request_in row.now }
+    ensures in_range { IfOk result IsRequestInRange }
+{
+    let fields = Fields::filled(row);
+    if fields.len() == 0 {
+        return Ok(Request::Blank);
+    }
+    let kind = session_kind(&fields)?;
+    let values = read(session_schema(kind), &fields)?;
+    Ok(request_of(kind, &values))
+}
+
+// What a record of a kind asks, by its values.
+fn request_of(kind: SessionKind, values: &Values) -> Request
+    requires { FitEach (session_columns kind) values.now }
+    ensures { result ≡ request_of kind values.now }
+{
+    match kind {
+        SessionKind::Unit => unit(values),
+        SessionKind::Tank => tank(values),
+        SessionKind::Strap => strap(values),
+        SessionKind::StreamMetered => stream(Kind::Metered, values),
+        SessionKind::StreamBatch => stream(Kind::Batch, values),
+        SessionKind::StreamPlain => stream(Kind::Plain, values),
+        SessionKind::Period => period(values),
+        SessionKind::CriticalGlobal => critical_global(values),
+        SessionKind::CriticalNodal => critical_nodal(values),
+        SessionKind::CriticalMeasure => critical_measure(values),
+        SessionKind::Reading => books(false, reading_from(values, 1)),
+        SessionKind::Transfer => books(false, transfer_from(values, 1)),
+        SessionKind::Dip => books(false, dip_from(values, 1)),
+        SessionKind::LateReading => books(true, reading_from(values, 2)),
+        SessionKind::LateTransfer => books(true, transfer_from(values, 2)),
+        SessionKind::LateDip => books(true, dip_from(values, 2)),
+        SessionKind::AmendAmount => amend_amount(values),
+        SessionKind::AmendLevel => amend_level(values),
+        SessionKind::Strike => strike(values),
+        SessionKind::Close => Request::Store(Effect::Closes(name_there(values, 1))),
+        SessionKind::Design => Request::Design,
+        SessionKind::Report => Request::Report(name_there(values, 1)),
+        SessionKind::History => Request::History(name_there(values, 1)),
+    }
+}
+
+// A declaration is stored.
+fn declares(declared: Declared) -> Request
+    ensures { result ≡ declares declared }
+{
+    Request::Store(Effect::Declares(declared))
+}
+
+// A fact is stored, as it comes or late.
+fn books(late: bool, fact: Fact) -> Request
+    ensures { result ≡ books late fact }
+{
+    Request::Store(Effect::Books { fact, late })
+}
+
+// `unit,NAME`
+fn unit(values: &Values) -> Request
+    requires { FitEach (session_columns kinds.Unit) values.now }
+    ensures { result ≡ request_of kinds.Unit values.now }
+{
+    declares(Declared::Unit {
+        name: name_there(values, 1),
+    })
+}
+
+// `tank,NAME,BASEVAR`
+fn tank(values: &Values) -> Request
+    requires { FitEach (session_columns kinds.Tank) values.now }
+    ensures { result ≡ request_of kinds.Tank values.now }
+{
+    declares(Declared::Tank {
+        name: name_there(values, 1),
+        base: number_there(values, 2),
+    })
+}
+
+// `strap,TANK,MM,ML`
+fn strap(values: &Values) -> Request
+    requires { FitEach (session_columns kinds.Strap) values.now }
+    ensures { result ≡ request_of kinds.Strap values.now }
+{
+    declares(Declared::Strap {
+        tank: name_there(values, 1),
+        mm: long_there(values, 2),
+        ml: long_there(values, 3),
+    })
+}
+
+// `stream,NAME,FROM,TO,KIND,BASEVAR`, of a kind that its word says
+fn stream(kind: Kind, values: &Values) -> Request
+    requires name { IsNameThere values.now 1 }
+    requires from { IsNameThere values.now 2 }
+    requires to { IsNameThere values.now 3 }
+    ensures { result ≡ declares (stream_of kind values.now) }
+{
+    declares(Declared::Stream {
+        name: name_there(values, 1),
+        from: name_there(values, 2),
+        to: name_there(values, 3),
+        kind,
+        base: number_there(values, 5),
+    })
+}
+
+// `period,NAME,FIRST,LAST`
+fn period(values: &Values) -> Request
+    requires { FitEach (session_columns kinds.Period) values.now }
+    ensures { result ≡ request_of kinds.Period values.now }
+{
+    Request::Store(Effect::Opens {
+        name: name_there(values, 1),
+        first: day_there(values, 2),
+        last: day_there(values, 3),
+    })
+}
+
+// `critical,global,DOF,VALUE`
+fn critical_global(values: &Values) -> Request
+    requires { FitEach (session_columns kinds.CriticalGlobal) values.now }
+    ensures { result ≡ request_of kinds.CriticalGlobal values.now }
+{
+    declares(Declared::CritGlobal {
+        dof: dof_there(values, 2),
+        value: long_there(values, 3),
+    })
+}
+
+// `critical,nodal,VALUE`
+fn critical_nodal(values: &Values) -> Request
+    requires { FitEach (session_columns kinds.CriticalNodal) values.now }
+    ensures { result ≡ request_of kinds.CriticalNodal values.now }
+{
+    declares(Declared::CritNodal {
+        value: long_there(values, 2),
+    })
+}
+
+// `critical,measure,VALUE`
+fn critical_measure(values: &Values) -> Request
+    requires { FitEach (session_columns kinds.CriticalMeasure) values.now }
+    ensures { result ≡ request_of kinds.CriticalMeasure values.now }
+{
+    declares(Declared::CritMeasure {
+        value: long_there(values, 2),
+    })
+}
+
+// `amend,ID,GRAMS,VARIANCE,REASON`
+fn amend_amount(values: &Values) -> Request
+    requires { FitEach (session_columns kinds.AmendAmount) values.now }
+    ensures { result ≡ request_of kinds.AmendAmount values.now }
+{
+    let change = Change::Amount {
+        grams: long_there(values, 2),
+        variance: number_there(values, 3),
+    };
+    Request::Store(Effect::Edits {
+        id: name_there(values, 1),
+        edit: Edit::Change(change),
+        reason: reason_there(values, 4),
+    })
+}
+
+// `amend,ID,MM,DENSITY,VARIANCE,REASON`
+fn amend_level(values: &Values) -> Request
+    requires { FitEach (session_columns kinds.AmendLevel) values.now }
+    ensures { result ≡ request_of kinds.AmendLevel values.now }
+{
+    let change = Change::Level {
+        mm: long_there(values, 2),
+        density: long_there(values, 3),
+        variance: number_there(values, 4),
+    };
+    Request::Store(Effect::Edits {
+        id: name_there(values, 1),
+        edit: Edit::Change(change),
+        reason: reason_there(values, 5),
+    })
+}
+
+// `strike,ID,REASON`
+fn strike(values: &Values) -> Request
+    requires { FitEach (session_columns kinds.Strike) values.now }
+    ensures { result ≡ request_of kinds.Strike values.now }
+{
+    Request::Store(Effect::Edits {
+        id: name_there(values, 1),
+        edit: Edit::Strike,
+        reason: reason_there(values, 2),
+    })
+}

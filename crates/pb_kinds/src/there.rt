@@ -1,0 +1,55 @@
+// What stands at a place of a row's values.
+
+ghost use Rattle.std.specs.Prelude.{◌≡◌, pos, unsigned_abs};
+ghost use Rattle.pb_limits.specs.Limits.{most_freedom};
+ghost use Rattle.pb_kinds.specs.Requests.{day_there, name_there, number_there, reason_there};
+ghost use Rattle.pb_kinds.specs.There.{IsLongThere, IsNameThere, IsNumberThere, IsReasonThere};
+
+use pb_form::Values;
+use pb_rows::{Name, Reason};
+
+// A name.
+pub(crate) fn name_there(values: &Values, place: usize) -> Name
+    requires { IsNameThere values.now place }
+    ensures { result ≡ name_there values.now place }
+{
+    values.name(place).unwrap()
+}
+
+// A reason.
+pub(crate) fn reason_there(values: &Values, place: usize) -> Reason
+    requires { IsReasonThere values.now place }
+    ensures { result ≡ reason_there values.now place }
+{
+    values.reason(place).unwrap()
+}
+
+// A day, counted from 1970-01-01.
+pub(crate) fn day_there(values: &Values, place: usize) -> i32
+    ensures { result ≡ day_there values.now place }
+{
+    values.day(place).unwrap_or(0)
+}
+
+// A whole number.
+pub(crate) fn number_there(values: &Values, place: usize) -> i128
+    ensures { result ≡ number_there values.now place }
+{
+    values.number(place).unwrap_or(0)
+}
+
+// A whole number of 64 bits.
+pub(crate) fn long_there(values: &Values, place: usize) -> i64
+    requires { IsLongThere values.now place }
+    ensures { result ≡ number_there values.now place }
+{
+    number_there(values, place) as i64
+}
+
+// Degrees of freedom.
+pub(crate) fn dof_there(values: &Values, place: usize) -> u32
+    requires { IsNumberThere (pos 1) (pos most_freedom) values.now place }
+    ensures { result ≡ unsigned_abs (number_there values.now place) }
+{
+    number_there(values, place) as u32
+}
