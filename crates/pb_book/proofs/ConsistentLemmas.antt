@@ -28,7 +28,7 @@ use Rattle.pb_facts.specs.Fact.{IsInRange, is_too_long}
 use Rattle.pb_facts.specs.Facts.{has_id, is_live_with}
 use Rattle.pb_book.specs.declared.answer.Refused.TheVariants.{Unknown, Duplicate, Order, Mismatch, Sealed, Closed, Range, Full}
 use Rattle.pb_kinds.specs.declared.rows.Effect.{Effect}
-use Rattle.pb_kinds.specs.declared.rows.Edit.TheVariants as edit
+use Rattle.pb_kinds.specs.declared.rows.Edit.TheVariants as edits
 use Rattle.pb_kinds.specs.declared.rows.Effect.TheVariants.{Declares, Opens, Books, Edits, Closes}
 use Rattle.pb_book.specs.declared.rows.Period.{Period}
 use Rattle.pb_book.specs.Accepted.{AreAccepted, AreConsistent, IsAcceptable}
@@ -243,10 +243,10 @@ one_more rows at (Opens name first last) right accepted =
     (more_periods (declared_of rows) (facts_of rows) (periods_of rows) name first last right (fine _ _ _ _ accepted.no_cause) accepted.in_range)
 one_more rows at (Books fact late) right accepted =
     sound_by rows at (Books fact late) refl (more_facts (declared_of rows) (facts_of rows) (periods_of rows) fact right accepted.in_range (fine (declared_of rows) (facts_of rows) (periods_of rows) (Books fact late) accepted.no_cause).range)
-one_more rows at (Edits id (edit.Change change) reason) right accepted =
-    sound_by rows at (Edits id (edit.Change change) reason) refl
-    (amended_facts (declared_of rows) (facts_of rows) (periods_of rows) id change right accepted.in_range (fine (declared_of rows) (facts_of rows) (periods_of rows) (Edits id (edit.Change change) reason) accepted.no_cause).range)
-one_more rows at (Edits id edit.Strike reason) right accepted = sound_by rows at (Edits id edit.Strike reason) refl (struck_facts (declared_of rows) (facts_of rows) (periods_of rows) id right)
+one_more rows at (Edits id (edits.Change change) reason) right accepted =
+    sound_by rows at (Edits id (edits.Change change) reason) refl
+    (amended_facts (declared_of rows) (facts_of rows) (periods_of rows) id change right accepted.in_range (fine (declared_of rows) (facts_of rows) (periods_of rows) (Edits id (edits.Change change) reason) accepted.no_cause).range)
+one_more rows at (Edits id edits.Strike reason) right accepted = sound_by rows at (Edits id edits.Strike reason) refl (struck_facts (declared_of rows) (facts_of rows) (periods_of rows) id right)
 one_more rows at (Closes name) right accepted = sound_by rows at (Closes name) refl (closed_periods (declared_of rows) (facts_of rows) (periods_of rows) name right)
 
 pub consistent : (rows : List StoredRow) → AreAccepted rows → AreConsistent (declared_of rows) (facts_of rows) (periods_of rows)

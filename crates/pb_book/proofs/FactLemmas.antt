@@ -8,7 +8,7 @@ use Rattle.pb_facts.specs.declared.fact.Fact.{Fact}
 use Rattle.pb_facts.specs.declared.facts.KeptFact.{KeptFact}
 use Rattle.pb_facts.specs.Fact.{is_out_of_order, is_too_long}
 use Rattle.pb_facts.specs.Facts.{fault_of, is_duplicate, is_full, is_live_with, live_place_of}
-use Rattle.pb_kinds.specs.declared.rows.Edit.TheVariants as edit
+use Rattle.pb_kinds.specs.declared.rows.Edit.TheVariants as edits
 use Rattle.pb_kinds.specs.declared.rows.Effect.TheVariants.{Books, Edits}
 use Rattle.pb_book.specs.declared.rows.Period.{Period}
 use Rattle.pb_book.specs.Accepted.{IsAcceptable}
@@ -31,9 +31,9 @@ no_fault_of rows declared kept periods fact late right accepted =
 
 -- a strike that there is no cause to refuse finds a live fact
 pub strike_there : (rows : List StoredRow) (declared : List Declared) (kept : List KeptFact) (periods : List Period) (id reason : List ℕ) → AreOf rows declared kept periods
-    → IsAcceptable rows (Edits id edit.Strike reason) → IsSome (live_place_of id kept)
+    → IsAcceptable rows (Edits id edits.Strike reason) → IsSome (live_place_of id kept)
 strike_there rows declared kept periods id reason right accepted =
-    let good = fine (declared_of rows) (facts_of rows) (periods_of rows) (Edits id edit.Strike reason) accepted.no_cause in
+    let good = fine (declared_of rows) (facts_of rows) (periods_of rows) (Edits id edits.Strike reason) accepted.no_cause in
     rw right.facts (some_place (is_live_with id) (facts_of rows) (up (list_any (is_live_with id) (facts_of rows)) good.known))
   where
     up : (b : Bool) → not b ≡ false → b ≡ true

@@ -1,4 +1,4 @@
--- Which facts stand, by the rows that amend and strike them.
+-- Which facts stand, by the rows that change and strike them.
 use Rattle.std.specs.Prelude.{◌&&◌, ◌||◌, All, filter_map, map, not, position, if◌then◌else◌}
 use Rattle.std.specs.Cmp.Lexicographic.{bytes_decides}
 use Rattle.std.specs.List.{cons_option, list_any}
@@ -18,7 +18,7 @@ use Rattle.pb_facts.specs.Changes.{changed, fits}
 use Rattle.pb_facts.specs.Fact.{id_of}
 use Rattle.pb_facts.specs.Facts.{NoRepeats, has_id, is_duplicate, is_live_with, is_repeat, is_repeat_by_day, live_facts}
 use Rattle.pb_kinds.specs.declared.rows.Effect.{Effect}
-use Rattle.pb_kinds.specs.declared.rows.Edit.TheVariants as edit
+use Rattle.pb_kinds.specs.declared.rows.Edit.TheVariants as edits
 use Rattle.pb_kinds.specs.declared.rows.Effect.TheVariants.{Declares, Opens, Books, Edits, Closes}
 use Rattle.pb_book.specs.Accepted.{IsAcceptable}
 use Rattle.pb_book.specs.Live.{LiveLaw, change_in, is_struck_in, last_change, later_of, live_in, live_of, strikes, values_by}
@@ -37,9 +37,8 @@ abbrev kept_of : List StoredRow → Fact → KeptFact
 kept_of rows fact = record { fact = values_by (last_change rows (id_of fact)) fact; struck = is_struck_in rows (id_of fact) }
 
 abbrev kept_in : List StoredRow → Effect → Option KeptFact
-kept_in rows (FactRow fact) = Some (kept_of rows fact)
-kept_in rows (Late fact) = Some (kept_of rows fact)
-kept_in rows row = None
+kept_in rows (Books fact late) = Some (kept_of rows fact)
+kept_in rows effect = None
 
 abbrev kept_all : List StoredRow → List StoredRow → List KeptFact
 kept_all rows over = filter_map (λ (stored : StoredRow). kept_in rows stored.effect) over
@@ -99,7 +98,7 @@ changed_by change None fact fit = refl
 changed_by change (Some before) fact fit = changed_twice change before fact fit
 
 -- a strike
-strike_kept : (rows : List StoredRow) (at : ℕ) (id reason : List ℕ) (fact : Fact) → kept_of (rows ++ record { at = at; effect = Edits id edit.Strike reason } ∷ []) fact ≡ struck_one id (kept_of rows fact)
+strike_kept : (rows : List StoredRow) (at : ℕ) (id reason : List ℕ) (fact : Fact) → kept_of (rows ++ record { at = at; effect = Edits id edits.Strike reason } ∷ []) fact ≡ struck_one id (kept_of rows fact)
 strike_kept rows at id reason fact = elim (cases_Bool (same_name (id_of fact) id)) [
   | inl is ↦
       let own : has_id id (kept_of rows fact) ≡ true = ap (λ (name : List ℕ). same_name name id) (id_by (last_change rows (id_of fact)) fact) ∙ is in
@@ -113,7 +112,7 @@ strike_kept rows at id reason fact = elim (cases_Bool (same_name (id_of fact) id
 ]
   where
     stored : StoredRow
-    stored = record { at = at; effect = Edits id edit.Strike reason }
+    stored = record { at = at; effect = Edits id edits.Strike reason }
 
     up : (b : Bool) → (b || (true || false)) ≡ true
     up true = refl
@@ -125,7 +124,7 @@ IsAmendable id change k = has_id id k ≡ true → (k.struck ≡ false) × (fits
 
 -- an amendment
 amend_kept : (rows : List StoredRow) (at : ℕ) (id : List ℕ) (change : Change) (reason : List ℕ) (fact : Fact) → IsAmendable id change (kept_of rows fact)
-    → kept_of (rows ++ record { at = at; effect = Edits id (edit.Change change) reason } ∷ []) fact ≡ amended_one id change (kept_of rows fact)
+    → kept_of (rows ++ record { at = at; effect = Edits id (edits.Change change) reason } ∷ []) fact ≡ amended_one id change (kept_of rows fact)
 amend_kept rows at id change reason fact can = elim (cases_Bool (same_name (id_of fact) id)) [
   | inl is ↦
       let own : has_id id (kept_of rows fact) ≡ true = ap (λ (name : List ℕ). same_name name id) (id_by (last_change rows (id_of fact)) fact) ∙ is in
@@ -146,7 +145,7 @@ amend_kept rows at id change reason fact can = elim (cases_Bool (same_name (id_o
 ]
   where
     stored : StoredRow
-    stored = record { at = at; effect = Edits id (edit.Change change) reason }
+    stored = record { at = at; effect = Edits id (edits.Change change) reason }
 
     not_both : (a : Bool) {b : Bool} → b ≡ false → (a && b) ≡ false
     not_both true is = is
@@ -167,14 +166,12 @@ all_more rows stored g G (s ∷ over) step all = by (λ rest. all_more rows stor
     of_fact fact go everyone =
         ap₂ (λ (k : KeptFact) (ks : List KeptFact). k ∷ ks) (step fact (everyone 0 (kept_of rows fact) (omega arith))) (go (tail (kept_of rows fact) everyone))
 
-    by : (All G (kept_all rows over) → kept_all (rows ++ stored ∷ []) over ≡ map g (kept_all rows over)) → (row : Effect) → s.effect ≡ row
+    by : (All G (kept_all rows over) → kept_all (rows ++ stored ∷ []) over ≡ map g (kept_all rows over)) → (effect : Effect) → s.effect ≡ effect
         → kept_all (rows ++ stored ∷ []) (s ∷ over) ≡ map g (kept_all rows (s ∷ over))
-    by go (FactRow fact) is = rw is (of_fact fact go (rw is at all))
-    by go (Late fact) is = rw is (of_fact fact go (rw is at all))
+    by go (Books fact late) is = rw is (of_fact fact go (rw is at all))
     by go (Declares declared) is = rw is (go (rw is at all))
     by go (Opens name first last) is = rw is (go (rw is at all))
-    by go (Edits id (edit.Change change) reason) is = rw is (go (rw is at all))
-    by go (Edits id edit.Strike reason) is = rw is (go (rw is at all))
+    by go (Edits id how reason) is = rw is (go (rw is at all))
     by go (Closes name) is = rw is (go (rw is at all))
 
 -- ---- all rows
@@ -316,8 +313,8 @@ amended_same_id id other change k = elim (cases_Bool (is_live_with other k)) [
   | inr apart_from ↦ rw apart_from refl
 ]
 
-meant_strike : (rows : List StoredRow) (at : ℕ) (id reason : List ℕ) → AreWellIn (rows ++ record { at = at; effect = Edits id edit.Strike reason } ∷ []) → list_any (is_live_with id) (facts_of rows) ≡ true
-    → IsMeant rows → IsMeant (rows ++ record { at = at; effect = Edits id edit.Strike reason } ∷ [])
+meant_strike : (rows : List StoredRow) (at : ℕ) (id reason : List ℕ) → AreWellIn (rows ++ record { at = at; effect = Edits id edits.Strike reason } ∷ []) → list_any (is_live_with id) (facts_of rows) ≡ true
+    → IsMeant rows → IsMeant (rows ++ record { at = at; effect = Edits id edits.Strike reason } ∷ [])
 meant_strike rows at id reason well_now known right = record {
   well = well_now;
   facts = facts_now ∙ ap (map (struck_one id)) right.facts
@@ -331,13 +328,13 @@ meant_strike rows at id reason well_now known right = record {
 }
   where
     stored : StoredRow
-    stored = record { at = at; effect = Edits id edit.Strike reason }
+    stored = record { at = at; effect = Edits id edits.Strike reason }
 
     facts_now : facts_of (rows ++ stored ∷ []) ≡ map (struck_one id) (facts_of rows)
     facts_now = facts_more rows stored
 
-meant_amend : (rows : List StoredRow) (at : ℕ) (id : List ℕ) (change : Change) (reason : List ℕ) → AreWellIn (rows ++ record { at = at; effect = Edits id (edit.Change change) reason } ∷ [])
-    → list_any (is_live_with id) (facts_of rows) ≡ true → list_any (is_misfit id change) (facts_of rows) ≡ false → IsMeant rows → IsMeant (rows ++ record { at = at; effect = Edits id (edit.Change change) reason } ∷ [])
+meant_amend : (rows : List StoredRow) (at : ℕ) (id : List ℕ) (change : Change) (reason : List ℕ) → AreWellIn (rows ++ record { at = at; effect = Edits id (edits.Change change) reason } ∷ [])
+    → list_any (is_live_with id) (facts_of rows) ≡ true → list_any (is_misfit id change) (facts_of rows) ≡ false → IsMeant rows → IsMeant (rows ++ record { at = at; effect = Edits id (edits.Change change) reason } ∷ [])
 meant_amend rows at id change reason well_now known fit right = record {
   well = well_now;
   facts = facts_now ∙ ap (map (amended_one id change)) right.facts
@@ -352,12 +349,12 @@ meant_amend rows at id change reason well_now known fit right = record {
 }
   where
     stored : StoredRow
-    stored = record { at = at; effect = Edits id (edit.Change change) reason }
+    stored = record { at = at; effect = Edits id (edits.Change change) reason }
 
     facts_now : facts_of (rows ++ stored ∷ []) ≡ map (amended_one id change) (facts_of rows)
     facts_now = facts_more rows stored
 
-meant_step : (rows : List StoredRow) (at : ℕ) (row : Effect) → IsMeant rows → IsAcceptable rows row → IsMeant (rows ++ record { at = at; effect = effect } ∷ [])
+meant_step : (rows : List StoredRow) (at : ℕ) (effect : Effect) → IsMeant rows → IsAcceptable rows effect → IsMeant (rows ++ record { at = at; effect = effect } ∷ [])
 meant_step rows at (Declares declared) right accepted =
     let stored : StoredRow = record { at = at; effect = Declares declared } in
     meant_same rows stored (well_step rows at (Declares declared) right.well accepted) refl refl (λ id. refl) (λ id. refl) right
@@ -367,34 +364,28 @@ meant_step rows at (Opens name first last) right accepted =
 meant_step rows at (Closes name) right accepted =
     let stored : StoredRow = record { at = at; effect = Closes name } in
     meant_same rows stored (well_step rows at (Closes name) right.well accepted) refl refl (λ id. refl) (λ id. refl) right
-meant_step rows at (FactRow fact) right accepted =
-    let stored : StoredRow = record { at = at; effect = FactRow fact } in
-    let good = fine (declared_of rows) (facts_of rows) (periods_of rows) (FactRow fact) accepted.no_cause in
-    meant_fact rows stored fact (well_step rows at (FactRow fact) right.well accepted) refl refl (λ id. refl) (λ id. refl) good.new right
-meant_step rows at (Late fact) right accepted =
-    let stored : StoredRow = record { at = at; effect = Late fact } in
-    let good = fine (declared_of rows) (facts_of rows) (periods_of rows) (Late fact) accepted.no_cause in
-    meant_fact rows stored fact (well_step rows at (Late fact) right.well accepted) refl refl (λ id. refl) (λ id. refl) good.new right
-meant_step rows at (Edits id (edit.Change change) reason) right accepted =
-    let good = fine (declared_of rows) (facts_of rows) (periods_of rows) (Edits id (edit.Change change) reason) accepted.no_cause in
-    meant_amend rows at id change reason (well_step rows at (Edits id (edit.Change change) reason) right.well accepted) (up (list_any (is_live_with id) (facts_of rows)) good.known) good.matching right
-meant_step rows at (Edits id edit.Strike reason) right accepted =
-    let good = fine (declared_of rows) (facts_of rows) (periods_of rows) (Edits id edit.Strike reason) accepted.no_cause in
-    meant_strike rows at id reason (well_step rows at (Edits id edit.Strike reason) right.well accepted) (up (list_any (is_live_with id) (facts_of rows)) good.known) right
+meant_step rows at (Books fact late) right accepted =
+    let stored : StoredRow = record { at = at; effect = Books fact late } in
+    let good = fine (declared_of rows) (facts_of rows) (periods_of rows) (Books fact late) accepted.no_cause in
+    meant_fact rows stored fact (well_step rows at (Books fact late) right.well accepted) refl refl (λ id. refl) (λ id. refl) good.new right
+meant_step rows at (Edits id (edits.Change change) reason) right accepted =
+    let good = fine (declared_of rows) (facts_of rows) (periods_of rows) (Edits id (edits.Change change) reason) accepted.no_cause in
+    meant_amend rows at id change reason (well_step rows at (Edits id (edits.Change change) reason) right.well accepted) (up (list_any (is_live_with id) (facts_of rows)) good.known) good.matching right
+meant_step rows at (Edits id edits.Strike reason) right accepted =
+    let good = fine (declared_of rows) (facts_of rows) (periods_of rows) (Edits id edits.Strike reason) accepted.no_cause in
+    meant_strike rows at id reason (well_step rows at (Edits id edits.Strike reason) right.well accepted) (up (list_any (is_live_with id) (facts_of rows)) good.known) right
 
 -- the live ones among them
 live_all : (rows over : List StoredRow) → live_facts (kept_all rows over) ≡ filter_map (λ (s : StoredRow). live_in rows s.effect) over
 live_all rows [] = refl
 live_all rows (s ∷ over) = by (live_all rows over) s.effect refl
   where
-    by : live_facts (kept_all rows over) ≡ filter_map (λ (q : StoredRow). live_in rows q.effect) over → (row : Effect) → s.effect ≡ row
+    by : live_facts (kept_all rows over) ≡ filter_map (λ (q : StoredRow). live_in rows q.effect) over → (effect : Effect) → s.effect ≡ effect
         → live_facts (kept_all rows (s ∷ over)) ≡ filter_map (λ (q : StoredRow). live_in rows q.effect) (s ∷ over)
-    by go (FactRow fact) is = rw is (ap (cons_option (live_of rows fact)) go)
-    by go (Late fact) is = rw is (ap (cons_option (live_of rows fact)) go)
+    by go (Books fact late) is = rw is (ap (cons_option (live_of rows fact)) go)
     by go (Declares declared) is = rw is go
     by go (Opens name first last) is = rw is go
-    by go (Edits id (edit.Change change) reason) is = rw is go
-    by go (Edits id edit.Strike reason) is = rw is go
+    by go (Edits id how reason) is = rw is go
     by go (Closes name) is = rw is go
 
 pub live_law : LiveLaw

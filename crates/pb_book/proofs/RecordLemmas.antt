@@ -13,7 +13,6 @@ use Rattle.pb_facts.specs.declared.facts.KeptFact.{KeptFact}
 use Rattle.pb_facts.specs.Facts.{live_at, live_fact}
 use Rattle.pb_kinds.specs.declared.rows.Effect.{Effect}
 use Rattle.pb_kinds.specs.declared.rows.Effect.TheVariants.{Declares, Opens, Books, Edits, Closes}
-use Rattle.pb_kinds.specs.Written.{WritesEffect}
 use Rattle.pb_book.specs.declared.rows.Part.{Part}
 use Rattle.pb_book.specs.declared.rows.Part.TheVariants as part
 use Rattle.pb_book.specs.declared.rows.Period.{Period}
@@ -22,12 +21,12 @@ use Rattle.pb_book.specs.declared.rows.StoredRow.{StoredRow}
 use Rattle.pb_book.specs.Edits.{is_edit}
 use Rattle.pb_book.specs.Kept.{effect_in, opening, row_at, rows_at, settled_at, settled_in, shelves_of}
 use Rattle.pb_book.specs.Plain.{booked, settled, settled_rows}
-use Rattle.pb_book.specs.Written.{AddsRow, AddsSome, WriteRows}
+use Rattle.pb_book.specs.Written.{AddsRow, AddsSome, WriteRows, WritesRow}
 use Rattle.pb_book.proofs.EditLemmas.{AreEdits}
 
 -- ---- one more record
 
-write_more : (records : List (List (List ℕ))) (effects : List Effect) (fields : List (List ℕ)) (effect : Effect) → WriteRows records effects → WritesEffect effect fields
+write_more : (records : List (List (List ℕ))) (effects : List Effect) (fields : List (List ℕ)) (effect : Effect) → WriteRows records effects → WritesRow fields effect
     → WriteRows (records ++ fields ∷ []) (effects ++ effect ∷ [])
 write_more [] [] fields effect so_far one = (one, tt)
 write_more (f ∷ records) (e ∷ effects) fields effect so_far one = (so_far.0, write_more records effects fields effect so_far.1 one)

@@ -5,7 +5,7 @@ use Rattle.pb_facts.specs.declared.fact.Change.{Change}
 use Rattle.pb_facts.specs.declared.fact.Fact.{Fact}
 use Rattle.pb_facts.specs.Changes.{changed, fits}
 use Rattle.pb_kinds.specs.declared.rows.Edit.{Edit}
-use Rattle.pb_kinds.specs.declared.rows.Edit.TheVariants as edit
+use Rattle.pb_kinds.specs.declared.rows.Edit.TheVariants as edits
 use Rattle.pb_book.specs.declared.answer.Refused.{Refused}
 use Rattle.pb_book.specs.declared.answer.Refused.TheVariants.{Mismatch, Range}
 use Rattle.pb_book.specs.Refusals.{is_outside_table}
@@ -19,5 +19,5 @@ cause_of_change declared fact change =
 
 -- the same of an edit; a strike has none
 abbrev pub cause_of_edit : List Declared → Fact → Edit → Option Refused
-cause_of_edit declared fact (edit.Change change) = cause_of_change declared fact change
-cause_of_edit declared fact edit.Strike = None
+cause_of_edit declared fact (edits.Change change) = cause_of_change declared fact change
+cause_of_edit declared fact edits.Strike = None

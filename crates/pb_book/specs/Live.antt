@@ -7,7 +7,7 @@ use Rattle.pb_facts.specs.Fact.{id_of}
 use Rattle.pb_facts.specs.Facts.{live_facts}
 use Rattle.pb_facts.specs.declared.fact.Change.{Change}
 use Rattle.pb_facts.specs.declared.fact.Fact.{Fact}
-use Rattle.pb_kinds.specs.declared.rows.Edit.TheVariants as edit
+use Rattle.pb_kinds.specs.declared.rows.Edit.TheVariants as edits
 use Rattle.pb_kinds.specs.declared.rows.Effect.{Effect}
 use Rattle.pb_kinds.specs.declared.rows.Effect.TheVariants.{Books, Edits}
 use Rattle.pb_book.specs.declared.rows.StoredRow.{StoredRow}
@@ -16,7 +16,7 @@ use Rattle.pb_book.specs.Rows.{facts_of}
 
 -- a row strikes the fact of this id
 abbrev pub strikes : List ℕ → Effect → Bool
-strikes id (Edits struck edit.Strike reason) = same_name id struck
+strikes id (Edits struck edits.Strike reason) = same_name id struck
 strikes id effect = false
 
 -- some row does
@@ -25,7 +25,7 @@ is_struck_in rows id = list_any (λ (stored : StoredRow). strikes id stored.effe
 
 -- the values that a row gives the fact of this id, if it changes it
 abbrev pub change_in : List ℕ → Effect → Option Change
-change_in id (Edits changed (edit.Change change) reason) = if same_name id changed then Some change else None
+change_in id (Edits changed (edits.Change change) reason) = if same_name id changed then Some change else None
 change_in id effect = None
 
 -- a change, or where there is none the one before

@@ -18,7 +18,7 @@ use Rattle.pb_facts.specs.declared.facts.KeptFact.{KeptFact}
 use Rattle.pb_facts.specs.Fact.{is_out_of_order as is_out_of_order_fact, is_too_long}
 use Rattle.pb_facts.specs.Changes.{changed, fits}
 use Rattle.pb_facts.specs.Facts.{is_duplicate as is_duplicate_fact, is_full as is_full_fact, is_live_with}
-use Rattle.pb_kinds.specs.declared.rows.Edit.TheVariants as edit
+use Rattle.pb_kinds.specs.declared.rows.Edit.TheVariants as edits
 use Rattle.pb_kinds.specs.declared.rows.Effect.{Effect}
 use Rattle.pb_kinds.specs.declared.rows.Effect.TheVariants.{Declares, Opens, Books, Edits, Closes}
 use Rattle.pb_book.specs.declared.answer.Refused.{Refused}
@@ -87,7 +87,7 @@ is_mismatch declared kept periods (Opens name first last) =
     list_any (shares_a_day first last) periods
 is_mismatch declared kept periods (Books fact late) =
     is_of_other_kind fact (kind_of_fact declared fact)
-is_mismatch declared kept periods (Edits id (edit.Change change) reason) = list_any (is_misfit id change) kept
+is_mismatch declared kept periods (Edits id (edits.Change change) reason) = list_any (is_misfit id change) kept
 is_mismatch declared kept periods effect = false
 
 -- a unit, a tank, a point of its table or a stream
@@ -128,7 +128,7 @@ abbrev pub is_out_of_range : List Declared → List KeptFact → Effect → Bool
 is_out_of_range declared kept (Opens name first last) =
     int_le (pos most_days_of_period) (last -ℤ first)
 is_out_of_range declared kept (Books fact late) = is_too_long fact || is_outside_table declared fact
-is_out_of_range declared kept (Edits id (edit.Change change) reason) =
+is_out_of_range declared kept (Edits id (edits.Change change) reason) =
     list_any (is_moved_outside declared id change) kept
 is_out_of_range declared kept effect = false
 

@@ -5,7 +5,7 @@ use Rattle.pb_site.specs.declared.declared.Declared.{Declared}
 use Rattle.pb_facts.specs.declared.fact.Fact.{Fact}
 use Rattle.pb_facts.specs.declared.facts.KeptFact.{KeptFact}
 use Rattle.pb_facts.specs.Changes.{amended, struck}
-use Rattle.pb_kinds.specs.declared.rows.Edit.TheVariants as edit
+use Rattle.pb_kinds.specs.declared.rows.Edit.TheVariants as edits
 use Rattle.pb_kinds.specs.declared.rows.Effect.{Effect}
 use Rattle.pb_kinds.specs.declared.rows.Effect.TheVariants.{Declares, Opens, Books, Edits, Closes}
 use Rattle.pb_book.specs.declared.rows.Period.{Period}
@@ -56,8 +56,8 @@ live fact = record { fact = fact; struck = false }
 -- the facts after one more row: a change gives the live fact of its id new values, and a strike takes it out
 abbrev pub facts_after : List KeptFact → Effect → List KeptFact
 facts_after kept (Books fact late) = kept ++ live fact ∷ []
-facts_after kept (Edits id (edit.Change change) reason) = amended id change kept
-facts_after kept (Edits id edit.Strike reason) = struck id kept
+facts_after kept (Edits id (edits.Change change) reason) = amended id change kept
+facts_after kept (Edits id edits.Strike reason) = struck id kept
 facts_after kept effect = kept
 
 -- the facts with their last values, in order

@@ -1,17 +1,24 @@
 -- Statement. Records that write rows, as a file has them.
-use Rattle.std.specs.Prelude.{◌≡◌, ℕ, List, [], ◌∷◌, ◌++◌, Option, Some, None}
+use Rattle.std.specs.Prelude.{◌≡◌, ℕ, List, [], ◌∷◌, ◌++◌, Option, Some, None, Ok}
+use Rattle.pb_rows.specs.Records.{without_trailing_empty}
 use Rattle.pb_kinds.specs.declared.rows.Effect.{Effect}
-use Rattle.pb_kinds.specs.Written.{WritesEffect}
+use Rattle.pb_kinds.specs.declared.rows.Request.TheVariants.{Store}
+use Rattle.pb_kinds.specs.Requests.{request_in}
+
+-- a record asks that this be stored, and no empty field stands at its end
+pub record WritesRow (fields : List (List ℕ)) (effect : Effect) : Type 0 where
+  pub asks : request_in fields ≡ Ok (Store effect)
+  pub filled : without_trailing_empty fields ≡ fields
 
 -- each record writes its row, and there are no others
 abbrev pub WriteRows : List (List (List ℕ)) → List Effect → Type 0
 WriteRows [] [] = Unit {0}
-WriteRows (fields ∷ records) (effect ∷ effects) = WritesEffect effect fields × WriteRows records effects
+WriteRows (fields ∷ records) (effect ∷ effects) = WritesRow fields effect × WriteRows records effects
 WriteRows records effects = ⊥
 
 -- records get one more, which writes this row
 abbrev pub AddsRow : List (List (List ℕ)) → List (List (List ℕ)) → Effect → Type 0
-AddsRow old new effect = (fields : List (List ℕ)) × WritesEffect effect fields × (new ≡ old ++ fields ∷ [])
+AddsRow old new effect = (fields : List (List ℕ)) × WritesRow fields effect × (new ≡ old ++ fields ∷ [])
 
 -- the same, if there is a row
 abbrev pub AddsSome : List (List (List ℕ)) → List (List (List ℕ)) → Option Effect → Type 0

@@ -1,12 +1,13 @@
 // The book of accepted rows.
 
-ghost use Rattle.std.specs.Prelude.{◌≡◌, ◌≢◌, ◌<◌, ◌≤◌, [], length, Err, IfOk, OnOk, OnErr, slice_get, Some, false, true};
+ghost use Rattle.std.specs.Prelude.{◌≡◌, ◌≢◌, ◌<◌, ◌≤◌, [], length, Err, Ok, IfOk, OnOk, OnErr, slice_get, Some, false, true};
 ghost use Rattle.std.specs.Option.{option_map};
 ghost use Rattle.pb_limits.specs.Limits.{most_periods};
 ghost use Rattle.pb_facts.specs.Facts.{NoRepeats};
-ghost use Rattle.pb_kinds.specs.declared.rows.Edit.TheVariants as edit;
+ghost use Rattle.pb_kinds.specs.declared.rows.Edit.TheVariants as edits;
 ghost use Rattle.pb_kinds.specs.declared.rows.Effect.TheVariants.{Books, Closes, Declares, Edits, Opens};
 ghost use Rattle.pb_kinds.specs.Ranges.{IsEffectInRange, IsRequestInRange};
+ghost use Rattle.pb_book.specs.declared.answer.Accepted.TheVariants.{Stored};
 ghost use Rattle.pb_book.specs.declared.answer.NotAccepted.TheVariants.{NoMemory};
 ghost use Rattle.pb_book.specs.declared.rows.StoredRow.{StoredRow};
 ghost use Rattle.pb_book.specs.Accepted.{AreAccepted, AreInTables, IsAcceptable};
@@ -80,11 +81,13 @@ impl Book {
     }
 
     /// Takes the record with the number `at`, counted from 1: it is refused with the first cause that holds, or it joins the
-    /// book, or it asks for a design, a report or a history. After a refusal the book is as it was.
+    /// book, or it asks for a design, a report or a history. After a refusal the book is as it was. After a row was stored no
+    /// two facts have one id.
     pub fn accept(&mut self, at: u32, row: &Row) -> Result<Accepted, NotAccepted>
         ensures answer { result ≢ Err NoMemory → result ≡ said_of (answer_of self.old row.now) }
         ensures stored { result ≢ Err NoMemory → self.new ≡ after self.old at row.now }
         ensures unchanged { result ≡ Err NoMemory → self.new ≡ self.old }
+        ensures no_repeats { result ≡ Ok Stored → NoRepeats (facts_of self.new) }
     {
         match read_request(row) {
             Ok(request) => self.answer(at, &request),
@@ -212,6 +215,7 @@ impl Book {
         ensures stored { result ≢ Err NoMemory
             → self.new ≡ after_answer self.old at (answer_to self.old request.now) }
         ensures unchanged { result ≡ Err NoMemory → self.new ≡ self.old }
+        ensures no_repeats { result ≡ Ok Stored → NoRepeats (facts_of self.new) }
     {
         match request {
             Request::Blank => Ok(Accepted::Blank),
@@ -237,6 +241,7 @@ impl Book {
             ≡ after_answer self.old at
             (stored_or_refused effect.now (refusal_of self.old effect.now)) }
         ensures unchanged { result ≡ Err NoMemory → self.new ≡ self.old }
+        ensures no_repeats { result ≡ Ok Stored → NoRepeats (facts_of self.new) }
     {
         if let Some(cause) = judge(&self.site, &self.facts, &self.periods, effect) {
             return Err(NotAccepted::Refused(cause));
@@ -350,9 +355,9 @@ impl Book {
         change: &Change,
         reason: &Reason,
     ) -> Result<(), AllocError>
-        requires { IsAcceptable self.old (Edits id.now (edit.Change change.now) reason.now) }
+        requires { IsAcceptable self.old (Edits id.now (edits.Change change.now) reason.now) }
         ensures ok { OnOk result
-            (self.new ≡ with_row self.old at (Edits id.now (edit.Change change.now) reason.now)) }
+            (self.new ≡ with_row self.old at (Edits id.now (edits.Change change.now) reason.now)) }
         ensures err { OnErr result (self.new ≡ self.old) }
     {
         self.places.reserve(1)?;
@@ -371,9 +376,9 @@ impl Book {
     }
 
     fn add_strike(&mut self, at: u32, id: &Name, reason: &Reason) -> Result<(), AllocError>
-        requires { IsAcceptable self.old (Edits id.now edit.Strike reason.now) }
+        requires { IsAcceptable self.old (Edits id.now edits.Strike reason.now) }
         ensures ok { OnOk result
-            (self.new ≡ with_row self.old at (Edits id.now edit.Strike reason.now)) }
+            (self.new ≡ with_row self.old at (Edits id.now edits.Strike reason.now)) }
         ensures err { OnErr result (self.new ≡ self.old) }
     {
         self.places.reserve(1)?;

@@ -81,7 +81,10 @@ fn push_live(alloc: Global, facts: &Facts, i: u32, records: &mut Rows) -> Result
         (AddsSome records.old records.new (option_map booked (live_at facts.now i))) }
 {
     match facts.live(i) {
-        Some(fact) => push_effect(alloc, &Effect::Books { fact, late: false }, records),
+        Some(fact) => {
+            let effect = Effect::Books { fact, late: false };
+            push_effect(alloc, &effect, records)
+        }
         None => Ok(()),
     }
 }

@@ -1,6 +1,8 @@
 // What the stored rows do, by where they are kept.
 
-ghost use Rattle.std.specs.Prelude.{◌≡◌};
+ghost use Rattle.std.specs.Prelude.{◌≡◌, All, IfSome};
+ghost use Rattle.pb_site.specs.Row.{IsInRange as IsDeclaredInRange};
+ghost use Rattle.pb_kinds.specs.Ranges.{IsEffectInRange};
 ghost use Rattle.pb_book.specs.Kept.{effect_in, opening, settled_in, shelves_of, told_at};
 
 use crate::originals::told_at;
@@ -20,6 +22,7 @@ pub(crate) fn effect_in(
     edits: &[StoredRow],
     part: Part,
 ) -> Option<Effect>
+    requires { All IsDeclaredInRange declared.now }
     ensures { result ≡ effect_in
         (shelves_of declared.now (told_at facts.now originals.now) periods.now edits.now) part }
 {
@@ -38,7 +41,9 @@ pub(crate) fn effect_in(
 
 // The same where the row declares something, or a period; `None` where it does something else.
 pub(crate) fn settled_in(declared: &[Declared], periods: &Periods, part: Part) -> Option<Effect>
-    ensures { result ≡ settled_in declared.now periods.now part }
+    requires { All IsDeclaredInRange declared.now }
+    ensures value { result ≡ settled_in declared.now periods.now part }
+    ensures in_range { IfSome result IsEffectInRange }
 {
     match part {
         Part::Declared(i) => match declared.get(i) {
