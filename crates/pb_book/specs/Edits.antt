@@ -1,7 +1,6 @@
 -- Statement. The rows that close a period, come late, change a fact or strike it, and the periods that they touch.
-use Rattle.std.specs.Prelude.{ℕ, Bool, true, false, List, filter, find, Option, slice_get}
+use Rattle.std.specs.Prelude.{ℕ, Bool, true, false, List, filter, Option, slice_get}
 use Rattle.std.specs.Option.{option_map_or}
-use Rattle.pb_facts.specs.Facts.{has_id}
 use Rattle.pb_facts.specs.declared.facts.KeptFact.{KeptFact}
 use Rattle.pb_kinds.specs.declared.rows.Effect.{Effect}
 use Rattle.pb_kinds.specs.declared.rows.Effect.TheVariants.{Books, Edits, Closes}
@@ -9,7 +8,7 @@ use Rattle.pb_book.specs.declared.rows.Period.{Period}
 use Rattle.pb_book.specs.declared.rows.StoredRow.{StoredRow}
 use Rattle.pb_book.specs.Apart.{is_named}
 use Rattle.pb_book.specs.Rows.{facts_of, periods_of}
-use Rattle.pb_book.specs.Touching.{touches}
+use Rattle.pb_book.specs.TakenOut.{takes_out}
 
 -- a row edits the books: it closes a period, comes late, changes a fact or strikes it
 abbrev pub is_edit : Effect → Bool
@@ -22,18 +21,10 @@ is_edit effect = false
 abbrev pub edits_of : List StoredRow → List StoredRow
 edits_of rows = filter (λ (stored : StoredRow). is_edit stored.effect) rows
 
--- the fact of this id, struck or not, touches the period
-abbrev pub touches_by_id : List KeptFact → List ℕ → Period → Bool
-touches_by_id kept id period =
-    option_map_or (λ (k : KeptFact). touches k.fact period) (find (has_id id) kept) false
-
--- An edit touches a period: a closing its own, a late fact those that it touches, a change and a strike those that
--- their fact touches.
+-- An edit touches a period: a closing its own, a late fact, a change and a strike those that they take out.
 abbrev pub edit_touches : List KeptFact → Effect → Period → Bool
 edit_touches kept (Closes name) period = is_named name period
-edit_touches kept (Books fact late) period = touches fact period
-edit_touches kept (Edits id edit reason) period = touches_by_id kept id period
-edit_touches kept effect period = false
+edit_touches kept effect period = takes_out kept effect period
 
 -- so does the edit that a row is, if it is there
 abbrev pub row_touches : List KeptFact → Period → Option StoredRow → Bool

@@ -2,8 +2,8 @@
 pub mod Apart
 pub mod Rows
 pub mod Touching
-pub mod Edits
 pub mod TakenOut
+pub mod Edits
 pub mod Ranges
 pub mod Refusals
 pub mod Answer

@@ -1,14 +1,19 @@
 -- Statement. Which stored rows change what a report of a period says: they take the period out of those whose studies are kept.
-use Rattle.std.specs.Prelude.{◌≡◌, ◌-◌, ℕ, Bool, true, false, List, [], length, Option, slice_get}
+use Rattle.std.specs.Prelude.{◌≡◌, ◌-◌, ℕ, Bool, true, false, List, [], find, length, Option, slice_get}
 use Rattle.std.specs.Option.{option_map_or}
+use Rattle.pb_facts.specs.Facts.{has_id}
 use Rattle.pb_facts.specs.declared.facts.KeptFact.{KeptFact}
 use Rattle.pb_kinds.specs.declared.rows.Effect.{Effect}
 use Rattle.pb_kinds.specs.declared.rows.Effect.TheVariants.{Declares, Opens, Books, Edits, Closes}
 use Rattle.pb_book.specs.declared.rows.Period.{Period}
 use Rattle.pb_book.specs.declared.rows.StoredRow.{StoredRow}
-use Rattle.pb_book.specs.Edits.{touches_by_id}
 use Rattle.pb_book.specs.Rows.{facts_after, facts_of, periods_after, periods_of, with_row}
 use Rattle.pb_book.specs.Touching.{touches}
+
+-- the fact of this id, struck or not, touches the period
+abbrev pub touches_by_id : List KeptFact → List ℕ → Period → Bool
+touches_by_id kept id period =
+    option_map_or (λ (k : KeptFact). touches k.fact period) (find (has_id id) kept) false
 
 -- A stored row takes out a period: a declaration, a critical value among them, every one; a period and a closing none; a fact,
 -- as it comes or late, each that it touches; a change and a strike each that their fact touches.

@@ -12,13 +12,13 @@ ghost use Rattle.pb_book.specs.declared.answer.NotAccepted.TheVariants.{NoMemory
 ghost use Rattle.pb_book.specs.declared.rows.StoredRow.{StoredRow};
 ghost use Rattle.pb_book.specs.Accepted.{AreAccepted, AreInTables, IsAcceptable};
 ghost use Rattle.pb_book.specs.Answer.{after, after_answer, answer_of, answer_to, said_of, stored_or_refused};
-ghost use Rattle.pb_book.specs.Apart.{AreApart, is_named};
-ghost use Rattle.pb_book.specs.Edits.{edit_touches, edits_of, touches_at, touches_by_id};
+ghost use Rattle.pb_book.specs.Apart.{AreApart};
+ghost use Rattle.pb_book.specs.Edits.{edit_touches, edits_of, touches_at};
 ghost use Rattle.pb_book.specs.Plain.{plain_rows};
 ghost use Rattle.pb_book.specs.Ranges.{IsPeriod};
 ghost use Rattle.pb_book.specs.Refusals.{refusal_of};
 ghost use Rattle.pb_book.specs.Rows.{declared_of, facts_of, period_place, periods_of, with_row};
-ghost use Rattle.pb_book.specs.TakenOut.{last_row, takes_out, touched_at};
+ghost use Rattle.pb_book.specs.TakenOut.{last_row, takes_out, touched_at, touches_by_id};
 ghost use Rattle.pb_book.specs.Written.{WriteRows};
 
 use crate::answer::{Accepted, NotAccepted, Refused};
@@ -429,17 +429,9 @@ fn edit_touches(facts: &Facts, effect: &Effect, period: &Period) -> bool
     ensures { result ≡ edit_touches facts.now effect.now period.now }
 {
     match effect {
-        Effect::Closes(name) => is_named(name, period),
-        Effect::Books { fact, .. } => touches(fact, period),
-        Effect::Edits { id, .. } => touches_by_id(facts, id, period),
-        _ => false,
+        Effect::Closes(name) => *name == period.name,
+        _ => takes_out(facts, effect, period),
     }
-}
-
-fn is_named(name: &Name, period: &Period) -> bool
-    ensures { result ≡ is_named name.now period.now }
-{
-    *name == period.name
 }
 
 // Whether the fact of an id, struck or not, touches a period.

@@ -32,8 +32,7 @@ use Rattle.pb_kinds.specs.declared.rows.Edit.TheVariants as edits
 use Rattle.pb_kinds.specs.declared.rows.Effect.TheVariants.{Declares, Opens, Books, Edits, Closes}
 use Rattle.pb_book.specs.declared.rows.Period.{Period}
 use Rattle.pb_book.specs.Apart.{shares_a_day}
-use Rattle.pb_book.specs.Edits.{touches_by_id}
-use Rattle.pb_book.specs.TakenOut.{takes_out}
+use Rattle.pb_book.specs.TakenOut.{takes_out, touches_by_id}
 use Rattle.pb_book.specs.declared.rows.StoredRow.{StoredRow}
 use Rattle.pb_book.specs.Rows.{declaration_in, declared_of, facts_after, facts_of, live}
 use Rattle.pb_book.specs.Touching.{is_boundary_of, touches}
