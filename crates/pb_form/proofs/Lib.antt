@@ -6,6 +6,9 @@ mod TableLemmas
 mod DayLemmas
 mod WritingLemmas
 mod FieldLemmas
+mod PartsLemmas
+mod FittingLemmas
+mod KindLemmas
 mod OneRecordLemmas
 mod JsonLemmas
 mod TextLemmas

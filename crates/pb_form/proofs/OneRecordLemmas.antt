@@ -1,19 +1,19 @@
 -- Values have one record.
-use Rattle.std.specs.Prelude.{◌&&◌, ◌==◌, bytes_eq, int_le, nat_le, position, Some, None, Option, Result, Ok, Err, if◌then◌else◌}
-use Rattle.std.proofs.Common.{◌≡◌, ◌∙◌, ◌≤◌, ◌-◌, ℕ, ℤ, Bool, true, false, List, [], ◌∷◌, ◌++◌, length, refl, sym, ap, ap₂, arith}
+use Rattle.std.specs.Prelude.{◌&&◌, ◌==◌, bytes_eq, int_le, position, Some, None, Option, Result, Ok, Err, if◌then◌else◌}
+use Rattle.std.proofs.Common.{◌≡◌, ◌∙◌, ℕ, ℤ, Bool, true, false, List, [], ◌∷◌, length, refl, sym, ap, ap₂, arith}
 use Rattle.std.proofs.lemmas.Bool.{ne_eqb}
-use Rattle.std.proofs.lemmas.Bool.Decides.{nat_tests}
 use Rattle.pb_rows.specs.Date.{day_of}
 use Rattle.pb_rows.specs.Name.{is_name}
 use Rattle.pb_rows.specs.Number.{number, whole_text, within}
 use Rattle.pb_rows.specs.Reason.{is_reason}
 use Rattle.pb_rows.specs.Texts.{HaveOneDateText, HaveOneNumberText}
 use Rattle.pb_form.proofs.FieldLemmas.{word_found}
+use Rattle.pb_form.proofs.PartsLemmas.{just_count, of_form, parts_of, read_parts, was_found}
 use Rattle.pb_form.specs.Columns.{Column, Schema}
-use Rattle.pb_form.specs.Field.{field_read, formed, found, held_in}
+use Rattle.pb_form.specs.Field.{field_read, held_in}
 use Rattle.pb_form.specs.Holds as holds
 use Rattle.pb_form.specs.Laws.{OneRecordLaw}
-use Rattle.pb_form.specs.Reading.{are_turns, before, fields_read, has_count, joined, one_read, row_read, tail_read}
+use Rattle.pb_form.specs.Reading.{fields_read, row_read}
 use Rattle.pb_form.specs.Value.{Value, Missing, Word, Name, Reason, Number, Date, Items}
 use Rattle.pb_form.specs.Writing.{word_at}
 use Rattle.pb_form.specs.declared.fault.FormFault.{FormFault}
@@ -29,19 +29,6 @@ passed lo hi z (Some n) is = by (int_le lo n && int_le n hi) is
     by : (b : Bool) → (if b then Some n else None) ≡ Some z → Some n ≡ Some z
     by true is = is
     by false is = cc is
-
--- the field of a form
-of_form : (is_form : List ℕ → Bool) (value : List ℕ → Value) (bad : FormFault) (field : List ℕ) (v : Value) → formed is_form value bad field ≡ Ok v → v ≡ value field
-of_form is_form value bad field v says = by (is_form field) says
-  where
-    by : (b : Bool) → (if b then Ok (value field) else Err bad) ≡ Ok v → v ≡ value field
-    by true says = cc says
-    by false says = cc says
-
--- what was found in a field
-was_found : {A : Type 0} (value : A → Value) (bad : FormFault) (option : Option A) (v : Value) → found value bad option ≡ Ok v → (a : A) × ((option ≡ Some a) × (v ≡ value a))
-was_found value bad None v says = absurd (cc says)
-was_found value bad (Some a) v says = (a, (refl, cc says))
 
 -- two fields of one value
 same_held : HaveOneNumberText → HaveOneDateText → (takes : holds.Holds) (a b : List ℕ) (v : Value) → held_in takes a ≡ Ok v → held_in takes b ≡ Ok v → a ≡ b
@@ -104,22 +91,6 @@ same_field numbers dates column a b v one other =
 
 -- ---- a row
 
--- a first value and the others
-record AreParts (first : Result Value FormFault) (rest : Result (List Value) FormFault) (values : List Value) : Type 0 where
-  value : Value
-  others : List Value
-  one : first ≡ Ok value
-  more : rest ≡ Ok others
-  all : values ≡ value ∷ others
-
-parts_of : (first : Result Value FormFault) (rest : Result (List Value) FormFault) (values : List Value) → joined (one_read first) rest ≡ Ok values → AreParts first rest values
-parts_of (Ok v) (Ok others) values says =
-    let same : v ∷ others ≡ values = cc says in
-    record { value = v; others = others; one = refl; more = refl; all = sym same }
-parts_of (Ok v) (Err bad) values says = absurd (cc says)
-parts_of (Err bad) (Ok others) values says = absurd (cc says)
-parts_of (Err bad) (Err other) values says = absurd (cc says)
-
 -- two lists of fields of the same values
 same_fields : HaveOneNumberText → HaveOneDateText → (columns : List Column) (values : List Value) (a b : List (List ℕ))
     → length a ≡ length columns → length b ≡ length columns → fields_read columns a ≡ Ok values → fields_read columns b ≡ Ok values → a ≡ b
@@ -146,27 +117,9 @@ record AreWritten (schema : Schema) (values : List Value) (row : List (List ℕ)
   says : fields_read schema.columns row ≡ Ok values
 
 written_by : (schema : Schema) (values : List Value) (row : List (List ℕ)) → schema.tail ≡ [] → row_read schema row ≡ Ok values → AreWritten schema values row
-written_by schema values row none writes = by (has_count schema (length row)) refl writes
-  where
-    counted : (le : Bool) → nat_le (length schema.columns) (length row) ≡ le → (le && are_turns schema.tail (length row - length schema.columns)) ≡ true → length row ≡ length schema.columns
-    counted true is counts =
-        let rest : (length row - length schema.columns == 0) ≡ true = rw none at counts in
-        grind (arith, nat_tests)
-    counted false is counts = cc counts
-
-    said : (front rest : Result (List Value) FormFault) → before front rest ≡ Ok values → front ≡ Ok values
-    said (Ok front) (Ok rest) is = is
-    said (Ok front) (Err bad) is = cc is
-    said (Err bad) (Ok rest) is = cc is
-    said (Err bad) (Err other) is = cc is
-
-    by : (b : Bool) → has_count schema (length row) ≡ b
-        → (if b then before (fields_read schema.columns row) (tail_read schema row) else Err fault.Fields) ≡ Ok values → AreWritten schema values row
-    by true counts is = record {
-      count = counted (nat_le (length schema.columns) (length row)) refl counts;
-      says = said (fields_read schema.columns row) (tail_read schema row) is;
-    }
-    by false counts is = cc is
+written_by schema values row none writes =
+    let read = read_parts schema values row writes in
+    record { count = just_count schema (length row) none read.counts; says = read.says }
 
 pub one_record : HaveOneNumberText → HaveOneDateText → OneRecordLaw
 one_record numbers dates schema values a b none one other =

@@ -1,13 +1,17 @@
 -- What is written is text.
-use Rattle.std.proofs.Common.{◌≡◌, ◌+◌, ◌/◌, ◌%◌, ◌<◌, ◌++◌, [], ◌∷◌, ℕ, zero, suc, ℤ, pos, negsuc, List, map, IsUtf8, IsAscii, inl, inr, arith}
+use Rattle.std.proofs.Common.{◌≡◌, ◌+◌, ◌/◌, ◌%◌, ◌<◌, ◌++◌, [], ◌∷◌, ℕ, zero, suc, ℤ, pos, negsuc, Bool, true, List, map, IsUtf8, IsAscii, inl, inr, arith}
 use Rattle.std.specs.Prelude.{◌==◌, All, OnOk, Result, Ok, Err}
 use Rattle.std.specs.Int.Digits.{AllBelowBase, digits_of}
-use Rattle.std.proofs.lemmas.Bool.{cases_Bool}
+use Rattle.std.specs.List.{list_all}
+use Rattle.std.proofs.lemmas.Bool.{and_parts, cases_Bool}
+use Rattle.std.proofs.lemmas.Bool.Decides.{nat_tests}
 use Rattle.std.proofs.lemmas.Int.Digits.{all_below_base_digits_of}
 use Rattle.std.proofs.lemmas.List.Elements.{All-push}
 use Rattle.std.proofs.lemmas.Str.{IsUtf8-from_ascii}
 use Rattle.pb_rows.specs.Date.{date_text}
+use Rattle.pb_rows.specs.Name.{has_name_length, is_name, is_name_byte}
 use Rattle.pb_rows.specs.Number.{decimal_text, whole_text}
+use Rattle.pb_rows.specs.Reason.{has_reason_length, is_reason, is_reason_byte}
 
 digits_ascii : (ds : List ℕ) → AllBelowBase 10 ds → IsAscii (map (λ digit. 48 + digit) ds)
 digits_ascii [] below i = omega arith
@@ -69,3 +73,24 @@ text_added (Err error) old new field added is = tt
 
 pub blank_utf8 : IsUtf8 []
 blank_utf8 = IsUtf8-from_ascii [] none_ascii
+
+-- a text of bytes of a form
+form_ascii : (is_byte : ℕ → Bool) → ((byte : ℕ) → is_byte byte ≡ true → byte < 128) → (field : List ℕ) → list_all is_byte field ≡ true → IsAscii field
+form_ascii is_byte low [] all i = omega arith
+form_ascii is_byte low (byte ∷ field) all zero = low byte (and_parts (is_byte byte) (list_all is_byte field) all).0
+form_ascii is_byte low (byte ∷ field) all (suc i) = form_ascii is_byte low field (and_parts (is_byte byte) (list_all is_byte field) all).1 i
+
+low_name_byte : (byte : ℕ) → is_name_byte byte ≡ true → byte < 128
+low_name_byte byte form = grind (arith, nat_tests)
+
+low_reason_byte : (byte : ℕ) → is_reason_byte byte ≡ true → byte < 128
+low_reason_byte byte form = grind (arith, nat_tests)
+
+-- a name, and a reason
+pub name_utf8 : (field : List ℕ) → is_name field ≡ true → IsUtf8 field
+name_utf8 field is =
+    IsUtf8-from_ascii field (form_ascii is_name_byte low_name_byte field (and_parts (has_name_length field) (list_all is_name_byte field) is).1)
+
+pub reason_utf8 : (field : List ℕ) → is_reason field ≡ true → IsUtf8 field
+reason_utf8 field is =
+    IsUtf8-from_ascii field (form_ascii is_reason_byte low_reason_byte field (and_parts (has_reason_length field) (list_all is_reason_byte field) is).1)

@@ -1,0 +1,275 @@
+-- A record is of one kind: no two schemas of a table have their words and their number of fields in common.
+use Rattle.std.specs.Prelude.{◌&&◌, ◌||◌, ◌==◌, bytes_eq, map, nat_lt, not, position, slice_get, Some, None, Option, Result, Ok, Err, if◌then◌else◌}
+use Rattle.std.specs.List.{list_all, prefix_len}
+use Rattle.std.specs.Option.{option_map}
+use Rattle.std.proofs.Common.{◌≡◌, ◌∙◌, ◌<◌, ◌≤◌, ℕ, zero, suc, Bool, true, false, List, [], ◌∷◌, ◌++◌, length, refl, sym, ap, subst, arith, inl, inr}
+use Rattle.std.proofs.lemmas.Bool.{and_parts, cases_Bool, ne_eqb}
+use Rattle.std.proofs.lemmas.Bool.Decides.{nat_tests}
+use Rattle.std.proofs.lemmas.Option.{slice_get-map}
+use Rattle.std.proofs.lemmas.Slice.Eq.{bytes_eq-Decides}
+use Rattle.pb_rows.specs.Records.{without_trailing_empty}
+use Rattle.pb_form.proofs.PartsLemmas.{just_count, parts_of, read_parts}
+use Rattle.pb_form.proofs.TableLemmas.{passes_at}
+use Rattle.pb_form.specs.Columns.{Column, Schema}
+use Rattle.pb_form.specs.Field.{field_read, found, held_in}
+use Rattle.pb_form.specs.Holds as holds
+use Rattle.pb_form.specs.Laws.{IsOfKind, OneKindLaw}
+use Rattle.pb_form.specs.Reading.{fields_read, has_count, row_read}
+use Rattle.pb_form.specs.SessionRows.{kind_at, kind_in, session_columns, session_kinds, session_schema, session_schemas, session_told}
+use Rattle.pb_form.specs.Telling.{agrees, has_word, is_of, told_at}
+use Rattle.pb_form.specs.Value.{Value, Missing, Word}
+use Rattle.pb_form.specs.declared.fault.FormFault.{FormFault}
+use Rattle.pb_form.specs.declared.fault.FormFault.TheVariants as fault
+use Rattle.pb_form.specs.declared.session.SessionKind.{SessionKind}
+use Rattle.pb_form.specs.declared.session.SessionKind.TheVariants as kind
+
+-- ---- a record that was read has the words of its schema
+
+-- a field that is the one word of a column
+one_word : (word field : List ℕ) (v : Value) → found Word fault.Word (position (bytes_eq field) (word ∷ [])) ≡ Ok v → bytes_eq field word ≡ true
+one_word word field v says = elim (cases_Bool (bytes_eq field word)) [
+  | inl is ↦ is
+  | inr other ↦ absurd (cc (rw other at says))
+]
+
+held_word : (takes : holds.Holds) (field : List ℕ) (v : Value) → held_in takes field ≡ Ok v → has_word takes field ≡ true
+held_word (holds.Word []) field v says = refl
+held_word (holds.Word (word ∷ [])) field v says = one_word word field v says
+held_word (holds.Word (one ∷ (other ∷ words))) field v says = refl
+held_word holds.Name field v says = refl
+held_word holds.Reason field v says = refl
+held_word (holds.Number lo hi) field v says = refl
+held_word holds.Date field v says = refl
+held_word holds.Items field v says = refl
+
+-- a column takes no empty field
+abbrev is_firm : Column → Bool
+is_firm column = not column.optional
+
+firm : (optional : Bool) → not optional ≡ true → optional ≡ false
+firm true is = cc is
+firm false is = refl
+
+field_word : (column : Column) (field : List ℕ) (v : Value) → is_firm column ≡ true → field_read column field ≡ Ok v → has_word column.holds field ≡ true
+field_word column field v is says = held_word column.holds field v (rw (firm column.optional is) at says)
+
+words_read : (columns : List Column) (values : List Value) (fields : List (List ℕ)) → list_all is_firm columns ≡ true → fields_read columns fields ≡ Ok values
+    → agrees columns fields ≡ true
+words_read [] values [] all says = refl
+words_read [] values (field ∷ fields) all says = refl
+words_read (column ∷ columns) values [] all says = refl
+words_read (column ∷ columns) values (field ∷ fields) all says =
+    let parts = parts_of (field_read column field) (fields_read columns fields) values says in
+    let tests = and_parts (is_firm column) (list_all is_firm columns) all in
+    rw (field_word column field parts.value tests.0 parts.one, words_read columns parts.others fields tests.1 parts.more) refl
+
+-- ---- two schemas of one record
+
+-- two columns take one word each, and not the same
+abbrev other_word : holds.Holds → holds.Holds → Bool
+other_word (holds.Word (a ∷ [])) (holds.Word (b ∷ [])) = not (bytes_eq a b)
+other_word a b = false
+
+-- two lists of columns have other words, or another number of columns
+abbrev differ : List Column → List Column → Bool
+differ (a ∷ as) (b ∷ bs) = other_word a.holds b.holds || differ as bs
+differ [] [] = false
+differ as bs = true
+
+same_word : (a b field : List ℕ) → bytes_eq field a ≡ true → bytes_eq field b ≡ true → not (bytes_eq a b) ≡ false
+same_word a b field one other =
+    let x = (bytes_eq-Decides field a).0 one in
+    let y = (bytes_eq-Decides field b).0 other in
+    let same : bytes_eq a b ≡ true = (bytes_eq-Decides a b).1 (sym x ∙ y) in
+    rw same refl
+
+no_other_word : (a b : holds.Holds) (field : List ℕ) → has_word a field ≡ true → has_word b field ≡ true → other_word a b ≡ false
+no_other_word (holds.Word []) b field one other = refl
+no_other_word (holds.Word (a ∷ [])) (holds.Word []) field one other = refl
+no_other_word (holds.Word (a ∷ [])) (holds.Word (b ∷ [])) field one other = same_word a b field one other
+no_other_word (holds.Word (a ∷ [])) (holds.Word (b ∷ (c ∷ words))) field one other = refl
+no_other_word (holds.Word (a ∷ [])) holds.Name field one other = refl
+no_other_word (holds.Word (a ∷ [])) holds.Reason field one other = refl
+no_other_word (holds.Word (a ∷ [])) (holds.Number lo hi) field one other = refl
+no_other_word (holds.Word (a ∷ [])) holds.Date field one other = refl
+no_other_word (holds.Word (a ∷ [])) holds.Items field one other = refl
+no_other_word (holds.Word (a ∷ (c ∷ words))) b field one other = refl
+no_other_word holds.Name b field one other = refl
+no_other_word holds.Reason b field one other = refl
+no_other_word (holds.Number lo hi) b field one other = refl
+no_other_word holds.Date b field one other = refl
+no_other_word holds.Items b field one other = refl
+
+alike : (as bs : List Column) (fields : List (List ℕ)) → length fields ≡ length as → length fields ≡ length bs → agrees as fields ≡ true → agrees bs fields ≡ true
+    → differ as bs ≡ false
+alike [] [] fields m n one other = refl
+alike [] (b ∷ bs) fields m n one other = absurd (omega (arith, m, n))
+alike (a ∷ as) [] fields m n one other = absurd (omega (arith, m, n))
+alike (a ∷ as) (b ∷ bs) [] m n one other = absurd (omega (arith, m))
+alike (a ∷ as) (b ∷ bs) (field ∷ fields) m n one other =
+    let x = and_parts (has_word a.holds field) (agrees as fields) one in
+    let y = and_parts (has_word b.holds field) (agrees bs fields) other in
+    rw (no_other_word a.holds b.holds field x.0 y.0, alike as bs fields (omega (arith, m)) (omega (arith, n)) x.1 y.1) refl
+
+-- a record of two schemas
+of_both : (a b : Schema) (fields : List (List ℕ)) → a.tail ≡ [] → b.tail ≡ [] → is_of fields a ≡ true → is_of fields b ≡ true → differ a.columns b.columns ≡ false
+of_both a b fields no_tail none one other =
+    let x = and_parts (has_count a (length fields)) (agrees a.columns fields) one in
+    let y = and_parts (has_count b (length fields)) (agrees b.columns fields) other in
+    alike a.columns b.columns fields (just_count a (length fields) no_tail x.0) (just_count b (length fields) none y.0) x.1 y.1
+
+-- ---- a table of schemas
+
+-- a schema differs from each of the others
+abbrev all_differ : List Schema → Bool
+all_differ [] = true
+all_differ (schema ∷ schemas) = list_all (λ (other : Schema). differ schema.columns other.columns) schemas && all_differ schemas
+
+differ_at : (schemas : List Schema) (k i : ℕ) (a b : Schema) → all_differ schemas ≡ true → k < i → slice_get schemas k ≡ Some a → slice_get schemas i ≡ Some b
+    → differ a.columns b.columns ≡ true
+differ_at [] k i a b all before at there = cc at
+differ_at (schema ∷ schemas) zero zero a b all before at there = absurd (omega (arith, before))
+differ_at (schema ∷ schemas) zero (suc i) a b all before at there =
+    let parts = and_parts (list_all (λ (other : Schema). differ schema.columns other.columns) schemas) (all_differ schemas) all in
+    let same : schema ≡ a = cc at in
+    subst (λ (s : Schema). differ s.columns b.columns ≡ true) same (passes_at (λ (other : Schema). differ schema.columns other.columns) schemas i b parts.0 there)
+differ_at (schema ∷ schemas) (suc k) zero a b all before at there = absurd (omega (arith, before))
+differ_at (schema ∷ schemas) (suc k) (suc i) a b all before at there =
+    let parts = and_parts (list_all (λ (other : Schema). differ schema.columns other.columns) schemas) (all_differ schemas) all in
+    differ_at schemas k i a b parts.1 (omega (arith, before)) at there
+
+-- the first item that passes stands where one passes and none before it does
+first_at : {X : Type 0} (p : X → Bool) (xs : List X) (i : ℕ) (x : X) → slice_get xs i ≡ Some x → p x ≡ true → ((k : ℕ) (y : X) → k < i → slice_get xs k ≡ Some y → p y ≡ false)
+    → (prefix_len (λ y. not (p y)) xs ≡ i) × (i < length xs)
+first_at p [] i x at is none = cc at
+first_at p (y ∷ xs) zero x at is none =
+    let same : y ≡ x = cc at in
+    let passes : p y ≡ true = ap p same ∙ is in
+    (rw passes refl, omega arith)
+first_at p (y ∷ xs) (suc i) x at is none =
+    let fails : p y ≡ false = none 0 y (omega arith) refl in
+    let rest = first_at p xs i x at is (λ k z before there. none (suc k) z (omega (arith, before)) there) in
+    (rw (fails, rest.0) (omega arith), omega (arith, rest.1))
+
+position_is : {X : Type 0} (p : X → Bool) (xs : List X) (i : ℕ) → (prefix_len (λ y. not (p y)) xs ≡ i) × (i < length xs) → position p xs ≡ Some i
+position_is p xs i at =
+    let within : i < length xs = at.1 in
+    let test : nat_lt i (length xs) ≡ true = grind (arith, nat_tests) in
+    rw (at.0, test) refl
+
+-- no schema of a table has a tail, or takes an empty field
+abbrev is_plain_schema : Schema → Bool
+is_plain_schema schema = (length schema.tail == 0) && list_all is_firm schema.columns
+
+no_tail : (tail : List Column) → (length tail == 0) ≡ true → tail ≡ []
+no_tail [] is = refl
+no_tail (column ∷ tail) is =
+    let some : (length (column ∷ tail) == 0) ≡ false = ne_eqb (length (column ∷ tail)) 0 (λ same. absurd (omega (arith, same))) in
+    cc (sym some ∙ is)
+
+-- the place of a schema by which a record was read is the place of the first one that the record is of
+place_told : (schemas : List Schema) (i : ℕ) (schema : Schema) (values : List Value) (fields : List (List ℕ)) → all_differ schemas ≡ true → list_all is_plain_schema schemas ≡ true
+    → slice_get schemas i ≡ Some schema → row_read schema fields ≡ Ok values → position (is_of fields) schemas ≡ Some i
+place_told schemas i schema values fields apart plain at reads =
+    let read = read_parts schema values fields reads in
+    let tests = and_parts (length schema.tail == 0) (list_all is_firm schema.columns) (passes_at is_plain_schema schemas i schema plain at) in
+    let is : is_of fields schema ≡ true = rw (read.counts, words_read schema.columns values fields tests.1 read.says) refl in
+    position_is (is_of fields) schemas i (first_at (is_of fields) schemas i schema at is (others is (no_tail schema.tail tests.0)))
+  where
+    others : is_of fields schema ≡ true → schema.tail ≡ [] → (k : ℕ) (other : Schema) → k < i → slice_get schemas k ≡ Some other → is_of fields other ≡ false
+    others is none k other before there = elim (cases_Bool (is_of fields other)) [
+      | inr not_it ↦ not_it
+      | inl it ↦
+          let tests = and_parts (length other.tail == 0) (list_all is_firm other.columns) (passes_at is_plain_schema schemas k other plain there) in
+          absurd (cc (sym (differ_at schemas k i other schema apart before there at) ∙ of_both other schema fields (no_tail other.tail tests.0) none it is))
+    ]
+
+-- ---- no empty field at the end
+
+abbrev is_fault : Result Value FormFault → Bool
+is_fault (Ok value) = false
+is_fault (Err bad) = true
+
+-- the last column takes no empty field
+abbrev ends_filled : List Column → Bool
+ends_filled [] = true
+ends_filled (column ∷ []) = is_fault (field_read column [])
+ends_filled (column ∷ (next ∷ columns)) = ends_filled (next ∷ columns)
+
+some_field : (column : Column) (field : List ℕ) (v : Value) → is_fault (field_read column []) ≡ true → field_read column field ≡ Ok v → (length field == 0) ≡ false
+some_field column [] v bad says = cc (ap is_fault (sym says) ∙ bad)
+some_field column (byte ∷ field) v bad says = ne_eqb (length (byte ∷ field)) 0 (λ same. absurd (omega (arith, same)))
+
+all_filled : (columns : List Column) (values : List Value) (fields : List (List ℕ)) → length fields ≡ length columns → ends_filled columns ≡ true → fields_read columns fields ≡ Ok values
+    → without_trailing_empty fields ≡ fields
+all_filled [] values [] count ends says = refl
+all_filled [] values (field ∷ fields) count ends says = absurd (omega (arith, count))
+all_filled (column ∷ columns) values [] count ends says = absurd (omega (arith, count))
+all_filled (column ∷ []) values (field ∷ []) count ends says =
+    let parts = parts_of (field_read column field) (fields_read [] []) values says in
+    rw (some_field column field parts.value ends parts.one) refl
+all_filled (column ∷ []) values (field ∷ (more ∷ fields)) count ends says = absurd (omega (arith, count))
+all_filled (column ∷ (next ∷ columns)) values (field ∷ []) count ends says = absurd (omega (arith, count))
+all_filled (column ∷ (next ∷ columns)) values (field ∷ (more ∷ fields)) count ends says =
+    let parts = parts_of (field_read column field) (fields_read (next ∷ columns) (more ∷ fields)) values says in
+    let rest = all_filled (next ∷ columns) parts.others (more ∷ fields) (omega (arith, count)) ends parts.more in
+    let some : (length (more ∷ fields) == 0) ≡ false = ne_eqb (length (more ∷ fields)) 0 (λ same. absurd (omega (arith, same))) in
+    rw (rest, some) (by (length field == 0))
+  where
+    by : (b : Bool) → (if b && false then [] else field ∷ (more ∷ fields)) ≡ field ∷ (more ∷ fields)
+    by true = refl
+    by false = refl
+
+-- ---- the kinds of a session
+
+-- the place of a kind
+place_in : (it : SessionKind) → (i : ℕ) × (slice_get session_kinds i ≡ Some it)
+place_in kind.Unit = (0, refl)
+place_in kind.Tank = (1, refl)
+place_in kind.Strap = (2, refl)
+place_in kind.StreamMetered = (3, refl)
+place_in kind.StreamBatch = (4, refl)
+place_in kind.StreamPlain = (5, refl)
+place_in kind.Period = (6, refl)
+place_in kind.CriticalGlobal = (7, refl)
+place_in kind.CriticalNodal = (8, refl)
+place_in kind.CriticalMeasure = (9, refl)
+place_in kind.Reading = (10, refl)
+place_in kind.Transfer = (11, refl)
+place_in kind.Dip = (12, refl)
+place_in kind.LateReading = (13, refl)
+place_in kind.LateTransfer = (14, refl)
+place_in kind.LateDip = (15, refl)
+place_in kind.AmendAmount = (16, refl)
+place_in kind.AmendLevel = (17, refl)
+place_in kind.Strike = (18, refl)
+place_in kind.Close = (19, refl)
+place_in kind.Design = (20, refl)
+place_in kind.Report = (21, refl)
+place_in kind.History = (22, refl)
+
+session_differ : all_differ session_schemas ≡ true
+session_differ = refl
+
+session_plain : list_all is_plain_schema session_schemas ≡ true
+session_plain = refl
+
+session_filled : list_all (λ (it : SessionKind). ends_filled (session_columns it)) session_kinds ≡ true
+session_filled = refl
+
+told : (it : SessionKind) (values : List Value) (fields : List (List ℕ)) → row_read (session_schema it) fields ≡ Ok values → session_told fields ≡ Ok it
+unfolding session_told
+told it values fields reads =
+    let at = place_in it in
+    let schema_there : slice_get session_schemas at.0 ≡ Some (session_schema it) =
+        slice_get-map session_schema session_kinds at.0 ∙ ap (λ (o : Option SessionKind). option_map session_schema o) at.1 in
+    let place = place_told session_schemas at.0 (session_schema it) values fields session_differ session_plain schema_there reads in
+    ap (λ (o : Option ℕ). kind_in (told_at session_schemas fields o)) place ∙ ap kind_at at.1
+
+pub one_kind : OneKindLaw
+one_kind it values fields reads =
+    let at = place_in it in
+    let read = read_parts (session_schema it) values fields reads in
+    let count = just_count (session_schema it) (length fields) refl read.counts in
+    let ends = passes_at (λ (it : SessionKind). ends_filled (session_columns it)) session_kinds at.0 it session_filled at.1 in
+    record { told = told it values fields reads; filled = all_filled (session_columns it) values fields count ends read.says }

@@ -1,0 +1,11 @@
+use Rattle.std.proofs.Common.{rules}
+use Rattle.pb_form.specs.SessionRows.{session_told}
+use Rattle.pb_form.proofs.session.session_kind.Goals as goal
+
+pub returns-in_err-place : goal.returns-in_err-place
+unfolding session_told
+returns-in_err-place c = search rules
+
+pub returns : goal.returns
+unfolding session_told
+returns c = search rules

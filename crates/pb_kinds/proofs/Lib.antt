@@ -1,0 +1,4 @@
+mod ThereLemmas
+mod RangeLemmas
+mod RequestLemmas
+mod WrittenLemmas

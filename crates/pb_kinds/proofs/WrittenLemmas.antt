@@ -1,0 +1,61 @@
+-- A record that writes values of a kind writes the effect that they ask to be stored.
+use Rattle.std.specs.Prelude.{IfOk, Result, Ok, Err}
+use Rattle.std.proofs.Common.{◌≡◌, ◌∙◌, ℕ, ℤ, true, List, [], ◌∷◌, length, refl, ap, arith}
+use Rattle.std.proofs.lemmas.Int.{ints}
+use Rattle.pb_rows.specs.Name.{is_name}
+use Rattle.pb_site.specs.declared.declared.Declared.TheVariants.{Stream}
+use Rattle.pb_site.specs.declared.declared.Kind.{Kind}
+use Rattle.pb_site.specs.declared.declared.Kind.TheVariants.{Metered, Batch, Plain}
+use Rattle.pb_site.specs.Row.{IsArcBase, arc_kind}
+use Rattle.pb_form.specs.Given.{value_as, values_as}
+use Rattle.pb_form.specs.Holds as holds
+use Rattle.pb_form.specs.Laws.{IsOfKind}
+use Rattle.pb_form.specs.SessionRows.{session_columns, session_schema}
+use Rattle.pb_form.specs.Value.{Value, Name}
+use Rattle.pb_form.specs.Writing.{FitEach, Writes}
+use Rattle.pb_form.specs.declared.fault.FormFault.{FormFault}
+use Rattle.pb_form.specs.declared.session.SessionKind.{SessionKind}
+use Rattle.pb_form.specs.declared.value.Value as coded
+use Rattle.pb_form.specs.declared.value.Value.TheVariants as given
+use Rattle.pb_kinds.specs.declared.rows.Effect.{Effect}
+use Rattle.pb_kinds.specs.declared.rows.Effect.TheVariants.{Declares}
+use Rattle.pb_kinds.specs.declared.rows.Request.{Request}
+use Rattle.pb_kinds.specs.declared.rows.Request.TheVariants.{Store}
+use Rattle.pb_kinds.specs.Requests.{request_of}
+use Rattle.pb_kinds.specs.There.{WritesEffect, stream_kind}
+use Rattle.pb_kinds.proofs.RequestLemmas.{asks_of}
+
+pub written : {E : Type 0} (result : Result (List (List ℕ)) E) (it : SessionKind) (values : List Value) (effect : Effect) → IfOk result (Writes (session_schema it) values)
+    → IfOk result (IsOfKind it) → request_of it values ≡ Store effect → IfOk result (WritesEffect effect)
+written (Ok fields) it values effect writes is asks =
+    let ok : Request → Result Request FormFault = λ request. Ok request in
+    record { asks = asks_of it values fields is writes ∙ ap ok asks; filled = is.filled }
+written (Err error) it values effect writes is asks = tt
+
+-- the values of a stream, of which the names are given as these
+abbrev pub stream_given : coded.Value → coded.Value → coded.Value → ℤ → List coded.Value
+stream_given a b c base = given.Word 0 ∷ (a ∷ (b ∷ (c ∷ (given.Word 0 ∷ (given.Number base ∷ [])))))
+
+-- they are as many as the columns of a stream of a kind, they fit these, and they ask that the stream be stored
+pub record StreamIsGiven (sort : Kind) (a b c : coded.Value) (name from to : List ℕ) (base : ℤ) : Type 0 where
+  pub each : length (stream_given a b c base) ≡ length (session_columns (stream_kind sort))
+  pub fit : FitEach (session_columns (stream_kind sort)) (values_as (session_columns (stream_kind sort)) (stream_given a b c base))
+  pub asks : request_of (stream_kind sort) (values_as (session_columns (stream_kind sort)) (stream_given a b c base)) ≡ Store (Declares (Stream name from to sort base))
+
+pub stream_is_given : (sort : Kind) (a b c : coded.Value) (name from to : List ℕ) (base : ℤ) → value_as holds.Name a ≡ Name name → value_as holds.Name b ≡ Name from → value_as holds.Name c ≡ Name to
+    → is_name name ≡ true → is_name from ≡ true → is_name to ≡ true → IsArcBase (arc_kind sort) base → StreamIsGiven sort a b c name from to base
+stream_is_given Metered a b c name from to base x y z p q r range = record {
+  each = refl;
+  fit = rw (x, y, z) ((refl, refl), (p, (q, (r, ((refl, refl), (range, tt))))));
+  asks = rw (x, y, z, p, q, r) refl;
+}
+stream_is_given Batch a b c name from to base x y z p q r range = record {
+  each = refl;
+  fit = rw (x, y, z) ((refl, refl), (p, (q, (r, ((refl, refl), (range, tt))))));
+  asks = rw (x, y, z, p, q, r) refl;
+}
+stream_is_given Plain a b c name from to base x y z p q r range = record {
+  each = refl;
+  fit = rw (x, y, z) ((refl, refl), (p, (q, (r, ((refl, refl), ((omega (arith, ints, range), omega (arith, ints, range)), tt))))));
+  asks = rw (x, y, z, p, q, r) refl;
+}

@@ -1,0 +1,14 @@
+use Rattle.std.proofs.Common.{refl}
+use Rattle.pb_form.specs.SessionRows.{session_columns}
+use Rattle.pb_form.specs.declared.session.SessionKind.TheVariants as kind
+use Rattle.pb_kinds.proofs.ThereLemmas.{long_is, name_is}
+use Rattle.pb_kinds.proofs.reading.strap.Goals as goal
+
+pub name_there-requires : goal.name_there-requires
+name_there-requires c = name_is (session_columns kind.Strap) c.args.values.now 0 1 1 _ c.requires refl refl
+
+pub long_there-requires : goal.long_there-requires
+long_there-requires c = long_is (session_columns kind.Strap) c.args.values.now 0 2 2 _ _ _ c.requires refl refl refl
+
+pub long_there-2-requires : goal.long_there-2-requires
+long_there-2-requires c = long_is (session_columns kind.Strap) c.args.values.now 0 3 3 _ _ _ c.requires refl refl refl
