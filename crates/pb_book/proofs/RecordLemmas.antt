@@ -23,6 +23,7 @@ use Rattle.pb_book.specs.Kept.{effect_in, opening, row_at, rows_at, settled_at, 
 use Rattle.pb_book.specs.Plain.{booked, settled, settled_rows}
 use Rattle.pb_book.specs.Written.{AddsRow, AddsSome, WriteRows, WritesRow}
 use Rattle.pb_book.proofs.EditLemmas.{AreEdits}
+use Rattle.pb_book.proofs.KeptLemmas.{stored_at}
 
 -- ---- one more record
 
@@ -42,10 +43,6 @@ adds old new effects (Some effect) so_far more = by more
     by (fields, one, is) = rw is (write_more old effects fields effect so_far one)
 
 -- ---- the declarations and periods of a book, by their places
-
--- a row with the number of its record
-abbrev stored_at : ℕ → Option Effect → Option StoredRow
-stored_at at o = option_map (λ (effect : Effect). let s : StoredRow = record { at = at; effect = effect } in s) o
 
 settled_cons : (o : Option StoredRow) (rest : List StoredRow)
     → settled_rows (cons_option o rest) ≡ cons_option (option_and_then (λ (s : StoredRow). settled s.effect) o) (settled_rows rest)
