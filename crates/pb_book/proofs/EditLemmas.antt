@@ -1,15 +1,15 @@
 -- The places of a book's rows, and its edits.
-use Rattle.std.specs.Prelude.{filter, IsSome}
+use Rattle.std.specs.Prelude.{IsSome}
+use Rattle.std.proofs.lemmas.Option.{slice_get_past}
 use Rattle.std.specs.Option.{option_map_or}
-use Rattle.std.proofs.Common.{◌≡◌, ◌∙◌, ◌<◌, ℕ, zero, suc, List, [], ◌∷◌, length, slice_get, Bool, true, false, Option, Some, None, refl, sym, ap, ap₂, arith, inl, inr}
-use Rattle.std.proofs.lemmas.Bool.{cases_Bool}
+use Rattle.std.proofs.Common.{◌≡◌, ◌∙◌, ◌<◌, ◌≤◌, ℕ, zero, suc, List, [], ◌∷◌, length, slice_get, Bool, true, false, Option, Some, None, refl, sym, ap, ap₂, arith, inl, inr}
 use Rattle.pb_facts.specs.declared.facts.KeptFact.{KeptFact}
 use Rattle.pb_site.specs.declared.declared.Declared.{Declared}
 use Rattle.pb_book.specs.declared.rows.Period.{Period}
 use Rattle.pb_book.specs.declared.rows.Place.{Place}
 use Rattle.pb_book.specs.declared.rows.StoredRow.{StoredRow}
-use Rattle.pb_book.specs.Edits.{edit_touches, edits_of, is_edit, row_touches, touches_at}
-use Rattle.pb_book.specs.Kept.{AreOf, ArePlaced, Shelves, row_at, rows_at}
+use Rattle.pb_book.specs.Edits.{edit_touches, edits_of, row_touches, touches_at}
+use Rattle.pb_book.specs.Kept.{AreOf, ArePlaced, IsKept, Shelves, row_at, rows_at}
 use Rattle.pb_book.specs.Rows.{facts_of}
 
 -- places that have rows have as many
@@ -35,26 +35,22 @@ placed_at shelves (first ∷ places) i place placed is =
     by rest (Some stored) there some zero at = let same : first ≡ place = cc at in rw there (sym there ∙ ap (row_at shelves) same)
     by rest (Some stored) there some (suc k) at = rw there (rest k at)
 
--- an item of those that pass a test passes it
-passes : {X : Type 0} (p : X → Bool) (xs : List X) (i : ℕ) (x : X) → slice_get (filter p xs) i ≡ Some x → p x ≡ true
-passes p [] i x is = cc is
-passes p (y ∷ xs) i x is = elim (cases_Bool (p y)) [
-  | inl own ↦ by (λ k at. passes p xs k x at) i (rw own at is) own
-  | inr other ↦ passes p xs i x (rw other at is)
-]
-  where
-    by : ((k : ℕ) → slice_get (filter p xs) k ≡ Some x → p x ≡ true) → (k : ℕ) → slice_get (y ∷ filter p xs) k ≡ Some x → p y ≡ true → p x ≡ true
-    by rest zero at own = let same : y ≡ x = cc at in rw (← same) own
-    by rest (suc k) at own = rest k at
+-- the edit at a place of a book
+pub edit_row : (shelves : Shelves) (kept : List KeptFact) (places edits : List Place) (i : ℕ) (place : Place) → IsKept shelves kept places edits → slice_get edits i ≡ Some place
+    → slice_get (edits_of (rows_at shelves places)) i ≡ row_at shelves place
+edit_row shelves kept places edits i place right is = ap (λ (rows : List StoredRow). slice_get rows i) (sym right.edit_rows) ∙ placed_at shelves edits i place right.edited is
 
--- rows each of which edits the books
-pub record AreEdits (edits : List StoredRow) : Type 0 where
-  pub each : (i : ℕ) (edit : StoredRow) → slice_get edits i ≡ Some edit → is_edit edit.effect ≡ true
+pub no_edit : (shelves : Shelves) (kept : List KeptFact) (places edits : List Place) (i : ℕ) → IsKept shelves kept places edits → length edits ≤ i
+    → None ≡ slice_get (edits_of (rows_at shelves places)) i
+no_edit shelves kept places edits i right past =
+    let long = placed_length shelves edits right.edited in
+    sym (ap (λ (rows : List StoredRow). slice_get rows i) (sym right.edit_rows) ∙ slice_get_past (rows_at shelves edits) i (omega (arith, long, past)))
 
-pub are_edits : (rows edits : List StoredRow) → edits ≡ edits_of rows → AreEdits edits
-are_edits rows edits are = record {
-  each = λ i edit is. passes (λ (s : StoredRow). is_edit s.effect) rows i edit (ap (λ (es : List StoredRow). slice_get es i) (sym are) ∙ is);
-}
+-- an item is there
+pub none_within : {X : Type 0} (xs : List X) (i : ℕ) → i < length xs → None ≡ slice_get xs i → ⊥
+none_within [] i lt none = omega (arith, lt)
+none_within (x ∷ xs) zero lt none = cc none
+none_within (x ∷ xs) (suc i) lt none = none_within xs i (omega (arith, lt)) none
 
 -- whether the edit at a place touches the period at a place
 pub touches_by : (rows : List StoredRow) (declared : List Declared) (kept : List KeptFact) (periods : List Period) (e i : ℕ) (period : Period) (edit : StoredRow) (result : Bool)

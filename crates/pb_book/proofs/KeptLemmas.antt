@@ -1,8 +1,9 @@
 -- What a book keeps stays right where a row joins the others.
-use Rattle.std.specs.Prelude.{if◌then◌else◌, IsSome, map}
+use Rattle.std.specs.Prelude.{if◌then◌else◌, IsSome, map, position}
+use Rattle.std.specs.Cmp.Lexicographic.{bytes_decides}
 use Rattle.std.specs.List.{cons_option}
 use Rattle.std.specs.Option.{option_map}
-use Rattle.std.proofs.Common.{◌≡◌, ◌∙◌, ℕ, suc, ℤ, ◌<◌, ◌≤◌, refl, true, false, List, [], ◌∷◌, ◌++◌, length, slice_get, Option, Some, None, sym, ap, ap₂, subst, arith, inl, inr, length-append}
+use Rattle.std.proofs.Common.{◌≡◌, ◌∙◌, ℕ, suc, ℤ, ◌<◌, ◌≤◌, refl, pos, Bool, true, false, List, [], ◌∷◌, ◌++◌, get_or, length, slice_get, Option, Some, None, sym, ap, ap₂, subst, arith, inl, inr, length-append}
 use Rattle.std.proofs.lemmas.Bool.{cases_Bool}
 use Rattle.std.proofs.lemmas.List.{append-nil}
 use Rattle.std.proofs.lemmas.List.Elements.{All-push, filter-append, filter_map-append}
@@ -13,9 +14,9 @@ use Rattle.std.proofs.Math.Seq.{get_or-append_seam}
 use Rattle.pb_site.specs.declared.declared.Declared.{Declared}
 use Rattle.pb_facts.specs.declared.fact.Fact.{Fact}
 use Rattle.pb_facts.specs.declared.facts.KeptFact.{KeptFact}
-use Rattle.pb_kinds.specs.declared.rows.Edit.{Edit}
 use Rattle.pb_kinds.specs.declared.rows.Effect.{Effect}
 use Rattle.pb_kinds.specs.declared.rows.Effect.TheVariants.{Declares, Opens, Books, Edits, Closes}
+use Rattle.pb_book.specs.declared.rows.Edited.{Edited}
 use Rattle.pb_book.specs.declared.rows.Part.{Part}
 use Rattle.pb_book.specs.declared.rows.Part.TheVariants as part
 use Rattle.pb_book.specs.declared.rows.Period.{Period}
@@ -24,10 +25,10 @@ use Rattle.pb_book.specs.declared.rows.StoredRow.{StoredRow}
 use Rattle.pb_book.specs.Accepted.{AreAccepted, IsAcceptable}
 use Rattle.pb_book.specs.Apart.{is_named}
 use Rattle.pb_book.specs.Edits.{edits_of, is_edit}
-use Rattle.pb_book.specs.Kept.{AreOf, ArePlaced, IsKept, Shelves, effect_in, opening, row_at, rows_at, shelves_of}
-use Rattle.pb_book.specs.Plain.{booked}
-use Rattle.pb_book.specs.Rows.{closed_if_named, declaration_in, declared_of, facts_after, facts_of, live, open_period, periods_after, periods_of}
+use Rattle.pb_book.specs.Kept.{AreOf, ArePlaced, IsKept, Shelves, closing, editing, effect_in, opening, row_at, rows_at, shelves_of}
+use Rattle.pb_book.specs.Rows.{closed, closed_if_named, declaration_in, declared_of, facts_after, facts_of, live, open_period, periods_after, periods_of}
 use Rattle.pb_book.proofs.AcceptedLemmas.{accepted_more}
+use Rattle.pb_book.proofs.PeriodLemmas.{position_at_first}
 use Rattle.pb_book.proofs.OriginalLemmas.{Joins, TellsAll, tells_as, tells_itself, tells_same}
 
 -- ---- the parts of the rows, with one row more
@@ -94,35 +95,51 @@ stay_as {X} {Y} f xs ys extends = record { kept = λ i y is. by i y (slice_get x
     by i y None at is = cc is
     by i y (Some x) at is = ap (option_map f) (extends.kept i x at) ∙ is
 
-closed_span : (name : List ℕ) (period : Period) → opening (closed_if_named name period) ≡ opening period
-closed_span name period = elim (cases_Bool (is_named name period)) [ inl is ↦ rw is refl | inr other ↦ rw other refl ]
+-- a period that is closed is opened and closed by the same rows
+closed_span : (f : Period → Effect) (name : List ℕ) → ((period : Period) → f (closed period) ≡ f period) → (period : Period) → f (closed_if_named name period) ≡ f period
+closed_span f name same period = elim (cases_Bool (is_named name period)) [ inl is ↦ rw is (same period) | inr other ↦ rw other refl ]
 
-closed_spans : (name : List ℕ) (periods : List Period) → StayAs opening periods (map (closed_if_named name) periods)
-closed_spans name periods = record {
-  kept = λ i y is. ap (option_map opening) (slice_get-map (closed_if_named name) periods i) ∙ by (slice_get periods i) ∙ is;
+closed_as : (f : Period → Effect) (name : List ℕ) (periods : List Period) → ((period : Period) → f (closed period) ≡ f period) → StayAs f periods (map (closed_if_named name) periods)
+closed_as f name periods same = record {
+  kept = λ i y is. ap (option_map f) (slice_get-map (closed_if_named name) periods i) ∙ by (slice_get periods i) ∙ is;
 }
   where
-    by : (o : Option Period) → option_map opening (option_map (closed_if_named name) o) ≡ option_map opening o
+    by : (o : Option Period) → option_map f (option_map (closed_if_named name) o) ≡ option_map f o
     by None = refl
-    by (Some period) = ap Some (closed_span name period)
+    by (Some period) = ap Some (closed_span f name same period)
+
+-- the rows that open and close periods stay where they are
+pub record SpansStay (spans more : List Period) : Type 0 where
+  pub opened : StayAs opening spans more
+  pub closed : StayAs closing spans more
 
 -- the periods stay, where nothing is closed
-same_spans : (spans : List Period) → StayAs opening spans spans
-same_spans spans = stay_as opening spans spans (itself spans)
+same_spans : (spans : List Period) → SpansStay spans spans
+same_spans spans = record { opened = stay_as opening spans spans (itself spans); closed = stay_as closing spans spans (itself spans) }
+
+more_spans : (spans : List Period) (period : Period) → SpansStay spans (spans ++ period ∷ [])
+more_spans spans period = record {
+  opened = stay_as opening spans (spans ++ period ∷ []) (longer spans (period ∷ []));
+  closed = stay_as closing spans (spans ++ period ∷ []) (longer spans (period ∷ []));
+}
+
+closed_spans : (name : List ℕ) (spans : List Period) → SpansStay spans (map (closed_if_named name) spans)
+closed_spans name spans = record { opened = closed_as opening name spans (λ period. refl); closed = closed_as closing name spans (λ period. refl) }
 
 -- shelves that have the rows of others where those have them
 record Grows (shelves more : Shelves) : Type 0 where
   grown : (one : Part) (effect : Effect) → effect_in shelves one ≡ Some effect → effect_in more one ≡ Some effect
 
-grows_by : (d ds : List Declared) (t ts : ℕ → Option Fact) (p ps : List Period) (e es : List StoredRow) → Extends d ds → TellsAll t ts → StayAs opening p ps → Extends e es
+grows_by : (d ds : List Declared) (t ts : ℕ → Option Fact) (p ps : List Period) (e es : List Edited) → Extends d ds → TellsAll t ts → SpansStay p ps → Extends e es
     → Grows (shelves_of d t p e) (shelves_of ds ts ps es)
-grows_by d ds t ts p ps e es declared told spans edits = record { grown = by }
+grows_by d ds t ts p ps e es declared told spans edited = record { grown = by }
   where
     by : (one : Part) (effect : Effect) → effect_in (shelves_of d t p e) one ≡ Some effect → effect_in (shelves_of ds ts ps es) one ≡ Some effect
     by (part.Declared i) effect is = (stay_as (λ (x : Declared). Declares x) d ds declared).kept i effect is
-    by (part.Opened i) effect is = spans.kept i effect is
-    by (part.Booked i) effect is = tells_as booked t ts told i effect is
-    by (part.Edit i) effect is = (stay_as (λ (x : StoredRow). x.effect) e es edits).kept i effect is
+    by (part.Opened i) effect is = spans.opened.kept i effect is
+    by (part.Booked i late) effect is = tells_as (λ (x : Fact). Books x late) t ts told i effect is
+    by (part.Edited i) effect is = (stay_as editing e es edited).kept i effect is
+    by (part.Closed i) effect is = spans.closed.kept i effect is
 
 -- a row with the number of its record
 abbrev pub stored_at : ℕ → Option Effect → Option StoredRow
@@ -163,30 +180,53 @@ placed_more shelves more places place stored grows placed is =
 
 -- ---- what is kept, with one row more
 
+-- the places of the edits, where a row joins the others: that of an edit joins them
+abbrev edits_after : Effect → List Place → Place → List Place
+edits_after effect edits place = if is_edit effect then edits ++ place ∷ [] else edits
+
 -- what is kept of the rows, and of one more
-pub record IsKeptAfter (shelves more : Shelves) (kept : List KeptFact) (places : List Place) (place : Place) (stored : StoredRow) : Type 0 where
+pub record IsKeptAfter (shelves more : Shelves) (kept : List KeptFact) (places edits : List Place) (place : Place) (stored : StoredRow) : Type 0 where
   pub rows : rows_at more (places ++ place ∷ []) ≡ rows_at shelves places ++ stored ∷ []
-  pub right : IsKept more kept (places ++ place ∷ [])
+  pub right : IsKept more kept (places ++ place ∷ []) edits
 
 -- the edits, where a row joins the others
-edits_more : (rows edits more : List StoredRow) (stored : StoredRow) → edits ≡ edits_of rows → more ≡ edits ++ edits_of (stored ∷ []) → more ≡ edits_of (rows ++ stored ∷ [])
-edits_more rows edits more stored are is =
-    is ∙ ap (λ (es : List StoredRow). es ++ edits_of (stored ∷ [])) are ∙ sym (filter-append (λ (s : StoredRow). is_edit s.effect) rows (stored ∷ []))
+record AreEditsOf (more : Shelves) (edits : List Place) (rows : List StoredRow) : Type 0 where
+  placed : ArePlaced more edits
+  are : rows_at more edits ≡ edits_of rows
 
-kept_more : (shelves more : Shelves) (kept ks : List KeptFact) (places : List Place) (place : Place) (stored : StoredRow) → IsKept shelves kept places
+edits_more : (shelves more : Shelves) (edits : List Place) (place : Place) (stored : StoredRow) (rows : List StoredRow) → Grows shelves more → ArePlaced shelves edits
+    → rows_at shelves edits ≡ edits_of rows → row_at more place ≡ Some stored → AreEditsOf more (edits_after stored.effect edits place) (rows ++ stored ∷ [])
+edits_more shelves more edits place stored rows grows placed are is = elim (cases_Bool (is_edit stored.effect)) [
+  | inl edit ↦ rw edit (record {
+    placed = placed_more shelves more edits place stored grows placed is;
+    are =
+        rows_more shelves more edits place stored grows placed is ∙ ap (λ (xs : List StoredRow). xs ++ stored ∷ []) are
+        ∙ sym (split ∙ rw edit refl);
+  })
+  | inr other ↦ rw other (record {
+    placed = placed_stay shelves more edits grows placed;
+    are = rows_stay shelves more edits grows placed ∙ are ∙ sym (split ∙ rw other (append-nil (edits_of rows)));
+  })
+]
+  where
+    split : edits_of (rows ++ stored ∷ []) ≡ edits_of rows ++ edits_of (stored ∷ [])
+    split = filter-append (λ (s : StoredRow). is_edit s.effect) rows (stored ∷ [])
+
+kept_more : (shelves more : Shelves) (kept ks : List KeptFact) (places edits : List Place) (place : Place) (stored : StoredRow) → IsKept shelves kept places edits
     → Grows shelves more → row_at more place ≡ Some stored → IsAcceptable (rows_at shelves places) stored.effect
     → AreOf (rows_at shelves places ++ stored ∷ []) more.declared ks more.spans → ((i : ℕ) → length ks ≤ i → more.told i ≡ None)
-    → more.edits ≡ shelves.edits ++ edits_of (stored ∷ [])
-    → IsKeptAfter shelves more ks places place stored
-kept_more shelves more kept ks places place stored right grows is fine parts told edits =
-    let rows = rows_more shelves more places place stored grows right.placed is in record {
+    → IsKeptAfter shelves more ks places (edits_after stored.effect edits place) place stored
+kept_more shelves more kept ks places edits place stored right grows is fine parts told =
+    let rows = rows_more shelves more places place stored grows right.placed is in
+    let edited = edits_more shelves more edits place stored (rows_at shelves places) grows right.edited right.edit_rows is in record {
       rows = rows;
       right = record {
         placed = placed_more shelves more places place stored grows right.placed is;
         parts = subst (λ (r : List StoredRow). AreOf r more.declared ks more.spans) (sym rows) parts;
         accepted = subst AreAccepted (sym rows) (accepted_more (rows_at shelves places) stored right.accepted fine);
         told = told;
-        edits = edits_more (rows_at shelves places) shelves.edits more.edits stored right.edits edits ∙ ap edits_of (sym rows);
+        edited = edited.placed;
+        edit_rows = edited.are ∙ ap edits_of (sym rows);
       };
     }
 
@@ -194,115 +234,107 @@ last_item : {X : Type 0} (xs : List X) (x : X) → slice_get (xs ++ x ∷ []) (l
 last_item xs x = slice_get-get_or (xs ++ x ∷ []) (length xs) x (omega (arith, length-append xs (x ∷ []))) ∙ ap Some (get_or-append_seam xs x [] x)
 
 -- one more declaration
-pub kept_declaration : (declared : List Declared) (told : ℕ → Option Fact) (spans : List Period) (edits : List StoredRow) (kept : List KeptFact) (places : List Place) (at i : ℕ) (row : Declared)
-    → IsKept (shelves_of declared told spans edits) kept places → IsAcceptable (rows_at (shelves_of declared told spans edits) places) (Declares row) → i ≡ length declared
-    → IsKeptAfter (shelves_of declared told spans edits) (shelves_of (declared ++ row ∷ []) told spans edits) kept places
+pub kept_declaration : (declared : List Declared) (told : ℕ → Option Fact) (spans : List Period) (edited : List Edited) (kept : List KeptFact) (places edits : List Place) (at i : ℕ) (row : Declared)
+    → IsKept (shelves_of declared told spans edited) kept places edits → IsAcceptable (rows_at (shelves_of declared told spans edited) places) (Declares row) → i ≡ length declared
+    → IsKeptAfter (shelves_of declared told spans edited) (shelves_of (declared ++ row ∷ []) told spans edited) kept places edits
     (record { at = at; part = part.Declared i }) (record { at = at; effect = Declares row })
-kept_declaration declared told spans edits kept places at i row right fine last =
-    let before = shelves_of declared told spans edits in
-    kept_more before (shelves_of (declared ++ row ∷ []) told spans edits) kept kept places (record { at = at; part = part.Declared i })
+kept_declaration declared told spans edited kept places edits at i row right fine last =
+    let before = shelves_of declared told spans edited in
+    kept_more before (shelves_of (declared ++ row ∷ []) told spans edited) kept kept places edits (record { at = at; part = part.Declared i })
     (record { at = at; effect = Declares row }) right
-    (grows_by declared (declared ++ row ∷ []) told told spans spans edits edits (longer declared (row ∷ [])) (tells_itself told) (same_spans spans) (itself edits))
+    (grows_by declared (declared ++ row ∷ []) told told spans spans edited edited (longer declared (row ∷ [])) (tells_itself told) (same_spans spans) (itself edited))
     (rw (last, last_item declared row) refl)
     fine
     (of_declaration (rows_at before places) declared kept spans at row right.parts)
     right.told
-    (sym (append-nil edits))
 
 -- one more period
-pub kept_period : (declared : List Declared) (told : ℕ → Option Fact) (spans : List Period) (edits : List StoredRow) (kept : List KeptFact) (places : List Place) (at i : ℕ) (name : List ℕ) (first last : ℤ)
-    → IsKept (shelves_of declared told spans edits) kept places → IsAcceptable (rows_at (shelves_of declared told spans edits) places) (Opens name first last) → i ≡ length spans
-    → IsKeptAfter (shelves_of declared told spans edits) (shelves_of declared told (spans ++ open_period name first last ∷ []) edits) kept places
+pub kept_period : (declared : List Declared) (told : ℕ → Option Fact) (spans : List Period) (edited : List Edited) (kept : List KeptFact) (places edits : List Place) (at i : ℕ) (name : List ℕ) (first last : ℤ)
+    → IsKept (shelves_of declared told spans edited) kept places edits → IsAcceptable (rows_at (shelves_of declared told spans edited) places) (Opens name first last) → i ≡ length spans
+    → IsKeptAfter (shelves_of declared told spans edited) (shelves_of declared told (spans ++ open_period name first last ∷ []) edited) kept places edits
     (record { at = at; part = part.Opened i }) (record { at = at; effect = Opens name first last })
-kept_period declared told spans edits kept places at i name first last right fine behind =
-    let before = shelves_of declared told spans edits in
+kept_period declared told spans edited kept places edits at i name first last right fine behind =
+    let before = shelves_of declared told spans edited in
     let period = open_period name first last in
-    kept_more before (shelves_of declared told (spans ++ period ∷ []) edits) kept kept places (record { at = at; part = part.Opened i })
+    kept_more before (shelves_of declared told (spans ++ period ∷ []) edited) kept kept places edits (record { at = at; part = part.Opened i })
     (record { at = at; effect = Opens name first last }) right
-    (grows_by declared declared told told spans (spans ++ period ∷ []) edits edits (itself declared) (tells_itself told) (stay_as opening spans (spans ++ period ∷ []) (longer spans (period ∷ []))) (itself edits))
+    (grows_by declared declared told told spans (spans ++ period ∷ []) edited edited (itself declared) (tells_itself told) (more_spans spans period) (itself edited))
     (rw (behind, last_item spans period) refl)
     fine
     (of_row (rows_at before places) declared kept spans at (Opens name first last) refl right.parts)
     right.told
-    (sym (append-nil edits))
 
--- one more fact
-pub kept_fact : (declared : List Declared) (told more : ℕ → Option Fact) (spans : List Period) (edits : List StoredRow) (kept : List KeptFact) (places : List Place) (at i : ℕ) (fact : Fact)
-    → IsKept (shelves_of declared told spans edits) kept places → IsAcceptable (rows_at (shelves_of declared told spans edits) places) (Books fact false) → i ≡ length kept → Joins told more kept fact
-    → IsKeptAfter (shelves_of declared told spans edits) (shelves_of declared more spans edits) (kept ++ live fact ∷ []) places
-    (record { at = at; part = part.Booked i }) (record { at = at; effect = Books fact false })
-kept_fact declared told more spans edits kept places at i fact right fine last joins =
-    let before = shelves_of declared told spans edits in
-    kept_more before (shelves_of declared more spans edits) kept (kept ++ live fact ∷ []) places (record { at = at; part = part.Booked i })
-    (record { at = at; effect = Books fact false }) right
-    (grows_by declared declared told more spans spans edits edits (itself declared) joins.all (same_spans spans) (itself edits))
+-- one more fact, late or not
+pub kept_fact : (declared : List Declared) (told more : ℕ → Option Fact) (spans : List Period) (edited : List Edited) (kept : List KeptFact) (places edits : List Place) (at i : ℕ) (fact : Fact) (late : Bool)
+    → IsKept (shelves_of declared told spans edited) kept places edits → IsAcceptable (rows_at (shelves_of declared told spans edited) places) (Books fact late) → i ≡ length kept → Joins told more kept fact
+    → IsKeptAfter (shelves_of declared told spans edited) (shelves_of declared more spans edited) (kept ++ live fact ∷ []) places
+    (edits_after (Books fact late) edits (record { at = at; part = part.Booked i late })) (record { at = at; part = part.Booked i late }) (record { at = at; effect = Books fact late })
+kept_fact declared told more spans edited kept places edits at i fact late right fine last joins =
+    let before = shelves_of declared told spans edited in
+    kept_more before (shelves_of declared more spans edited) kept (kept ++ live fact ∷ []) places edits (record { at = at; part = part.Booked i late })
+    (record { at = at; effect = Books fact late }) right
+    (grows_by declared declared told more spans spans edited edited (itself declared) joins.all (same_spans spans) (itself edited))
     (rw (last, joins.last) refl)
     fine
-    (of_row (rows_at before places) declared kept spans at (Books fact false) refl right.parts)
+    (of_row (rows_at before places) declared kept spans at (Books fact late) refl right.parts)
     joins.none
-    (sym (append-nil edits))
-
--- one more row that edits the books
-kept_edit : (declared : List Declared) (told tells : ℕ → Option Fact) (spans ps : List Period) (edits : List StoredRow) (kept : List KeptFact) (places : List Place) (at i : ℕ) (effect : Effect)
-    → IsKept (shelves_of declared told spans edits) kept places → IsAcceptable (rows_at (shelves_of declared told spans edits) places) effect → i ≡ length edits
-    → is_edit effect ≡ true → declared_of (record { at = at; effect = effect } ∷ []) ≡ []
-    → TellsAll told tells → ps ≡ periods_after spans effect → StayAs opening spans ps → ((i : ℕ) → length (facts_after kept effect) ≤ i → tells i ≡ None)
-    → IsKeptAfter (shelves_of declared told spans edits) (shelves_of declared tells ps (edits ++ record { at = at; effect = effect } ∷ [])) (facts_after kept effect) places
-    (record { at = at; part = part.Edit i }) (record { at = at; effect = effect })
-kept_edit declared told tells spans ps edits kept places at i effect right fine last edit none tells_all is stay behind =
-    let before = shelves_of declared told spans edits in
-    let place : Place = record { at = at; part = part.Edit i } in
-    let stored : StoredRow = record { at = at; effect = effect } in
-    let more = shelves_of declared tells ps (edits ++ stored ∷ []) in
-    let there : row_at more place ≡ Some stored = rw (last, last_item edits stored) refl in
-    let own : edits_of (stored ∷ []) ≡ stored ∷ [] = rw edit refl in
-    kept_more before more kept (facts_after kept effect) places place stored right
-    (grows_by declared declared told tells spans ps edits (edits ++ stored ∷ []) (itself declared) tells_all stay (longer edits (stored ∷ [])))
-    there
-    fine
-    (subst (λ (spans_now : List Period). AreOf (rows_at before places ++ stored ∷ []) declared (facts_after kept effect) spans_now) (sym is)
-    (of_row (rows_at before places) declared kept spans at effect none right.parts))
-    behind
-    (ap (λ (es : List StoredRow). edits ++ es) (sym own))
-
--- one more late fact
-pub kept_late : (declared : List Declared) (told more : ℕ → Option Fact) (spans : List Period) (edits : List StoredRow) (kept : List KeptFact) (places : List Place) (at i : ℕ) (fact : Fact)
-    → IsKept (shelves_of declared told spans edits) kept places → IsAcceptable (rows_at (shelves_of declared told spans edits) places) (Books fact true) → i ≡ length edits → Joins told more kept fact
-    → IsKeptAfter (shelves_of declared told spans edits) (shelves_of declared more spans (edits ++ record { at = at; effect = Books fact true } ∷ [])) (kept ++ live fact ∷ []) places
-    (record { at = at; part = part.Edit i }) (record { at = at; effect = Books fact true })
-kept_late declared told more spans edits kept places at i fact right fine last joins =
-    kept_edit declared told more spans spans edits kept places at i (Books fact true) right fine last refl refl joins.all refl (same_spans spans) joins.none
 
 -- one more edit of a fact
-pub kept_change : (declared : List Declared) (told tells : ℕ → Option Fact) (spans : List Period) (edits : List StoredRow) (kept : List KeptFact) (places : List Place) (at i : ℕ) (id : List ℕ) (how : Edit) (reason : List ℕ)
-    → IsKept (shelves_of declared told spans edits) kept places → IsAcceptable (rows_at (shelves_of declared told spans edits) places) (Edits id how reason) → i ≡ length edits
-    → length kept ≡ length (facts_after kept (Edits id how reason)) → ((i : ℕ) → tells i ≡ told i)
-    → IsKeptAfter (shelves_of declared told spans edits) (shelves_of declared tells spans (edits ++ record { at = at; effect = Edits id how reason } ∷ [])) (facts_after kept (Edits id how reason)) places
-    (record { at = at; part = part.Edit i }) (record { at = at; effect = Edits id how reason })
-kept_change declared told tells spans edits kept places at i id how reason right fine last long same =
-    kept_edit declared told tells spans spans edits kept places at i (Edits id how reason) right fine last refl refl (tells_same told tells same) refl (same_spans spans)
+pub kept_edit : (declared : List Declared) (told tells : ℕ → Option Fact) (spans : List Period) (edited : List Edited) (kept : List KeptFact) (places edits : List Place) (at i : ℕ) (one : Edited)
+    → IsKept (shelves_of declared told spans edited) kept places edits → IsAcceptable (rows_at (shelves_of declared told spans edited) places) (editing one) → i ≡ length edited
+    → length kept ≡ length (facts_after kept (editing one)) → ((i : ℕ) → tells i ≡ told i)
+    → IsKeptAfter (shelves_of declared told spans edited) (shelves_of declared tells spans (edited ++ one ∷ [])) (facts_after kept (editing one)) places
+    (edits ++ record { at = at; part = part.Edited i } ∷ []) (record { at = at; part = part.Edited i }) (record { at = at; effect = editing one })
+kept_edit declared told tells spans edited kept places edits at i one right fine last long same =
+    let before = shelves_of declared told spans edited in
+    kept_more before (shelves_of declared tells spans (edited ++ one ∷ [])) kept (facts_after kept (editing one)) places edits (record { at = at; part = part.Edited i })
+    (record { at = at; effect = editing one }) right
+    (grows_by declared declared told tells spans spans edited (edited ++ one ∷ []) (itself declared) (tells_same told tells same) (same_spans spans) (longer edited (one ∷ [])))
+    (rw (last, last_item edited one) refl)
+    fine
+    (of_row (rows_at before places) declared kept spans at (editing one) refl right.parts)
     (λ i behind. same i ∙ right.told i (omega (arith, behind, long)))
 
+-- the period of a name, closed
+closed_there : (name : List ℕ) (spans : List Period) (i : ℕ) → Some i ≡ position (is_named name) spans → option_map closing (slice_get (map (closed_if_named name) spans) i) ≡ Some (Closes name)
+closed_there name spans i is =
+    let found = position_at_first (is_named name) spans i some_period is in
+    let period = get_or spans i some_period in
+    let same : name ≡ period.name = (bytes_decides name period.name).0 found.1 in
+    (closed_as closing name spans (λ p. refl)).kept i (Closes name)
+    (ap (option_map closing) (slice_get-get_or spans i some_period found.0) ∙ ap (λ (n : List ℕ). Some (Closes n)) (sym same))
+  where
+    some_period : Period
+    some_period = open_period [] (pos 0) (pos 0)
+
 -- one more closing
-pub kept_closing : (declared : List Declared) (told : ℕ → Option Fact) (spans : List Period) (edits : List StoredRow) (kept : List KeptFact) (places : List Place) (at i : ℕ) (name : List ℕ)
-    → IsKept (shelves_of declared told spans edits) kept places → IsAcceptable (rows_at (shelves_of declared told spans edits) places) (Closes name) → i ≡ length edits
-    → IsKeptAfter (shelves_of declared told spans edits) (shelves_of declared told (map (closed_if_named name) spans) (edits ++ record { at = at; effect = Closes name } ∷ [])) kept places
-    (record { at = at; part = part.Edit i }) (record { at = at; effect = Closes name })
-kept_closing declared told spans edits kept places at i name right fine last =
-    kept_edit declared told told spans (map (closed_if_named name) spans) edits kept places at i (Closes name) right fine last refl refl (tells_itself told) refl (closed_spans name spans) right.told
+pub kept_closing : (declared : List Declared) (told : ℕ → Option Fact) (spans : List Period) (edited : List Edited) (kept : List KeptFact) (places edits : List Place) (at i : ℕ) (name : List ℕ)
+    → IsKept (shelves_of declared told spans edited) kept places edits → IsAcceptable (rows_at (shelves_of declared told spans edited) places) (Closes name) → Some i ≡ position (is_named name) spans
+    → IsKeptAfter (shelves_of declared told spans edited) (shelves_of declared told (map (closed_if_named name) spans) edited) kept places
+    (edits ++ record { at = at; part = part.Closed i } ∷ []) (record { at = at; part = part.Closed i }) (record { at = at; effect = Closes name })
+kept_closing declared told spans edited kept places edits at i name right fine found =
+    let before = shelves_of declared told spans edited in
+    kept_more before (shelves_of declared told (map (closed_if_named name) spans) edited) kept kept places edits (record { at = at; part = part.Closed i })
+    (record { at = at; effect = Closes name }) right
+    (grows_by declared declared told told spans (map (closed_if_named name) spans) edited edited (itself declared) (tells_itself told) (closed_spans name spans) (itself edited))
+    (rw (closed_there name spans i found) refl)
+    fine
+    (of_row (rows_at before places) declared kept spans at (Closes name) refl right.parts)
+    right.told
 
 -- what is kept, where each fact is told as before
-pub record IsKeptSame (shelves more : Shelves) (kept : List KeptFact) (places : List Place) : Type 0 where
+pub record IsKeptSame (shelves more : Shelves) (kept : List KeptFact) (places edits : List Place) : Type 0 where
   pub rows : rows_at more places ≡ rows_at shelves places
-  pub right : IsKept more kept places
+  pub right : IsKept more kept places edits
 
-pub kept_same : (declared : List Declared) (told tells : ℕ → Option Fact) (spans : List Period) (edits : List StoredRow) (kept : List KeptFact) (places : List Place)
-    → IsKept (shelves_of declared told spans edits) kept places → ((i : ℕ) → tells i ≡ told i)
-    → IsKeptSame (shelves_of declared told spans edits) (shelves_of declared tells spans edits) kept places
-kept_same declared told tells spans edits kept places right same =
-    let before = shelves_of declared told spans edits in
-    let more = shelves_of declared tells spans edits in
-    let grows = grows_by declared declared told tells spans spans edits edits (itself declared) (tells_same told tells same) (same_spans spans) (itself edits) in
+pub kept_same : (declared : List Declared) (told tells : ℕ → Option Fact) (spans : List Period) (edited : List Edited) (kept : List KeptFact) (places edits : List Place)
+    → IsKept (shelves_of declared told spans edited) kept places edits → ((i : ℕ) → tells i ≡ told i)
+    → IsKeptSame (shelves_of declared told spans edited) (shelves_of declared tells spans edited) kept places edits
+kept_same declared told tells spans edited kept places edits right same =
+    let before = shelves_of declared told spans edited in
+    let more = shelves_of declared tells spans edited in
+    let grows =
+    grows_by declared declared told tells spans spans edited edited (itself declared) (tells_same told tells same) (same_spans spans) (itself edited) in
     let rows = rows_stay before more places grows right.placed in record {
       rows = rows;
       right = record {
@@ -310,6 +342,7 @@ kept_same declared told tells spans edits kept places right same =
         parts = subst (λ (r : List StoredRow). AreOf r declared kept spans) (sym rows) right.parts;
         accepted = subst AreAccepted (sym rows) right.accepted;
         told = λ i behind. same i ∙ right.told i behind;
-        edits = right.edits ∙ ap edits_of (sym rows);
+        edited = placed_stay before more edits grows right.edited;
+        edit_rows = rows_stay before more edits grows right.edited ∙ right.edit_rows ∙ ap edits_of (sym rows);
       };
     }

@@ -12,17 +12,16 @@ use Rattle.pb_facts.specs.declared.fact.Fact.{Fact}
 use Rattle.pb_facts.specs.declared.facts.KeptFact.{KeptFact}
 use Rattle.pb_facts.specs.Facts.{live_at, live_fact}
 use Rattle.pb_kinds.specs.declared.rows.Effect.{Effect}
-use Rattle.pb_kinds.specs.declared.rows.Effect.TheVariants.{Declares, Opens, Books, Edits, Closes}
+use Rattle.pb_kinds.specs.declared.rows.Effect.TheVariants.{Declares, Books}
+use Rattle.pb_book.specs.declared.rows.Edited.{Edited}
 use Rattle.pb_book.specs.declared.rows.Part.{Part}
 use Rattle.pb_book.specs.declared.rows.Part.TheVariants as part
 use Rattle.pb_book.specs.declared.rows.Period.{Period}
 use Rattle.pb_book.specs.declared.rows.Place.{Place}
 use Rattle.pb_book.specs.declared.rows.StoredRow.{StoredRow}
-use Rattle.pb_book.specs.Edits.{is_edit}
-use Rattle.pb_book.specs.Kept.{effect_in, opening, row_at, rows_at, settled_at, settled_in, shelves_of}
+use Rattle.pb_book.specs.Kept.{closing, editing, effect_in, opening, row_at, rows_at, settled_at, settled_in, shelves_of}
 use Rattle.pb_book.specs.Plain.{booked, settled, settled_rows}
 use Rattle.pb_book.specs.Written.{AddsRow, AddsSome, WriteRows, WritesRow}
-use Rattle.pb_book.proofs.EditLemmas.{AreEdits}
 use Rattle.pb_book.proofs.KeptLemmas.{stored_at}
 
 -- ---- one more record
@@ -49,43 +48,31 @@ settled_cons : (o : Option StoredRow) (rest : List StoredRow)
 settled_cons None rest = refl
 settled_cons (Some stored) rest = refl
 
--- a row that edits the books is none of them
-unsettled : (effect : Effect) → is_edit effect ≡ true → settled effect ≡ None
-unsettled (Declares declared) edit = cc edit
-unsettled (Opens name first last) edit = cc edit
-unsettled (Books fact late) edit = refl
-unsettled (Edits id how reason) edit = refl
-unsettled (Closes name) edit = refl
+-- an item whose row is a plain one, and one whose row isn't
+given : {X : Type 0} (f : X → Effect) (at : ℕ) → ((x : X) → settled (f x) ≡ Some (f x)) → (o : Option X)
+    → option_and_then (λ (s : StoredRow). settled s.effect) (stored_at at (option_map f o)) ≡ option_map f o
+given f at is None = refl
+given f at is (Some x) = is x
 
-settled_place : (declared : List Declared) (told : ℕ → Option Fact) (spans : List Period) (edits : List StoredRow) (at : ℕ) (one : Part) → AreEdits edits
-    → option_and_then (λ (s : StoredRow). settled s.effect) (stored_at at (effect_in (shelves_of declared told spans edits) one)) ≡ settled_in declared spans one
-settled_place declared told spans edits at (part.Declared i) are = by (slice_get declared i)
-  where
-    by : (o : Option Declared) → option_and_then (λ (s : StoredRow). settled s.effect) (stored_at at (option_map (λ (d : Declared). Declares d) o)) ≡ option_map (λ (d : Declared). Declares d) o
-    by None = refl
-    by (Some d) = refl
-settled_place declared told spans edits at (part.Opened i) are = by (slice_get spans i)
-  where
-    by : (o : Option Period) → option_and_then (λ (s : StoredRow). settled s.effect) (stored_at at (option_map opening o)) ≡ option_map opening o
-    by None = refl
-    by (Some p) = refl
-settled_place declared told spans edits at (part.Booked i) are = by (told i)
-  where
-    by : (o : Option Fact) → option_and_then (λ (s : StoredRow). settled s.effect) (stored_at at (option_map booked o)) ≡ None
-    by None = refl
-    by (Some f) = refl
-settled_place declared told spans edits at (part.Edit i) are = by (slice_get edits i) refl
-  where
-    by : (o : Option StoredRow) → slice_get edits i ≡ o → option_and_then (λ (s : StoredRow). settled s.effect) (stored_at at (option_map (λ (e : StoredRow). e.effect) o)) ≡ None
-    by None there = refl
-    by (Some e) there = unsettled e.effect (are.each i e there)
+none_given : {X : Type 0} (f : X → Effect) (at : ℕ) → ((x : X) → settled (f x) ≡ None) → (o : Option X)
+    → option_and_then (λ (s : StoredRow). settled s.effect) (stored_at at (option_map f o)) ≡ None
+none_given f at is None = refl
+none_given f at is (Some x) = is x
 
-pub settled_places : (declared : List Declared) (told : ℕ → Option Fact) (spans : List Period) (edits : List StoredRow) (places : List Place) → AreEdits edits
-    → settled_rows (rows_at (shelves_of declared told spans edits) places) ≡ settled_at declared spans places
-settled_places declared told spans edits [] are = refl
-settled_places declared told spans edits (place ∷ places) are =
-    settled_cons (row_at (shelves_of declared told spans edits) place) (rows_at (shelves_of declared told spans edits) places)
-    ∙ ap₂ cons_option (settled_place declared told spans edits place.at place.part are) (settled_places declared told spans edits places are)
+settled_place : (declared : List Declared) (told : ℕ → Option Fact) (spans : List Period) (edited : List Edited) (at : ℕ) (one : Part)
+    → option_and_then (λ (s : StoredRow). settled s.effect) (stored_at at (effect_in (shelves_of declared told spans edited) one)) ≡ settled_in declared spans one
+settled_place declared told spans edited at (part.Declared i) = given (λ (d : Declared). Declares d) at (λ d. refl) (slice_get declared i)
+settled_place declared told spans edited at (part.Opened i) = given opening at (λ p. refl) (slice_get spans i)
+settled_place declared told spans edited at (part.Booked i late) = none_given (λ (f : Fact). Books f late) at (λ f. refl) (told i)
+settled_place declared told spans edited at (part.Edited i) = none_given editing at (λ e. refl) (slice_get edited i)
+settled_place declared told spans edited at (part.Closed i) = none_given closing at (λ p. refl) (slice_get spans i)
+
+pub settled_places : (declared : List Declared) (told : ℕ → Option Fact) (spans : List Period) (edited : List Edited) (places : List Place)
+    → settled_rows (rows_at (shelves_of declared told spans edited) places) ≡ settled_at declared spans places
+settled_places declared told spans edited [] = refl
+settled_places declared told spans edited (place ∷ places) =
+    settled_cons (row_at (shelves_of declared told spans edited) place) (rows_at (shelves_of declared told spans edited) places)
+    ∙ ap₂ cons_option (settled_place declared told spans edited place.at place.part) (settled_places declared told spans edited places)
 
 -- ---- one more of several
 

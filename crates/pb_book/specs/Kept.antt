@@ -10,7 +10,8 @@ use Rattle.pb_facts.specs.declared.fact.Fact.{Fact}
 use Rattle.pb_facts.specs.declared.facts.KeptFact.{KeptFact}
 use Rattle.pb_facts.specs.Facts.{is_live_with}
 use Rattle.pb_kinds.specs.declared.rows.Effect.{Effect}
-use Rattle.pb_kinds.specs.declared.rows.Effect.TheVariants.{Declares, Opens}
+use Rattle.pb_kinds.specs.declared.rows.Effect.TheVariants.{Declares, Opens, Books, Edits, Closes}
+use Rattle.pb_book.specs.declared.rows.Edited.{Edited}
 use Rattle.pb_book.specs.declared.rows.Part.{Part}
 use Rattle.pb_book.specs.declared.rows.Part.TheVariants as part
 use Rattle.pb_book.specs.declared.rows.Place.{Place}
@@ -20,7 +21,6 @@ use Rattle.pb_book.specs.Accepted.{AreAccepted}
 use Rattle.pb_book.specs.Apart.{AreApart}
 use Rattle.pb_book.specs.Edits.{edits_of}
 use Rattle.pb_book.specs.Ranges.{IsPeriod}
-use Rattle.pb_book.specs.Plain.{booked}
 use Rattle.pb_book.specs.Rows.{declared_of, facts_of, periods_of}
 use Rattle.pb_book.specs.Touching.{some_closed}
 
@@ -74,28 +74,34 @@ HasOriginal kept originals id =
     (place : ℕ) (k : KeptFact) → slice_get kept place ≡ Some k → is_live_with id k ≡ true
     → IsSome (get_hashed nat_eq originals place)
 
--- What the stored rows are kept as: the declarations, the facts at their places as they came, the periods, and the rows that edit
--- the books.
+-- What the stored rows are kept as: the declarations, the facts at their places as they came, the periods, and the edits of facts.
 pub record Shelves : Type 0 where
   pub declared : List Declared
   pub told : ℕ → Option Fact
   pub spans : List Period
-  pub edits : List StoredRow
+  pub edited : List Edited
 
-abbrev pub shelves_of : List Declared → (ℕ → Option Fact) → List Period → List StoredRow → Shelves
-shelves_of declared told spans edits =
-    record { declared = declared; told = told; spans = spans; edits = edits }
+abbrev pub shelves_of : List Declared → (ℕ → Option Fact) → List Period → List Edited → Shelves
+shelves_of declared told spans edited =
+    record { declared = declared; told = told; spans = spans; edited = edited }
 
--- the row that opens a period
+-- what the row does that opens a period, that which closes it, and that which edits a fact
 abbrev pub opening : Period → Effect
 opening period = Opens period.name period.first period.last
+
+abbrev pub closing : Period → Effect
+closing period = Closes period.name
+
+abbrev pub editing : Edited → Effect
+editing edited = Edits edited.id edited.edit edited.reason
 
 -- what the row does that is kept at a place of a part
 abbrev pub effect_in : Shelves → Part → Option Effect
 effect_in shelves (part.Declared i) = option_map (λ declared. Declares declared) (slice_get shelves.declared i)
 effect_in shelves (part.Opened i) = option_map opening (slice_get shelves.spans i)
-effect_in shelves (part.Booked i) = option_map booked (shelves.told i)
-effect_in shelves (part.Edit i) = option_map (λ (edit : StoredRow). edit.effect) (slice_get shelves.edits i)
+effect_in shelves (part.Booked i late) = option_map (λ fact. Books fact late) (shelves.told i)
+effect_in shelves (part.Edited i) = option_map editing (slice_get shelves.edited i)
+effect_in shelves (part.Closed i) = option_map closing (slice_get shelves.spans i)
 
 -- the stored row at a place
 abbrev pub row_at : Shelves → Place → Option StoredRow
@@ -118,12 +124,13 @@ pub record AreOf (rows : List StoredRow) (declared : List Declared) (kept : List
 
 -- each place has a row, the rows were accepted, the declarations, facts, periods and edits are theirs, and there is no
 -- fact at a place behind those of the kept ones
-pub record IsKept (shelves : Shelves) (kept : List KeptFact) (places : List Place) : Type 0 where
+pub record IsKept (shelves : Shelves) (kept : List KeptFact) (places edits : List Place) : Type 0 where
   pub placed : ArePlaced shelves places
   pub parts : AreOf (rows_at shelves places) shelves.declared kept shelves.spans
   pub accepted : AreAccepted (rows_at shelves places)
   pub told : (place : ℕ) → length kept ≤ place → shelves.told place ≡ None
-  pub edits : shelves.edits ≡ edits_of (rows_at shelves places)
+  pub edited : ArePlaced shelves edits
+  pub edit_rows : rows_at shelves edits ≡ edits_of (rows_at shelves places)
 
 -- the row at a place, if it declares something, or a period
 abbrev pub settled_in : List Declared → List Period → Part → Option Effect

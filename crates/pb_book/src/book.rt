@@ -1,15 +1,12 @@
 // The book of accepted rows.
 
 ghost use Rattle.std.specs.Prelude.{◌≡◌, ◌≢◌, ◌<◌, ◌≤◌, [], length, Err, Ok, IfOk, OnOk, OnErr, slice_get, Some, false, true};
-ghost use Rattle.std.specs.Option.{option_map};
 ghost use Rattle.pb_limits.specs.Limits.{most_periods};
 ghost use Rattle.pb_facts.specs.Facts.{NoRepeats};
-ghost use Rattle.pb_kinds.specs.declared.rows.Edit.TheVariants as edits;
 ghost use Rattle.pb_kinds.specs.declared.rows.Effect.TheVariants.{Books, Closes, Declares, Edits, Opens};
 ghost use Rattle.pb_kinds.specs.Ranges.{IsEffectInRange, IsRequestInRange};
 ghost use Rattle.pb_book.specs.declared.answer.Accepted.TheVariants.{Stored};
 ghost use Rattle.pb_book.specs.declared.answer.NotAccepted.TheVariants.{NoMemory};
-ghost use Rattle.pb_book.specs.declared.rows.StoredRow.{StoredRow};
 ghost use Rattle.pb_book.specs.Accepted.{AreAccepted, AreInTables, IsAcceptable};
 ghost use Rattle.pb_book.specs.Answer.{after, after_answer, answer_of, answer_to, said_of, stored_or_refused};
 ghost use Rattle.pb_book.specs.Apart.{AreApart};
@@ -26,10 +23,10 @@ use crate::judge::judge;
 use crate::originals::keep_original;
 use crate::periods::Periods;
 use crate::plain::plain_records;
-use crate::rows::{Part, Period, Place, StoredRow};
-use crate::shelves::effect_in;
+use crate::rows::{Edited, Part, Period, Place, StoredRow};
+use crate::shelves::row_at;
 use crate::touching::touches;
-use pb_facts::{Change, Fact, Facts};
+use pb_facts::{Fact, Facts};
 use pb_kinds::{Edit, Effect, Request, read_request};
 use pb_rows::{Name, Reason, Row, Rows};
 use pb_site::{Declared, Site};
@@ -37,12 +34,13 @@ use std::alloc::{AllocError, Global};
 use std::collections::HashMap;
 use std::marker::Model;
 
-/// The accepted rows of a session, in order: the places of all, and what they hold by its parts. Those that edit the books are kept
-/// as they came. The facts are kept with their last values, and those that an edit changed also as they came, by their places.
+/// The accepted rows of a session, in order: the places of all and those of the edits, and what they hold by its parts.
+/// The facts are kept with their last values, and those that an edit changed also as they came, by their places.
 #[derive(Drop)]
 pub struct Book {
     places: Vec<Place>,
-    edits: Vec<StoredRow>,
+    edits: Vec<Place>,
+    edited: Vec<Edited>,
     site: Site,
     facts: Facts,
     originals: HashMap<u32, Fact>,
@@ -57,12 +55,12 @@ impl Model for Book {
     ghost Value = { List StoredRow };
 
     ghost view = { λ a.
-        rows_at (shelves_of a.site (told_at a.facts a.originals) a.periods a.edits.items)
+        rows_at (shelves_of a.site (told_at a.facts a.originals) a.periods a.edited.items)
         a.places.items };
 
     ghost invariant = { λ a.
-        IsKept (shelves_of a.site (told_at a.facts a.originals) a.periods a.edits.items)
-        a.facts a.places.items };
+        IsKept (shelves_of a.site (told_at a.facts a.originals) a.periods a.edited.items)
+        a.facts a.places.items a.edits.items };
 }
 
 impl Book {
@@ -73,6 +71,7 @@ impl Book {
         Book {
             places: Vec::new(alloc),
             edits: Vec::new(alloc),
+            edited: Vec::new(alloc),
             site: Site::new(alloc),
             facts: Facts::new(alloc),
             originals: HashMap::new(alloc),
@@ -144,12 +143,21 @@ impl Book {
         self.edits.len()
     }
 
-    /// The edit at a place, counted from 0 in the order of the records.
-    pub fn edit(&self, i: usize) -> StoredRow
-        requires { i < length (edits_of self.now) }
-        ensures { slice_get (edits_of self.now) i ≡ Some result }
+    /// The edit at a place, counted from 0 in the order of the records; `None` exactly where there is none.
+    pub fn edit(&self, i: usize) -> Option<StoredRow>
+        ensures { result ≡ slice_get (edits_of self.now) i }
     {
-        self.edits[i]
+        match self.edits.get(i) {
+            Some(place) => row_at(
+                self.site.declared(),
+                &self.facts,
+                &self.originals,
+                &self.periods,
+                &self.edited,
+                place,
+            ),
+            None => None,
+        }
     }
 
     /// Whether an edit touches the period at a place: a closing its own, a late fact those that it touches, a change
@@ -159,8 +167,10 @@ impl Book {
         requires period { i < length (periods_of self.now) }
         ensures { result ≡ touches_at self.now e i }
     {
-        let period = self.periods.at(i);
-        edit_touches(&self.facts, &self.edits[e].effect, &period)
+        match self.edit(e) {
+            Some(edit) => edit_touches(&self.facts, &edit.effect, &self.periods.at(i)),
+            None => false,
+        }
     }
 
     /// Whether the row that was stored last takes the period at a place out of those whose studies are kept: a fact, a
@@ -170,8 +180,8 @@ impl Book {
         requires { i < length (periods_of self.now) }
         ensures { result ≡ touched_at self.now i }
     {
-        match self.last_effect() {
-            Some(effect) => takes_out(&self.facts, &effect, &self.periods.at(i)),
+        match self.last_row() {
+            Some(row) => takes_out(&self.facts, &row.effect, &self.periods.at(i)),
             None => false,
         }
     }
@@ -191,18 +201,18 @@ impl Book {
         )
     }
 
-    // What the row does that was stored last.
-    fn last_effect(&self) -> Option<Effect>
-        ensures { result ≡ option_map (λ (stored : StoredRow). stored.effect) (last_row self.now) }
+    // The row that was stored last.
+    fn last_row(&self) -> Option<StoredRow>
+        ensures { result ≡ last_row self.now }
     {
         match self.places.last() {
-            Some(place) => effect_in(
+            Some(place) => row_at(
                 self.site.declared(),
                 &self.facts,
                 &self.originals,
                 &self.periods,
-                &self.edits,
-                place.part,
+                &self.edited,
+                place,
             ),
             None => None,
         }
@@ -243,11 +253,13 @@ impl Book {
         ensures unchanged { result ≡ Err NoMemory → self.new ≡ self.old }
         ensures no_repeats { result ≡ Ok Stored → NoRepeats (facts_of self.new) }
     {
-        if let Some(cause) = judge(&self.site, &self.facts, &self.periods, effect) {
-            return Err(NotAccepted::Refused(cause));
+        match judge(&self.site, &self.facts, &self.periods, effect) {
+            Some(cause) => Err(NotAccepted::Refused(cause)),
+            None => {
+                self.add(at, effect)?;
+                Ok(Accepted::Stored)
+            }
         }
-        self.add(at, effect)?;
-        Ok(Accepted::Stored)
     }
 
     // Adds a row that there is no cause to refuse. After an `Err`, out of memory, the book is as it was.
@@ -267,7 +279,7 @@ impl Book {
                 }
             }
             Effect::Edits { id, edit, reason } => self.add_edit(at, id, edit, reason),
-            Effect::Closes(name) => self.add_closing(at, name),
+            Effect::Closes(name) => self.close(at, name),
         }
     }
 
@@ -306,7 +318,10 @@ impl Book {
         ensures err { OnErr result (self.new ≡ self.old) }
     {
         self.places.reserve(1)?;
-        let part = Part::Booked(self.facts.len());
+        let part = Part::Booked {
+            place: self.facts.len(),
+            late: false,
+        };
         self.facts.add(*fact)?;
         self.places.push_reserved(Place { at, part });
         Ok(())
@@ -319,13 +334,12 @@ impl Book {
     {
         self.places.reserve(1)?;
         self.edits.reserve(1)?;
-        let part = Part::Edit(self.edits.len());
-        self.facts.add(*fact)?;
-        let effect = Effect::Books {
-            fact: *fact,
+        let part = Part::Booked {
+            place: self.facts.len(),
             late: true,
         };
-        self.edits.push_reserved(StoredRow { at, effect });
+        self.facts.add(*fact)?;
+        self.edits.push_reserved(Place { at, part });
         self.places.push_reserved(Place { at, part });
         Ok(())
     }
@@ -342,70 +356,51 @@ impl Book {
             (self.new ≡ with_row self.old at (Edits id.now edit.now reason.now)) }
         ensures err { OnErr result (self.new ≡ self.old) }
     {
+        self.places.reserve(1)?;
+        self.edits.reserve(1)?;
+        self.edited.reserve(1)?;
+        let part = Part::Edited(self.edited.len());
         match edit {
-            Edit::Change(change) => self.add_change(at, id, change, reason),
-            Edit::Strike => self.add_strike(at, id, reason),
+            Edit::Change(change) => {
+                keep_original(&self.facts, &mut self.originals, id)?;
+                self.facts.amend(id, *change)
+            }
+            Edit::Strike => self.facts.strike(id),
+        }
+        self.edited.push_reserved(Edited {
+            id: *id,
+            edit: *edit,
+            reason: *reason,
+        });
+        self.edits.push_reserved(Place { at, part });
+        self.places.push_reserved(Place { at, part });
+        Ok(())
+    }
+
+    // Adds a closing, of which there is no cause to refuse it: so there is such a period.
+    fn close(&mut self, at: u32, name: &Name) -> Result<(), AllocError>
+        requires { IsAcceptable self.old (Closes name.now) }
+        ensures ok { OnOk result (self.new ≡ with_row self.old at (Closes name.now)) }
+        ensures err { OnErr result (self.new ≡ self.old) }
+    {
+        match self.period_of(name) {
+            Some(place) => self.add_closing(at, name, place),
+            None => Ok(()),
         }
     }
 
-    fn add_change(
-        &mut self,
-        at: u32,
-        id: &Name,
-        change: &Change,
-        reason: &Reason,
-    ) -> Result<(), AllocError>
-        requires { IsAcceptable self.old (Edits id.now (edits.Change change.now) reason.now) }
-        ensures ok { OnOk result
-            (self.new ≡ with_row self.old at (Edits id.now (edits.Change change.now) reason.now)) }
-        ensures err { OnErr result (self.new ≡ self.old) }
-    {
-        self.places.reserve(1)?;
-        self.edits.reserve(1)?;
-        let part = Part::Edit(self.edits.len());
-        keep_original(&self.facts, &mut self.originals, id)?;
-        self.facts.amend(id, *change);
-        let effect = Effect::Edits {
-            id: *id,
-            edit: Edit::Change(*change),
-            reason: *reason,
-        };
-        self.edits.push_reserved(StoredRow { at, effect });
-        self.places.push_reserved(Place { at, part });
-        Ok(())
-    }
-
-    fn add_strike(&mut self, at: u32, id: &Name, reason: &Reason) -> Result<(), AllocError>
-        requires { IsAcceptable self.old (Edits id.now edits.Strike reason.now) }
-        ensures ok { OnOk result
-            (self.new ≡ with_row self.old at (Edits id.now edits.Strike reason.now)) }
-        ensures err { OnErr result (self.new ≡ self.old) }
-    {
-        self.places.reserve(1)?;
-        self.edits.reserve(1)?;
-        let part = Part::Edit(self.edits.len());
-        self.facts.strike(id);
-        let effect = Effect::Edits {
-            id: *id,
-            edit: Edit::Strike,
-            reason: *reason,
-        };
-        self.edits.push_reserved(StoredRow { at, effect });
-        self.places.push_reserved(Place { at, part });
-        Ok(())
-    }
-
-    fn add_closing(&mut self, at: u32, name: &Name) -> Result<(), AllocError>
-        requires { IsAcceptable self.old (Closes name.now) }
+    // Adds the closing of the period at a place.
+    fn add_closing(&mut self, at: u32, name: &Name, place: u32) -> Result<(), AllocError>
+        requires place { period_place self.old name.now ≡ Some place }
+        requires acceptable { IsAcceptable self.old (Closes name.now) }
         ensures ok { OnOk result (self.new ≡ with_row self.old at (Closes name.now)) }
         ensures err { OnErr result (self.new ≡ self.old) }
     {
         self.places.reserve(1)?;
         self.edits.reserve(1)?;
-        let part = Part::Edit(self.edits.len());
         self.periods.close(name)?;
-        let effect = Effect::Closes(*name);
-        self.edits.push_reserved(StoredRow { at, effect });
+        let part = Part::Closed(place);
+        self.edits.push_reserved(Place { at, part });
         self.places.push_reserved(Place { at, part });
         Ok(())
     }

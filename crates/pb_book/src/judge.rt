@@ -8,7 +8,7 @@ ghost use Rattle.pb_site.specs.declared.declared.ArcKind.{ArcKind};
 ghost use Rattle.pb_kinds.specs.declared.rows.Effect.TheVariants.{Books, Closes, Declares, Edits, Opens};
 ghost use Rattle.pb_kinds.specs.Ranges.{IsEffectInRange};
 ghost use Rattle.pb_book.specs.Causes.{cause_of_change, cause_of_edit};
-ghost use Rattle.pb_book.specs.Refusals.{is_of_other_kind, is_of_plant, is_outside_table, kind_of_fact, names_other, refusal_behind};
+ghost use Rattle.pb_book.specs.Refusals.{is_closed, is_of_other_kind, is_of_plant, is_outside_table, kind_of_fact, names_other, refusal_behind};
 
 use crate::answer::Refused;
 use crate::periods::Periods;
@@ -104,7 +104,7 @@ fn judge_fact(
         Some(Refused::Order)
     } else if is_of_other_kind(fact, kind) {
         Some(Refused::Mismatch)
-    } else if !late && periods.touches_closed(fact) {
+    } else if is_closed(periods, fact, late) {
         Some(Refused::Closed)
     } else if fault == Some(FactFault::Range) || is_outside_table(site, fact) {
         Some(Refused::Range)
@@ -113,6 +113,14 @@ fn judge_fact(
     } else {
         None
     }
+}
+
+// Whether a fact touches a closed period and doesn't come as a late one.
+fn is_closed(periods: &Periods, fact: &Fact, late: bool) -> bool
+    requires { IsInRange fact.now }
+    ensures { result ≡ is_closed periods.now (Books fact.now late) }
+{
+    !late && periods.touches_closed(fact)
 }
 
 // The first cause to refuse an edit of the fact of an id.

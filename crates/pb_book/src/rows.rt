@@ -1,7 +1,7 @@
 // The stored rows of a book, its periods, and where the rows are kept.
 
-use pb_kinds::Effect;
-use pb_rows::Name;
+use pb_kinds::{Edit, Effect};
+use pb_rows::{Name, Reason};
 
 /// A stored row: the number of its record in the session, counted from 1, and what it does.
 #[derive(Clone, Copy)]
@@ -26,11 +26,24 @@ pub struct Place {
     pub part: Part,
 }
 
-/// A part of the book, and a place in it: a row that edits the books is kept among the edits, each other one by what it does.
+/// A part of the book, and a place in it: what the row does, and where that is kept. A fact is kept among the facts, late or not, and
+/// a closing is of the period at its place.
 #[derive(Clone, Copy)]
 pub enum Part {
     Declared(usize),
     Opened(u32),
-    Booked(u32),
-    Edit(usize),
+    Booked {
+        place: u32,
+        late: bool,
+    },
+    Edited(usize),
+    Closed(u32),
+}
+
+/// An edit of a fact, as it is kept.
+#[derive(Clone, Copy)]
+pub struct Edited {
+    pub id: Name,
+    pub edit: Edit,
+    pub reason: Reason,
 }

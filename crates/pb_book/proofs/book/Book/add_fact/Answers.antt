@@ -1,5 +1,5 @@
-use Rattle.std.proofs.Common.{◌++◌, ◌∷◌, []}
 use Rattle.std.specs.Prelude.{false}
+use Rattle.std.proofs.Common.{◌++◌, ◌∷◌, []}
 use Rattle.pb_book.specs.Kept.{told_at}
 use Rattle.pb_book.specs.Rows.{live}
 use Rattle.pb_book.proofs.FactLemmas.{no_fault_of}
@@ -18,7 +18,7 @@ invariant_of-self-2 c =
     let inside = c.self.inside in
     let fine = rw (← c.self.view_is) at c.requires in
     rw (c.push_reserved.ensures.items, c.in_ok-reserve.ensures.items, c.in_ok-add.ensures.added)
-    (kept_fact inside.site (told_at inside.facts inside.originals) (told_at (inside.facts ++ live c.args.fact.now ∷ []) inside.originals) inside.periods inside.edits.items inside.facts inside.places.items c.args.at c.len.result c.args.fact.now c.self.invariant fine c.len.ensures.value
+    (kept_fact inside.site (told_at inside.facts inside.originals) (told_at (inside.facts ++ live c.args.fact.now ∷ []) inside.originals) inside.periods inside.edited.items inside.facts inside.places.items inside.edits.items c.args.at c.len.result c.args.fact.now false c.self.invariant fine c.len.ensures.value
     (joins inside.facts inside.originals c.args.fact.now c.self.invariant.told)).right
 
 pub returns-clause-ok : goal.returns-clause-ok
@@ -26,5 +26,5 @@ returns-clause-ok c =
     let inside = c.self.inside in
     let fine = rw (← c.self.view_is) at c.requires in
     rw (c.push_reserved.ensures.items, c.in_ok-reserve.ensures.items, c.in_ok-add.ensures.added, ← c.self.view_is)
-    (kept_fact inside.site (told_at inside.facts inside.originals) (told_at (inside.facts ++ live c.args.fact.now ∷ []) inside.originals) inside.periods inside.edits.items inside.facts inside.places.items c.args.at c.len.result c.args.fact.now c.self.invariant fine c.len.ensures.value
+    (kept_fact inside.site (told_at inside.facts inside.originals) (told_at (inside.facts ++ live c.args.fact.now ∷ []) inside.originals) inside.periods inside.edited.items inside.facts inside.places.items inside.edits.items c.args.at c.len.result c.args.fact.now false c.self.invariant fine c.len.ensures.value
     (joins inside.facts inside.originals c.args.fact.now c.self.invariant.told)).rows

@@ -1,9 +1,9 @@
-use Rattle.std.proofs.Common.{◌≡◌, ◌++◌, ◌∷◌, [], length, rules}
 use Rattle.std.specs.Prelude.{true}
+use Rattle.std.proofs.Common.{◌++◌, ◌∷◌, []}
 use Rattle.pb_book.specs.Kept.{told_at}
 use Rattle.pb_book.specs.Rows.{live}
 use Rattle.pb_book.proofs.FactLemmas.{no_fault_of}
-use Rattle.pb_book.proofs.KeptLemmas.{kept_late}
+use Rattle.pb_book.proofs.KeptLemmas.{kept_fact}
 use Rattle.pb_book.proofs.OriginalLemmas.{joins}
 use Rattle.pb_book.proofs.book.Book.add_late.Goals as goal
 
@@ -16,17 +16,15 @@ add-requires-clause-no_fault c =
 pub invariant_of-self-2 : goal.invariant_of-self-2
 invariant_of-self-2 c =
     let inside = c.self.inside in
-    let last : c.len.result ≡ length inside.edits.items = rw (← c.in_ok-reserve-2.ensures.items) (search rules) in
     let fine = rw (← c.self.view_is) at c.requires in
     rw (c.push_reserved-2.ensures.items, c.push_reserved.ensures.items, c.in_ok-reserve.ensures.items, c.in_ok-reserve-2.ensures.items, c.in_ok-add.ensures.added)
-    (kept_late inside.site (told_at inside.facts inside.originals) (told_at (inside.facts ++ live c.args.fact.now ∷ []) inside.originals) inside.periods inside.edits.items inside.facts inside.places.items c.args.at c.len.result c.args.fact.now c.self.invariant fine last
+    (kept_fact inside.site (told_at inside.facts inside.originals) (told_at (inside.facts ++ live c.args.fact.now ∷ []) inside.originals) inside.periods inside.edited.items inside.facts inside.places.items inside.edits.items c.args.at c.len.result c.args.fact.now true c.self.invariant fine c.len.ensures.value
     (joins inside.facts inside.originals c.args.fact.now c.self.invariant.told)).right
 
 pub returns-clause-ok : goal.returns-clause-ok
 returns-clause-ok c =
     let inside = c.self.inside in
-    let last : c.len.result ≡ length inside.edits.items = rw (← c.in_ok-reserve-2.ensures.items) (search rules) in
     let fine = rw (← c.self.view_is) at c.requires in
-    rw (c.push_reserved-2.ensures.items, c.push_reserved.ensures.items, c.in_ok-reserve.ensures.items, c.in_ok-reserve-2.ensures.items, c.in_ok-add.ensures.added, ← c.self.view_is)
-    (kept_late inside.site (told_at inside.facts inside.originals) (told_at (inside.facts ++ live c.args.fact.now ∷ []) inside.originals) inside.periods inside.edits.items inside.facts inside.places.items c.args.at c.len.result c.args.fact.now c.self.invariant fine last
+    rw (c.push_reserved-2.ensures.items, c.in_ok-reserve.ensures.items, c.in_ok-add.ensures.added, ← c.self.view_is)
+    (kept_fact inside.site (told_at inside.facts inside.originals) (told_at (inside.facts ++ live c.args.fact.now ∷ []) inside.originals) inside.periods inside.edited.items inside.facts inside.places.items inside.edits.items c.args.at c.len.result c.args.fact.now true c.self.invariant fine c.len.ensures.value
     (joins inside.facts inside.originals c.args.fact.now c.self.invariant.told)).rows
