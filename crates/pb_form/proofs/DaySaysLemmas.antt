@@ -1,10 +1,10 @@
 -- The text of a day says the day.
-use Rattle.std.specs.Prelude.{◌&&◌, ◌==◌, OnOk, Option, Result, Ok, Err, Some, if◌then◌else◌}
-use Rattle.std.proofs.Common.{◌≡◌, ◌∙◌, ℕ, ℤ, Bool, true, false, List, [], ◌∷◌, ◌++◌, length, refl, sym, arith}
+use Rattle.std.specs.Prelude.{◌&&◌, ◌==◌, OnOk, Result, Ok, Err, Some, if◌then◌else◌}
+use Rattle.std.proofs.Common.{◌≡◌, ℕ, ℤ, Bool, true, false, List, [], ◌∷◌, ◌++◌, length, refl, arith}
 use Rattle.std.proofs.lemmas.Bool.{ne_eqb}
 use Rattle.pb_rows.specs.Date.{IsDay, day_of}
 use Rattle.pb_form.specs.Columns.{Column}
-use Rattle.pb_form.specs.Field.{field_read, held_in}
+use Rattle.pb_form.specs.Field.{held_in}
 use Rattle.pb_form.specs.Given.{AddsValue}
 use Rattle.pb_form.specs.Holds as holds
 use Rattle.pb_form.specs.Value.{Value, Missing, Date}

@@ -1,9 +1,9 @@
 -- What a record says by a schema fits its columns.
-use Rattle.std.specs.Prelude.{◌&&◌, ◌==◌, bytes_eq, nat_le, position, Some, Result, Ok, if◌then◌else◌}
-use Rattle.std.proofs.Common.{◌≡◌, ◌≤◌, ℕ, Bool, true, false, List, [], ◌∷◌, length, refl, subst, sym, arith}
+use Rattle.std.specs.Prelude.{◌&&◌, ◌==◌, bytes_eq, nat_le, position, Ok, Err, if◌then◌else◌}
+use Rattle.std.proofs.Common.{◌≡◌, ◌≤◌, ℕ, Bool, true, false, List, [], ◌∷◌, length, refl, subst, arith}
 use Rattle.std.proofs.lemmas.Bool.{and_parts}
 use Rattle.std.proofs.lemmas.Bool.Decides.{nat_tests}
-use Rattle.pb_rows.specs.Date.{IsDay, day_of}
+use Rattle.pb_rows.specs.Date.{day_of}
 use Rattle.pb_rows.specs.Name.{is_name}
 use Rattle.pb_rows.specs.Number.{number, within}
 use Rattle.pb_rows.specs.Reason.{is_reason}

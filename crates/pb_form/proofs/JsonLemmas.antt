@@ -1,6 +1,6 @@
 -- A record as JSON: it has no float, and the members so far joined to the fields that are left are all of them.
 use Rattle.std.specs.Prelude.{map}
-use Rattle.std.proofs.Common.{◌≡◌, ◌∙◌, ℕ, ◌+◌, ◌<◌, List, [], ◌∷◌, length, drop, get_or, false, refl, sym, ap, add-one, IsUtf8, IsOk, Result, Ok, Err, rules, Ordering, Less, Equal, Greater, nat_cmp}
+use Rattle.std.proofs.Common.{◌≡◌, ℕ, ◌+◌, ◌<◌, List, [], ◌∷◌, length, drop, get_or, false, refl, add-one, IsOk, Result, Ok, Err, rules, Ordering, Less, Equal, Greater, nat_cmp}
 use Rattle.std.specs.Prelude.{MatchResult}
 use Rattle.std.specs.Cmp.Lexicographic.{slice_cmp}
 use Rattle.std.specs.Ordering.{match_ordering}

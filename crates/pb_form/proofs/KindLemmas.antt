@@ -1,8 +1,8 @@
 -- A record is of one kind: no two schemas of a table have their words and their number of fields in common.
-use Rattle.std.specs.Prelude.{◌&&◌, ◌||◌, ◌==◌, bytes_eq, map, nat_lt, not, position, slice_get, Some, None, Option, Result, Ok, Err, if◌then◌else◌}
+use Rattle.std.specs.Prelude.{◌&&◌, ◌||◌, ◌==◌, bytes_eq, nat_lt, not, position, slice_get, Some, Option, Result, Ok, Err, if◌then◌else◌}
 use Rattle.std.specs.List.{list_all, prefix_len}
 use Rattle.std.specs.Option.{option_map}
-use Rattle.std.proofs.Common.{◌≡◌, ◌∙◌, ◌<◌, ◌≤◌, ℕ, zero, suc, Bool, true, false, List, [], ◌∷◌, ◌++◌, length, refl, sym, ap, subst, arith, inl, inr}
+use Rattle.std.proofs.Common.{◌≡◌, ◌∙◌, ◌<◌, ℕ, zero, suc, Bool, true, false, List, [], ◌∷◌, length, refl, sym, ap, subst, arith, inl, inr}
 use Rattle.std.proofs.lemmas.Bool.{and_parts, cases_Bool, ne_eqb}
 use Rattle.std.proofs.lemmas.Bool.Decides.{nat_tests}
 use Rattle.std.proofs.lemmas.Option.{slice_get-map}
@@ -13,11 +13,11 @@ use Rattle.pb_form.proofs.TableLemmas.{passes_at}
 use Rattle.pb_form.specs.Columns.{Column, Schema}
 use Rattle.pb_form.specs.Field.{field_read, found, held_in}
 use Rattle.pb_form.specs.Holds as holds
-use Rattle.pb_form.specs.Laws.{IsOfKind, OneKindLaw}
+use Rattle.pb_form.specs.Laws.{OneKindLaw}
 use Rattle.pb_form.specs.Reading.{fields_read, has_count, row_read}
 use Rattle.pb_form.specs.SessionRows.{kind_at, kind_in, session_columns, session_kinds, session_schema, session_schemas, session_told}
 use Rattle.pb_form.specs.Telling.{agrees, has_word, is_of, told_at}
-use Rattle.pb_form.specs.Value.{Value, Missing, Word}
+use Rattle.pb_form.specs.Value.{Value, Word}
 use Rattle.pb_form.specs.declared.fault.FormFault.{FormFault}
 use Rattle.pb_form.specs.declared.fault.FormFault.TheVariants as fault
 use Rattle.pb_form.specs.declared.session.SessionKind.{SessionKind}
@@ -72,9 +72,9 @@ other_word a b = false
 
 -- two lists of columns have other words, or another number of columns
 abbrev differ : List Column → List Column → Bool
-differ (a ∷ as) (b ∷ bs) = other_word a.holds b.holds || differ as bs
+differ (a ∷ xs) (b ∷ ys) = other_word a.holds b.holds || differ xs ys
 differ [] [] = false
-differ as bs = true
+differ xs ys = true
 
 same_word : (a b field : List ℕ) → bytes_eq field a ≡ true → bytes_eq field b ≡ true → not (bytes_eq a b) ≡ false
 same_word a b field one other =
@@ -100,16 +100,16 @@ no_other_word (holds.Number lo hi) b field one other = refl
 no_other_word holds.Date b field one other = refl
 no_other_word holds.Items b field one other = refl
 
-alike : (as bs : List Column) (fields : List (List ℕ)) → length fields ≡ length as → length fields ≡ length bs → agrees as fields ≡ true → agrees bs fields ≡ true
-    → differ as bs ≡ false
+alike : (xs ys : List Column) (fields : List (List ℕ)) → length fields ≡ length xs → length fields ≡ length ys → agrees xs fields ≡ true → agrees ys fields ≡ true
+    → differ xs ys ≡ false
 alike [] [] fields m n one other = refl
-alike [] (b ∷ bs) fields m n one other = absurd (omega (arith, m, n))
-alike (a ∷ as) [] fields m n one other = absurd (omega (arith, m, n))
-alike (a ∷ as) (b ∷ bs) [] m n one other = absurd (omega (arith, m))
-alike (a ∷ as) (b ∷ bs) (field ∷ fields) m n one other =
-    let x = and_parts (has_word a.holds field) (agrees as fields) one in
-    let y = and_parts (has_word b.holds field) (agrees bs fields) other in
-    rw (no_other_word a.holds b.holds field x.0 y.0, alike as bs fields (omega (arith, m)) (omega (arith, n)) x.1 y.1) refl
+alike [] (b ∷ ys) fields m n one other = absurd (omega (arith, m, n))
+alike (a ∷ xs) [] fields m n one other = absurd (omega (arith, m, n))
+alike (a ∷ xs) (b ∷ ys) [] m n one other = absurd (omega (arith, m))
+alike (a ∷ xs) (b ∷ ys) (field ∷ fields) m n one other =
+    let x = and_parts (has_word a.holds field) (agrees xs fields) one in
+    let y = and_parts (has_word b.holds field) (agrees ys fields) other in
+    rw (no_other_word a.holds b.holds field x.0 y.0, alike xs ys fields (omega (arith, m)) (omega (arith, n)) x.1 y.1) refl
 
 -- a record of two schemas
 of_both : (a b : Schema) (fields : List (List ℕ)) → a.tail ≡ [] → b.tail ≡ [] → is_of fields a ≡ true → is_of fields b ≡ true → differ a.columns b.columns ≡ false
@@ -262,7 +262,7 @@ unfolding session_told
 told it values fields reads =
     let at = place_in it in
     let schema_there : slice_get session_schemas at.0 ≡ Some (session_schema it) =
-        slice_get-map session_schema session_kinds at.0 ∙ ap (λ (o : Option SessionKind). option_map session_schema o) at.1 in
+    slice_get-map session_schema session_kinds at.0 ∙ ap (λ (o : Option SessionKind). option_map session_schema o) at.1 in
     let place = place_told session_schemas at.0 (session_schema it) values fields session_differ session_plain schema_there reads in
     ap (λ (o : Option ℕ). kind_in (told_at session_schemas fields o)) place ∙ ap kind_at at.1
 

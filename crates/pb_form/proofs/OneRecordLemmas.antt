@@ -1,5 +1,5 @@
 -- Values have one record.
-use Rattle.std.specs.Prelude.{◌&&◌, ◌==◌, bytes_eq, int_le, position, Some, None, Option, Result, Ok, Err, if◌then◌else◌}
+use Rattle.std.specs.Prelude.{◌&&◌, ◌==◌, bytes_eq, int_le, position, Some, None, Option, Result, Ok, if◌then◌else◌}
 use Rattle.std.proofs.Common.{◌≡◌, ◌∙◌, ℕ, ℤ, Bool, true, false, List, [], ◌∷◌, length, refl, sym, ap, ap₂, arith}
 use Rattle.std.proofs.lemmas.Bool.{ne_eqb}
 use Rattle.pb_rows.specs.Date.{day_of}

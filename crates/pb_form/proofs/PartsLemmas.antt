@@ -1,5 +1,5 @@
 -- The parts of a reading without a fault: the number of fields, and the value of each field.
-use Rattle.std.specs.Prelude.{◌&&◌, ◌==◌, nat_le, Some, None, Option, Result, Ok, Err, if◌then◌else◌}
+use Rattle.std.specs.Prelude.{◌==◌, nat_le, Some, None, Option, Result, Ok, Err, if◌then◌else◌}
 use Rattle.std.proofs.Common.{◌≡◌, ◌-◌, ℕ, Bool, true, false, List, [], ◌∷◌, length, refl, sym, arith}
 use Rattle.std.proofs.lemmas.Bool.{and_parts}
 use Rattle.std.proofs.lemmas.Bool.Decides.{nat_tests}

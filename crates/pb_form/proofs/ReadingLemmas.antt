@@ -1,13 +1,12 @@
 -- Readings of parts of a row are joined one field at a time.
-use Rattle.std.specs.Prelude.{map, nat_lt, Option, Some, None, Result, Ok, Err, if◌then◌else◌}
-use Rattle.std.proofs.Common.{◌≡◌, ◌∙◌, ◌<◌, ◌≤◌, ◌+◌, ◌-◌, ℕ, zero, suc, Bool, true, false, List, [], ◌∷◌, ◌++◌, length, drop, get_or, refl, sym, ap, arith, add-one, append_assoc, inl, inr}
-use Rattle.std.proofs.lemmas.Bool.{cases_Bool}
+use Rattle.std.specs.Prelude.{map, Option, Some, None, Result, Ok, Err}
+use Rattle.std.proofs.Common.{◌≡◌, ◌∙◌, ◌<◌, ◌≤◌, ◌+◌, ◌-◌, ℕ, zero, suc, List, [], ◌∷◌, ◌++◌, length, drop, get_or, refl, sym, ap, arith, add-one, append_assoc}
 use Rattle.std.proofs.lemmas.Bool.Decides.{nat_tests}
 use Rattle.std.proofs.lemmas.List.{append-nil, drop_all}
 use Rattle.std.proofs.Math.Seq.{drop-cons}
 use Rattle.pb_form.specs.Columns.{Column}
 use Rattle.pb_form.specs.Field.{field_read}
-use Rattle.pb_form.specs.Reading.{fields_read, joined, one_read, order_of, repeated, sooner}
+use Rattle.pb_form.specs.Reading.{fields_read, joined, one_read, repeated, sooner}
 use Rattle.pb_form.specs.Seen.{column_seen}
 use Rattle.pb_form.specs.Told.{fault_in, so_far, soonest}
 use Rattle.pb_form.specs.declared.column.Column as coded

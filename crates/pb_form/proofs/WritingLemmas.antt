@@ -1,5 +1,5 @@
 -- A row is written one field at a time.
-use Rattle.std.specs.Prelude.{◌&&◌, ◌==◌, ◌%◌, map, nat_le, Result, Ok, Err, if◌then◌else◌}
+use Rattle.std.specs.Prelude.{◌&&◌, ◌==◌, ◌%◌, map, nat_le, Result, Ok, Err}
 use Rattle.std.proofs.Common.{◌≡◌, ◌∙◌, ◌<◌, ◌≤◌, ◌+◌, ◌-◌, ℕ, zero, suc, Bool, true, false, List, [], ◌∷◌, ◌++◌, length, drop, take, get_or, refl, sym, ap, arith, add-one, append_assoc}
 use Rattle.std.proofs.lemmas.List.{append-nil, drop_all, length-map, length-take-le, map-append, take_all}
 use Rattle.std.proofs.lemmas.Bool.{ne_eqb}
@@ -8,7 +8,7 @@ use Rattle.std.proofs.Math.Seq.{drop-cons, take-suc}
 use Rattle.pb_form.specs.Columns.{Column, Schema}
 use Rattle.pb_form.specs.Field.{field_read}
 use Rattle.pb_form.specs.Given.{value_as, values_as}
-use Rattle.pb_form.specs.Reading.{are_turns, before, fields_read, has_count, joined, one_read, repeated, row_read, tail_read}
+use Rattle.pb_form.specs.Reading.{are_turns, fields_read, has_count, joined, one_read, row_read, tail_read}
 use Rattle.pb_form.specs.Seen.{column_seen, holds_seen}
 use Rattle.pb_form.specs.Value.{Value}
 use Rattle.pb_form.specs.Writing.{FitEach, Fits}

@@ -1,5 +1,5 @@
 -- Statement. A record as a line of JSON: an object of texts on one line.
-use Rattle.std.specs.Prelude.{ℕ, List, [], ◌∷◌, ◌++◌, codes}
+use Rattle.std.specs.Prelude.{ℕ, List, ◌∷◌, ◌++◌, codes}
 use Rattle.serde_json.specs.Data.{Data, Members, no_members, object, put, string}
 use Rattle.serde_json.specs.Written.{compact_text}
 use Rattle.pb_form.specs.Columns.{Column}

@@ -1,5 +1,5 @@
 -- Statement. The rows of an output: the columns of each kind.
-use Rattle.std.specs.Prelude.{ℕ, ◌-◌, ◌^◌, pos, neg_ℤ, List, [], ◌∷◌, codes, map}
+use Rattle.std.specs.Prelude.{◌-◌, ◌^◌, pos, neg_ℤ, List, [], ◌∷◌, codes, map}
 use Rattle.pb_limits.specs.Limits.{most_freedom, most_gap, most_sweeps, most_value, most_variance}
 use Rattle.pb_form.specs.Columns.{Column, Schema, column, optional, word_column}
 use Rattle.pb_form.specs.Holds.{Holds, Word, Name, Reason, Number, Items}

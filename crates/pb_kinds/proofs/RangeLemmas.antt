@@ -16,11 +16,11 @@ use Rattle.pb_form.specs.Writing.{FitEach}
 use Rattle.pb_form.specs.declared.session.SessionKind.{SessionKind}
 use Rattle.pb_form.specs.declared.session.SessionKind.TheVariants as kind
 use Rattle.pb_kinds.specs.declared.rows.Request.{Request}
-use Rattle.pb_kinds.specs.declared.rows.Request.TheVariants.{Blank, Store, Design, Report, History}
-use Rattle.pb_kinds.specs.Effects.{effect_names, fact_names}
+use Rattle.pb_kinds.specs.declared.rows.Request.TheVariants.{Store}
+use Rattle.pb_kinds.specs.Effects.{effect_names}
 use Rattle.pb_kinds.specs.Ranges.{IsRequestInRange}
 use Rattle.pb_kinds.specs.Requests.{day_there, dip_from, name_there, number_there, reading_from, request_of, transfer_from}
-use Rattle.pb_kinds.proofs.ThereLemmas.{after_word, after_words, day_is, name_is, number_is}
+use Rattle.pb_kinds.proofs.ThereLemmas.{day_is, fit_after, name_is, number_is}
 
 -- ---- by the column at a place
 
@@ -103,12 +103,12 @@ asked_in_range kind.CriticalGlobal values fit =
     (dof.0, dof.1, between (session_columns kind.CriticalGlobal) values 0 3 3 _ _ _ fit refl refl)
 asked_in_range kind.CriticalNodal values fit = between (session_columns kind.CriticalNodal) values 0 2 2 _ _ _ fit refl refl
 asked_in_range kind.CriticalMeasure values fit = between (session_columns kind.CriticalMeasure) values 0 2 2 _ _ _ fit refl refl
-asked_in_range kind.Reading values fit = reading_in_range values 1 (after_word _ reading_columns values fit)
-asked_in_range kind.Transfer values fit = transfer_in_range values 1 (after_word _ transfer_columns values fit)
-asked_in_range kind.Dip values fit = dip_in_range values 1 (after_word _ dip_columns values fit)
-asked_in_range kind.LateReading values fit = reading_in_range values 2 (after_words _ _ reading_columns values fit)
-asked_in_range kind.LateTransfer values fit = transfer_in_range values 2 (after_words _ _ transfer_columns values fit)
-asked_in_range kind.LateDip values fit = dip_in_range values 2 (after_words _ _ dip_columns values fit)
+asked_in_range kind.Reading values fit = reading_in_range values 1 (fit_after 1 (session_columns kind.Reading) values fit)
+asked_in_range kind.Transfer values fit = transfer_in_range values 1 (fit_after 1 (session_columns kind.Transfer) values fit)
+asked_in_range kind.Dip values fit = dip_in_range values 1 (fit_after 1 (session_columns kind.Dip) values fit)
+asked_in_range kind.LateReading values fit = reading_in_range values 2 (fit_after 2 (session_columns kind.LateReading) values fit)
+asked_in_range kind.LateTransfer values fit = transfer_in_range values 2 (fit_after 2 (session_columns kind.LateTransfer) values fit)
+asked_in_range kind.LateDip values fit = dip_in_range values 2 (fit_after 2 (session_columns kind.LateDip) values fit)
 asked_in_range kind.AmendAmount values fit = (
   grams (session_columns kind.AmendAmount) values 0 2 2 _ fit refl refl,
   between (session_columns kind.AmendAmount) values 0 3 3 _ _ _ fit refl refl,
@@ -142,18 +142,18 @@ three_names a b c is other third = rw (is, other, third) refl
 
 name_one : (columns : List Column) (values : List Value) (key : List ℕ) → FitEach columns values → slice_get columns 1 ≡ Some (column key holds.Name)
     → list_all is_name (name_there values 1 ∷ []) ≡ true
-name_one columns values key fit has = one_name _ (named columns values 0 1 1 key fit refl has)
+name_one columns values key fit has = one_name (name_there values 1) (named columns values 0 1 1 key fit refl has)
 
 stream_names : (columns : List Column) (values : List Value) (name from to : List ℕ) → FitEach columns values → slice_get columns 1 ≡ Some (column name holds.Name)
     → slice_get columns 2 ≡ Some (column from holds.Name) → slice_get columns 3 ≡ Some (column to holds.Name)
     → list_all is_name (name_there values 1 ∷ (name_there values 2 ∷ (name_there values 3 ∷ []))) ≡ true
 stream_names columns values name from to fit a b c =
-    three_names _ _ _ (named columns values 0 1 1 name fit refl a) (named columns values 0 2 2 from fit refl b) (named columns values 0 3 3 to fit refl c)
+    three_names (name_there values 1) (name_there values 2) (name_there values 3) (named columns values 0 1 1 name fit refl a) (named columns values 0 2 2 from fit refl b) (named columns values 0 3 3 to fit refl c)
 
 names_from : (columns : List Column) (values : List Value) (at : ℕ) (id of : List ℕ) → FitEach columns (drop at values) → slice_get columns 0 ≡ Some (column id holds.Name)
     → slice_get columns 1 ≡ Some (column of holds.Name) → list_all is_name (name_there values at ∷ (name_there values (at + 1) ∷ [])) ≡ true
 names_from columns values at id of fit a b =
-    two_names _ _ (named columns values at 0 at id fit (omega arith) a) (named columns values at 1 (at + 1) of fit refl b)
+    two_names (name_there values at) (name_there values (at + 1)) (named columns values at 0 at id fit (omega arith) a) (named columns values at 1 (at + 1) of fit refl b)
 
 pub asked_named : (it : SessionKind) (values : List Value) → FitEach (session_columns it) values → list_all is_name (stored_names (request_of it values)) ≡ true
 asked_named kind.Unit values fit = name_one (session_columns kind.Unit) values _ fit refl
@@ -166,12 +166,12 @@ asked_named kind.Period values fit = name_one (session_columns kind.Period) valu
 asked_named kind.CriticalGlobal values fit = refl
 asked_named kind.CriticalNodal values fit = refl
 asked_named kind.CriticalMeasure values fit = refl
-asked_named kind.Reading values fit = names_from reading_columns values 1 _ _ (after_word _ reading_columns values fit) refl refl
-asked_named kind.Transfer values fit = names_from transfer_columns values 1 _ _ (after_word _ transfer_columns values fit) refl refl
-asked_named kind.Dip values fit = names_from dip_columns values 1 _ _ (after_word _ dip_columns values fit) refl refl
-asked_named kind.LateReading values fit = names_from reading_columns values 2 _ _ (after_words _ _ reading_columns values fit) refl refl
-asked_named kind.LateTransfer values fit = names_from transfer_columns values 2 _ _ (after_words _ _ transfer_columns values fit) refl refl
-asked_named kind.LateDip values fit = names_from dip_columns values 2 _ _ (after_words _ _ dip_columns values fit) refl refl
+asked_named kind.Reading values fit = names_from reading_columns values 1 _ _ (fit_after 1 (session_columns kind.Reading) values fit) refl refl
+asked_named kind.Transfer values fit = names_from transfer_columns values 1 _ _ (fit_after 1 (session_columns kind.Transfer) values fit) refl refl
+asked_named kind.Dip values fit = names_from dip_columns values 1 _ _ (fit_after 1 (session_columns kind.Dip) values fit) refl refl
+asked_named kind.LateReading values fit = names_from reading_columns values 2 _ _ (fit_after 2 (session_columns kind.LateReading) values fit) refl refl
+asked_named kind.LateTransfer values fit = names_from transfer_columns values 2 _ _ (fit_after 2 (session_columns kind.LateTransfer) values fit) refl refl
+asked_named kind.LateDip values fit = names_from dip_columns values 2 _ _ (fit_after 2 (session_columns kind.LateDip) values fit) refl refl
 asked_named kind.AmendAmount values fit = name_one (session_columns kind.AmendAmount) values _ fit refl
 asked_named kind.AmendLevel values fit = name_one (session_columns kind.AmendLevel) values _ fit refl
 asked_named kind.Strike values fit = name_one (session_columns kind.Strike) values _ fit refl

@@ -11,11 +11,10 @@ use Rattle.pb_form.specs.Value.{Value}
 use Rattle.pb_form.specs.Writing.{FitEach, Writes}
 use Rattle.pb_form.specs.declared.fault.FormFault.{FormFault}
 use Rattle.pb_form.specs.declared.session.SessionKind.{SessionKind}
-use Rattle.pb_kinds.specs.declared.rows.Effect.{Effect}
 use Rattle.pb_kinds.specs.declared.rows.Request.{Request}
 use Rattle.pb_kinds.specs.declared.rows.Request.TheVariants.{Blank, Store}
 use Rattle.pb_kinds.specs.Laws.{AskingLaw, StoredLaw}
-use Rattle.pb_kinds.specs.Ranges.{IsEffectInRange, IsRequestInRange}
+use Rattle.pb_kinds.specs.Ranges.{IsRequestInRange}
 use Rattle.pb_kinds.specs.Requests.{asked_by, request_by, request_if, request_in, request_of}
 use Rattle.pb_kinds.proofs.RangeLemmas.{asked_in_range, asked_named, stored_names}
 

@@ -1,6 +1,6 @@
 -- What stands at a place of values that fit the columns of their kind.
-use Rattle.std.specs.Prelude.{◌&&◌, ◌≤ℤ◌, ◌^◌, ◌-◌, int_le, neg_ℤ, option_and_then, slice_get, unwrap_or, Some, Option, None, if◌then◌else◌}
-use Rattle.std.proofs.Common.{◌≡◌, ◌∙◌, ◌+◌, ℕ, zero, suc, ℤ, pos, Bool, true, false, List, [], ◌∷◌, drop, refl, subst, sym, ap, arith}
+use Rattle.std.specs.Prelude.{◌&&◌, ◌^◌, ◌-◌, int_le, neg_ℤ, option_and_then, slice_get, Some, None, if◌then◌else◌}
+use Rattle.std.proofs.Common.{◌≡◌, ◌∙◌, ◌+◌, ℕ, zero, suc, ℤ, pos, true, false, List, [], ◌∷◌, drop, refl, subst, sym, ap, arith}
 use Rattle.std.proofs.lemmas.Bool.{and_parts}
 use Rattle.std.proofs.lemmas.Int.{ints}
 use Rattle.pb_rows.specs.Name.{is_name}
@@ -122,11 +122,9 @@ long_is columns values at place sum key lo hi fit same has narrow =
 
 -- ---- the columns after the words of a kind
 
-pub after_word : (word : Column) (columns : List Column) (values : List Value) → FitEach (word ∷ columns) values → FitEach columns (drop 1 values)
-after_word word columns [] fit = absurd fit
-after_word word columns (value ∷ values) fit = fit.1
-
-pub after_words : (late word : Column) (columns : List Column) (values : List Value) → FitEach (late ∷ (word ∷ columns)) values → FitEach columns (drop 2 values)
-after_words late word columns [] fit = absurd fit
-after_words late word columns (value ∷ []) fit = absurd fit.1
-after_words late word columns (value ∷ (other ∷ values)) fit = fit.1.1
+pub fit_after : (n : ℕ) (columns : List Column) (values : List Value) → FitEach columns values → FitEach (drop n columns) (drop n values)
+fit_after zero columns values fit = fit
+fit_after (suc n) [] [] fit = tt
+fit_after (suc n) [] (value ∷ values) fit = absurd fit
+fit_after (suc n) (first ∷ columns) [] fit = absurd fit
+fit_after (suc n) (first ∷ columns) (value ∷ values) fit = fit_after n columns values fit.1

@@ -1,7 +1,10 @@
 -- A record that writes values of a kind writes the effect that they ask to be stored.
 use Rattle.std.specs.Prelude.{IfOk, Result, Ok, Err}
-use Rattle.std.proofs.Common.{◌≡◌, ◌∙◌, ℕ, ℤ, true, List, [], ◌∷◌, length, refl, ap, arith}
-use Rattle.std.proofs.lemmas.Int.{ints}
+use Rattle.std.proofs.Common.{◌≡◌, ◌∙◌, ◌≤◌, ℕ, ℤ, pos, true, List, [], ◌∷◌, length, FitsSigned, refl, ap, arith}
+use Rattle.std.proofs.lemmas.Int.{ints, to_z-of_z}
+use mir.Syntax.{w64, w128}
+use mir.Val.{of_z, to_z}
+use Rattle.pb_limits.specs.Limits.{most_freedom}
 use Rattle.pb_rows.specs.Name.{is_name}
 use Rattle.pb_site.specs.declared.declared.Declared.TheVariants.{Stream}
 use Rattle.pb_site.specs.declared.declared.Kind.{Kind}
@@ -31,6 +34,17 @@ written (Ok fields) it values effect writes is asks =
     let ok : Request → Result Request FormFault = λ request. Ok request in
     record { asks = asks_of it values fields is writes ∙ ap ok asks; filled = is.filled }
 written (Err error) it values effect writes is asks = tt
+
+-- a number of 64 bits, and degrees of freedom, as they are handed on
+pub handed_long : (x y : ℤ) → FitsSigned w64 x → y ≡ x → to_z w128 (of_z w128 y) ≡ x
+handed_long x y fits same =
+    let wide : FitsSigned w128 x = omega (arith, ints, fits) in
+    rw same (to_z-of_z w128 x wide)
+
+pub handed_dof : (n : ℕ) (y : ℤ) → n ≤ most_freedom → y ≡ pos n → to_z w128 (of_z w128 y) ≡ pos n
+handed_dof n y most same =
+    let wide : FitsSigned w128 (pos n) = omega (arith, ints, most) in
+    rw same (to_z-of_z w128 (pos n) wide)
 
 -- the values of a stream, of which the names are given as these
 abbrev pub stream_given : coded.Value → coded.Value → coded.Value → ℤ → List coded.Value

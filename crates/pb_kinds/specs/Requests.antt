@@ -1,5 +1,5 @@
 -- Statement. What a record asks, or the first fault of its fields.
-use Rattle.std.specs.Prelude.{ℕ, ◌+◌, ℤ, pos, Bool, true, false, List, [], ◌∷◌, Result, Ok, Err, unsigned_abs, unwrap_or}
+use Rattle.std.specs.Prelude.{ℕ, ◌+◌, ℤ, pos, Bool, true, false, List, [], Result, Ok, Err, unsigned_abs, unwrap_or}
 use Rattle.pb_rows.specs.Records.{without_trailing_empty}
 use Rattle.pb_form.specs.Reading.{row_read}
 use Rattle.pb_form.specs.SessionRows.{session_schema, session_told}

@@ -98,7 +98,11 @@ fn booking(alloc: Global, fact: &Fact, late: bool) -> Result<Row, AllocError>
 fn unit(alloc: Global, name: &Name) -> Result<Row, AllocError>
     ensures { IfOk result (WritesEffect (Declares (site.Unit name.now))) }
 {
-    session_record(alloc, SessionKind::Unit, &[Value::Word(0), Value::name(name)])
+    session_record(
+        alloc,
+        SessionKind::Unit,
+        &[Value::Word(0), Value::name(name)],
+    )
 }
 
 // `tank,NAME,BASEVAR`
@@ -132,11 +136,11 @@ fn strap(alloc: Global, tank: &Name, mm: i64, ml: i64) -> Result<Row, AllocError
 }
 
 // `stream,NAME,FROM,TO,KIND,BASEVAR`
-fn stream(
+fn stream<'a>(
     alloc: Global,
-    name: &Name,
-    from: &Name,
-    to: &Name,
+    name: &'a Name,
+    from: &'a Name,
+    to: &'a Name,
     kind: Kind,
     base: i128,
 ) -> Result<Row, AllocError>
@@ -196,7 +200,11 @@ fn critical_nodal(alloc: Global, value: i64) -> Result<Row, AllocError>
     session_record(
         alloc,
         SessionKind::CriticalNodal,
-        &[Value::Word(0), Value::Word(0), Value::Number(i128::from(value))],
+        &[
+            Value::Word(0),
+            Value::Word(0),
+            Value::Number(i128::from(value)),
+        ],
     )
 }
 
@@ -208,7 +216,11 @@ fn critical_measure(alloc: Global, value: i64) -> Result<Row, AllocError>
     session_record(
         alloc,
         SessionKind::CriticalMeasure,
-        &[Value::Word(0), Value::Word(0), Value::Number(i128::from(value))],
+        &[
+            Value::Word(0),
+            Value::Word(0),
+            Value::Number(i128::from(value)),
+        ],
     )
 }
 
@@ -221,15 +233,20 @@ fn period(alloc: Global, name: &Name, first: i32, last: i32) -> Result<Row, Allo
     session_record(
         alloc,
         SessionKind::Period,
-        &[Value::Word(0), Value::name(name), Value::Day(first), Value::Day(last)],
+        &[
+            Value::Word(0),
+            Value::name(name),
+            Value::Day(first),
+            Value::Day(last),
+        ],
     )
 }
 
 // `reading,ID,STREAM,DATE,GRAMS,VARIANCE`, after `late,` if it comes late
-fn reading(
+fn reading<'a>(
     alloc: Global,
-    id: &Name,
-    stream: &Name,
+    id: &'a Name,
+    stream: &'a Name,
     day: i32,
     grams: i64,
     variance: i128,
@@ -258,10 +275,10 @@ fn reading(
 }
 
 // `transfer,ID,STREAM,FIRST,LAST,GRAMS,VARIANCE`, after `late,` if it comes late
-fn transfer(
+fn transfer<'a>(
     alloc: Global,
-    id: &Name,
-    stream: &Name,
+    id: &'a Name,
+    stream: &'a Name,
     first: i32,
     last: i32,
     grams: i64,
@@ -293,10 +310,10 @@ fn transfer(
 }
 
 // `dip,ID,TANK,DATE,MM,DENSITY,VARIANCE`, after `late,` if it comes late
-fn dip(
+fn dip<'a>(
     alloc: Global,
-    id: &Name,
-    tank: &Name,
+    id: &'a Name,
+    tank: &'a Name,
     day: i32,
     mm: i64,
     density: i64,
@@ -336,22 +353,24 @@ fn editing(alloc: Global, id: &Name, edit: &Edit, reason: &Reason) -> Result<Row
         Edit::Change(Change::Amount { grams, variance }) => {
             amend_amount(alloc, id, *grams, *variance, reason)
         }
-        Edit::Change(Change::Level {
-            mm,
-            density,
-            variance,
-        }) => amend_level(alloc, id, *mm, *density, *variance, reason),
+        Edit::Change(
+            Change::Level {
+                mm,
+                density,
+                variance,
+            },
+        ) => amend_level(alloc, id, *mm, *density, *variance, reason),
         Edit::Strike => strike(alloc, id, reason),
     }
 }
 
 // `amend,ID,GRAMS,VARIANCE,REASON`
-fn amend_amount(
+fn amend_amount<'a>(
     alloc: Global,
-    id: &Name,
+    id: &'a Name,
     grams: i64,
     variance: i128,
-    reason: &Reason,
+    reason: &'a Reason,
 ) -> Result<Row, AllocError>
     requires grams { IsGrams grams }
     requires variance { IsVariance variance }
@@ -372,13 +391,13 @@ fn amend_amount(
 }
 
 // `amend,ID,MM,DENSITY,VARIANCE,REASON`
-fn amend_level(
+fn amend_level<'a>(
     alloc: Global,
-    id: &Name,
+    id: &'a Name,
     mm: i64,
     density: i64,
     variance: i128,
-    reason: &Reason,
+    reason: &'a Reason,
 ) -> Result<Row, AllocError>
     requires level { IsLevel mm }
     requires density { IsDensity density }
@@ -401,7 +420,7 @@ fn amend_level(
 }
 
 // `strike,ID,REASON`
-fn strike(alloc: Global, id: &Name, reason: &Reason) -> Result<Row, AllocError>
+fn strike<'a>(alloc: Global, id: &'a Name, reason: &'a Reason) -> Result<Row, AllocError>
     ensures { IfOk result (WritesEffect (Edits id.now edits.Strike reason.now)) }
 {
     session_record(
@@ -415,5 +434,9 @@ fn strike(alloc: Global, id: &Name, reason: &Reason) -> Result<Row, AllocError>
 fn close(alloc: Global, period: &Name) -> Result<Row, AllocError>
     ensures { IfOk result (WritesEffect (Closes period.now)) }
 {
-    session_record(alloc, SessionKind::Close, &[Value::Word(0), Value::name(period)])
+    session_record(
+        alloc,
+        SessionKind::Close,
+        &[Value::Word(0), Value::name(period)],
+    )
 }

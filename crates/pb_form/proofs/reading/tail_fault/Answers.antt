@@ -1,5 +1,5 @@
-use Rattle.std.specs.Prelude.{map, Option, Some, None}
-use Rattle.std.proofs.Common.{◌≡◌, ◌∙◌, ◌<◌, ◌≤◌, ◌+◌, ◌-◌, ℕ, [], length, drop, arith, ap, sym}
+use Rattle.std.specs.Prelude.{map, Option}
+use Rattle.std.proofs.Common.{◌≡◌, ◌∙◌, ◌<◌, ◌+◌, ◌-◌, ℕ, [], length, drop, arith}
 use Rattle.pb_form.specs.Reading.{fields_read, joined, repeated}
 use Rattle.pb_form.specs.Seen.{column_seen}
 use Rattle.pb_form.specs.Told.{fault_in, so_far}

@@ -1,6 +1,4 @@
-use Rattle.std.specs.Prelude.{map}
-use Rattle.std.proofs.Common.{◌≡◌, ◌∙◌, ◌<◌, ◌≤◌, ◌+◌, length, arith, sym}
-use Rattle.pb_form.specs.Seen.{column_seen}
+use Rattle.std.proofs.Common.{◌∙◌, ◌<◌, ◌≤◌, ◌+◌, length, arith, sym}
 use Rattle.pb_form.proofs.TellingLemmas.{no_more, word_on}
 use Rattle.pb_form.proofs.telling.agrees.Goals as goal
 use Rattle.pb_form.proofs.telling.agrees.Goals.{else-i-len-via-then-i-len+else-not-has_word, else-i-len-via-else-i-len}

@@ -1,4 +1,4 @@
-use Rattle.std.proofs.Common.{◌≡◌, ◌∙◌, ◌<◌, ◌+◌, ◌∷◌, [], length, arith, map, sym, length-append}
+use Rattle.std.proofs.Common.{◌≡◌, ◌∙◌, ◌<◌, ◌∷◌, [], length, arith, map, sym, length-append}
 use Rattle.std.proofs.lemmas.List.{length-map}
 use Rattle.pb_form.specs.Seen.{column_seen, schema_seen}
 use Rattle.pb_form.proofs.WritingLemmas.{all_written, fit_at, one_written, whole_row}

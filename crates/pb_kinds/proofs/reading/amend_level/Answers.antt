@@ -7,8 +7,8 @@ use Rattle.pb_kinds.proofs.reading.amend_level.Goals as goal
 pub long_there-requires : goal.long_there-requires
 long_there-requires c = long_is (session_columns kind.AmendLevel) c.args.values.now 0 2 2 _ _ _ c.requires refl refl refl
 
-pub long_there-2-requires : goal.long_there-2-requires
-long_there-2-requires c = long_is (session_columns kind.AmendLevel) c.args.values.now 0 3 3 _ _ _ c.requires refl refl refl
+pub long_there-requires-2 : goal.long_there-requires-2
+long_there-requires-2 c = long_is (session_columns kind.AmendLevel) c.args.values.now 0 3 3 _ _ _ c.requires refl refl refl
 
 pub name_there-requires : goal.name_there-requires
 name_there-requires c = name_is (session_columns kind.AmendLevel) c.args.values.now 0 1 1 _ c.requires refl refl

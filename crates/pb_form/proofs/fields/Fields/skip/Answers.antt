@@ -1,4 +1,4 @@
-use Rattle.std.proofs.Common.{◌≡◌, ◌≤◌, length, take, drop, arith}
+use Rattle.std.proofs.Common.{◌≡◌, ◌≤◌, take, drop, arith}
 use Rattle.pb_form.proofs.ListLemmas.{length_part, part_skipped}
 use Rattle.pb_form.proofs.fields.Fields.skip.Goals as goal
 

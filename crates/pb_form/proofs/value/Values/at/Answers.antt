@@ -1,4 +1,4 @@
-use Rattle.std.proofs.Common.{◌≡◌, ◌∙◌, ◌≤◌, length, slice_get, arith, sym, ap}
+use Rattle.std.proofs.Common.{◌≤◌, length, arith}
 use Rattle.std.proofs.lemmas.Option.{slice_get_past}
 use Rattle.pb_form.proofs.KeptLemmas.{count_said, said_at}
 use Rattle.pb_form.proofs.value.Values.at.Goals as goal

@@ -1,0 +1,28 @@
+use Rattle.std.proofs.Common.{FitsSigned, refl}
+use mir.Syntax.{w32, w64, w128}
+use Rattle.std.proofs.lemmas.Int.{to_z-of_z}
+use Rattle.pb_form.specs.declared.session.SessionKind.TheVariants as kind
+use Rattle.pb_kinds.proofs.WrittenLemmas.{handed_long, written}
+use Rattle.pb_kinds.proofs.writing.dip.Goals as goal
+
+pub returns-then-late : goal.returns-then-late
+returns-then-late c =
+    let day = to_z-of_z w32 c.args.day c.ranges.day in
+    let mm_fits : FitsSigned w64 c.args.mm = c.ranges.mm in
+    let mm = handed_long c.args.mm c.from.result mm_fits (simp to_z-of_z at c.from.ensures) in
+    let density_fits : FitsSigned w64 c.args.density = c.ranges.density in
+    let density = handed_long c.args.density c.from-2.result density_fits (simp to_z-of_z at c.from-2.ensures) in
+    let variance = to_z-of_z w128 c.args.variance c.ranges.variance in
+    rw c.if-late.true (written c.session_record.result kind.LateDip _ _ c.session_record.ensures.value c.session_record.ensures.kind
+    (rw (c.name.ensures.value, c.name-2.ensures.value, day, mm, density, variance, c.name.ensures.form, c.name-2.ensures.form) refl))
+
+pub returns-else-late : goal.returns-else-late
+returns-else-late c =
+    let day = to_z-of_z w32 c.args.day c.ranges.day in
+    let mm_fits : FitsSigned w64 c.args.mm = c.ranges.mm in
+    let mm = handed_long c.args.mm c.from.result mm_fits (simp to_z-of_z at c.from.ensures) in
+    let density_fits : FitsSigned w64 c.args.density = c.ranges.density in
+    let density = handed_long c.args.density c.from-2.result density_fits (simp to_z-of_z at c.from-2.ensures) in
+    let variance = to_z-of_z w128 c.args.variance c.ranges.variance in
+    rw c.if-late.false (written c.session_record-else-late.result kind.Dip _ _ c.session_record-else-late.ensures.value c.session_record-else-late.ensures.kind
+    (rw (c.name.ensures.value, c.name-2.ensures.value, day, mm, density, variance, c.name.ensures.form, c.name-2.ensures.form) refl))
