@@ -100,7 +100,7 @@ impl Case {
         };
         for e in 0..self.book.edits() {
             if self.book.touches(e, period) {
-                tell_edit(text, &self.book.edit(e))?;
+                tell_edit(text, self.book.edit(e))?;
             }
         }
         Ok(())
@@ -196,7 +196,10 @@ fn tell(text: &mut Vec<u8>, word: &[u8]) -> Result<(), AllocError> {
     Ok(())
 }
 
-fn tell_edit(text: &mut Vec<u8>, edit: &StoredRow) -> Result<(), AllocError> {
+fn tell_edit(text: &mut Vec<u8>, edit: Option<StoredRow>) -> Result<(), AllocError> {
+    let Some(edit) = edit else {
+        return Ok(());
+    };
     tell(text, edit_word(&edit.effect))?;
     match edit_id(&edit.effect) {
         Some(id) => tell(text, id.bytes()),

@@ -1,6 +1,6 @@
 // What no clause says: that calls succeed where memory is ample. What is answered to which record are the cases of `book_cases`.
 
-use pb_book::{Accepted, Book};
+use pb_book::{Accepted, Book, StoredRow};
 use pb_kinds::{Edit, Effect};
 use pb_rows::{Name, Rows};
 use std::alloc::Global;
@@ -37,17 +37,20 @@ fn first_period(book: &Book, name: &Name) -> (Option<u32>, u32, Option<(i32, i32
 // The number of edits, and of the first whether it changes a fact and whether it touches the first period.
 fn first_edit(book: &Book) -> (usize, Option<(bool, bool)>) {
     let first = if book.edits() > 0 && book.periods() > 0 {
-        Some((is_change(&book.edit(0).effect), book.touches(0, 0)))
+        Some((is_change(book.edit(0)), book.touches(0, 0)))
     } else {
         None
     };
     (book.edits(), first)
 }
 
-fn is_change(effect: &Effect) -> bool {
-    match effect {
-        Effect::Edits { edit, .. } => matches!(edit, Edit::Change(_)),
-        _ => false,
+fn is_change(row: Option<StoredRow>) -> bool {
+    match row {
+        Some(row) => match &row.effect {
+            Effect::Edits { edit, .. } => matches!(edit, Edit::Change(_)),
+            _ => false,
+        },
+        None => false,
     }
 }
 

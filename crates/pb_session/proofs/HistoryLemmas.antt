@@ -1,6 +1,6 @@
 -- The edits that touch a period, one by one.
-use Rattle.std.proofs.Common.{◌≡◌, ◌∙◌, ◌+◌, ◌<◌, ◌++◌, ◌∷◌, [], ℕ, zero, suc, Bool, true, false, List, Option, Some, None, length, drop, get_or, slice_get, arith, refl, sym, ap}
-use Rattle.std.specs.Prelude.{IfSome, filter, filter_map}
+use Rattle.std.proofs.Common.{◌≡◌, ◌∙◌, ◌+◌, ◌<◌, ◌++◌, ◌∷◌, [], ℕ, zero, suc, Bool, true, false, List, Option, Some, None, length, drop, get_or, slice_get, arith, refl, sym, ap, subst}
+use Rattle.std.specs.Prelude.{IfSome, filter, filter_map, option_and_then}
 use Rattle.std.specs.List.{cons_option}
 use Rattle.std.specs.Option.{option_map_or}
 use Rattle.std.proofs.lemmas.List.{append-nil, append_assoc, drop_more}
@@ -117,9 +117,12 @@ none_told (Some period) P holds = holds period
 pub told_begin : (rows : List StoredRow) (i : ℕ) → AreTold rows i [] 0
 told_begin rows i = none_told (slice_get (periods_of rows) i) (λ (period : Period). told_of rows period (edits_of rows) ≡ whole_of rows period) (λ period. refl)
 
-pub told_more : (rows : List StoredRow) (e i : ℕ) (so_far : List HistoryRow) (stored : StoredRow) → touches_at rows e i ≡ true
-    → slice_get (edits_of rows) e ≡ Some stored → AreTold rows i so_far e → AreTold rows i (so_far ++ cons_option (told stored) []) (e + 1)
-told_more rows e i so_far stored touched is right = if_some (slice_get (periods_of rows) i) _ _ (λ period at. told_one rows period e i so_far stored at touched is) right
+pub told_more : (rows : List StoredRow) (e i : ℕ) (so_far : List HistoryRow) → e < length (edits_of rows) → touches_at rows e i ≡ true → AreTold rows i so_far e
+    → AreTold rows i (so_far ++ cons_option (option_and_then told (slice_get (edits_of rows) e)) []) (e + 1)
+told_more rows e i so_far within touched right =
+    let is = there rows e within in
+    subst (λ (o : Option StoredRow). AreTold rows i (so_far ++ cons_option (option_and_then told o) []) (e + 1)) (sym is.at)
+    (if_some (slice_get (periods_of rows) i) _ _ (λ period at. told_one rows period e i so_far is.stored at touched is.at) right)
 
 pub told_as_far : (rows : List StoredRow) (e i : ℕ) (so_far : List HistoryRow) → e < length (edits_of rows) → touches_at rows e i ≡ false → AreTold rows i so_far e
     → AreTold rows i so_far (e + 1)

@@ -1,8 +1,8 @@
 // The history of a period, as it is told.
 
-ghost use Rattle.std.specs.Prelude.{◌≡◌, ◌<◌, ◌++◌, [], length, filter_map, IfOk, IfSome, OnOk, slice_get};
+ghost use Rattle.std.specs.Prelude.{◌≡◌, ◌<◌, ◌++◌, [], length, filter_map, IfOk, IfSome, OnOk, option_and_then, slice_get};
 ghost use Rattle.std.specs.List.{cons_option};
-ghost use Rattle.pb_book.specs.Edits.{history_of};
+ghost use Rattle.pb_book.specs.Edits.{edits_of, history_of};
 ghost use Rattle.pb_book.specs.Rows.{periods_of};
 ghost use Rattle.pb_session.specs.History.{told, told_period, word_of};
 
@@ -31,19 +31,30 @@ pub fn told_edits(alloc: Global, book: &Book, i: u32) -> Result<List<HistoryRow>
     let mut edits = List::new(alloc);
     for e in 0..book.edits() {
         if book.touches(e, i) {
-            push_told(&mut edits, &book.edit(e))?;
+            push_told(book, e, &mut edits)?;
         }
     }
     Ok(edits)
 }
 
-// Appends how a row is told, if it is an edit.
-fn push_told(edits: &mut List<HistoryRow>, row: &StoredRow) -> Result<(), AllocError>
-    ensures { OnOk result (edits.new ≡ edits.old ++ cons_option (told row.now) []) }
+// Appends how the edit at a place is told.
+fn push_told(book: &Book, e: usize, edits: &mut List<HistoryRow>) -> Result<(), AllocError>
+    ensures { OnOk result (edits.new ≡ edits.old
+        ++ cons_option (option_and_then told (slice_get (edits_of book.now) e)) []) }
 {
-    match told(row) {
-        Some(edit) => edits.push(edit),
+    match told_at(book, e) {
+        Some(row) => edits.push(row),
         None => Ok(()),
+    }
+}
+
+// How the edit at a place is told; `None` where there is none.
+fn told_at(book: &Book, e: usize) -> Option<HistoryRow>
+    ensures { result ≡ option_and_then told (slice_get (edits_of book.now) e) }
+{
+    match book.edit(e) {
+        Some(row) => told(&row),
+        None => None,
     }
 }
 

@@ -16,7 +16,7 @@ loop-e-preserved c =
       so_far = elim c.if-touches.branch [
         | then-touches+in_ok-push_told w ↦
             subst (λ (es : List HistoryRow). AreTold rows i es (e + 1)) (sym (w.edits-is ∙ w.in_ok-push_told.ensures))
-            (told_more rows e i c.loop-e.edits w.edit-at.result (sym c.touches.ensures ∙ w.if-touches.true) w.edit-at.ensures c.loop-e.invariant.so_far)
+            (told_more rows e i c.loop-e.edits within (sym c.touches.ensures ∙ w.if-touches.true) c.loop-e.invariant.so_far)
         | else-touches w ↦
             subst (λ (es : List HistoryRow). AreTold rows i es (e + 1)) (sym w.edits-is)
             (told_as_far rows e i c.loop-e.edits within (sym c.touches.ensures ∙ w.if-touches.false) c.loop-e.invariant.so_far)
