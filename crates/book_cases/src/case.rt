@@ -3,7 +3,8 @@
 ghost use Rattle.std.specs.Prelude.{◌<◌, length, IfSome};
 ghost use Rattle.pb_book.specs.Rows.{periods_of};
 
-use pb_book::{Accepted, Book, Edit, EditWord, NotAccepted, Refused};
+use pb_book::{Accepted, Book, NotAccepted, Refused, StoredRow};
+use pb_kinds::{Edit, Effect};
 use pb_rows::{Name, Row, Rows};
 use std::alloc::{AllocError, Global};
 
@@ -99,7 +100,7 @@ impl Case {
         };
         for e in 0..self.book.edits() {
             if self.book.touches(e, period) {
-                tell_edit(text, &self.book.edit(e))?;
+                tell_edit(text, self.book.edit(e))?;
             }
         }
         Ok(())
@@ -195,20 +196,34 @@ fn tell(text: &mut Vec<u8>, word: &[u8]) -> Result<(), AllocError> {
     Ok(())
 }
 
-fn tell_edit(text: &mut Vec<u8>, edit: &Edit) -> Result<(), AllocError> {
-    tell(text, edit_word(edit.word))?;
-    match edit.id {
+fn tell_edit(text: &mut Vec<u8>, edit: Option<StoredRow>) -> Result<(), AllocError> {
+    let Some(edit) = edit else {
+        return Ok(());
+    };
+    tell(text, edit_word(&edit.effect))?;
+    match edit_id(&edit.effect) {
         Some(id) => tell(text, id.bytes()),
         None => Ok(()),
     }
 }
 
-fn edit_word(word: EditWord) -> &'static [u8] {
-    match word {
-        EditWord::Close => b"close",
-        EditWord::Late => b"late",
-        EditWord::Amend => b"amend",
-        EditWord::Strike => b"strike",
+fn edit_word(effect: &Effect) -> &'static [u8] {
+    match effect {
+        Effect::Closes(_) => b"close",
+        Effect::Books { .. } => b"late",
+        Effect::Edits { edit, .. } => match edit {
+            Edit::Change(_) => b"amend",
+            Edit::Strike => b"strike",
+        },
+        Effect::Declares(_) | Effect::Opens { .. } => b"none",
+    }
+}
+
+fn edit_id(effect: &Effect) -> Option<Name> {
+    match effect {
+        Effect::Books { fact, .. } => Some(fact.id()),
+        Effect::Edits { id, .. } => Some(*id),
+        _ => None,
     }
 }
 

@@ -1,6 +1,7 @@
 // What no clause says: that calls succeed where memory is ample. What is answered to which record are the cases of `book_cases`.
 
-use pb_book::{Accepted, Book, EditWord};
+use pb_book::{Accepted, Book, StoredRow};
+use pb_kinds::{Edit, Effect};
 use pb_rows::{Name, Rows};
 use std::alloc::Global;
 use std::test::Fail;
@@ -33,14 +34,24 @@ fn first_period(book: &Book, name: &Name) -> (Option<u32>, u32, Option<(i32, i32
     (book.period_of(name), book.periods(), first)
 }
 
-// The number of edits, and of the first its word and whether it touches the first period.
-fn first_edit(book: &Book) -> (usize, Option<(EditWord, bool)>) {
+// The number of edits, and of the first whether it changes a fact and whether it touches the first period.
+fn first_edit(book: &Book) -> (usize, Option<(bool, bool)>) {
     let first = if book.edits() > 0 && book.periods() > 0 {
-        Some((book.edit(0).word, book.touches(0, 0)))
+        Some((is_change(book.edit(0)), book.touches(0, 0)))
     } else {
         None
     };
     (book.edits(), first)
+}
+
+fn is_change(row: Option<StoredRow>) -> bool {
+    match row {
+        Some(row) => match &row.effect {
+            Effect::Edits { edit, .. } => matches!(edit, Edit::Change(_)),
+            _ => false,
+        },
+        None => false,
+    }
 }
 
 // The numbers of a book's arcs, facts and plain rows.
@@ -64,7 +75,7 @@ fn refused(alloc: Global, book: &mut Book) -> Result<(Option<usize>, Option<usiz
 type Told = (
     (Option<usize>, Option<usize>),
     (Option<u32>, u32, Option<(i32, i32, bool, bool)>),
-    (usize, Option<(EditWord, bool)>),
+    (usize, Option<(bool, bool)>),
     (u32, u32, usize),
 );
 
@@ -94,7 +105,7 @@ fn books_rows_and_says_what_they_are(rt: HostRuntime) -> Result<(), Fail> {
         (Some(0), 1, Some((2, 4, false, true))),
         "the period"
     );
-    assert_eq!(rt; edit, (1, Some((EditWord::Amend, true))), "the edit");
+    assert_eq!(rt; edit, (1, Some((true, true))), "the edit");
     assert_eq!(rt; counts, (1, 1, 4), "arcs, facts and plain rows");
     Ok(())
 }

@@ -7,18 +7,19 @@ use Rattle.std.proofs.lemmas.List.{append-nil, take-append-le}
 use Rattle.std.proofs.lemmas.Option.{get_or_from_slice_get, slice_get-get_or, slice_get_within}
 use Rattle.std.proofs.Math.ListN.{get_or-append}
 use Rattle.std.proofs.Math.Seq.{get_or-append_seam, take-append_seam}
-use Rattle.pb_rows.specs.Records.{without_trailing_empty}
 use Rattle.pb_book.specs.declared.answer.Refused.{Refused as Refusal}
-use Rattle.pb_book.specs.declared.rows.BookRow.{BookRow}
-use Rattle.pb_book.specs.declared.requests.Request.{Request}
-use Rattle.pb_book.specs.declared.requests.Request.TheVariants.{Blank, Store, Design, Report, History}
+use Rattle.pb_kinds.specs.declared.rows.Effect.{Effect}
+use Rattle.pb_form.specs.declared.fault.FormFault.{FormFault}
+use Rattle.pb_kinds.specs.declared.rows.Request.{Request}
+use Rattle.pb_kinds.specs.declared.rows.Request.TheVariants as asked
 use Rattle.pb_book.specs.Accepted.{AreAccepted, IsAcceptable}
 use Rattle.pb_book.specs.Answer.{after, after_answer, answer_if, history_or_refused, report_or_refused, stored_or_refused}
-use Rattle.pb_book.specs.Laws.{RequestsLaw}
-use Rattle.pb_book.specs.Ranges.{IsRowInRange}
+use Rattle.pb_kinds.specs.Laws.{StoredLaw}
+use Rattle.pb_kinds.specs.Ranges.{IsEffectInRange}
 use Rattle.pb_book.specs.Refusals.{refusal_of}
-use Rattle.pb_book.specs.Requests.{request_in}
-use Rattle.pb_book.specs.Rows.{StoredRow, period_place, version_of}
+use Rattle.pb_kinds.specs.Requests.{request_in}
+use Rattle.pb_book.specs.declared.rows.StoredRow.{StoredRow}
+use Rattle.pb_book.specs.Rows.{period_place}
 
 the_same : {X : Type 0} (a b : X) → Some a ≡ Some b → a ≡ b
 the_same a b is = ap (λ o. Rattle.std.specs.Prelude.unwrap_or o a) is
@@ -28,7 +29,7 @@ pub none_accepted : AreAccepted []
 none_accepted i stored is = cc is
 
 -- one more row
-pub accepted_more : (rows : List StoredRow) (stored : StoredRow) → AreAccepted rows → IsAcceptable rows stored.row → AreAccepted (rows ++ stored ∷ [])
+pub accepted_more : (rows : List StoredRow) (stored : StoredRow) → AreAccepted rows → IsAcceptable rows stored.effect → AreAccepted (rows ++ stored ∷ [])
 accepted_more rows stored right fine i row is = elim (cases_lt i (length rows)) [
   | inl before ↦
       let here : slice_get rows i ≡ Some row =
@@ -43,14 +44,13 @@ accepted_more rows stored right fine i row is = elim (cases_lt i (length rows)) 
 ]
 
 -- the rows after a record
-pub accepted_after : RequestsLaw → (rows : List StoredRow) (at : ℕ) (fields : List (List ℕ)) → AreAccepted rows → AreAccepted (after rows at fields)
-accepted_after law rows at fields right =
-    by (request_in (version_of rows) (without_trailing_empty fields)) (λ row is. law (version_of rows) (without_trailing_empty fields) row is)
+pub accepted_after : StoredLaw → (rows : List StoredRow) (at : ℕ) (fields : List (List ℕ)) → AreAccepted rows → AreAccepted (after rows at fields)
+accepted_after law rows at fields right = by (request_in fields) (λ effect is. law.in_range fields effect is)
   where
-    stored_then : (row : BookRow) → IsRowInRange row → (cause : Option Refusal) → refusal_of rows row ≡ cause
-        → AreAccepted (after_answer rows at (stored_or_refused row cause))
-    stored_then row range (Some cause) is = right
-    stored_then row range None is = accepted_more rows (record { at = at; row = row }) right (record { no_cause = is; in_range = range })
+    stored_then : (effect : Effect) → IsEffectInRange effect → (cause : Option Refusal) → refusal_of rows effect ≡ cause
+        → AreAccepted (after_answer rows at (stored_or_refused effect cause))
+    stored_then effect range (Some cause) is = right
+    stored_then effect range None is = accepted_more rows (record { at = at; effect = effect }) right (record { no_cause = is; in_range = range })
 
     reported : (place : Option ℕ) → AreAccepted (after_answer rows at (report_or_refused place))
     reported (Some place) = right
@@ -60,25 +60,25 @@ accepted_after law rows at fields right =
     told (Some place) = right
     told None = right
 
-    by : (request : Result Request Refusal) → ((row : BookRow) → request ≡ Ok (Store row) → IsRowInRange row) → AreAccepted (after_answer rows at (answer_if rows request))
-    by (Err cause) range = right
-    by (Ok Blank) range = right
-    by (Ok (Store row)) range = stored_then row (range row refl) (refusal_of rows row) refl
-    by (Ok Design) range = right
-    by (Ok (Report name)) range = reported (period_place rows name)
-    by (Ok (History name)) range = told (period_place rows name)
+    by : (request : Result Request FormFault) → ((effect : Effect) → request ≡ Ok (asked.Store effect) → IsEffectInRange effect) → AreAccepted (after_answer rows at (answer_if rows request))
+    by (Err fault) range = right
+    by (Ok asked.Blank) range = right
+    by (Ok (asked.Store effect)) range = stored_then effect (range effect refl) (refusal_of rows effect) refl
+    by (Ok asked.Design) range = right
+    by (Ok (asked.Report name)) range = reported (period_place rows name)
+    by (Ok (asked.History name)) range = told (period_place rows name)
 
 -- all rows, one behind the other: what holds of no row and stays where one joins the others
-grown : (P : List StoredRow → Type 0) → ((rows : List StoredRow) (stored : StoredRow) → P rows → IsAcceptable rows stored.row → P (rows ++ stored ∷ []))
+grown : (P : List StoredRow → Type 0) → ((rows : List StoredRow) (stored : StoredRow) → P rows → IsAcceptable rows stored.effect → P (rows ++ stored ∷ []))
     → (before rest : List StoredRow) → P before → AreAccepted (before ++ rest) → P (before ++ rest)
 grown P step before [] right accepted = subst P (sym (append-nil before)) right
 grown P step before (stored ∷ rest) right accepted =
     let here = get_or-append_seam before stored rest stored in
-    let own : IsAcceptable before stored.row =
+    let own : IsAcceptable before stored.effect =
     rw (take-append_seam before (stored ∷ rest)) at (accepted (length before) stored (slice_get-get_or (before ++ stored ∷ rest) (length before) stored (omega (arith, length-append before (stored ∷ rest))) ∙ ap Some here)) in
     let split : (before ++ stored ∷ []) ++ rest ≡ before ++ stored ∷ rest = append_assoc before (stored ∷ []) rest in
     subst P split (grown P step (before ++ stored ∷ []) rest (step before stored right own) (subst AreAccepted (sym split) accepted))
 
-pub by_accepted : (P : List StoredRow → Type 0) → P [] → ((rows : List StoredRow) (stored : StoredRow) → P rows → IsAcceptable rows stored.row → P (rows ++ stored ∷ []))
+pub by_accepted : (P : List StoredRow → Type 0) → P [] → ((rows : List StoredRow) (stored : StoredRow) → P rows → IsAcceptable rows stored.effect → P (rows ++ stored ∷ []))
     → (rows : List StoredRow) → AreAccepted rows → P rows
 by_accepted P begin step rows accepted = grown P step [] rows begin accepted

@@ -1,24 +1,24 @@
--- The first cause to refuse an amendment or a strike, by the live fact of an id.
+-- The first cause to refuse an edit, by the live fact of an id.
 use Rattle.std.specs.Prelude.{◌&&◌, not, position}
 use Rattle.std.specs.List.{list_any}
 use Rattle.std.specs.Cmp.Lexicographic.{bytes_decides}
-use Rattle.std.proofs.Common.{◌≡◌, ◌∙◌, ◌<◌, ℕ, pos, List, [], Bool, true, false, Option, Some, None, get_or, length, slice_get, refl, sym, arith, inl, inr}
+use Rattle.std.proofs.Common.{◌≡◌, ◌∙◌, ◌<◌, ℕ, List, [], Bool, true, false, Option, Some, None, get_or, length, slice_get, refl, sym, arith, inl, inr}
 use Rattle.std.proofs.lemmas.Bool.{and_parts, cases_Bool, cases_lt}
 use Rattle.std.proofs.lemmas.List.{get_or_default}
 use Rattle.std.proofs.lemmas.List.Folds.{list_any_at, list_any_none}
 use Rattle.std.proofs.lemmas.Option.{get_or_from_slice_get}
 use Rattle.pb_site.specs.declared.declared.Declared.{Declared}
 use Rattle.pb_facts.specs.declared.fact.Change.{Change}
-use Rattle.pb_facts.specs.declared.fact.Fact.TheVariants.{Reading}
 use Rattle.pb_facts.specs.declared.facts.KeptFact.{KeptFact}
 use Rattle.pb_facts.specs.Changes.{changed, fits}
 use Rattle.pb_facts.specs.Fact.{id_of}
 use Rattle.pb_facts.specs.Facts.{NoRepeats, has_id, is_live_with, is_repeat}
+use Rattle.pb_kinds.specs.declared.rows.Edit.{Edit}
+use Rattle.pb_kinds.specs.declared.rows.Edit.TheVariants as edits
+use Rattle.pb_kinds.specs.declared.rows.Effect.TheVariants.{Edits}
 use Rattle.pb_book.specs.declared.answer.Refused.{Refused}
 use Rattle.pb_book.specs.declared.answer.Refused.TheVariants.{Unknown}
-use Rattle.pb_book.specs.declared.rows.BookRow.TheVariants.{Amend, Strike}
-use Rattle.pb_book.specs.declared.rows.Period.{Period}
-use Rattle.pb_book.specs.Causes.{cause_of_change}
+use Rattle.pb_book.specs.Causes.{cause_of_change, cause_of_edit}
 use Rattle.pb_book.specs.Refusals.{is_misfit, is_moved_outside, is_outside_table, refusal_behind}
 use Rattle.pb_book.proofs.PeriodLemmas.{none_at_first, position_at_first}
 
@@ -70,25 +70,23 @@ any_live id q kept i k apart is at =
 some_live : (id : List ℕ) (kept : List KeptFact) (i : ℕ) (d : KeptFact) → Some i ≡ position (is_live_with id) kept → list_any (is_live_with id) kept ≡ true
 some_live id kept i d is = let found = position_at_first (is_live_with id) kept i d is in list_any_at (is_live_with id) kept i d found.0 found.1
 
-pub strike_unknown : (declared : List Declared) (kept : List KeptFact) (periods : List Period) (id reason : List ℕ) → None ≡ position (is_live_with id) kept
-    → Some Unknown ≡ refusal_behind declared kept periods (Strike id reason)
-strike_unknown declared kept periods id reason is = rw (none_at_first (is_live_with id) kept is) refl
+-- an edit of no live fact
+pub edit_unknown : (declared : List Declared) (kept : List KeptFact) (id : List ℕ) (edit : Edit) → None ≡ position (is_live_with id) kept
+    → Some Unknown ≡ refusal_behind declared kept [] (Edits id edit [])
+edit_unknown declared kept id edit is = rw (none_at_first (is_live_with id) kept is) refl
 
-pub amend_unknown : (declared : List Declared) (kept : List KeptFact) (periods : List Period) (id : List ℕ) (change : Change) (reason : List ℕ) → None ≡ position (is_live_with id) kept
-    → Some Unknown ≡ refusal_behind declared kept periods (Amend id change reason)
-amend_unknown declared kept periods id change reason is = rw (none_at_first (is_live_with id) kept is) refl
-
-pub amend_cause : (declared : List Declared) (kept : List KeptFact) (periods : List Period) (id : List ℕ) (change : Change) (reason : List ℕ) (i : ℕ) (k : KeptFact) (cause : Option Refused)
+change_cause : (declared : List Declared) (kept : List KeptFact) (id : List ℕ) (change : Change) (i : ℕ) (k : KeptFact) (cause : Option Refused)
     → Some i ≡ position (is_live_with id) kept → slice_get kept i ≡ Some k → NoRepeats kept → cause ≡ cause_of_change declared k.fact change
-    → cause ≡ refusal_behind declared kept periods (Amend id change reason)
-amend_cause declared kept periods id change reason i k cause is at apart cause_is =
+    → cause ≡ refusal_behind declared kept [] (Edits id (edits.Change change) [])
+change_cause declared kept id change i k cause is at apart cause_is =
     let misfit : list_any (is_misfit id change) kept ≡ not (fits change k.fact) = any_live id (λ (x : KeptFact). not (fits change x.fact)) kept i k apart is at in
     let outside : list_any (is_moved_outside declared id change) kept ≡ is_outside_table declared (changed change k.fact) =
     any_live id (λ (x : KeptFact). is_outside_table declared (changed change x.fact)) kept i k apart is at in
     rw (some_live id kept i k is, misfit, outside) cause_is
 
-pub strike_none : (declared : List Declared) (kept : List KeptFact) (periods : List Period) (id reason : List ℕ) (i : ℕ) → Some i ≡ position (is_live_with id) kept
-    → None ≡ refusal_behind declared kept periods (Strike id reason)
-strike_none declared kept periods id reason i is =
-    let d : KeptFact = record { fact = Reading [] [] (pos 0) (pos 0) (pos 0); struck = false } in
-    rw (some_live id kept i d is) refl
+-- an edit of the live fact at a place
+pub edit_cause : (declared : List Declared) (kept : List KeptFact) (id : List ℕ) (edit : Edit) (i : ℕ) (k : KeptFact) (cause : Option Refused)
+    → Some i ≡ position (is_live_with id) kept → slice_get kept i ≡ Some k → NoRepeats kept → cause ≡ cause_of_edit declared k.fact edit
+    → cause ≡ refusal_behind declared kept [] (Edits id edit [])
+edit_cause declared kept id (edits.Change change) i k cause is at apart cause_is = change_cause declared kept id change i k cause is at apart cause_is
+edit_cause declared kept id edits.Strike i k cause is at apart cause_is = rw (some_live id kept i k is) cause_is

@@ -27,38 +27,41 @@ use Rattle.pb_facts.specs.Changes.{IsChangeInRange, amended, changed, struck}
 use Rattle.pb_facts.specs.Fact.{IsInRange, is_too_long}
 use Rattle.pb_facts.specs.Facts.{has_id, is_live_with}
 use Rattle.pb_book.specs.declared.answer.Refused.TheVariants.{Unknown, Duplicate, Order, Mismatch, Sealed, Closed, Range, Full}
-use Rattle.pb_book.specs.declared.rows.BookRow.{BookRow}
-use Rattle.pb_book.specs.declared.rows.BookRow.TheVariants.{Declaration, Period as PeriodRow, Fact as FactRow, Late, Amend, Strike, Close}
+use Rattle.pb_kinds.specs.declared.rows.Effect.{Effect}
+use Rattle.pb_kinds.specs.declared.rows.Edit.TheVariants as edits
+use Rattle.pb_kinds.specs.declared.rows.Effect.TheVariants.{Declares, Opens, Books, Edits, Closes}
 use Rattle.pb_book.specs.declared.rows.Period.{Period}
 use Rattle.pb_book.specs.Accepted.{AreAccepted, AreConsistent, IsAcceptable}
 use Rattle.pb_book.specs.Apart.{IsApart, is_named, shares_a_day}
-use Rattle.pb_book.specs.Ranges.{IsPeriod, IsRowInRange}
+use Rattle.pb_kinds.specs.Ranges.{IsEffectInRange}
+use Rattle.pb_book.specs.Ranges.{IsPeriod}
 use Rattle.pb_book.specs.Refusals.{is_closed, is_duplicate, is_full, is_mismatch, is_moved_outside, is_out_of_order, is_out_of_range, is_outside_table, is_sealed, is_unknown, refusal_behind}
-use Rattle.pb_book.specs.Rows.{StoredRow, closed_if_named, declared_of, facts_after, facts_of, live, open_period, periods_after, periods_of}
+use Rattle.pb_book.specs.declared.rows.StoredRow.{StoredRow}
+use Rattle.pb_book.specs.Rows.{closed_if_named, declared_of, facts_after, facts_of, live, open_period, periods_after, periods_of}
 use Rattle.pb_book.proofs.AcceptedLemmas.{by_accepted}
 use Rattle.pb_book.proofs.KeptLemmas.{declared_more, declared_same, facts_more, periods_more_of}
 use Rattle.pb_book.proofs.PeriodLemmas.{closed_apart, closed_days, fails_at}
 
 -- no cause holds of a row
-pub record IsFine (declared : List Declared) (kept : List KeptFact) (periods : List Period) (row : BookRow) : Type 0 where
-  pub known : is_unknown declared kept periods row ≡ false
-  pub new : is_duplicate declared kept periods row ≡ false
-  pub order : is_out_of_order declared row ≡ false
-  pub matching : is_mismatch declared kept periods row ≡ false
-  pub sealed : is_sealed periods row ≡ false
-  pub opened : is_closed periods row ≡ false
-  pub range : is_out_of_range declared kept row ≡ false
-  pub room : is_full declared kept periods row ≡ false
+pub record IsFine (declared : List Declared) (kept : List KeptFact) (periods : List Period) (effect : Effect) : Type 0 where
+  pub known : is_unknown declared kept periods effect ≡ false
+  pub new : is_duplicate declared kept periods effect ≡ false
+  pub order : is_out_of_order declared effect ≡ false
+  pub matching : is_mismatch declared kept periods effect ≡ false
+  pub sealed : is_sealed periods effect ≡ false
+  pub opened : is_closed periods effect ≡ false
+  pub range : is_out_of_range declared kept effect ≡ false
+  pub room : is_full declared kept periods effect ≡ false
 
-pub fine : (declared : List Declared) (kept : List KeptFact) (periods : List Period) (row : BookRow) → refusal_behind declared kept periods row ≡ None → IsFine declared kept periods row
-fine declared kept periods row none =
-    by (is_unknown declared kept periods row) (is_duplicate declared kept periods row) (is_out_of_order declared row) (is_mismatch declared kept periods row) (is_sealed periods row)
-    (is_closed periods row) (is_out_of_range declared kept row) (is_full declared kept periods row) refl refl refl refl refl refl refl refl none
+pub fine : (declared : List Declared) (kept : List KeptFact) (periods : List Period) (effect : Effect) → refusal_behind declared kept periods effect ≡ None → IsFine declared kept periods effect
+fine declared kept periods effect none =
+    by (is_unknown declared kept periods effect) (is_duplicate declared kept periods effect) (is_out_of_order declared effect) (is_mismatch declared kept periods effect) (is_sealed periods effect)
+    (is_closed periods effect) (is_out_of_range declared kept effect) (is_full declared kept periods effect) refl refl refl refl refl refl refl refl none
   where
-    by : (a b c d e f g h : Bool) → is_unknown declared kept periods row ≡ a → is_duplicate declared kept periods row ≡ b → is_out_of_order declared row ≡ c
-        → is_mismatch declared kept periods row ≡ d → is_sealed periods row ≡ e → is_closed periods row ≡ f → is_out_of_range declared kept row ≡ g → is_full declared kept periods row ≡ h
+    by : (a b c d e f g h : Bool) → is_unknown declared kept periods effect ≡ a → is_duplicate declared kept periods effect ≡ b → is_out_of_order declared effect ≡ c
+        → is_mismatch declared kept periods effect ≡ d → is_sealed periods effect ≡ e → is_closed periods effect ≡ f → is_out_of_range declared kept effect ≡ g → is_full declared kept periods effect ≡ h
         → (if a then Some Unknown else if b then Some Duplicate else if c then Some Order else if d then Some Mismatch else if e then Some Sealed else if f then Some Closed
-        else if g then Some Range else if h then Some Full else None) ≡ None → IsFine declared kept periods row
+        else if g then Some Range else if h then Some Full else None) ≡ None → IsFine declared kept periods effect
     by true b c d e f g h known new order matching sealed opened range room none = cc none
     by false true c d e f g h known new order matching sealed opened range room none = cc none
     by false false true d e f g h known new order matching sealed opened range room none = cc none
@@ -124,7 +127,7 @@ struck_one id k = if has_id id k then record { fact = k.fact; struck = true } el
 -- ---- one more row
 
 more_declared : (declared : List Declared) (kept : List KeptFact) (periods : List Period) (row : Declared) → AreConsistent declared kept periods
-    → IsFine declared kept periods (Declaration row) → AreConsistent (declared ++ row ∷ []) kept periods
+    → IsFine declared kept periods (Declares row) → AreConsistent (declared ++ row ∷ []) kept periods
 more_declared declared kept periods row right good = record {
   days = right.days;
   apart = right.apart;
@@ -133,7 +136,7 @@ more_declared declared kept periods row right good = record {
 }
 
 more_periods : (declared : List Declared) (kept : List KeptFact) (periods : List Period) (name : List ℕ) (first last : ℤ) → AreConsistent declared kept periods
-    → IsFine declared kept periods (PeriodRow name first last) → IsRowInRange (PeriodRow name first last)
+    → IsFine declared kept periods (Opens name first last) → IsEffectInRange (Opens name first last)
     → AreConsistent declared kept (periods ++ open_period name first last ∷ [])
 more_periods declared kept periods name first last right good range =
     let period = open_period name first last in
@@ -224,31 +227,30 @@ abbrev AreSound : List StoredRow → Type 0
 AreSound rows = AreConsistent (declared_of rows) (facts_of rows) (periods_of rows)
 
 -- the parts with one row more
-sound_by : (rows : List StoredRow) (at : ℕ) (row : BookRow) → declared_of (record { at = at; row = row } ∷ []) ≡ []
-    → AreConsistent (declared_of rows) (facts_after (facts_of rows) row) (periods_after (periods_of rows) row) → AreSound (rows ++ record { at = at; row = row } ∷ [])
-sound_by rows at row none right =
-    let stored : StoredRow = record { at = at; row = row } in
+sound_by : (rows : List StoredRow) (at : ℕ) (effect : Effect) → declared_of (record { at = at; effect = effect } ∷ []) ≡ []
+    → AreConsistent (declared_of rows) (facts_after (facts_of rows) effect) (periods_after (periods_of rows) effect) → AreSound (rows ++ record { at = at; effect = effect } ∷ [])
+sound_by rows at effect none right =
+    let stored : StoredRow = record { at = at; effect = effect } in
     rw (declared_same rows stored none, facts_more rows stored, periods_more_of rows stored) right
 
-one_more : (rows : List StoredRow) (at : ℕ) (row : BookRow) → AreSound rows → IsAcceptable rows row → AreSound (rows ++ record { at = at; row = row } ∷ [])
-one_more rows at (Declaration row) right accepted =
-    let stored : StoredRow = record { at = at; row = Declaration row } in
+one_more : (rows : List StoredRow) (at : ℕ) (effect : Effect) → AreSound rows → IsAcceptable rows effect → AreSound (rows ++ record { at = at; effect = effect } ∷ [])
+one_more rows at (Declares row) right accepted =
+    let stored : StoredRow = record { at = at; effect = Declares row } in
     rw (declared_more rows stored, facts_more rows stored, periods_more_of rows stored)
     (more_declared (declared_of rows) (facts_of rows) (periods_of rows) row right (fine _ _ _ _ accepted.no_cause))
-one_more rows at (PeriodRow name first last) right accepted =
-    sound_by rows at (PeriodRow name first last) refl
+one_more rows at (Opens name first last) right accepted =
+    sound_by rows at (Opens name first last) refl
     (more_periods (declared_of rows) (facts_of rows) (periods_of rows) name first last right (fine _ _ _ _ accepted.no_cause) accepted.in_range)
-one_more rows at (FactRow fact) right accepted =
-    sound_by rows at (FactRow fact) refl (more_facts (declared_of rows) (facts_of rows) (periods_of rows) fact right accepted.in_range (fine (declared_of rows) (facts_of rows) (periods_of rows) (FactRow fact) accepted.no_cause).range)
-one_more rows at (Late fact) right accepted =
-    sound_by rows at (Late fact) refl (more_facts (declared_of rows) (facts_of rows) (periods_of rows) fact right accepted.in_range (fine (declared_of rows) (facts_of rows) (periods_of rows) (Late fact) accepted.no_cause).range)
-one_more rows at (Amend id change reason) right accepted =
-    sound_by rows at (Amend id change reason) refl (amended_facts (declared_of rows) (facts_of rows) (periods_of rows) id change right accepted.in_range (fine (declared_of rows) (facts_of rows) (periods_of rows) (Amend id change reason) accepted.no_cause).range)
-one_more rows at (Strike id reason) right accepted = sound_by rows at (Strike id reason) refl (struck_facts (declared_of rows) (facts_of rows) (periods_of rows) id right)
-one_more rows at (Close name) right accepted = sound_by rows at (Close name) refl (closed_periods (declared_of rows) (facts_of rows) (periods_of rows) name right)
+one_more rows at (Books fact late) right accepted =
+    sound_by rows at (Books fact late) refl (more_facts (declared_of rows) (facts_of rows) (periods_of rows) fact right accepted.in_range (fine (declared_of rows) (facts_of rows) (periods_of rows) (Books fact late) accepted.no_cause).range)
+one_more rows at (Edits id (edits.Change change) reason) right accepted =
+    sound_by rows at (Edits id (edits.Change change) reason) refl
+    (amended_facts (declared_of rows) (facts_of rows) (periods_of rows) id change right accepted.in_range (fine (declared_of rows) (facts_of rows) (periods_of rows) (Edits id (edits.Change change) reason) accepted.no_cause).range)
+one_more rows at (Edits id edits.Strike reason) right accepted = sound_by rows at (Edits id edits.Strike reason) refl (struck_facts (declared_of rows) (facts_of rows) (periods_of rows) id right)
+one_more rows at (Closes name) right accepted = sound_by rows at (Closes name) refl (closed_periods (declared_of rows) (facts_of rows) (periods_of rows) name right)
 
 pub consistent : (rows : List StoredRow) → AreAccepted rows → AreConsistent (declared_of rows) (facts_of rows) (periods_of rows)
 consistent rows accepted =
     by_accepted AreSound
     (record { days = λ i d lt. absurd (omega (arith, lt)); apart = λ i j d before lt. absurd (omega (arith, lt)); ranges = λ i d lt. absurd (omega (arith, lt)); in_tables = λ i d lt. absurd (omega (arith, lt)) })
-    (λ before stored right own. one_more before stored.at stored.row right own) rows accepted
+    (λ before stored right own. one_more before stored.at stored.effect right own) rows accepted

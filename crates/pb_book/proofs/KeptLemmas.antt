@@ -1,8 +1,9 @@
 -- What a book keeps stays right where a row joins the others.
-use Rattle.std.specs.Prelude.{if◌then◌else◌, IsSome, map}
+use Rattle.std.specs.Prelude.{if◌then◌else◌, IsSome, map, position}
+use Rattle.std.specs.Cmp.Lexicographic.{bytes_decides}
 use Rattle.std.specs.List.{cons_option}
 use Rattle.std.specs.Option.{option_map}
-use Rattle.std.proofs.Common.{◌≡◌, ◌∙◌, ℕ, suc, ℤ, ◌<◌, ◌≤◌, refl, true, List, [], ◌∷◌, ◌++◌, length, slice_get, Option, Some, None, sym, ap, ap₂, subst, arith, inl, inr, length-append}
+use Rattle.std.proofs.Common.{◌≡◌, ◌∙◌, ℕ, suc, ℤ, ◌<◌, ◌≤◌, refl, pos, Bool, true, false, List, [], ◌∷◌, ◌++◌, get_or, length, slice_get, Option, Some, None, sym, ap, ap₂, subst, arith, inl, inr, length-append}
 use Rattle.std.proofs.lemmas.Bool.{cases_Bool}
 use Rattle.std.proofs.lemmas.List.{append-nil}
 use Rattle.std.proofs.lemmas.List.Elements.{All-push, filter-append, filter_map-append}
@@ -13,41 +14,42 @@ use Rattle.std.proofs.Math.Seq.{get_or-append_seam}
 use Rattle.pb_site.specs.declared.declared.Declared.{Declared}
 use Rattle.pb_facts.specs.declared.fact.Fact.{Fact}
 use Rattle.pb_facts.specs.declared.facts.KeptFact.{KeptFact}
-use Rattle.pb_book.specs.declared.rows.BookRow.{BookRow}
-use Rattle.pb_book.specs.declared.rows.BookRow.TheVariants.{Declaration, Period as PeriodRow, Fact as FactRow, Late as LateRow}
+use Rattle.pb_kinds.specs.declared.rows.Effect.{Effect}
+use Rattle.pb_kinds.specs.declared.rows.Effect.TheVariants.{Declares, Opens, Books, Edits, Closes}
 use Rattle.pb_book.specs.declared.rows.Edited.{Edited}
-use Rattle.pb_book.specs.declared.rows.Edited.TheVariants.{Amend, Strike, Close as CloseEdit}
 use Rattle.pb_book.specs.declared.rows.Part.{Part}
-use Rattle.pb_book.specs.declared.rows.Part.TheVariants.{Declaration as InDeclarations, Period as InPeriods, Fact as InFacts, Late as InLate, Edit as InEdits}
+use Rattle.pb_book.specs.declared.rows.Part.TheVariants as part
 use Rattle.pb_book.specs.declared.rows.Period.{Period}
 use Rattle.pb_book.specs.declared.rows.Place.{Place}
+use Rattle.pb_book.specs.declared.rows.StoredRow.{StoredRow}
 use Rattle.pb_book.specs.Accepted.{AreAccepted, IsAcceptable}
 use Rattle.pb_book.specs.Apart.{is_named}
 use Rattle.pb_book.specs.Edits.{edits_of, is_edit}
-use Rattle.pb_book.specs.Kept.{AreOf, ArePlaced, IsKept, Shelves, edited_row, row_at, row_in, rows_at, shelves_of}
-use Rattle.pb_book.specs.Rows.{StoredRow, closed_if_named, declaration_in, declared_of, facts_after, facts_of, live, open_period, periods_after, periods_of}
+use Rattle.pb_book.specs.Kept.{AreOf, ArePlaced, IsKept, Shelves, closing, editing, effect_in, opening, row_at, rows_at, shelves_of}
+use Rattle.pb_book.specs.Rows.{closed, closed_if_named, declaration_in, declared_of, facts_after, facts_of, live, open_period, periods_after, periods_of}
 use Rattle.pb_book.proofs.AcceptedLemmas.{accepted_more}
+use Rattle.pb_book.proofs.PeriodLemmas.{position_at_first}
 use Rattle.pb_book.proofs.OriginalLemmas.{Joins, TellsAll, tells_as, tells_itself, tells_same}
 
 -- ---- the parts of the rows, with one row more
 
-pub facts_more : (rows : List StoredRow) (stored : StoredRow) → facts_of (rows ++ stored ∷ []) ≡ facts_after (facts_of rows) stored.row
-facts_more rows stored = fold_push (λ (kept : List KeptFact) (s : StoredRow). facts_after kept s.row) [] rows stored
+pub facts_more : (rows : List StoredRow) (stored : StoredRow) → facts_of (rows ++ stored ∷ []) ≡ facts_after (facts_of rows) stored.effect
+facts_more rows stored = fold_push (λ (kept : List KeptFact) (s : StoredRow). facts_after kept s.effect) [] rows stored
 
-pub periods_more_of : (rows : List StoredRow) (stored : StoredRow) → periods_of (rows ++ stored ∷ []) ≡ periods_after (periods_of rows) stored.row
-periods_more_of rows stored = fold_push (λ (periods : List Period) (s : StoredRow). periods_after periods s.row) [] rows stored
+pub periods_more_of : (rows : List StoredRow) (stored : StoredRow) → periods_of (rows ++ stored ∷ []) ≡ periods_after (periods_of rows) stored.effect
+periods_more_of rows stored = fold_push (λ (periods : List Period) (s : StoredRow). periods_after periods s.effect) [] rows stored
 
 pub declared_more : (rows : List StoredRow) (stored : StoredRow) → declared_of (rows ++ stored ∷ []) ≡ declared_of rows ++ declared_of (stored ∷ [])
-declared_more rows stored = filter_map-append (λ (s : StoredRow). declaration_in s.row) rows (stored ∷ [])
+declared_more rows stored = filter_map-append (λ (s : StoredRow). declaration_in s.effect) rows (stored ∷ [])
 
 pub declared_same : (rows : List StoredRow) (stored : StoredRow) → declared_of (stored ∷ []) ≡ [] → declared_of (rows ++ stored ∷ []) ≡ declared_of rows
 declared_same rows stored none = declared_more rows stored ∙ ap (λ (more : List Declared). declared_of rows ++ more) none ∙ append-nil (declared_of rows)
 
 -- the parts behind one more declaration
-pub of_declaration : (rows : List StoredRow) (declared : List Declared) (kept : List KeptFact) (periods : List Period) (at : ℕ) (row : Declared)
-    → AreOf rows declared kept periods → AreOf (rows ++ record { at = at; row = Declaration row } ∷ []) (declared ++ row ∷ []) kept periods
+of_declaration : (rows : List StoredRow) (declared : List Declared) (kept : List KeptFact) (periods : List Period) (at : ℕ) (row : Declared)
+    → AreOf rows declared kept periods → AreOf (rows ++ record { at = at; effect = Declares row } ∷ []) (declared ++ row ∷ []) kept periods
 of_declaration rows declared kept periods at row right =
-    let stored : StoredRow = record { at = at; row = Declaration row } in
+    let stored : StoredRow = record { at = at; effect = Declares row } in
     record {
       site = ap (λ (ds : List Declared). ds ++ row ∷ []) right.site ∙ sym (declared_more rows stored);
       facts = right.facts ∙ sym (facts_more rows stored);
@@ -55,15 +57,15 @@ of_declaration rows declared kept periods at row right =
     }
 
 -- the parts behind one more row that declares nothing
-pub of_row : (rows : List StoredRow) (declared : List Declared) (kept : List KeptFact) (periods : List Period) (at : ℕ) (row : BookRow)
-    → declared_of (record { at = at; row = row } ∷ []) ≡ [] → AreOf rows declared kept periods
-    → AreOf (rows ++ record { at = at; row = row } ∷ []) declared (facts_after kept row) (periods_after periods row)
-of_row rows declared kept periods at row none right =
-    let stored : StoredRow = record { at = at; row = row } in
+of_row : (rows : List StoredRow) (declared : List Declared) (kept : List KeptFact) (periods : List Period) (at : ℕ) (effect : Effect)
+    → declared_of (record { at = at; effect = effect } ∷ []) ≡ [] → AreOf rows declared kept periods
+    → AreOf (rows ++ record { at = at; effect = effect } ∷ []) declared (facts_after kept effect) (periods_after periods effect)
+of_row rows declared kept periods at effect none right =
+    let stored : StoredRow = record { at = at; effect = effect } in
     record {
       site = right.site ∙ sym (declared_same rows stored none);
-      facts = ap (λ (ks : List KeptFact). facts_after ks row) right.facts ∙ sym (facts_more rows stored);
-      spans = ap (λ (ps : List Period). periods_after ps row) right.spans ∙ sym (periods_more_of rows stored);
+      facts = ap (λ (ks : List KeptFact). facts_after ks effect) right.facts ∙ sym (facts_more rows stored);
+      spans = ap (λ (ps : List Period). periods_after ps effect) right.spans ∙ sym (periods_more_of rows stored);
     }
 
 -- ---- the places of the rows, with one row more
@@ -93,47 +95,63 @@ stay_as {X} {Y} f xs ys extends = record { kept = λ i y is. by i y (slice_get x
     by i y None at is = cc is
     by i y (Some x) at is = ap (option_map f) (extends.kept i x at) ∙ is
 
-abbrev pub span_row : Period → BookRow
-span_row period = PeriodRow period.name period.first period.last
+-- a period that is closed is opened and closed by the same rows
+closed_span : (f : Period → Effect) (name : List ℕ) → ((period : Period) → f (closed period) ≡ f period) → (period : Period) → f (closed_if_named name period) ≡ f period
+closed_span f name same period = elim (cases_Bool (is_named name period)) [ inl is ↦ rw is (same period) | inr other ↦ rw other refl ]
 
-closed_span : (name : List ℕ) (period : Period) → span_row (closed_if_named name period) ≡ span_row period
-closed_span name period = elim (cases_Bool (is_named name period)) [ inl is ↦ rw is refl | inr other ↦ rw other refl ]
-
-closed_spans : (name : List ℕ) (periods : List Period) → StayAs span_row periods (map (closed_if_named name) periods)
-closed_spans name periods = record {
-  kept = λ i y is. ap (option_map span_row) (slice_get-map (closed_if_named name) periods i) ∙ by (slice_get periods i) ∙ is;
+closed_as : (f : Period → Effect) (name : List ℕ) (periods : List Period) → ((period : Period) → f (closed period) ≡ f period) → StayAs f periods (map (closed_if_named name) periods)
+closed_as f name periods same = record {
+  kept = λ i y is. ap (option_map f) (slice_get-map (closed_if_named name) periods i) ∙ by (slice_get periods i) ∙ is;
 }
   where
-    by : (o : Option Period) → option_map span_row (option_map (closed_if_named name) o) ≡ option_map span_row o
+    by : (o : Option Period) → option_map f (option_map (closed_if_named name) o) ≡ option_map f o
     by None = refl
-    by (Some period) = ap Some (closed_span name period)
+    by (Some period) = ap Some (closed_span f name same period)
+
+-- the rows that open and close periods stay where they are
+pub record SpansStay (spans more : List Period) : Type 0 where
+  pub opened : StayAs opening spans more
+  pub closed : StayAs closing spans more
+
+-- the periods stay, where nothing is closed
+same_spans : (spans : List Period) → SpansStay spans spans
+same_spans spans = record { opened = stay_as opening spans spans (itself spans); closed = stay_as closing spans spans (itself spans) }
+
+more_spans : (spans : List Period) (period : Period) → SpansStay spans (spans ++ period ∷ [])
+more_spans spans period = record {
+  opened = stay_as opening spans (spans ++ period ∷ []) (longer spans (period ∷ []));
+  closed = stay_as closing spans (spans ++ period ∷ []) (longer spans (period ∷ []));
+}
+
+closed_spans : (name : List ℕ) (spans : List Period) → SpansStay spans (map (closed_if_named name) spans)
+closed_spans name spans = record { opened = closed_as opening name spans (λ period. refl); closed = closed_as closing name spans (λ period. refl) }
 
 -- shelves that have the rows of others where those have them
-pub record Grows (shelves more : Shelves) : Type 0 where
-  pub grown : (part : Part) (row : BookRow) → row_in shelves part ≡ Some row → row_in more part ≡ Some row
+record Grows (shelves more : Shelves) : Type 0 where
+  grown : (one : Part) (effect : Effect) → effect_in shelves one ≡ Some effect → effect_in more one ≡ Some effect
 
-grows_by : (d ds : List Declared) (t ts : ℕ → Option Fact) (p ps : List Period) (e es : List Edited) → Extends d ds → TellsAll t ts → StayAs span_row p ps → Extends e es
+grows_by : (d ds : List Declared) (t ts : ℕ → Option Fact) (p ps : List Period) (e es : List Edited) → Extends d ds → TellsAll t ts → SpansStay p ps → Extends e es
     → Grows (shelves_of d t p e) (shelves_of ds ts ps es)
 grows_by d ds t ts p ps e es declared told spans edited = record { grown = by }
   where
-    by : (part : Part) (row : BookRow) → row_in (shelves_of d t p e) part ≡ Some row → row_in (shelves_of ds ts ps es) part ≡ Some row
-    by (InDeclarations i) row is = (stay_as (λ (x : Declared). Declaration x) d ds declared).kept i row is
-    by (InPeriods i) row is = spans.kept i row is
-    by (InFacts i) row is = tells_as (λ (x : Fact). FactRow x) t ts told i row is
-    by (InLate i) row is = tells_as (λ (x : Fact). LateRow x) t ts told i row is
-    by (InEdits i) row is = (stay_as edited_row e es edited).kept i row is
+    by : (one : Part) (effect : Effect) → effect_in (shelves_of d t p e) one ≡ Some effect → effect_in (shelves_of ds ts ps es) one ≡ Some effect
+    by (part.Declared i) effect is = (stay_as (λ (x : Declared). Declares x) d ds declared).kept i effect is
+    by (part.Opened i) effect is = spans.opened.kept i effect is
+    by (part.Booked i late) effect is = tells_as (λ (x : Fact). Books x late) t ts told i effect is
+    by (part.Edited i) effect is = (stay_as editing e es edited).kept i effect is
+    by (part.Closed i) effect is = spans.closed.kept i effect is
 
 -- a row with the number of its record
-abbrev stored_at : ℕ → Option BookRow → Option StoredRow
-stored_at at o = option_map (λ (row : BookRow). let stored : StoredRow = record { at = at; row = row } in stored) o
+abbrev pub stored_at : ℕ → Option Effect → Option StoredRow
+stored_at at o = option_map (λ (effect : Effect). let stored : StoredRow = record { at = at; effect = effect } in stored) o
 
 -- the row at a place is the same on shelves that grew
 row_stays : (shelves more : Shelves) (place : Place) → Grows shelves more → IsSome (row_at shelves place) → row_at more place ≡ row_at shelves place
-row_stays shelves more place grows some = by (row_in shelves place.part) refl (subst (λ (o : Option BookRow). IsSome (stored_at place.at o)) refl some)
+row_stays shelves more place grows some = by (effect_in shelves place.part) refl (subst (λ (o : Option Effect). IsSome (stored_at place.at o)) refl some)
   where
-    by : (o : Option BookRow) → row_in shelves place.part ≡ o → IsSome (stored_at place.at o) → stored_at place.at (row_in more place.part) ≡ stored_at place.at (row_in shelves place.part)
+    by : (o : Option Effect) → effect_in shelves place.part ≡ o → IsSome (stored_at place.at o) → stored_at place.at (effect_in more place.part) ≡ stored_at place.at (effect_in shelves place.part)
     by None is some = cc some
-    by (Some row) is some = ap (stored_at place.at) (grows.grown place.part row is ∙ sym is)
+    by (Some effect) is some = ap (stored_at place.at) (grows.grown place.part effect is ∙ sym is)
 
 -- so are all rows
 rows_stay : (shelves more : Shelves) (places : List Place) → Grows shelves more → ArePlaced shelves places → rows_at more places ≡ rows_at shelves places
@@ -163,8 +181,8 @@ placed_more shelves more places place stored grows placed is =
 -- ---- what is kept, with one row more
 
 -- the places of the edits, where a row joins the others: that of an edit joins them
-abbrev edits_after : BookRow → List Place → Place → List Place
-edits_after row edits place = if is_edit row then edits ++ place ∷ [] else edits
+abbrev edits_after : Effect → List Place → Place → List Place
+edits_after effect edits place = if is_edit effect then edits ++ place ∷ [] else edits
 
 -- what is kept of the rows, and of one more
 pub record IsKeptAfter (shelves more : Shelves) (kept : List KeptFact) (places edits : List Place) (place : Place) (stored : StoredRow) : Type 0 where
@@ -177,8 +195,8 @@ record AreEditsOf (more : Shelves) (edits : List Place) (rows : List StoredRow) 
   are : rows_at more edits ≡ edits_of rows
 
 edits_more : (shelves more : Shelves) (edits : List Place) (place : Place) (stored : StoredRow) (rows : List StoredRow) → Grows shelves more → ArePlaced shelves edits
-    → rows_at shelves edits ≡ edits_of rows → row_at more place ≡ Some stored → AreEditsOf more (edits_after stored.row edits place) (rows ++ stored ∷ [])
-edits_more shelves more edits place stored rows grows placed are is = elim (cases_Bool (is_edit stored.row)) [
+    → rows_at shelves edits ≡ edits_of rows → row_at more place ≡ Some stored → AreEditsOf more (edits_after stored.effect edits place) (rows ++ stored ∷ [])
+edits_more shelves more edits place stored rows grows placed are is = elim (cases_Bool (is_edit stored.effect)) [
   | inl edit ↦ rw edit (record {
     placed = placed_more shelves more edits place stored grows placed is;
     are =
@@ -192,12 +210,12 @@ edits_more shelves more edits place stored rows grows placed are is = elim (case
 ]
   where
     split : edits_of (rows ++ stored ∷ []) ≡ edits_of rows ++ edits_of (stored ∷ [])
-    split = filter-append (λ (s : StoredRow). is_edit s.row) rows (stored ∷ [])
+    split = filter-append (λ (s : StoredRow). is_edit s.effect) rows (stored ∷ [])
 
 kept_more : (shelves more : Shelves) (kept ks : List KeptFact) (places edits : List Place) (place : Place) (stored : StoredRow) → IsKept shelves kept places edits
-    → Grows shelves more → row_at more place ≡ Some stored → IsAcceptable (rows_at shelves places) stored.row
+    → Grows shelves more → row_at more place ≡ Some stored → IsAcceptable (rows_at shelves places) stored.effect
     → AreOf (rows_at shelves places ++ stored ∷ []) more.declared ks more.spans → ((i : ℕ) → length ks ≤ i → more.told i ≡ None)
-    → IsKeptAfter shelves more ks places (edits_after stored.row edits place) place stored
+    → IsKeptAfter shelves more ks places (edits_after stored.effect edits place) place stored
 kept_more shelves more kept ks places edits place stored right grows is fine parts told =
     let rows = rows_more shelves more places place stored grows right.placed is in
     let edited = edits_more shelves more edits place stored (rows_at shelves places) grows right.edited right.edit_rows is in record {
@@ -217,14 +235,14 @@ last_item xs x = slice_get-get_or (xs ++ x ∷ []) (length xs) x (omega (arith, 
 
 -- one more declaration
 pub kept_declaration : (declared : List Declared) (told : ℕ → Option Fact) (spans : List Period) (edited : List Edited) (kept : List KeptFact) (places edits : List Place) (at i : ℕ) (row : Declared)
-    → IsKept (shelves_of declared told spans edited) kept places edits → IsAcceptable (rows_at (shelves_of declared told spans edited) places) (Declaration row) → i ≡ length declared
+    → IsKept (shelves_of declared told spans edited) kept places edits → IsAcceptable (rows_at (shelves_of declared told spans edited) places) (Declares row) → i ≡ length declared
     → IsKeptAfter (shelves_of declared told spans edited) (shelves_of (declared ++ row ∷ []) told spans edited) kept places edits
-    (record { at = at; part = InDeclarations i }) (record { at = at; row = Declaration row })
+    (record { at = at; part = part.Declared i }) (record { at = at; effect = Declares row })
 kept_declaration declared told spans edited kept places edits at i row right fine last =
     let before = shelves_of declared told spans edited in
-    kept_more before (shelves_of (declared ++ row ∷ []) told spans edited) kept kept places edits (record { at = at; part = InDeclarations i })
-    (record { at = at; row = Declaration row }) right
-    (grows_by declared (declared ++ row ∷ []) told told spans spans edited edited (longer declared (row ∷ [])) (tells_itself told) (stay_as span_row spans spans (itself spans)) (itself edited))
+    kept_more before (shelves_of (declared ++ row ∷ []) told spans edited) kept kept places edits (record { at = at; part = part.Declared i })
+    (record { at = at; effect = Declares row }) right
+    (grows_by declared (declared ++ row ∷ []) told told spans spans edited edited (longer declared (row ∷ [])) (tells_itself told) (same_spans spans) (itself edited))
     (rw (last, last_item declared row) refl)
     fine
     (of_declaration (rows_at before places) declared kept spans at row right.parts)
@@ -232,81 +250,77 @@ kept_declaration declared told spans edited kept places edits at i row right fin
 
 -- one more period
 pub kept_period : (declared : List Declared) (told : ℕ → Option Fact) (spans : List Period) (edited : List Edited) (kept : List KeptFact) (places edits : List Place) (at i : ℕ) (name : List ℕ) (first last : ℤ)
-    → IsKept (shelves_of declared told spans edited) kept places edits → IsAcceptable (rows_at (shelves_of declared told spans edited) places) (PeriodRow name first last) → i ≡ length spans
+    → IsKept (shelves_of declared told spans edited) kept places edits → IsAcceptable (rows_at (shelves_of declared told spans edited) places) (Opens name first last) → i ≡ length spans
     → IsKeptAfter (shelves_of declared told spans edited) (shelves_of declared told (spans ++ open_period name first last ∷ []) edited) kept places edits
-    (record { at = at; part = InPeriods i }) (record { at = at; row = PeriodRow name first last })
+    (record { at = at; part = part.Opened i }) (record { at = at; effect = Opens name first last })
 kept_period declared told spans edited kept places edits at i name first last right fine behind =
     let before = shelves_of declared told spans edited in
     let period = open_period name first last in
-    kept_more before (shelves_of declared told (spans ++ period ∷ []) edited) kept kept places edits (record { at = at; part = InPeriods i })
-    (record { at = at; row = PeriodRow name first last }) right
-    (grows_by declared declared told told spans (spans ++ period ∷ []) edited edited (itself declared) (tells_itself told) (stay_as span_row spans (spans ++ period ∷ []) (longer spans (period ∷ []))) (itself edited))
+    kept_more before (shelves_of declared told (spans ++ period ∷ []) edited) kept kept places edits (record { at = at; part = part.Opened i })
+    (record { at = at; effect = Opens name first last }) right
+    (grows_by declared declared told told spans (spans ++ period ∷ []) edited edited (itself declared) (tells_itself told) (more_spans spans period) (itself edited))
     (rw (behind, last_item spans period) refl)
     fine
-    (of_row (rows_at before places) declared kept spans at (PeriodRow name first last) refl right.parts)
+    (of_row (rows_at before places) declared kept spans at (Opens name first last) refl right.parts)
     right.told
 
--- one more fact
-pub kept_fact : (declared : List Declared) (told more : ℕ → Option Fact) (spans : List Period) (edited : List Edited) (kept : List KeptFact) (places edits : List Place) (at i : ℕ) (fact : Fact)
-    → IsKept (shelves_of declared told spans edited) kept places edits → IsAcceptable (rows_at (shelves_of declared told spans edited) places) (FactRow fact) → i ≡ length kept → Joins told more kept fact
-    → IsKeptAfter (shelves_of declared told spans edited) (shelves_of declared more spans edited) (kept ++ live fact ∷ []) places edits
-    (record { at = at; part = InFacts i }) (record { at = at; row = FactRow fact })
-kept_fact declared told more spans edited kept places edits at i fact right fine last joins =
-    let before = shelves_of declared told spans edited in
-    kept_more before (shelves_of declared more spans edited) kept (kept ++ live fact ∷ []) places edits (record { at = at; part = InFacts i })
-    (record { at = at; row = FactRow fact }) right
-    (grows_by declared declared told more spans spans edited edited (itself declared) joins.all (stay_as span_row spans spans (itself spans)) (itself edited))
-    (rw (last, joins.last) refl)
-    fine
-    (of_row (rows_at before places) declared kept spans at (FactRow fact) refl right.parts)
-    joins.none
-
--- one more late fact
-pub kept_late : (declared : List Declared) (told more : ℕ → Option Fact) (spans : List Period) (edited : List Edited) (kept : List KeptFact) (places edits : List Place) (at i : ℕ) (fact : Fact)
-    → IsKept (shelves_of declared told spans edited) kept places edits → IsAcceptable (rows_at (shelves_of declared told spans edited) places) (LateRow fact) → i ≡ length kept → Joins told more kept fact
+-- one more fact, late or not
+pub kept_fact : (declared : List Declared) (told more : ℕ → Option Fact) (spans : List Period) (edited : List Edited) (kept : List KeptFact) (places edits : List Place) (at i : ℕ) (fact : Fact) (late : Bool)
+    → IsKept (shelves_of declared told spans edited) kept places edits → IsAcceptable (rows_at (shelves_of declared told spans edited) places) (Books fact late) → i ≡ length kept → Joins told more kept fact
     → IsKeptAfter (shelves_of declared told spans edited) (shelves_of declared more spans edited) (kept ++ live fact ∷ []) places
-    (edits ++ record { at = at; part = InLate i } ∷ []) (record { at = at; part = InLate i }) (record { at = at; row = LateRow fact })
-kept_late declared told more spans edited kept places edits at i fact right fine last joins =
+    (edits_after (Books fact late) edits (record { at = at; part = part.Booked i late })) (record { at = at; part = part.Booked i late }) (record { at = at; effect = Books fact late })
+kept_fact declared told more spans edited kept places edits at i fact late right fine last joins =
     let before = shelves_of declared told spans edited in
-    kept_more before (shelves_of declared more spans edited) kept (kept ++ live fact ∷ []) places edits (record { at = at; part = InLate i })
-    (record { at = at; row = LateRow fact }) right
-    (grows_by declared declared told more spans spans edited edited (itself declared) joins.all (stay_as span_row spans spans (itself spans)) (itself edited))
+    kept_more before (shelves_of declared more spans edited) kept (kept ++ live fact ∷ []) places edits (record { at = at; part = part.Booked i late })
+    (record { at = at; effect = Books fact late }) right
+    (grows_by declared declared told more spans spans edited edited (itself declared) joins.all (same_spans spans) (itself edited))
     (rw (last, joins.last) refl)
     fine
-    (of_row (rows_at before places) declared kept spans at (LateRow fact) refl right.parts)
+    (of_row (rows_at before places) declared kept spans at (Books fact late) refl right.parts)
     joins.none
 
-edits_are : (edited : Edited) → is_edit (edited_row edited) ≡ true
-edits_are (Amend id change reason) = refl
-edits_are (Strike id reason) = refl
-edits_are (CloseEdit name) = refl
-
-none_declared : (at : ℕ) (edited : Edited) → declared_of (record { at = at; row = edited_row edited } ∷ []) ≡ []
-none_declared at (Amend id change reason) = refl
-none_declared at (Strike id reason) = refl
-none_declared at (CloseEdit name) = refl
-
--- one more edit of another kind: it changes the facts, or a period
-pub kept_edit : (declared : List Declared) (told tells : ℕ → Option Fact) (spans ps : List Period) (edited : List Edited) (kept : List KeptFact) (places edits : List Place) (at i : ℕ) (one : Edited)
-    → IsKept (shelves_of declared told spans edited) kept places edits → IsAcceptable (rows_at (shelves_of declared told spans edited) places) (edited_row one) → i ≡ length edited
-    → ps ≡ periods_after spans (edited_row one) → StayAs span_row spans ps → length kept ≡ length (facts_after kept (edited_row one)) → ((i : ℕ) → tells i ≡ told i)
-    → IsKeptAfter (shelves_of declared told spans edited) (shelves_of declared tells ps (edited ++ one ∷ [])) (facts_after kept (edited_row one)) places
-    (edits ++ record { at = at; part = InEdits i } ∷ []) (record { at = at; part = InEdits i }) (record { at = at; row = edited_row one })
-kept_edit declared told tells spans ps edited kept places edits at i one right fine last is stay long same =
+-- one more edit of a fact
+pub kept_edit : (declared : List Declared) (told tells : ℕ → Option Fact) (spans : List Period) (edited : List Edited) (kept : List KeptFact) (places edits : List Place) (at i : ℕ) (one : Edited)
+    → IsKept (shelves_of declared told spans edited) kept places edits → IsAcceptable (rows_at (shelves_of declared told spans edited) places) (editing one) → i ≡ length edited
+    → length kept ≡ length (facts_after kept (editing one)) → ((i : ℕ) → tells i ≡ told i)
+    → IsKeptAfter (shelves_of declared told spans edited) (shelves_of declared tells spans (edited ++ one ∷ [])) (facts_after kept (editing one)) places
+    (edits ++ record { at = at; part = part.Edited i } ∷ []) (record { at = at; part = part.Edited i }) (record { at = at; effect = editing one })
+kept_edit declared told tells spans edited kept places edits at i one right fine last long same =
     let before = shelves_of declared told spans edited in
-    let place : Place = record { at = at; part = InEdits i } in
-    let row = edited_row one in
-    let stored : StoredRow = record { at = at; row = row } in
-    let more = shelves_of declared tells ps (edited ++ one ∷ []) in
-    let there : row_at more place ≡ Some stored = rw (last, last_item edited one) refl in
-    subst (λ (es : List Place). IsKeptAfter before more (facts_after kept row) places es place stored) (rw (edits_are one) refl)
-    (kept_more before more kept (facts_after kept row) places edits place stored right
-    (grows_by declared declared told tells spans ps edited (edited ++ one ∷ []) (itself declared) (tells_same told tells same) stay (longer edited (one ∷ [])))
-    there
+    kept_more before (shelves_of declared tells spans (edited ++ one ∷ [])) kept (facts_after kept (editing one)) places edits (record { at = at; part = part.Edited i })
+    (record { at = at; effect = editing one }) right
+    (grows_by declared declared told tells spans spans edited (edited ++ one ∷ []) (itself declared) (tells_same told tells same) (same_spans spans) (longer edited (one ∷ [])))
+    (rw (last, last_item edited one) refl)
     fine
-    (subst (λ (spans_now : List Period). AreOf (rows_at before places ++ stored ∷ []) declared (facts_after kept row) spans_now) (sym is)
-    (of_row (rows_at before places) declared kept spans at row (none_declared at one) right.parts))
-    (λ i behind. same i ∙ right.told i (omega (arith, behind, long))))
+    (of_row (rows_at before places) declared kept spans at (editing one) refl right.parts)
+    (λ i behind. same i ∙ right.told i (omega (arith, behind, long)))
+
+-- the period of a name, closed
+closed_there : (name : List ℕ) (spans : List Period) (i : ℕ) → Some i ≡ position (is_named name) spans → option_map closing (slice_get (map (closed_if_named name) spans) i) ≡ Some (Closes name)
+closed_there name spans i is =
+    let found = position_at_first (is_named name) spans i some_period is in
+    let period = get_or spans i some_period in
+    let same : name ≡ period.name = (bytes_decides name period.name).0 found.1 in
+    (closed_as closing name spans (λ p. refl)).kept i (Closes name)
+    (ap (option_map closing) (slice_get-get_or spans i some_period found.0) ∙ ap (λ (n : List ℕ). Some (Closes n)) (sym same))
+  where
+    some_period : Period
+    some_period = open_period [] (pos 0) (pos 0)
+
+-- one more closing
+pub kept_closing : (declared : List Declared) (told : ℕ → Option Fact) (spans : List Period) (edited : List Edited) (kept : List KeptFact) (places edits : List Place) (at i : ℕ) (name : List ℕ)
+    → IsKept (shelves_of declared told spans edited) kept places edits → IsAcceptable (rows_at (shelves_of declared told spans edited) places) (Closes name) → Some i ≡ position (is_named name) spans
+    → IsKeptAfter (shelves_of declared told spans edited) (shelves_of declared told (map (closed_if_named name) spans) edited) kept places
+    (edits ++ record { at = at; part = part.Closed i } ∷ []) (record { at = at; part = part.Closed i }) (record { at = at; effect = Closes name })
+kept_closing declared told spans edited kept places edits at i name right fine found =
+    let before = shelves_of declared told spans edited in
+    kept_more before (shelves_of declared told (map (closed_if_named name) spans) edited) kept kept places edits (record { at = at; part = part.Closed i })
+    (record { at = at; effect = Closes name }) right
+    (grows_by declared declared told told spans (map (closed_if_named name) spans) edited edited (itself declared) (tells_itself told) (closed_spans name spans) (itself edited))
+    (rw (closed_there name spans i found) refl)
+    fine
+    (of_row (rows_at before places) declared kept spans at (Closes name) refl right.parts)
+    right.told
 
 -- what is kept, where each fact is told as before
 pub record IsKeptSame (shelves more : Shelves) (kept : List KeptFact) (places edits : List Place) : Type 0 where
@@ -320,7 +334,7 @@ kept_same declared told tells spans edited kept places edits right same =
     let before = shelves_of declared told spans edited in
     let more = shelves_of declared tells spans edited in
     let grows =
-    grows_by declared declared told tells spans spans edited edited (itself declared) (tells_same told tells same) (stay_as span_row spans spans (itself spans)) (itself edited) in
+    grows_by declared declared told tells spans spans edited edited (itself declared) (tells_same told tells same) (same_spans spans) (itself edited) in
     let rows = rows_stay before more places grows right.placed in record {
       rows = rows;
       right = record {
@@ -332,11 +346,3 @@ kept_same declared told tells spans edited kept places edits right same =
         edit_rows = rows_stay before more edits grows right.edited ∙ right.edit_rows ∙ ap edits_of (sym rows);
       };
     }
-
--- the periods stay, where nothing is closed
-pub same_spans : (spans : List Period) → StayAs span_row spans spans
-same_spans spans = stay_as span_row spans spans (itself spans)
-
--- they stay but for being closed
-pub spans_closed : (name : List ℕ) (spans : List Period) → StayAs span_row spans (map (closed_if_named name) spans)
-spans_closed name spans = closed_spans name spans

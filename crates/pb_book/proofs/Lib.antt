@@ -3,7 +3,6 @@ mod ChangeLemmas
 mod ConsistentLemmas
 mod EditLemmas
 mod FactLemmas
-mod FieldLemmas
 mod KeptLemmas
 mod LiveLemmas
 mod NameLemmas
@@ -11,7 +10,5 @@ mod NamedLemmas
 mod OriginalLemmas
 mod PeriodLemmas
 mod PlainLemmas
-mod RequestLemmas
-mod RoomLemmas
+mod RecordLemmas
 mod TakenOutLemmas
-mod WrittenLemmas

@@ -1,4 +1,4 @@
--- Which facts stand, by the rows that amend and strike them.
+-- Which facts stand, by the rows that change and strike them.
 use Rattle.std.specs.Prelude.{◌&&◌, ◌||◌, All, filter_map, map, not, position, if◌then◌else◌}
 use Rattle.std.specs.Cmp.Lexicographic.{bytes_decides}
 use Rattle.std.specs.List.{cons_option, list_any}
@@ -17,12 +17,14 @@ use Rattle.pb_facts.specs.declared.facts.KeptFact.{KeptFact}
 use Rattle.pb_facts.specs.Changes.{changed, fits}
 use Rattle.pb_facts.specs.Fact.{id_of}
 use Rattle.pb_facts.specs.Facts.{NoRepeats, has_id, is_duplicate, is_live_with, is_repeat, is_repeat_by_day, live_facts}
-use Rattle.pb_book.specs.declared.rows.BookRow.{BookRow}
-use Rattle.pb_book.specs.declared.rows.BookRow.TheVariants.{Declaration, Period as PeriodRow, Fact as FactRow, Late, Amend, Strike, Close}
+use Rattle.pb_kinds.specs.declared.rows.Effect.{Effect}
+use Rattle.pb_kinds.specs.declared.rows.Edit.TheVariants as edits
+use Rattle.pb_kinds.specs.declared.rows.Effect.TheVariants.{Declares, Opens, Books, Edits, Closes}
 use Rattle.pb_book.specs.Accepted.{IsAcceptable}
 use Rattle.pb_book.specs.Live.{LiveLaw, change_in, is_struck_in, last_change, later_of, live_in, live_of, strikes, values_by}
 use Rattle.pb_book.specs.Refusals.{is_misfit}
-use Rattle.pb_book.specs.Rows.{StoredRow, declared_of, facts_after, facts_of, live, periods_of}
+use Rattle.pb_book.specs.declared.rows.StoredRow.{StoredRow}
+use Rattle.pb_book.specs.Rows.{declared_of, facts_after, facts_of, live, periods_of}
 use Rattle.pb_book.proofs.AcceptedLemmas.{by_accepted}
 use Rattle.pb_book.proofs.ConsistentLemmas.{amended_one, fine, struck_one}
 use Rattle.pb_book.proofs.KeptLemmas.{facts_more}
@@ -34,28 +36,27 @@ use Rattle.pb_book.proofs.PlainLemmas.{AreWellIn, none_well, well_step}
 abbrev kept_of : List StoredRow → Fact → KeptFact
 kept_of rows fact = record { fact = values_by (last_change rows (id_of fact)) fact; struck = is_struck_in rows (id_of fact) }
 
-abbrev kept_in : List StoredRow → BookRow → Option KeptFact
-kept_in rows (FactRow fact) = Some (kept_of rows fact)
-kept_in rows (Late fact) = Some (kept_of rows fact)
-kept_in rows row = None
+abbrev kept_in : List StoredRow → Effect → Option KeptFact
+kept_in rows (Books fact late) = Some (kept_of rows fact)
+kept_in rows effect = None
 
 abbrev kept_all : List StoredRow → List StoredRow → List KeptFact
-kept_all rows over = filter_map (λ (stored : StoredRow). kept_in rows stored.row) over
+kept_all rows over = filter_map (λ (stored : StoredRow). kept_in rows stored.effect) over
 
 -- ---- one row more
 
-struck_more : (rows : List StoredRow) (stored : StoredRow) (id : List ℕ) → is_struck_in (rows ++ stored ∷ []) id ≡ (is_struck_in rows id || (strikes id stored.row || false))
-struck_more rows stored id = list_any-append (λ (s : StoredRow). strikes id s.row) rows (stored ∷ [])
+struck_more : (rows : List StoredRow) (stored : StoredRow) (id : List ℕ) → is_struck_in (rows ++ stored ∷ []) id ≡ (is_struck_in rows id || (strikes id stored.effect || false))
+struck_more rows stored id = list_any-append (λ (s : StoredRow). strikes id s.effect) rows (stored ∷ [])
 
-change_more : (rows : List StoredRow) (stored : StoredRow) (id : List ℕ) → last_change (rows ++ stored ∷ []) id ≡ later_of (change_in id stored.row) (last_change rows id)
-change_more rows stored id = fold_push (λ (last : Option Change) (s : StoredRow). later_of (change_in id s.row) last) None rows stored
+change_more : (rows : List StoredRow) (stored : StoredRow) (id : List ℕ) → last_change (rows ++ stored ∷ []) id ≡ later_of (change_in id stored.effect) (last_change rows id)
+change_more rows stored id = fold_push (λ (last : Option Change) (s : StoredRow). later_of (change_in id s.effect) last) None rows stored
 
 none_more : (b : Bool) → (b || (false || false)) ≡ b
 none_more true = refl
 none_more false = refl
 
 -- a row that neither amends the fact nor strikes it
-untouched : (rows : List StoredRow) (stored : StoredRow) (fact : Fact) → strikes (id_of fact) stored.row ≡ false → change_in (id_of fact) stored.row ≡ None
+untouched : (rows : List StoredRow) (stored : StoredRow) (fact : Fact) → strikes (id_of fact) stored.effect ≡ false → change_in (id_of fact) stored.effect ≡ None
     → kept_of (rows ++ stored ∷ []) fact ≡ kept_of rows fact
 untouched rows stored fact spared same =
     let struck : is_struck_in (rows ++ stored ∷ []) (id_of fact) ≡ is_struck_in rows (id_of fact) =
@@ -97,7 +98,7 @@ changed_by change None fact fit = refl
 changed_by change (Some before) fact fit = changed_twice change before fact fit
 
 -- a strike
-strike_kept : (rows : List StoredRow) (at : ℕ) (id reason : List ℕ) (fact : Fact) → kept_of (rows ++ record { at = at; row = Strike id reason } ∷ []) fact ≡ struck_one id (kept_of rows fact)
+strike_kept : (rows : List StoredRow) (at : ℕ) (id reason : List ℕ) (fact : Fact) → kept_of (rows ++ record { at = at; effect = Edits id edits.Strike reason } ∷ []) fact ≡ struck_one id (kept_of rows fact)
 strike_kept rows at id reason fact = elim (cases_Bool (same_name (id_of fact) id)) [
   | inl is ↦
       let own : has_id id (kept_of rows fact) ≡ true = ap (λ (name : List ℕ). same_name name id) (id_by (last_change rows (id_of fact)) fact) ∙ is in
@@ -111,7 +112,7 @@ strike_kept rows at id reason fact = elim (cases_Bool (same_name (id_of fact) id
 ]
   where
     stored : StoredRow
-    stored = record { at = at; row = Strike id reason }
+    stored = record { at = at; effect = Edits id edits.Strike reason }
 
     up : (b : Bool) → (b || (true || false)) ≡ true
     up true = refl
@@ -123,7 +124,7 @@ IsAmendable id change k = has_id id k ≡ true → (k.struck ≡ false) × (fits
 
 -- an amendment
 amend_kept : (rows : List StoredRow) (at : ℕ) (id : List ℕ) (change : Change) (reason : List ℕ) (fact : Fact) → IsAmendable id change (kept_of rows fact)
-    → kept_of (rows ++ record { at = at; row = Amend id change reason } ∷ []) fact ≡ amended_one id change (kept_of rows fact)
+    → kept_of (rows ++ record { at = at; effect = Edits id (edits.Change change) reason } ∷ []) fact ≡ amended_one id change (kept_of rows fact)
 amend_kept rows at id change reason fact can = elim (cases_Bool (same_name (id_of fact) id)) [
   | inl is ↦
       let own : has_id id (kept_of rows fact) ≡ true = ap (λ (name : List ℕ). same_name name id) (id_by (last_change rows (id_of fact)) fact) ∙ is in
@@ -144,7 +145,7 @@ amend_kept rows at id change reason fact can = elim (cases_Bool (same_name (id_o
 ]
   where
     stored : StoredRow
-    stored = record { at = at; row = Amend id change reason }
+    stored = record { at = at; effect = Edits id (edits.Change change) reason }
 
     not_both : (a : Bool) {b : Bool} → b ≡ false → (a && b) ≡ false
     not_both true is = is
@@ -155,7 +156,7 @@ all_more : (rows : List StoredRow) (stored : StoredRow) (g : KeptFact → KeptFa
     → ((fact : Fact) → G (kept_of rows fact) → kept_of (rows ++ stored ∷ []) fact ≡ g (kept_of rows fact)) → All G (kept_all rows over)
     → kept_all (rows ++ stored ∷ []) over ≡ map g (kept_all rows over)
 all_more rows stored g G [] step all = refl
-all_more rows stored g G (s ∷ over) step all = by (λ rest. all_more rows stored g G over step rest) s.row refl
+all_more rows stored g G (s ∷ over) step all = by (λ rest. all_more rows stored g G over step rest) s.effect refl
   where
     tail : (k : KeptFact) → All G (k ∷ kept_all rows over) → All G (kept_all rows over)
     tail k everyone = λ i e lt. everyone (suc i) e (omega (arith, lt))
@@ -165,15 +166,13 @@ all_more rows stored g G (s ∷ over) step all = by (λ rest. all_more rows stor
     of_fact fact go everyone =
         ap₂ (λ (k : KeptFact) (ks : List KeptFact). k ∷ ks) (step fact (everyone 0 (kept_of rows fact) (omega arith))) (go (tail (kept_of rows fact) everyone))
 
-    by : (All G (kept_all rows over) → kept_all (rows ++ stored ∷ []) over ≡ map g (kept_all rows over)) → (row : BookRow) → s.row ≡ row
+    by : (All G (kept_all rows over) → kept_all (rows ++ stored ∷ []) over ≡ map g (kept_all rows over)) → (effect : Effect) → s.effect ≡ effect
         → kept_all (rows ++ stored ∷ []) (s ∷ over) ≡ map g (kept_all rows (s ∷ over))
-    by go (FactRow fact) is = rw is (of_fact fact go (rw is at all))
-    by go (Late fact) is = rw is (of_fact fact go (rw is at all))
-    by go (Declaration declared) is = rw is (go (rw is at all))
-    by go (PeriodRow name first last) is = rw is (go (rw is at all))
-    by go (Amend id change reason) is = rw is (go (rw is at all))
-    by go (Strike id reason) is = rw is (go (rw is at all))
-    by go (Close name) is = rw is (go (rw is at all))
+    by go (Books fact late) is = rw is (of_fact fact go (rw is at all))
+    by go (Declares declared) is = rw is (go (rw is at all))
+    by go (Opens name first last) is = rw is (go (rw is at all))
+    by go (Edits id how reason) is = rw is (go (rw is at all))
+    by go (Closes name) is = rw is (go (rw is at all))
 
 -- ---- all rows
 
@@ -193,16 +192,16 @@ record IsMeant (rows : List StoredRow) : Type 0 where
 
 -- the facts that came with the rows and one more
 split_more : (rows : List StoredRow) (stored : StoredRow) → kept_all (rows ++ stored ∷ []) (rows ++ stored ∷ []) ≡ kept_all (rows ++ stored ∷ []) rows ++ kept_all (rows ++ stored ∷ []) (stored ∷ [])
-split_more rows stored = filter_map-append (λ (s : StoredRow). kept_in (rows ++ stored ∷ []) s.row) rows (stored ∷ [])
+split_more rows stored = filter_map-append (λ (s : StoredRow). kept_in (rows ++ stored ∷ []) s.effect) rows (stored ∷ [])
 
 -- a row without a strike or a change leaves those before it
-left : (rows : List StoredRow) (stored : StoredRow) → ((id : List ℕ) → strikes id stored.row ≡ false) → ((id : List ℕ) → change_in id stored.row ≡ None)
+left : (rows : List StoredRow) (stored : StoredRow) → ((id : List ℕ) → strikes id stored.effect ≡ false) → ((id : List ℕ) → change_in id stored.effect ≡ None)
     → kept_all (rows ++ stored ∷ []) rows ≡ kept_all rows rows
 left rows stored spared same =
     all_more rows stored (λ k. k) (λ k. Unit {0}) rows (λ fact any. untouched rows stored fact (spared (id_of fact)) (same (id_of fact))) (λ i e lt. tt) ∙ same_map (kept_all rows rows)
 
 -- no row speaks of an id, so none does where such a row joins them
-still_fresh : (rows : List StoredRow) (stored : StoredRow) (id : List ℕ) → strikes id stored.row ≡ false → change_in id stored.row ≡ None
+still_fresh : (rows : List StoredRow) (stored : StoredRow) (id : List ℕ) → strikes id stored.effect ≡ false → change_in id stored.effect ≡ None
     → (is_struck_in rows id ≡ false) × (last_change rows id ≡ None) → (is_struck_in (rows ++ stored ∷ []) id ≡ false) × (last_change (rows ++ stored ∷ []) id ≡ None)
 still_fresh rows stored id spared same before = (
   struck_more rows stored id ∙ ap₂ (λ (a b : Bool). a || (b || false)) before.0 spared,
@@ -210,8 +209,8 @@ still_fresh rows stored id spared same before = (
 )
 
 -- a row without a fact, a strike or a change
-meant_same : (rows : List StoredRow) (stored : StoredRow) → AreWellIn (rows ++ stored ∷ []) → facts_after (facts_of rows) stored.row ≡ facts_of rows → kept_in (rows ++ stored ∷ []) stored.row ≡ None
-    → ((id : List ℕ) → strikes id stored.row ≡ false) → ((id : List ℕ) → change_in id stored.row ≡ None) → IsMeant rows → IsMeant (rows ++ stored ∷ [])
+meant_same : (rows : List StoredRow) (stored : StoredRow) → AreWellIn (rows ++ stored ∷ []) → facts_after (facts_of rows) stored.effect ≡ facts_of rows → kept_in (rows ++ stored ∷ []) stored.effect ≡ None
+    → ((id : List ℕ) → strikes id stored.effect ≡ false) → ((id : List ℕ) → change_in id stored.effect ≡ None) → IsMeant rows → IsMeant (rows ++ stored ∷ [])
 meant_same rows stored well_now unchanged none spared same right = record {
   well = well_now;
   facts = facts_now ∙ right.facts ∙ sym (split_more rows stored ∙ ap₂ (λ (xs : List KeptFact) (o : Option KeptFact). xs ++ cons_option o []) (left rows stored spared same) none ∙ append-nil (kept_all rows rows));
@@ -222,8 +221,8 @@ meant_same rows stored well_now unchanged none spared same right = record {
     facts_now = facts_more rows stored ∙ unchanged
 
 -- a row with a new fact
-meant_fact : (rows : List StoredRow) (stored : StoredRow) (fact : Fact) → AreWellIn (rows ++ stored ∷ []) → facts_after (facts_of rows) stored.row ≡ facts_of rows ++ live fact ∷ []
-    → kept_in (rows ++ stored ∷ []) stored.row ≡ Some (kept_of (rows ++ stored ∷ []) fact) → ((id : List ℕ) → strikes id stored.row ≡ false) → ((id : List ℕ) → change_in id stored.row ≡ None)
+meant_fact : (rows : List StoredRow) (stored : StoredRow) (fact : Fact) → AreWellIn (rows ++ stored ∷ []) → facts_after (facts_of rows) stored.effect ≡ facts_of rows ++ live fact ∷ []
+    → kept_in (rows ++ stored ∷ []) stored.effect ≡ Some (kept_of (rows ++ stored ∷ []) fact) → ((id : List ℕ) → strikes id stored.effect ≡ false) → ((id : List ℕ) → change_in id stored.effect ≡ None)
     → is_duplicate (facts_of rows) fact ≡ false → IsMeant rows → IsMeant (rows ++ stored ∷ [])
 meant_fact rows stored fact well_now added here spared same new right = record {
   well = well_now;
@@ -314,8 +313,8 @@ amended_same_id id other change k = elim (cases_Bool (is_live_with other k)) [
   | inr apart_from ↦ rw apart_from refl
 ]
 
-meant_strike : (rows : List StoredRow) (at : ℕ) (id reason : List ℕ) → AreWellIn (rows ++ record { at = at; row = Strike id reason } ∷ []) → list_any (is_live_with id) (facts_of rows) ≡ true
-    → IsMeant rows → IsMeant (rows ++ record { at = at; row = Strike id reason } ∷ [])
+meant_strike : (rows : List StoredRow) (at : ℕ) (id reason : List ℕ) → AreWellIn (rows ++ record { at = at; effect = Edits id edits.Strike reason } ∷ []) → list_any (is_live_with id) (facts_of rows) ≡ true
+    → IsMeant rows → IsMeant (rows ++ record { at = at; effect = Edits id edits.Strike reason } ∷ [])
 meant_strike rows at id reason well_now known right = record {
   well = well_now;
   facts = facts_now ∙ ap (map (struck_one id)) right.facts
@@ -329,13 +328,13 @@ meant_strike rows at id reason well_now known right = record {
 }
   where
     stored : StoredRow
-    stored = record { at = at; row = Strike id reason }
+    stored = record { at = at; effect = Edits id edits.Strike reason }
 
     facts_now : facts_of (rows ++ stored ∷ []) ≡ map (struck_one id) (facts_of rows)
     facts_now = facts_more rows stored
 
-meant_amend : (rows : List StoredRow) (at : ℕ) (id : List ℕ) (change : Change) (reason : List ℕ) → AreWellIn (rows ++ record { at = at; row = Amend id change reason } ∷ [])
-    → list_any (is_live_with id) (facts_of rows) ≡ true → list_any (is_misfit id change) (facts_of rows) ≡ false → IsMeant rows → IsMeant (rows ++ record { at = at; row = Amend id change reason } ∷ [])
+meant_amend : (rows : List StoredRow) (at : ℕ) (id : List ℕ) (change : Change) (reason : List ℕ) → AreWellIn (rows ++ record { at = at; effect = Edits id (edits.Change change) reason } ∷ [])
+    → list_any (is_live_with id) (facts_of rows) ≡ true → list_any (is_misfit id change) (facts_of rows) ≡ false → IsMeant rows → IsMeant (rows ++ record { at = at; effect = Edits id (edits.Change change) reason } ∷ [])
 meant_amend rows at id change reason well_now known fit right = record {
   well = well_now;
   facts = facts_now ∙ ap (map (amended_one id change)) right.facts
@@ -350,52 +349,46 @@ meant_amend rows at id change reason well_now known fit right = record {
 }
   where
     stored : StoredRow
-    stored = record { at = at; row = Amend id change reason }
+    stored = record { at = at; effect = Edits id (edits.Change change) reason }
 
     facts_now : facts_of (rows ++ stored ∷ []) ≡ map (amended_one id change) (facts_of rows)
     facts_now = facts_more rows stored
 
-meant_step : (rows : List StoredRow) (at : ℕ) (row : BookRow) → IsMeant rows → IsAcceptable rows row → IsMeant (rows ++ record { at = at; row = row } ∷ [])
-meant_step rows at (Declaration declared) right accepted =
-    let stored : StoredRow = record { at = at; row = Declaration declared } in
-    meant_same rows stored (well_step rows at (Declaration declared) right.well accepted) refl refl (λ id. refl) (λ id. refl) right
-meant_step rows at (PeriodRow name first last) right accepted =
-    let stored : StoredRow = record { at = at; row = PeriodRow name first last } in
-    meant_same rows stored (well_step rows at (PeriodRow name first last) right.well accepted) refl refl (λ id. refl) (λ id. refl) right
-meant_step rows at (Close name) right accepted =
-    let stored : StoredRow = record { at = at; row = Close name } in
-    meant_same rows stored (well_step rows at (Close name) right.well accepted) refl refl (λ id. refl) (λ id. refl) right
-meant_step rows at (FactRow fact) right accepted =
-    let stored : StoredRow = record { at = at; row = FactRow fact } in
-    let good = fine (declared_of rows) (facts_of rows) (periods_of rows) (FactRow fact) accepted.no_cause in
-    meant_fact rows stored fact (well_step rows at (FactRow fact) right.well accepted) refl refl (λ id. refl) (λ id. refl) good.new right
-meant_step rows at (Late fact) right accepted =
-    let stored : StoredRow = record { at = at; row = Late fact } in
-    let good = fine (declared_of rows) (facts_of rows) (periods_of rows) (Late fact) accepted.no_cause in
-    meant_fact rows stored fact (well_step rows at (Late fact) right.well accepted) refl refl (λ id. refl) (λ id. refl) good.new right
-meant_step rows at (Amend id change reason) right accepted =
-    let good = fine (declared_of rows) (facts_of rows) (periods_of rows) (Amend id change reason) accepted.no_cause in
-    meant_amend rows at id change reason (well_step rows at (Amend id change reason) right.well accepted) (up (list_any (is_live_with id) (facts_of rows)) good.known) good.matching right
-meant_step rows at (Strike id reason) right accepted =
-    let good = fine (declared_of rows) (facts_of rows) (periods_of rows) (Strike id reason) accepted.no_cause in
-    meant_strike rows at id reason (well_step rows at (Strike id reason) right.well accepted) (up (list_any (is_live_with id) (facts_of rows)) good.known) right
+meant_step : (rows : List StoredRow) (at : ℕ) (effect : Effect) → IsMeant rows → IsAcceptable rows effect → IsMeant (rows ++ record { at = at; effect = effect } ∷ [])
+meant_step rows at (Declares declared) right accepted =
+    let stored : StoredRow = record { at = at; effect = Declares declared } in
+    meant_same rows stored (well_step rows at (Declares declared) right.well accepted) refl refl (λ id. refl) (λ id. refl) right
+meant_step rows at (Opens name first last) right accepted =
+    let stored : StoredRow = record { at = at; effect = Opens name first last } in
+    meant_same rows stored (well_step rows at (Opens name first last) right.well accepted) refl refl (λ id. refl) (λ id. refl) right
+meant_step rows at (Closes name) right accepted =
+    let stored : StoredRow = record { at = at; effect = Closes name } in
+    meant_same rows stored (well_step rows at (Closes name) right.well accepted) refl refl (λ id. refl) (λ id. refl) right
+meant_step rows at (Books fact late) right accepted =
+    let stored : StoredRow = record { at = at; effect = Books fact late } in
+    let good = fine (declared_of rows) (facts_of rows) (periods_of rows) (Books fact late) accepted.no_cause in
+    meant_fact rows stored fact (well_step rows at (Books fact late) right.well accepted) refl refl (λ id. refl) (λ id. refl) good.new right
+meant_step rows at (Edits id (edits.Change change) reason) right accepted =
+    let good = fine (declared_of rows) (facts_of rows) (periods_of rows) (Edits id (edits.Change change) reason) accepted.no_cause in
+    meant_amend rows at id change reason (well_step rows at (Edits id (edits.Change change) reason) right.well accepted) (up (list_any (is_live_with id) (facts_of rows)) good.known) good.matching right
+meant_step rows at (Edits id edits.Strike reason) right accepted =
+    let good = fine (declared_of rows) (facts_of rows) (periods_of rows) (Edits id edits.Strike reason) accepted.no_cause in
+    meant_strike rows at id reason (well_step rows at (Edits id edits.Strike reason) right.well accepted) (up (list_any (is_live_with id) (facts_of rows)) good.known) right
 
 -- the live ones among them
-live_all : (rows over : List StoredRow) → live_facts (kept_all rows over) ≡ filter_map (λ (s : StoredRow). live_in rows s.row) over
+live_all : (rows over : List StoredRow) → live_facts (kept_all rows over) ≡ filter_map (λ (s : StoredRow). live_in rows s.effect) over
 live_all rows [] = refl
-live_all rows (s ∷ over) = by (live_all rows over) s.row refl
+live_all rows (s ∷ over) = by (live_all rows over) s.effect refl
   where
-    by : live_facts (kept_all rows over) ≡ filter_map (λ (q : StoredRow). live_in rows q.row) over → (row : BookRow) → s.row ≡ row
-        → live_facts (kept_all rows (s ∷ over)) ≡ filter_map (λ (q : StoredRow). live_in rows q.row) (s ∷ over)
-    by go (FactRow fact) is = rw is (ap (cons_option (live_of rows fact)) go)
-    by go (Late fact) is = rw is (ap (cons_option (live_of rows fact)) go)
-    by go (Declaration declared) is = rw is go
-    by go (PeriodRow name first last) is = rw is go
-    by go (Amend id change reason) is = rw is go
-    by go (Strike id reason) is = rw is go
-    by go (Close name) is = rw is go
+    by : live_facts (kept_all rows over) ≡ filter_map (λ (q : StoredRow). live_in rows q.effect) over → (effect : Effect) → s.effect ≡ effect
+        → live_facts (kept_all rows (s ∷ over)) ≡ filter_map (λ (q : StoredRow). live_in rows q.effect) (s ∷ over)
+    by go (Books fact late) is = rw is (ap (cons_option (live_of rows fact)) go)
+    by go (Declares declared) is = rw is go
+    by go (Opens name first last) is = rw is go
+    by go (Edits id how reason) is = rw is go
+    by go (Closes name) is = rw is go
 
 pub live_law : LiveLaw
 live_law rows accepted =
-    let meant = by_accepted IsMeant (record { well = none_well; facts = refl; fresh = λ id none. (refl, refl) }) (λ before stored right own. meant_step before stored.at stored.row right own) rows accepted in
+    let meant = by_accepted IsMeant (record { well = none_well; facts = refl; fresh = λ id none. (refl, refl) }) (λ before stored right own. meant_step before stored.at stored.effect right own) rows accepted in
     ap live_facts meant.facts ∙ live_all rows rows

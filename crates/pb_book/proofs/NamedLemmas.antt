@@ -1,165 +1,89 @@
 -- The names of stored rows are names.
-use Rattle.std.specs.Prelude.{◌||◌, ◌&&◌, ◌==◌, not, if◌then◌else◌, filter_map, All}
+use Rattle.std.specs.Prelude.{◌&&◌, if◌then◌else◌, filter_map, All}
 use Rattle.std.specs.List.{cons_option, fold, list_all}
-use Rattle.std.specs.Option.{option_map_or}
-use Rattle.std.proofs.Common.{◌≡◌, ℕ, List, [], ◌∷◌, length, map, suc, slice_get, Bool, true, false, Option, Some, None, Result, Ok, Err, refl}
-use Rattle.std.proofs.lemmas.Bool.{and_parts, or_parts}
+use Rattle.std.proofs.Common.{◌≡◌, ℕ, List, [], ◌∷◌, map, suc, slice_get, Bool, true, false, Option, Some, None, Result, Ok, Err, refl}
+use Rattle.std.proofs.lemmas.Bool.{and_parts}
 use Rattle.std.proofs.lemmas.List.Elements.{All-cons, All-head, All-map, All-nil, All-push, All-tail, All-weaker}
 use Rattle.pb_rows.specs.Name.{is_name}
-use Rattle.pb_rows.specs.Records.{without_trailing_empty}
+use Rattle.pb_form.specs.declared.fault.FormFault.{FormFault}
 use Rattle.pb_site.specs.declared.declared.Arc.{Arc}
 use Rattle.pb_site.specs.declared.declared.Declared.{Declared}
 use Rattle.pb_site.specs.declared.declared.Declared.TheVariants.{Unit as UnitDeclared, Tank as TankDeclared, Strap as StrapDeclared, Stream as StreamDeclared, CritGlobal, CritNodal, CritMeasure}
-use Rattle.pb_site.specs.Row.{IsInRange, arc_in, declared_name, node_name}
+use Rattle.pb_site.specs.Row.{IsInRange, arc_in, node_name}
 use Rattle.pb_site.specs.Site.{node_names}
-use Rattle.pb_facts.specs.declared.fact.Fact.{Fact as PlantFact}
+use Rattle.pb_kinds.specs.declared.rows.Effect.{Effect}
+use Rattle.pb_kinds.specs.declared.rows.Effect.TheVariants.{Declares, Opens, Books, Edits, Closes}
+use Rattle.pb_kinds.specs.declared.rows.Request.{Request}
+use Rattle.pb_kinds.specs.declared.rows.Request.TheVariants as asked
+use Rattle.pb_kinds.specs.Effects.{declared_names, effect_names}
+use Rattle.pb_kinds.specs.Laws.{StoredLaw}
+use Rattle.pb_kinds.specs.Ranges.{IsEffectInRange}
+use Rattle.pb_kinds.specs.Requests.{request_in}
 use Rattle.pb_book.specs.declared.answer.Refused.{Refused}
-use Rattle.pb_book.specs.declared.answer.Refused.TheVariants.{Fields as FieldsFault, BadName, Number as NumberFault, Date as DateFault}
-use Rattle.pb_book.specs.declared.requests.RowKind.{RowKind}
-use Rattle.pb_book.specs.declared.requests.RowKind.TheVariants.{Unit as UnitRow, Tank, Strap, Stream, Period as PeriodKind, CriticalGlobal, CriticalNodal, CriticalMeasure, Fact, Late, AmendAmount, AmendLevel, Strike, Close, Design, Report, History}
-use Rattle.pb_book.specs.declared.requests.Request.{Request}
-use Rattle.pb_book.specs.declared.requests.Request.TheVariants.{Blank, Store, Design as DesignAsked, Report as ReportAsked, History as HistoryAsked}
-use Rattle.pb_book.specs.declared.requests.Version.{Version}
-use Rattle.pb_book.specs.declared.rows.BookRow.{BookRow}
-use Rattle.pb_book.specs.declared.rows.BookRow.TheVariants.{Declaration, Period as PeriodRow, Fact as FactRow, Late as LateRow, Amend as AmendRow, Strike as StrikeRow, Close as CloseRow}
 use Rattle.pb_book.specs.declared.rows.Period.{Period}
+use Rattle.pb_book.specs.declared.rows.StoredRow.{StoredRow}
 use Rattle.pb_book.specs.Answer.{after, after_answer, answer_if, history_or_refused, report_or_refused, stored_or_refused}
 use Rattle.pb_book.specs.Apart.{is_named}
-use Rattle.pb_book.specs.Columns.{columns_of, fields_fault, is_bad_date, is_bad_name, is_bad_number, some_bad}
-use Rattle.pb_book.specs.Kinds.{kind_of}
-use Rattle.pb_book.specs.Named.{AreNamed, DeclareNames, NamedLaw, RangesLaw, declares_a_name}
-use Rattle.pb_book.specs.Ranges.{IsRowInRange}
+use Rattle.pb_book.specs.Named.{AreNamed, HaveNames, NamedLaw, RangesLaw}
 use Rattle.pb_book.specs.Refusals.{refusal_of}
-use Rattle.pb_book.specs.Requests.{fact_of, request_by, request_if, request_in, request_of, store_fact, store_late, unless_faulty}
-use Rattle.pb_book.specs.Rows.{StoredRow, closed, closed_if_named, open_period, declaration_in, declared_of, period_place, periods_after, version_of}
-
--- ---- one row
-
--- what a request asks to be stored declares a name
-abbrev AsksNamed : Request → Type 0
-AsksNamed (Store row) = declares_a_name row ≡ true
-AsksNamed request = Unit {0}
-
--- fields without a fault have no bad name
-no_bad_name : (kind : RowKind) (fields : List (List ℕ)) → fields_fault (columns_of kind) fields ≡ None → some_bad is_bad_name (columns_of kind) fields ≡ false
-no_bad_name kind fields none =
-    by (not (length fields == length (columns_of kind))) (some_bad is_bad_name (columns_of kind) fields) (some_bad is_bad_number (columns_of kind) fields) (some_bad is_bad_date (columns_of kind) fields) none
-  where
-    by : (a b c d : Bool) → (if a then Some FieldsFault else if b then Some BadName else if c then Some NumberFault else if d then Some DateFault else None) ≡ None → b ≡ false
-    by true b c d none = cc none
-    by false true c d none = cc none
-    by false false c d none = refl
-
-not_false : (b : Bool) → not b ≡ false → b ≡ true
-not_false true is = refl
-not_false false is = cc is
-
--- the name in the first of some columns
-first_name : (name : List ℕ) (rest : Bool) → (not (is_name name) || rest) ≡ false → is_name name ≡ true
-first_name name rest fine = not_false (is_name name) (or_parts (not (is_name name)) rest fine).0
-
-fact_named : (fact : Option PlantFact) → AsksNamed (store_fact fact)
-fact_named (Some fact) = refl
-fact_named None = tt
-
-late_named : (fact : Option PlantFact) → AsksNamed (store_late fact)
-late_named (Some fact) = refl
-late_named None = tt
-
-asks_named : (kind : RowKind) (fields : List (List ℕ)) → some_bad is_bad_name (columns_of kind) fields ≡ false → AsksNamed (request_of kind fields)
-asks_named UnitRow (name ∷ []) fine = first_name name false fine
-asks_named Tank (name ∷ base ∷ []) fine = first_name name _ fine
-asks_named Strap (tank ∷ mm ∷ ml ∷ []) fine = refl
-asks_named (Stream kind) (name ∷ from ∷ to ∷ word ∷ base ∷ []) fine = first_name name _ fine
-asks_named PeriodKind (name ∷ first ∷ last ∷ []) fine = first_name name _ fine
-asks_named CriticalGlobal (word ∷ dof ∷ value ∷ []) fine = refl
-asks_named CriticalNodal (word ∷ value ∷ []) fine = refl
-asks_named CriticalMeasure (word ∷ value ∷ []) fine = refl
-asks_named (Fact kind) fields fine = fact_named (fact_of kind fields)
-asks_named (Late kind) (word ∷ fields) fine = late_named (fact_of kind fields)
-asks_named AmendAmount (id ∷ grams ∷ variance ∷ reason ∷ []) fine = refl
-asks_named AmendLevel (id ∷ mm ∷ density ∷ variance ∷ reason ∷ []) fine = refl
-asks_named Strike (id ∷ reason ∷ []) fine = refl
-asks_named Close (period ∷ []) fine = refl
-asks_named Design [] fine = tt
-asks_named Report (period ∷ []) fine = tt
-asks_named History (period ∷ []) fine = tt
-asks_named kind fields fine = tt
-
--- what a result asks declares a name
-abbrev ResultNamed : Result Request Refused → Type 0
-ResultNamed (Ok request) = AsksNamed request
-ResultNamed (Err fault) = Unit {0}
-
-by_named : (kind : RowKind) (fields : List (List ℕ)) → ResultNamed (request_by kind fields)
-by_named kind fields = by (fields_fault (columns_of kind) fields) refl
-  where
-    by : (fault : Option Refused) → fields_fault (columns_of kind) fields ≡ fault → ResultNamed (unless_faulty (request_of kind fields) fault)
-    by (Some fault) is = tt
-    by None is = asks_named kind fields (no_bad_name kind fields is)
-
-record_named : (version : Version) (fields : List (List ℕ)) → ResultNamed (request_in version fields)
-record_named version [] = tt
-record_named version (word ∷ fields) = by (kind_of version word fields)
-  where
-    by : (kind : Result RowKind Refused) → ResultNamed (request_if kind fields)
-    by (Ok kind) = by_named kind fields
-    by (Err fault) = tt
+use Rattle.pb_book.specs.Rows.{closed, closed_if_named, open_period, declaration_in, declared_of, period_place, periods_after}
 
 -- ---- one more record
 
 abbrev IsNamedRow : StoredRow → Type 0
-IsNamedRow stored = declares_a_name stored.row ≡ true
+IsNamedRow stored = list_all is_name (effect_names stored.effect) ≡ true
 
-after_named : (rows : List StoredRow) (at : ℕ) (fields : List (List ℕ)) → DeclareNames rows → DeclareNames (after rows at fields)
-after_named rows at fields named =
-    by (request_in (version_of rows) (without_trailing_empty fields)) (record_named (version_of rows) (without_trailing_empty fields))
+after_named : StoredLaw → (rows : List StoredRow) (at : ℕ) (fields : List (List ℕ)) → HaveNames rows → HaveNames (after rows at fields)
+after_named law rows at fields named = by (request_in fields) (λ effect is. law.named fields effect is)
   where
-    stored_then : (row : BookRow) → declares_a_name row ≡ true → (cause : Option Refused) → DeclareNames (after_answer rows at (stored_or_refused row cause))
-    stored_then row is (Some cause) = named
-    stored_then row is None = All-push IsNamedRow rows (record { at = at; row = row }) named is
+    stored_then : (effect : Effect) → list_all is_name (effect_names effect) ≡ true → (cause : Option Refused) → HaveNames (after_answer rows at (stored_or_refused effect cause))
+    stored_then effect is (Some cause) = named
+    stored_then effect is None = All-push IsNamedRow rows (record { at = at; effect = effect }) named is
 
-    reported : (place : Option ℕ) → DeclareNames (after_answer rows at (report_or_refused place))
+    reported : (place : Option ℕ) → HaveNames (after_answer rows at (report_or_refused place))
     reported (Some place) = named
     reported None = named
 
-    told : (place : Option ℕ) → DeclareNames (after_answer rows at (history_or_refused place))
+    told : (place : Option ℕ) → HaveNames (after_answer rows at (history_or_refused place))
     told (Some place) = named
     told None = named
 
-    by : (request : Result Request Refused) → ResultNamed request → DeclareNames (after_answer rows at (answer_if rows request))
-    by (Err cause) is = named
-    by (Ok Blank) is = named
-    by (Ok (Store row)) is = stored_then row is (refusal_of rows row)
-    by (Ok DesignAsked) is = named
-    by (Ok (ReportAsked name)) is = reported (period_place rows name)
-    by (Ok (HistoryAsked name)) is = told (period_place rows name)
+    by : (request : Result Request FormFault) → ((effect : Effect) → request ≡ Ok (asked.Store effect) → list_all is_name (effect_names effect) ≡ true)
+        → HaveNames (after_answer rows at (answer_if rows request))
+    by (Err fault) is = named
+    by (Ok asked.Blank) is = named
+    by (Ok (asked.Store effect)) is = stored_then effect (is effect refl) (refusal_of rows effect)
+    by (Ok asked.Design) is = named
+    by (Ok (asked.Report name)) is = reported (period_place rows name)
+    by (Ok (asked.History name)) is = told (period_place rows name)
 
 -- ---- what follows
 
 abbrev is_declared_named : Declared → Bool
-is_declared_named declared = option_map_or is_name (declared_name declared) true
+is_declared_named declared = list_all is_name (declared_names declared)
 
 both : (a b : Bool) → a ≡ true → b ≡ true → (a && b) ≡ true
 both true true x y = refl
 both true false x y = y
 both false b x y = x
 
+-- the first of some names
+first_named : (name : List ℕ) (rest : List (List ℕ)) → list_all is_name (name ∷ rest) ≡ true → is_name name ≡ true
+first_named name rest is = (and_parts (is_name name) (list_all is_name rest) is).0
+
 -- the declarations among named rows
-declared_named : (rows : List StoredRow) → DeclareNames rows → list_all is_declared_named (declared_of rows) ≡ true
+declared_named : (rows : List StoredRow) → HaveNames rows → list_all is_declared_named (declared_of rows) ≡ true
 declared_named [] named = refl
 declared_named (stored ∷ rows) named =
-    by stored.row (All-head IsNamedRow stored rows named) (declared_named rows (All-tail IsNamedRow stored rows named))
+    by stored.effect (All-head IsNamedRow stored rows named) (declared_named rows (All-tail IsNamedRow stored rows named))
   where
-    by : (row : BookRow) → declares_a_name row ≡ true → list_all is_declared_named (declared_of rows) ≡ true
-        → list_all is_declared_named (cons_option (declaration_in row) (declared_of rows)) ≡ true
-    by (Declaration declared) is rest = both (is_declared_named declared) _ is rest
-    by (PeriodRow name first last) is rest = rest
-    by (FactRow fact) is rest = rest
-    by (LateRow fact) is rest = rest
-    by (AmendRow id change reason) is rest = rest
-    by (StrikeRow id reason) is rest = rest
-    by (CloseRow name) is rest = rest
+    by : (effect : Effect) → list_all is_name (effect_names effect) ≡ true → list_all is_declared_named (declared_of rows) ≡ true
+        → list_all is_declared_named (cons_option (declaration_in effect) (declared_of rows)) ≡ true
+    by (Declares declared) is rest = both (is_declared_named declared) _ is rest
+    by (Opens name first last) is rest = rest
+    by (Books fact late) is rest = rest
+    by (Edits id edit reason) is rest = rest
+    by (Closes name) is rest = rest
 
 -- the names of their nodes
 nodes_named : (declared : List Declared) → list_all is_declared_named declared ≡ true → list_all is_name (filter_map node_name declared) ≡ true
@@ -170,8 +94,8 @@ nodes_named (d ∷ declared) all =
   where
     by : (d : Declared) → is_declared_named d ≡ true → list_all is_name (filter_map node_name declared) ≡ true
         → list_all is_name (cons_option (node_name d) (filter_map node_name declared)) ≡ true
-    by (UnitDeclared name) is rest = both (is_name name) _ is rest
-    by (TankDeclared name base) is rest = both (is_name name) _ is rest
+    by (UnitDeclared name) is rest = both (is_name name) _ (first_named name [] is) rest
+    by (TankDeclared name base) is rest = both (is_name name) _ (first_named name [] is) rest
     by (StrapDeclared tank mm ml) is rest = rest
     by (StreamDeclared name from to kind base) is rest = rest
     by (CritGlobal dof value) is rest = rest
@@ -189,9 +113,9 @@ arcs_named nodes (d ∷ declared) all =
     by : (d : Declared) → is_declared_named d ≡ true → list_all is_name (map (λ (arc : Arc). arc.name) (filter_map (arc_in nodes) declared)) ≡ true
         → list_all is_name (map (λ (arc : Arc). arc.name) (cons_option (arc_in nodes d) (filter_map (arc_in nodes) declared))) ≡ true
     by (UnitDeclared name) is rest = rest
-    by (TankDeclared name base) is rest = both (is_name name) _ is rest
+    by (TankDeclared name base) is rest = both (is_name name) _ (first_named name [] is) rest
     by (StrapDeclared tank mm ml) is rest = rest
-    by (StreamDeclared name from to kind base) is rest = both (is_name name) _ is rest
+    by (StreamDeclared name from to kind base) is rest = both (is_name name) _ (first_named name (from ∷ to ∷ []) is) rest
     by (CritGlobal dof value) is rest = rest
     by (CritNodal value) is rest = rest
     by (CritMeasure value) is rest = rest
@@ -208,24 +132,22 @@ closed_named name period is = by (is_named name period)
     by false = is
 
 -- the periods after one more row
-periods_more : (periods : List Period) (row : BookRow) → All IsNamedPeriod periods → declares_a_name row ≡ true → All IsNamedPeriod (periods_after periods row)
-periods_more periods (Declaration declared) all is = all
-periods_more periods (PeriodRow name first last) all is = All-push IsNamedPeriod periods (open_period name first last) all is
-periods_more periods (FactRow fact) all is = all
-periods_more periods (LateRow fact) all is = all
-periods_more periods (AmendRow id change reason) all is = all
-periods_more periods (StrikeRow id reason) all is = all
-periods_more periods (CloseRow name) all is =
+periods_more : (periods : List Period) (effect : Effect) → All IsNamedPeriod periods → list_all is_name (effect_names effect) ≡ true → All IsNamedPeriod (periods_after periods effect)
+periods_more periods (Declares declared) all is = all
+periods_more periods (Opens name first last) all is = All-push IsNamedPeriod periods (open_period name first last) all (first_named name [] is)
+periods_more periods (Books fact late) all is = all
+periods_more periods (Edits id edit reason) all is = all
+periods_more periods (Closes name) all is =
     All-map IsNamedPeriod (closed_if_named name) periods
     (All-weaker IsNamedPeriod (λ (period : Period). IsNamedPeriod (closed_if_named name period)) (closed_named name) periods all)
 
-periods_named : (rows : List StoredRow) (periods : List Period) → All IsNamedPeriod periods → DeclareNames rows
-    → All IsNamedPeriod (fold (λ (so_far : List Period) (stored : StoredRow). periods_after so_far stored.row) periods rows)
+periods_named : (rows : List StoredRow) (periods : List Period) → All IsNamedPeriod periods → HaveNames rows
+    → All IsNamedPeriod (fold (λ (so_far : List Period) (stored : StoredRow). periods_after so_far stored.effect) periods rows)
 periods_named [] periods all named = all
 periods_named (stored ∷ rows) periods all named =
-    periods_named rows (periods_after periods stored.row) (periods_more periods stored.row all (All-head IsNamedRow stored rows named)) (All-tail IsNamedRow stored rows named)
+    periods_named rows (periods_after periods stored.effect) (periods_more periods stored.effect all (All-head IsNamedRow stored rows named)) (All-tail IsNamedRow stored rows named)
 
-all_named : (rows : List StoredRow) → DeclareNames rows → AreNamed rows
+all_named : (rows : List StoredRow) → HaveNames rows → AreNamed rows
 all_named rows named =
     let declared = declared_named rows named in
     record {
@@ -234,25 +156,23 @@ all_named rows named =
       periods = periods_named rows [] (All-nil IsNamedPeriod) named;
     }
 
-pub named_law : NamedLaw
-named_law = record { begin = All-nil IsNamedRow; go_on = after_named; named = all_named }
+pub named_law : StoredLaw → NamedLaw
+named_law law = record { begin = All-nil IsNamedRow; go_on = after_named law; named = all_named }
 
 -- ---- numbers in their ranges
 
-ranges_of : (rows : List StoredRow) → ((i : ℕ) (stored : StoredRow) → slice_get rows i ≡ Some stored → IsRowInRange stored.row)
+ranges_of : (rows : List StoredRow) → ((i : ℕ) (stored : StoredRow) → slice_get rows i ≡ Some stored → IsEffectInRange stored.effect)
     → All (λ (declared : Declared). IsInRange declared) (declared_of rows)
 ranges_of [] right = All-nil (λ (declared : Declared). IsInRange declared)
-ranges_of (stored ∷ rows) right = by stored.row (right 0 stored refl) (ranges_of rows (λ i s at. right (suc i) s at))
+ranges_of (stored ∷ rows) right = by stored.effect (right 0 stored refl) (ranges_of rows (λ i s at. right (suc i) s at))
   where
-    by : (row : BookRow) → IsRowInRange row → All (λ (d : Declared). IsInRange d) (declared_of rows)
-        → All (λ (d : Declared). IsInRange d) (cons_option (declaration_in row) (declared_of rows))
-    by (Declaration declared) is rest = All-cons (λ (d : Declared). IsInRange d) declared (declared_of rows) is rest
-    by (PeriodRow name first last) is rest = rest
-    by (FactRow fact) is rest = rest
-    by (LateRow fact) is rest = rest
-    by (AmendRow id change reason) is rest = rest
-    by (StrikeRow id reason) is rest = rest
-    by (CloseRow name) is rest = rest
+    by : (effect : Effect) → IsEffectInRange effect → All (λ (d : Declared). IsInRange d) (declared_of rows)
+        → All (λ (d : Declared). IsInRange d) (cons_option (declaration_in effect) (declared_of rows))
+    by (Declares declared) is rest = All-cons (λ (d : Declared). IsInRange d) declared (declared_of rows) is rest
+    by (Opens name first last) is rest = rest
+    by (Books fact late) is rest = rest
+    by (Edits id edit reason) is rest = rest
+    by (Closes name) is rest = rest
 
 pub ranges_law : RangesLaw
 ranges_law rows accepted = ranges_of rows (λ i stored at. (accepted i stored at).in_range)

@@ -26,15 +26,17 @@ use Rattle.pb_facts.specs.declared.facts.KeptFact.{KeptFact}
 use Rattle.pb_facts.specs.Changes.{changed}
 use Rattle.pb_facts.specs.Fact.{IsInRange, id_of, is_out_of_order, is_too_long}
 use Rattle.pb_facts.specs.Facts.{NoRepeats, has_id, is_duplicate, is_full, is_live_with, is_repeat, live_fact, live_facts}
-use Rattle.pb_book.specs.declared.rows.BookRow.{BookRow}
-use Rattle.pb_book.specs.declared.rows.BookRow.TheVariants.{Declaration, Period as PeriodRow, Fact as FactRow, Late, Amend, Strike, Close}
+use Rattle.pb_kinds.specs.declared.rows.Effect.{Effect}
+use Rattle.pb_kinds.specs.declared.rows.Edit.TheVariants as edits
+use Rattle.pb_kinds.specs.declared.rows.Effect.TheVariants.{Declares, Opens, Books, Edits, Closes}
 use Rattle.pb_book.specs.declared.rows.Period.{Period}
 use Rattle.pb_book.specs.Accepted.{AreAccepted, AreInTables, IsAcceptable}
 use Rattle.pb_book.specs.Apart.{is_named, shares_a_day}
-use Rattle.pb_book.specs.Plain.{PlainLaw, numbered, opened, plain_stored, settled, settled_rows}
-use Rattle.pb_book.specs.Ranges.{IsRowInRange}
+use Rattle.pb_book.specs.Plain.{PlainLaw, booked, numbered, opened, plain_stored, settled, settled_rows}
+use Rattle.pb_kinds.specs.Ranges.{IsEffectInRange}
 use Rattle.pb_book.specs.Refusals.{is_of_other_kind, is_of_plant, is_outside_table, kind_of_fact, names_other, refusal_behind, refusal_of}
-use Rattle.pb_book.specs.Rows.{StoredRow, closed_if_named, declared_of, facts_after, facts_of, live, open_period, periods_after, periods_of}
+use Rattle.pb_book.specs.declared.rows.StoredRow.{StoredRow}
+use Rattle.pb_book.specs.Rows.{closed_if_named, declared_of, facts_after, facts_of, live, open_period, periods_after, periods_of}
 use Rattle.pb_book.specs.Touching.{some_closed, touches_closed}
 use Rattle.pb_book.proofs.AcceptedLemmas.{accepted_more, by_accepted, none_accepted}
 use Rattle.pb_book.proofs.ConsistentLemmas.{IsFine, amended_one, consistent, fine, struck_one}
@@ -219,57 +221,56 @@ well_images declared kept f right own apart = record {
 abbrev pub AreWellIn : List StoredRow → Type 0
 AreWellIn rows = AreWell (declared_of rows) (facts_of rows)
 
-well_by : (rows : List StoredRow) (stored : StoredRow) → declared_of (stored ∷ []) ≡ [] → AreWell (declared_of rows) (facts_after (facts_of rows) stored.row) → AreWellIn (rows ++ stored ∷ [])
+well_by : (rows : List StoredRow) (stored : StoredRow) → declared_of (stored ∷ []) ≡ [] → AreWell (declared_of rows) (facts_after (facts_of rows) stored.effect) → AreWellIn (rows ++ stored ∷ [])
 well_by rows stored none right = rw (declared_same rows stored none, facts_more rows stored) right
 
-pub well_step : (rows : List StoredRow) (at : ℕ) (row : BookRow) → AreWellIn rows → IsAcceptable rows row → AreWellIn (rows ++ record { at = at; row = row } ∷ [])
-well_step rows at (Declaration declared) right accepted =
-    let stored : StoredRow = record { at = at; row = Declaration declared } in
+pub well_step : (rows : List StoredRow) (at : ℕ) (effect : Effect) → AreWellIn rows → IsAcceptable rows effect → AreWellIn (rows ++ record { at = at; effect = effect } ∷ [])
+well_step rows at (Declares declared) right accepted =
+    let stored : StoredRow = record { at = at; effect = Declares declared } in
     rw (declared_more rows stored, facts_more rows stored) (record {
       facts = λ i d lt. fact_of_more (declared_of rows) (declared ∷ []) _ (right.facts i d lt);
       apart = right.apart;
       few = right.few;
     })
-well_step rows at (PeriodRow name first last) right accepted = well_by rows (record { at = at; row = PeriodRow name first last }) refl right
-well_step rows at (FactRow fact) right accepted =
-    let good = fine (declared_of rows) (facts_of rows) (periods_of rows) (FactRow fact) accepted.no_cause in
+well_step rows at (Opens name first last) right accepted = well_by rows (record { at = at; effect = Opens name first last }) refl right
+well_step rows at (Books fact late) right accepted =
+    let good = fine (declared_of rows) (facts_of rows) (periods_of rows) (Books fact late) accepted.no_cause in
     let own : IsFactOf (declared_of rows) fact =
     record { known = good.known; matching = good.matching; order = good.order; short = (or_parts (is_too_long fact) (is_outside_table (declared_of rows) fact) good.range).0 } in
-    well_by rows (record { at = at; row = FactRow fact }) refl (well_more (declared_of rows) (facts_of rows) fact right own good.new good.room)
-well_step rows at (Late fact) right accepted =
-    let good = fine (declared_of rows) (facts_of rows) (periods_of rows) (Late fact) accepted.no_cause in
-    let own : IsFactOf (declared_of rows) fact =
-    record { known = good.known; matching = good.matching; order = good.order; short = (or_parts (is_too_long fact) (is_outside_table (declared_of rows) fact) good.range).0 } in
-    well_by rows (record { at = at; row = Late fact }) refl (well_more (declared_of rows) (facts_of rows) fact right own good.new good.room)
-well_step rows at (Amend id change reason) right accepted =
-    well_by rows (record { at = at; row = Amend id change reason }) refl
+    well_by rows (record { at = at; effect = Books fact late }) refl (well_more (declared_of rows) (facts_of rows) fact right own good.new good.room)
+well_step rows at (Edits id (edits.Change change) reason) right accepted =
+    well_by rows (record { at = at; effect = Edits id (edits.Change change) reason }) refl
     (well_images (declared_of rows) (facts_of rows) (amended_one id change) right (λ k own. amended_fact k own)
     (λ a b none. amended_later id change b (amended_one id change a) (amended_earlier id change b.fact a none)))
   where
     amended_fact : (k : KeptFact) → IsFactOf (declared_of rows) k.fact → IsFactOf (declared_of rows) (amended_one id change k).fact
     amended_fact k own = elim (cases_Bool (is_live_with id k)) [ inl is ↦ rw is (changed_fact (declared_of rows) change k.fact own) | inr other ↦ rw other own ]
-well_step rows at (Strike id reason) right accepted =
-    well_by rows (record { at = at; row = Strike id reason }) refl
+well_step rows at (Edits id edits.Strike reason) right accepted =
+    well_by rows (record { at = at; effect = Edits id edits.Strike reason }) refl
     (well_images (declared_of rows) (facts_of rows) (struck_one id) right (λ k own. struck_fact k own)
     (λ a b none. struck_later id b (struck_one id a) (struck_earlier id b.fact a none)))
   where
     struck_fact : (k : KeptFact) → IsFactOf (declared_of rows) k.fact → IsFactOf (declared_of rows) (struck_one id k).fact
     struck_fact k own = elim (cases_Bool (has_id id k)) [ inl is ↦ rw is own | inr other ↦ rw other own ]
-well_step rows at (Close name) right accepted = well_by rows (record { at = at; row = Close name }) refl right
+well_step rows at (Closes name) right accepted = well_by rows (record { at = at; effect = Closes name }) refl right
 
 pub none_well : AreWellIn []
 none_well = record { facts = λ i d lt. absurd (omega (arith, lt)); apart = λ i j d before lt. absurd (omega (arith, lt)); few = omega arith }
 
-well : (rows : List StoredRow) → AreAccepted rows → AreWellIn rows
+pub well : (rows : List StoredRow) → AreAccepted rows → AreWellIn rows
 well rows accepted =
     by_accepted AreWellIn none_well
-    (λ before stored right own. well_step before stored.at stored.row right own) rows accepted
+    (λ before stored right own. well_step before stored.at stored.effect right own) rows accepted
+
+-- no two facts have one id where a row joins accepted ones
+pub unique_more : (rows : List StoredRow) (at : ℕ) (effect : Effect) → AreAccepted rows → IsAcceptable rows effect → NoRepeats (facts_of (rows ++ record { at = at; effect = effect } ∷ []))
+unique_more rows at effect accepted fine_row = (well_step rows at effect (well rows accepted) fine_row).apart
 
 -- ---- the declarations and periods alone
 
 -- where no condition holds there is no cause
-no_cause : (declared : List Declared) (kept : List KeptFact) (periods : List Period) (row : BookRow) → IsFine declared kept periods row → refusal_behind declared kept periods row ≡ None
-no_cause declared kept periods row good = rw (good.known, good.new, good.order, good.matching, good.sealed, good.opened, good.range, good.room) refl
+no_cause : (declared : List Declared) (kept : List KeptFact) (periods : List Period) (effect : Effect) → IsFine declared kept periods effect → refusal_behind declared kept periods effect ≡ None
+no_cause declared kept periods effect good = rw (good.known, good.new, good.order, good.matching, good.sealed, good.opened, good.range, good.room) refl
 
 none_closed_now : (periods : List Period) → some_closed (map opened periods) ≡ false
 none_closed_now [] = refl
@@ -292,11 +293,11 @@ opened_closed name (period ∷ periods) = elim (cases_Bool (is_named name period
   | inr other ↦ rw other (ap (λ (ps : List Period). opened period ∷ ps) (opened_closed name periods))
 ]
 
-numbered_append : (at : ℕ) (xs ys : List BookRow) → numbered at (xs ++ ys) ≡ numbered at xs ++ numbered (at + length xs) ys
+numbered_append : (at : ℕ) (xs ys : List Effect) → numbered at (xs ++ ys) ≡ numbered at xs ++ numbered (at + length xs) ys
 numbered_append at [] ys = let same : at ≡ at + 0 = omega arith in ap (λ (n : ℕ). numbered n ys) same
 numbered_append at (x ∷ xs) ys =
     let next : at + 1 + length xs ≡ at + length (x ∷ xs) = omega arith in
-    ap (λ (rest : List StoredRow). record { at = at; row = x } ∷ rest) (numbered_append (at + 1) xs ys ∙ ap (λ (n : ℕ). numbered (at + 1) xs ++ numbered n ys) next)
+    ap (λ (rest : List StoredRow). record { at = at; effect = x } ∷ rest) (numbered_append (at + 1) xs ys ∙ ap (λ (n : ℕ). numbered (at + 1) xs ++ numbered n ys) next)
 
 -- rows that declare what is declared, the same periods, all open, and these facts
 record IsPlainSoFar (declared : List Declared) (periods : List Period) (facts : List KeptFact) (plain : List StoredRow) : Type 0 where
@@ -309,33 +310,33 @@ abbrev IsBase : List StoredRow → Type 0
 IsBase rows = IsPlainSoFar (declared_of rows) (periods_of rows) [] (numbered 1 (settled_rows rows))
 
 -- a row that is neither declaration nor period
-base_same : (rows : List StoredRow) (stored : StoredRow) → declared_of (stored ∷ []) ≡ [] → settled stored.row ≡ None
-    → map opened (periods_after (periods_of rows) stored.row) ≡ map opened (periods_of rows) → IsBase rows → IsBase (rows ++ stored ∷ [])
+base_same : (rows : List StoredRow) (stored : StoredRow) → declared_of (stored ∷ []) ≡ [] → settled stored.effect ≡ None
+    → map opened (periods_after (periods_of rows) stored.effect) ≡ map opened (periods_of rows) → IsBase rows → IsBase (rows ++ stored ∷ [])
 base_same rows stored none unsettled spans right =
     let same : settled_rows (rows ++ stored ∷ []) ≡ settled_rows rows =
-    filter_map-append (λ (s : StoredRow). settled s.row) rows (stored ∷ []) ∙ ap (λ (o : Option BookRow). settled_rows rows ++ cons_option o []) unsettled ∙ append-nil (settled_rows rows) in
+    filter_map-append (λ (s : StoredRow). settled s.effect) rows (stored ∷ []) ∙ ap (λ (o : Option Effect). settled_rows rows ++ cons_option o []) unsettled ∙ append-nil (settled_rows rows) in
     rw (same, declared_same rows stored none, periods_more_of rows stored)
     (record { accepted = right.accepted; declares = right.declares; spans = right.spans ∙ sym spans; has = right.has })
 
 -- one more row behind plain ones
-plain_more : (declared : List Declared) (periods : List Period) (facts : List KeptFact) (plain : List StoredRow) (at : ℕ) (row : BookRow) (ds : List Declared) (ps : List Period) (ks : List KeptFact)
-    → IsPlainSoFar declared periods facts plain → IsFine declared facts (map opened periods) row → IsRowInRange row
-    → declared ++ declared_of (record { at = at; row = row } ∷ []) ≡ ds → periods_after (map opened periods) row ≡ map opened ps → facts_after facts row ≡ ks
-    → IsPlainSoFar ds ps ks (plain ++ record { at = at; row = row } ∷ [])
-plain_more declared periods facts plain at row ds ps ks right good range declares spans has =
-    let stored : StoredRow = record { at = at; row = row } in
-    let none : refusal_of plain row ≡ None = rw (right.declares, right.has, right.spans) (no_cause declared facts (map opened periods) row good) in record {
+plain_more : (declared : List Declared) (periods : List Period) (facts : List KeptFact) (plain : List StoredRow) (at : ℕ) (effect : Effect) (ds : List Declared) (ps : List Period) (ks : List KeptFact)
+    → IsPlainSoFar declared periods facts plain → IsFine declared facts (map opened periods) effect → IsEffectInRange effect
+    → declared ++ declared_of (record { at = at; effect = effect } ∷ []) ≡ ds → periods_after (map opened periods) effect ≡ map opened ps → facts_after facts effect ≡ ks
+    → IsPlainSoFar ds ps ks (plain ++ record { at = at; effect = effect } ∷ [])
+plain_more declared periods facts plain at effect ds ps ks right good range declares spans has =
+    let stored : StoredRow = record { at = at; effect = effect } in
+    let none : refusal_of plain effect ≡ None = rw (right.declares, right.has, right.spans) (no_cause declared facts (map opened periods) effect good) in record {
       accepted = accepted_more plain stored right.accepted (record { no_cause = none; in_range = range });
       declares = declared_more plain stored ∙ ap (λ (d : List Declared). d ++ declared_of (stored ∷ [])) right.declares ∙ declares;
-      spans = periods_more_of plain stored ∙ ap (λ (p : List Period). periods_after p row) right.spans ∙ spans;
-      has = facts_more plain stored ∙ ap (λ (k : List KeptFact). facts_after k row) right.has ∙ has;
+      spans = periods_more_of plain stored ∙ ap (λ (p : List Period). periods_after p effect) right.spans ∙ spans;
+      has = facts_more plain stored ∙ ap (λ (k : List KeptFact). facts_after k effect) right.has ∙ has;
     }
 
-base_step : (rows : List StoredRow) (at : ℕ) (row : BookRow) → IsBase rows → IsAcceptable rows row → IsBase (rows ++ record { at = at; row = row } ∷ [])
-base_step rows at (Declaration declared) right accepted =
-    let stored : StoredRow = record { at = at; row = Declaration declared } in
-    let good = fine (declared_of rows) (facts_of rows) (periods_of rows) (Declaration declared) accepted.no_cause in
-    let again : IsFine (declared_of rows) [] (map opened (periods_of rows)) (Declaration declared) =
+base_step : (rows : List StoredRow) (at : ℕ) (effect : Effect) → IsBase rows → IsAcceptable rows effect → IsBase (rows ++ record { at = at; effect = effect } ∷ [])
+base_step rows at (Declares declared) right accepted =
+    let stored : StoredRow = record { at = at; effect = Declares declared } in
+    let good = fine (declared_of rows) (facts_of rows) (periods_of rows) (Declares declared) accepted.no_cause in
+    let again : IsFine (declared_of rows) [] (map opened (periods_of rows)) (Declares declared) =
     record {
       known = good.known;
       new = good.new;
@@ -346,20 +347,20 @@ base_step rows at (Declaration declared) right accepted =
       range = refl;
       room = good.room;
     } in
-    let rows_are : numbered 1 (settled_rows (rows ++ stored ∷ [])) ≡ numbered 1 (settled_rows rows) ++ record { at = 1 + length (settled_rows rows); row = Declaration declared } ∷ [] =
-    ap (numbered 1) (filter_map-append (λ (s : StoredRow). settled s.row) rows (stored ∷ [])) ∙ numbered_append 1 (settled_rows rows) (Declaration declared ∷ []) in
+    let rows_are : numbered 1 (settled_rows (rows ++ stored ∷ [])) ≡ numbered 1 (settled_rows rows) ++ record { at = 1 + length (settled_rows rows); effect = Declares declared } ∷ [] =
+    ap (numbered 1) (filter_map-append (λ (s : StoredRow). settled s.effect) rows (stored ∷ [])) ∙ numbered_append 1 (settled_rows rows) (Declares declared ∷ []) in
     rw (rows_are, declared_more rows stored, periods_more_of rows stored)
-    (plain_more (declared_of rows) (periods_of rows) [] (numbered 1 (settled_rows rows)) (1 + length (settled_rows rows)) (Declaration declared) (declared_of rows ++ declared ∷ []) (periods_of rows) [] right again
+    (plain_more (declared_of rows) (periods_of rows) [] (numbered 1 (settled_rows rows)) (1 + length (settled_rows rows)) (Declares declared) (declared_of rows ++ declared ∷ []) (periods_of rows) [] right again
     accepted.in_range refl refl refl)
   where
     unsealed : (a : Bool) {b : Bool} → b ≡ false → (a && b) ≡ false
     unsealed true is = is
     unsealed false is = refl
-base_step rows at (PeriodRow name first last) right accepted =
-    let stored : StoredRow = record { at = at; row = PeriodRow name first last } in
+base_step rows at (Opens name first last) right accepted =
+    let stored : StoredRow = record { at = at; effect = Opens name first last } in
     let periods = periods_of rows in
-    let good = fine (declared_of rows) (facts_of rows) periods (PeriodRow name first last) accepted.no_cause in
-    let again : IsFine (declared_of rows) [] (map opened periods) (PeriodRow name first last) =
+    let good = fine (declared_of rows) (facts_of rows) periods (Opens name first last) accepted.no_cause in
+    let again : IsFine (declared_of rows) [] (map opened periods) (Opens name first last) =
     record {
       known = refl;
       new = opened_named name periods ∙ good.new;
@@ -370,21 +371,20 @@ base_step rows at (PeriodRow name first last) right accepted =
       range = good.range;
       room = ap (λ (n : ℕ). nat_le most_periods n) (length-map periods opened) ∙ good.room;
     } in
-    let rows_are : numbered 1 (settled_rows (rows ++ stored ∷ [])) ≡ numbered 1 (settled_rows rows) ++ record { at = 1 + length (settled_rows rows); row = PeriodRow name first last } ∷ [] =
-    ap (numbered 1) (filter_map-append (λ (s : StoredRow). settled s.row) rows (stored ∷ [])) ∙ numbered_append 1 (settled_rows rows) (PeriodRow name first last ∷ []) in
+    let rows_are : numbered 1 (settled_rows (rows ++ stored ∷ [])) ≡ numbered 1 (settled_rows rows) ++ record { at = 1 + length (settled_rows rows); effect = Opens name first last } ∷ [] =
+    ap (numbered 1) (filter_map-append (λ (s : StoredRow). settled s.effect) rows (stored ∷ [])) ∙ numbered_append 1 (settled_rows rows) (Opens name first last ∷ []) in
     rw (rows_are, declared_same rows stored refl, periods_more_of rows stored)
-    (plain_more (declared_of rows) periods [] (numbered 1 (settled_rows rows)) (1 + length (settled_rows rows)) (PeriodRow name first last) (declared_of rows) (periods ++ open_period name first last ∷ []) [] right again
+    (plain_more (declared_of rows) periods [] (numbered 1 (settled_rows rows)) (1 + length (settled_rows rows)) (Opens name first last) (declared_of rows) (periods ++ open_period name first last ∷ []) [] right again
     accepted.in_range (append-nil (declared_of rows)) (sym (map-append opened periods (open_period name first last ∷ []))) refl)
-base_step rows at (FactRow fact) right accepted = base_same rows (record { at = at; row = FactRow fact }) refl refl refl right
-base_step rows at (Late fact) right accepted = base_same rows (record { at = at; row = Late fact }) refl refl refl right
-base_step rows at (Amend id change reason) right accepted = base_same rows (record { at = at; row = Amend id change reason }) refl refl refl right
-base_step rows at (Strike id reason) right accepted = base_same rows (record { at = at; row = Strike id reason }) refl refl refl right
-base_step rows at (Close name) right accepted = base_same rows (record { at = at; row = Close name }) refl refl (opened_closed name (periods_of rows)) right
+base_step rows at (Books fact late) right accepted = base_same rows (record { at = at; effect = Books fact late }) refl refl refl right
+base_step rows at (Edits id (edits.Change change) reason) right accepted = base_same rows (record { at = at; effect = Edits id (edits.Change change) reason }) refl refl refl right
+base_step rows at (Edits id edits.Strike reason) right accepted = base_same rows (record { at = at; effect = Edits id edits.Strike reason }) refl refl refl right
+base_step rows at (Closes name) right accepted = base_same rows (record { at = at; effect = Closes name }) refl refl (opened_closed name (periods_of rows)) right
 
 base : (rows : List StoredRow) → AreAccepted rows → IsBase rows
 base rows accepted =
     by_accepted IsBase (record { accepted = none_accepted; declares = refl; spans = refl; has = refl })
-    (λ before stored right own. base_step before stored.at stored.row right own) rows accepted
+    (λ before stored right own. base_step before stored.at stored.effect right own) rows accepted
 
 -- ---- the live facts behind them
 
@@ -430,7 +430,7 @@ record AreAddable (declared : List Declared) (kept : List KeptFact) : Type 0 whe
   in_tables : AreInTables declared kept
 
 live_fine : (declared : List Declared) (periods : List Period) (before : List KeptFact) (k : KeptFact) (rest : List KeptFact) → AreAddable declared (before ++ k ∷ rest)
-    → IsFine declared (map live (live_facts before)) (map opened periods) (FactRow k.fact)
+    → IsFine declared (map live (live_facts before)) (map opened periods) (Books k.fact false)
 live_fine declared periods before k rest right =
     let own = own_of (λ (q : KeptFact). IsFactOf declared q.fact) before k rest right.well.facts in
     let inside = own_of (λ (q : KeptFact). is_outside_table declared q.fact ≡ false) before k rest right.in_tables in record {
@@ -449,7 +449,7 @@ live_fine declared periods before k rest right =
 
 live_added : (declared : List Declared) (periods : List Period) (before rest : List KeptFact) (at : ℕ) (plain : List StoredRow) → AreAddable declared (before ++ rest)
     → IsPlainSoFar declared periods (map live (live_facts before)) plain
-    → IsPlainSoFar declared periods (map live (live_facts (before ++ rest))) (plain ++ numbered at (map (λ (fact : Fact). FactRow fact) (live_facts rest)))
+    → IsPlainSoFar declared periods (map live (live_facts (before ++ rest))) (plain ++ numbered at (map booked (live_facts rest)))
 live_added declared periods before [] at plain right so_far = rw (append-nil before, append-nil plain) so_far
 live_added declared periods before (k ∷ rest) at plain right so_far =
     let again : AreAddable declared ((before ++ k ∷ []) ++ rest) = subst (AreAddable declared) (sym (append_assoc before (k ∷ []) rest)) right in
@@ -459,28 +459,28 @@ live_added declared periods before (k ∷ rest) at plain right so_far =
     split = append_assoc before (k ∷ []) rest
 
     by : ((n : ℕ) (more : List StoredRow) → IsPlainSoFar declared periods (map live (live_facts (before ++ k ∷ []))) more
-        → IsPlainSoFar declared periods (map live (live_facts ((before ++ k ∷ []) ++ rest))) (more ++ numbered n (map (λ (fact : Fact). FactRow fact) (live_facts rest))))
+        → IsPlainSoFar declared periods (map live (live_facts ((before ++ k ∷ []) ++ rest))) (more ++ numbered n (map booked (live_facts rest))))
         → (b : Bool) → k.struck ≡ b
-        → IsPlainSoFar declared periods (map live (live_facts (before ++ k ∷ rest))) (plain ++ numbered at (map (λ (fact : Fact). FactRow fact) (live_facts (k ∷ rest))))
+        → IsPlainSoFar declared periods (map live (live_facts (before ++ k ∷ rest))) (plain ++ numbered at (map booked (live_facts (k ∷ rest))))
     by go_on true gone =
         let same : live_facts (before ++ k ∷ []) ≡ live_facts before = live_more before k ∙ rw gone (append-nil (live_facts before)) in
         let next = go_on at plain (subst (λ (fs : List Fact). IsPlainSoFar declared periods (map live fs) plain) (sym same) so_far) in
-        let there = subst (λ (ks : List KeptFact). IsPlainSoFar declared periods (map live (live_facts ks)) (plain ++ numbered at (map (λ (fact : Fact). FactRow fact) (live_facts rest)))) split next in
+        let there = subst (λ (ks : List KeptFact). IsPlainSoFar declared periods (map live (live_facts ks)) (plain ++ numbered at (map booked (live_facts rest)))) split next in
         let first : live_facts (k ∷ rest) ≡ live_facts rest = rw gone refl in
-        subst (λ (fs : List Fact). IsPlainSoFar declared periods (map live (live_facts (before ++ k ∷ rest))) (plain ++ numbered at (map (λ (fact : Fact). FactRow fact) fs))) (sym first) there
+        subst (λ (fs : List Fact). IsPlainSoFar declared periods (map live (live_facts (before ++ k ∷ rest))) (plain ++ numbered at (map booked fs))) (sym first) there
     by go_on false alive =
-        let row : StoredRow = record { at = at; row = FactRow k.fact } in
+        let row : StoredRow = record { at = at; effect = Books k.fact false } in
         let same : map live (live_facts before) ++ live k.fact ∷ [] ≡ map live (live_facts (before ++ k ∷ [])) =
         sym (ap (map live) (live_more before k ∙ rw alive refl) ∙ map-append live (live_facts before) (k.fact ∷ [])) in
         let more : IsPlainSoFar declared periods (map live (live_facts (before ++ k ∷ []))) (plain ++ row ∷ []) =
-        plain_more declared periods (map live (live_facts before)) plain at (FactRow k.fact) declared periods (map live (live_facts (before ++ k ∷ []))) so_far
+        plain_more declared periods (map live (live_facts before)) plain at (Books k.fact false) declared periods (map live (live_facts (before ++ k ∷ []))) so_far
         (live_fine declared periods before k rest right) (own_of (λ (q : KeptFact). IsInRange q.fact) before k rest right.ranges) (append-nil declared) refl same in
         let next = go_on (at + 1) (plain ++ row ∷ []) more in
-        let rows = append_assoc plain (row ∷ []) (numbered (at + 1) (map (λ (fact : Fact). FactRow fact) (live_facts rest))) in
-        let there = subst (λ (ks : List KeptFact). IsPlainSoFar declared periods (map live (live_facts ks)) ((plain ++ row ∷ []) ++ numbered (at + 1) (map (λ (fact : Fact). FactRow fact) (live_facts rest)))) split next in
+        let rows = append_assoc plain (row ∷ []) (numbered (at + 1) (map booked (live_facts rest))) in
+        let there = subst (λ (ks : List KeptFact). IsPlainSoFar declared periods (map live (live_facts ks)) ((plain ++ row ∷ []) ++ numbered (at + 1) (map booked (live_facts rest)))) split next in
         let all = subst (IsPlainSoFar declared periods (map live (live_facts (before ++ k ∷ rest)))) rows there in
         let first : live_facts (k ∷ rest) ≡ k.fact ∷ live_facts rest = rw alive refl in
-        subst (λ (fs : List Fact). IsPlainSoFar declared periods (map live (live_facts (before ++ k ∷ rest))) (plain ++ numbered at (map (λ (fact : Fact). FactRow fact) fs))) (sym first) all
+        subst (λ (fs : List Fact). IsPlainSoFar declared periods (map live (live_facts (before ++ k ∷ rest))) (plain ++ numbered at (map booked fs))) (sym first) all
 
 -- ---- all
 
@@ -492,8 +492,8 @@ plain rows accepted =
     let n = 1 + length (settled_rows rows) in
     let start = base rows accepted in
     let all = live_added declared (periods_of rows) [] kept n (numbered 1 (settled_rows rows)) (record { well = well rows accepted; ranges = sound.ranges; in_tables = sound.in_tables }) start in
-    let are : plain_stored rows ≡ numbered 1 (settled_rows rows) ++ numbered n (map (λ (fact : Fact). FactRow fact) (live_facts kept)) =
-    numbered_append 1 (settled_rows rows) (map (λ (fact : Fact). FactRow fact) (live_facts kept)) in
+    let are : plain_stored rows ≡ numbered 1 (settled_rows rows) ++ numbered n (map booked (live_facts kept)) =
+    numbered_append 1 (settled_rows rows) (map booked (live_facts kept)) in
     rw are (record {
       accepted = all.accepted;
       declared = all.declares;

@@ -3,22 +3,24 @@ use Rattle.std.specs.Prelude.{◌≡◌, ℕ, false, List, take, All, None, Some
 use Rattle.pb_facts.specs.Fact.{IsInRange}
 use Rattle.pb_facts.specs.declared.facts.KeptFact.{KeptFact}
 use Rattle.pb_site.specs.declared.declared.Declared.{Declared}
-use Rattle.pb_book.specs.declared.rows.BookRow.{BookRow}
+use Rattle.pb_kinds.specs.declared.rows.Effect.{Effect}
+use Rattle.pb_kinds.specs.Ranges.{IsEffectInRange}
 use Rattle.pb_book.specs.declared.rows.Period.{Period}
+use Rattle.pb_book.specs.declared.rows.StoredRow.{StoredRow}
 use Rattle.pb_book.specs.Apart.{AreApart}
-use Rattle.pb_book.specs.Ranges.{IsPeriod, IsRowInRange}
+use Rattle.pb_book.specs.Ranges.{IsPeriod}
 use Rattle.pb_book.specs.Refusals.{is_outside_table, refusal_of}
-use Rattle.pb_book.specs.Rows.{StoredRow}
 
 -- a row may join the stored ones: there is no cause to refuse it, and its numbers and days lie in their ranges
-pub record IsAcceptable (rows : List StoredRow) (row : BookRow) : Type 0 where
-  pub no_cause : refusal_of rows row ≡ None
-  pub in_range : IsRowInRange row
+pub record IsAcceptable (rows : List StoredRow) (effect : Effect) : Type 0 where
+  pub no_cause : refusal_of rows effect ≡ None
+  pub in_range : IsEffectInRange effect
 
 -- Each stored row was acceptable behind those before it.
 abbrev pub AreAccepted : List StoredRow → Type 0
 AreAccepted rows =
-    (i : ℕ) (stored : StoredRow) → slice_get rows i ≡ Some stored → IsAcceptable (take i rows) stored.row
+    (i : ℕ) (stored : StoredRow) → slice_get rows i ≡ Some stored
+    → IsAcceptable (take i rows) stored.effect
 
 -- the level of each dip, struck or not, lies in the table of its tank
 abbrev pub AreInTables : List Declared → List KeptFact → Type 0

@@ -1,18 +1,20 @@
 -- Statement. The answer to a record, behind the rows stored before it, and the rows stored after it.
-use Rattle.std.specs.Prelude.{ℕ, Bool, true, false, List, [], ◌∷◌, ◌++◌, Option, Some, None, Result, Ok, Err}
-use Rattle.pb_rows.specs.Records.{without_trailing_empty}
+use Rattle.std.specs.Prelude.{ℕ, Bool, true, false, List, Option, Some, None, Result, Ok, Err}
+use Rattle.pb_form.specs.declared.fault.FormFault.{FormFault}
+use Rattle.pb_form.specs.declared.fault.FormFault.TheVariants as fault
+use Rattle.pb_kinds.specs.declared.rows.Effect.{Effect}
+use Rattle.pb_kinds.specs.declared.rows.Request.{Request}
+use Rattle.pb_kinds.specs.declared.rows.Request.TheVariants as asked
+use Rattle.pb_kinds.specs.Requests.{request_in}
 use Rattle.pb_book.specs.declared.answer.Accepted.{Accepted}
 use Rattle.pb_book.specs.declared.answer.Accepted.TheVariants.{Blank, Stored as StoredAccepted, Design, Report, History}
 use Rattle.pb_book.specs.declared.answer.NotAccepted.{NotAccepted}
 use Rattle.pb_book.specs.declared.answer.NotAccepted.TheVariants.{Refused as NotAcceptedFor}
 use Rattle.pb_book.specs.declared.answer.Refused.{Refused as Refusal}
 use Rattle.pb_book.specs.declared.answer.Refused.TheVariants.{Kind, Fields, BadName, Number, Date, Unknown, Duplicate, Order, Mismatch, Sealed, Closed, Range, Full}
-use Rattle.pb_book.specs.declared.requests.Request.{Request}
-use Rattle.pb_book.specs.declared.requests.Request.TheVariants.{Blank as BlankAsked, Store, Design as DesignAsked, Report as ReportAsked, History as HistoryAsked}
-use Rattle.pb_book.specs.declared.rows.BookRow.{BookRow}
-use Rattle.pb_book.specs.Requests.{request_in}
+use Rattle.pb_book.specs.declared.rows.StoredRow.{StoredRow}
 use Rattle.pb_book.specs.Refusals.{refusal_of}
-use Rattle.pb_book.specs.Rows.{StoredRow, period_place, version_of}
+use Rattle.pb_book.specs.Rows.{period_place, with_row}
 
 -- the numbers of the causes in the output
 abbrev pub code_of : Refusal → ℕ
@@ -30,16 +32,25 @@ code_of Closed = 11
 code_of Range = 12
 code_of Full = 13
 
+-- the cause of a fault of a record's fields; a word that isn't one of its column's is one of no kind
+abbrev pub cause_of : FormFault → Refusal
+cause_of fault.Kind = Kind
+cause_of fault.Fields = Fields
+cause_of fault.Name = BadName
+cause_of fault.Number = Number
+cause_of fault.Date = Date
+cause_of fault.Word = Kind
+
 -- what a record gets for an answer: it is refused, its row joins the stored ones, or the book says what it asks
 pub data Answer : Type 0 where
   Refused : Refusal → Answer
-  Stored : BookRow → Answer
+  Stored : Effect → Answer
   Says : Accepted → Answer
 
 -- a row that has a cause is refused, and another one joins the stored rows
-abbrev pub stored_or_refused : BookRow → Option Refusal → Answer
-stored_or_refused row (Some cause) = Refused cause
-stored_or_refused row None = Stored row
+abbrev pub stored_or_refused : Effect → Option Refusal → Answer
+stored_or_refused effect (Some cause) = Refused cause
+stored_or_refused effect None = Stored effect
 
 -- a report is of a period that there is
 abbrev pub report_or_refused : Option ℕ → Answer
@@ -53,25 +64,25 @@ history_or_refused None = Refused Unknown
 
 -- the answer to a request
 abbrev pub answer_to : List StoredRow → Request → Answer
-answer_to rows BlankAsked = Says Blank
-answer_to rows (Store row) = stored_or_refused row (refusal_of rows row)
-answer_to rows DesignAsked = Says Design
-answer_to rows (ReportAsked period) = report_or_refused (period_place rows period)
-answer_to rows (HistoryAsked period) = history_or_refused (period_place rows period)
+answer_to rows asked.Blank = Says Blank
+answer_to rows (asked.Store effect) = stored_or_refused effect (refusal_of rows effect)
+answer_to rows asked.Design = Says Design
+answer_to rows (asked.Report period) = report_or_refused (period_place rows period)
+answer_to rows (asked.History period) = history_or_refused (period_place rows period)
 
 -- the answer to a request, or to a record that has a fault
-abbrev pub answer_if : List StoredRow → Result Request Refusal → Answer
+abbrev pub answer_if : List StoredRow → Result Request FormFault → Answer
 answer_if rows (Ok request) = answer_to rows request
-answer_if rows (Err cause) = Refused cause
+answer_if rows (Err fault) = Refused (cause_of fault)
 
--- The answer to a record, behind these stored rows. Empty fields at its end are dropped first.
+-- The answer to a record, behind these stored rows. Empty fields at its end don't count.
 abbrev pub answer_of : List StoredRow → List (List ℕ) → Answer
-answer_of rows fields = answer_if rows (request_in (version_of rows) (without_trailing_empty fields))
+answer_of rows fields = answer_if rows (request_in fields)
 
 -- what the book says of an answer
 abbrev pub said_of : Answer → Result Accepted NotAccepted
 said_of (Refused cause) = Err (NotAcceptedFor cause)
-said_of (Stored row) = Ok StoredAccepted
+said_of (Stored effect) = Ok StoredAccepted
 said_of (Says accepted) = Ok accepted
 
 -- a record is refused
@@ -81,7 +92,7 @@ is_refused answer = false
 
 -- the stored rows after an answer to the record with this number: an accepted row joins them
 abbrev pub after_answer : List StoredRow → ℕ → Answer → List StoredRow
-after_answer rows at (Stored row) = rows ++ record { at = at; row = row } ∷ []
+after_answer rows at (Stored effect) = with_row rows at effect
 after_answer rows at answer = rows
 
 -- the stored rows after the record with this number

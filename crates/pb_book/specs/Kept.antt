@@ -3,27 +3,26 @@ use Rattle.std.specs.Prelude.{◌≡◌, ℕ, ◌<◌, ◌≤◌, nat_eq, ℤ, �
 use Rattle.std.specs.Ordering.{int_cmp, int_eq}
 use Rattle.std.specs.BTreeMap.{BTreeMap, get}
 use Rattle.std.specs.HashMap.{HashMap, get as get_hashed}
-use Rattle.std.specs.Option.{option_map, option_map_or, option_or}
+use Rattle.std.specs.Option.{option_map, option_or}
 use Rattle.pb_limits.specs.Limits.{most_periods}
 use Rattle.pb_site.specs.declared.declared.Declared.{Declared}
 use Rattle.pb_facts.specs.declared.fact.Fact.{Fact}
 use Rattle.pb_facts.specs.declared.facts.KeptFact.{KeptFact}
 use Rattle.pb_facts.specs.Facts.{is_live_with}
-use Rattle.pb_book.specs.declared.rows.BookRow.{BookRow}
-use Rattle.pb_book.specs.declared.rows.BookRow.TheVariants.{Declaration, Period as PeriodRow, Fact as FactRow, Late as LateRow, Amend as AmendRow, Strike as StrikeRow, Close as CloseRow}
+use Rattle.pb_kinds.specs.declared.rows.Effect.{Effect}
+use Rattle.pb_kinds.specs.declared.rows.Effect.TheVariants.{Declares, Opens, Books, Edits, Closes}
 use Rattle.pb_book.specs.declared.rows.Edited.{Edited}
-use Rattle.pb_book.specs.declared.rows.Edited.TheVariants.{Amend, Strike, Close}
 use Rattle.pb_book.specs.declared.rows.Part.{Part}
-use Rattle.pb_book.specs.declared.rows.Part.TheVariants.{Declaration as InDeclarations, Period as InPeriods, Fact as InFacts, Late as InLate, Edit as InEdits}
+use Rattle.pb_book.specs.declared.rows.Part.TheVariants as part
 use Rattle.pb_book.specs.declared.rows.Place.{Place}
 use Rattle.pb_book.specs.declared.rows.Period.{Period}
+use Rattle.pb_book.specs.declared.rows.StoredRow.{StoredRow}
 use Rattle.pb_book.specs.Accepted.{AreAccepted}
 use Rattle.pb_book.specs.Apart.{AreApart}
 use Rattle.pb_book.specs.Edits.{edits_of}
 use Rattle.pb_book.specs.Ranges.{IsPeriod}
-use Rattle.pb_book.specs.Rows.{StoredRow, declared_of, facts_of, periods_of}
-use Rattle.pb_book.specs.TakenOut.{takes_out}
-use Rattle.pb_book.specs.Touching.{some_closed, touches}
+use Rattle.pb_book.specs.Rows.{declared_of, facts_of, periods_of}
+use Rattle.pb_book.specs.Touching.{some_closed}
 
 -- the places of the periods that pass a test, by the days on which these begin
 pub record AreBegun (chosen : Period → Bool) (periods : List Period) (begins : BTreeMap ℤ ℕ) : Type 0 where
@@ -64,12 +63,6 @@ HasBegin old new first place =
 abbrev pub SameBegins : BTreeMap ℤ ℕ → BTreeMap ℤ ℕ → Type 0
 SameBegins old new = (day : ℤ) → get int_cmp new day ≡ get int_cmp old day
 
--- the row that is kept so
-abbrev pub edited_row : Edited → BookRow
-edited_row (Amend id change reason) = AmendRow id change reason
-edited_row (Strike id reason) = StrikeRow id reason
-edited_row (Close name) = CloseRow name
-
 -- the fact at a place as it came: what was kept of it before its values changed first, or else what is kept of it now
 abbrev pub told_at : {S : Type 0} → List KeptFact → HashMap ℕ Fact S → ℕ → Option Fact
 told_at kept originals place =
@@ -81,8 +74,7 @@ HasOriginal kept originals id =
     (place : ℕ) (k : KeptFact) → slice_get kept place ≡ Some k → is_live_with id k ≡ true
     → IsSome (get_hashed nat_eq originals place)
 
--- What the stored rows are kept as: the declarations, the facts at their places as they came, the periods, and the rows
--- that close a period, amend a fact or strike it.
+-- What the stored rows are kept as: the declarations, the facts at their places as they came, the periods, and the edits of facts.
 pub record Shelves : Type 0 where
   pub declared : List Declared
   pub told : ℕ → Option Fact
@@ -93,22 +85,28 @@ abbrev pub shelves_of : List Declared → (ℕ → Option Fact) → List Period 
 shelves_of declared told spans edited =
     record { declared = declared; told = told; spans = spans; edited = edited }
 
--- those that an edit may stand on
-abbrev pub edits_shelved : (ℕ → Option Fact) → List Edited → Shelves
-edits_shelved told edited = shelves_of [] told [] edited
+-- what the row does that opens a period, that which closes it, and that which edits a fact
+abbrev pub opening : Period → Effect
+opening period = Opens period.name period.first period.last
 
--- the row that is kept at a place of a part
-abbrev pub row_in : Shelves → Part → Option BookRow
-row_in shelves (InDeclarations i) = option_map (λ d. Declaration d) (slice_get shelves.declared i)
-row_in shelves (InPeriods i) =
-    option_map (λ (period : Period). PeriodRow period.name period.first period.last) (slice_get shelves.spans i)
-row_in shelves (InFacts i) = option_map (λ fact. FactRow fact) (shelves.told i)
-row_in shelves (InLate i) = option_map (λ fact. LateRow fact) (shelves.told i)
-row_in shelves (InEdits i) = option_map edited_row (slice_get shelves.edited i)
+abbrev pub closing : Period → Effect
+closing period = Closes period.name
+
+abbrev pub editing : Edited → Effect
+editing edited = Edits edited.id edited.edit edited.reason
+
+-- what the row does that is kept at a place of a part
+abbrev pub effect_in : Shelves → Part → Option Effect
+effect_in shelves (part.Declared i) = option_map (λ declared. Declares declared) (slice_get shelves.declared i)
+effect_in shelves (part.Opened i) = option_map opening (slice_get shelves.spans i)
+effect_in shelves (part.Booked i late) = option_map (λ fact. Books fact late) (shelves.told i)
+effect_in shelves (part.Edited i) = option_map editing (slice_get shelves.edited i)
+effect_in shelves (part.Closed i) = option_map closing (slice_get shelves.spans i)
 
 -- the stored row at a place
 abbrev pub row_at : Shelves → Place → Option StoredRow
-row_at shelves place = option_map (λ row. record { at = place.at; row = row }) (row_in shelves place.part)
+row_at shelves place =
+    option_map (λ effect. record { at = place.at; effect = effect }) (effect_in shelves place.part)
 
 -- the stored rows at these places
 abbrev pub rows_at : Shelves → List Place → List StoredRow
@@ -135,26 +133,11 @@ pub record IsKept (shelves : Shelves) (kept : List KeptFact) (places edits : Lis
   pub edit_rows : rows_at shelves edits ≡ edits_of (rows_at shelves places)
 
 -- the row at a place, if it declares something, or a period
-abbrev pub settled_by : List Declared → List Period → Part → Option BookRow
-settled_by declared periods (InDeclarations i) = option_map (λ d. Declaration d) (slice_get declared i)
-settled_by declared periods (InPeriods i) =
-    option_map (λ (period : Period). PeriodRow period.name period.first period.last) (slice_get periods i)
-settled_by declared periods part = None
-
-abbrev pub settled_in : List Declared → List Period → Place → Option BookRow
-settled_in declared periods place = settled_by declared periods place.part
+abbrev pub settled_in : List Declared → List Period → Part → Option Effect
+settled_in declared periods (part.Declared i) = option_map (λ declared. Declares declared) (slice_get declared i)
+settled_in declared periods (part.Opened i) = option_map opening (slice_get periods i)
+settled_in declared periods part = None
 
 -- such rows at these places
-abbrev pub settled_at : List Declared → List Period → List Place → List BookRow
-settled_at declared periods places = filter_map (settled_in declared periods) places
-
--- the row at a place of a part takes out a period; a declaration does wherever it lies
-abbrev pub part_takes_out : List KeptFact → (ℕ → Option Fact) → List Edited → Period → Part → Bool
-part_takes_out kept told edited period (InDeclarations i) = true
-part_takes_out kept told edited period (InPeriods i) = false
-part_takes_out kept told edited period (InFacts i) =
-    option_map_or (λ fact. touches fact period) (told i) false
-part_takes_out kept told edited period (InLate i) =
-    option_map_or (λ fact. touches fact period) (told i) false
-part_takes_out kept told edited period (InEdits i) =
-    option_map_or (λ (edit : Edited). takes_out kept (edited_row edit) period) (slice_get edited i) false
+abbrev pub settled_at : List Declared → List Period → List Place → List Effect
+settled_at declared periods places = filter_map (λ (place : Place). settled_in declared periods place.part) places

@@ -1,12 +1,9 @@
 -- Statement
-pub mod Kinds
-pub mod Columns
-pub mod Requests
 pub mod Apart
 pub mod Rows
 pub mod Touching
-pub mod Edits
 pub mod TakenOut
+pub mod Edits
 pub mod Ranges
 pub mod Refusals
 pub mod Answer
@@ -18,5 +15,4 @@ pub mod Written
 pub mod Laws
 -- Inside
 pub mod Causes
-pub mod Fields
 pub mod Kept

@@ -1,30 +1,36 @@
 -- Statement. The plain rows: those of a session in which nothing was closed, late, amended or struck.
-use Rattle.std.specs.Prelude.{◌≡◌, ℕ, ◌+◌, List, [], ◌∷◌, ◌++◌, map, filter_map, Option, Some, None}
+use Rattle.std.specs.Prelude.{◌≡◌, ℕ, ◌+◌, false, List, [], ◌∷◌, ◌++◌, map, filter_map, Option, Some, None}
+use Rattle.pb_facts.specs.declared.fact.Fact.{Fact}
 use Rattle.pb_facts.specs.Facts.{live_facts}
-use Rattle.pb_book.specs.declared.rows.BookRow.{BookRow}
-use Rattle.pb_book.specs.declared.rows.BookRow.TheVariants.{Declaration, Period as PeriodRow, Fact as FactRow}
+use Rattle.pb_kinds.specs.declared.rows.Effect.{Effect}
+use Rattle.pb_kinds.specs.declared.rows.Effect.TheVariants.{Declares, Opens, Books}
 use Rattle.pb_book.specs.declared.rows.Period.{Period}
+use Rattle.pb_book.specs.declared.rows.StoredRow.{StoredRow}
 use Rattle.pb_book.specs.Accepted.{AreAccepted}
-use Rattle.pb_book.specs.Rows.{StoredRow, declared_of, facts_of, live, open_period, periods_of}
+use Rattle.pb_book.specs.Rows.{declared_of, facts_of, live, open_period, periods_of}
 
 -- a row that declares something, or a period
-abbrev pub settled : BookRow → Option BookRow
-settled (Declaration declared) = Some (Declaration declared)
-settled (PeriodRow name first last) = Some (PeriodRow name first last)
-settled row = None
+abbrev pub settled : Effect → Option Effect
+settled (Declares declared) = Some (Declares declared)
+settled (Opens name first last) = Some (Opens name first last)
+settled effect = None
 
 -- the declarations, periods and critical values, in order
-abbrev pub settled_rows : List StoredRow → List BookRow
-settled_rows rows = filter_map (λ (stored : StoredRow). settled stored.row) rows
+abbrev pub settled_rows : List StoredRow → List Effect
+settled_rows rows = filter_map (λ (stored : StoredRow). settled stored.effect) rows
+
+-- a fact that isn't booked late
+abbrev pub booked : Fact → Effect
+booked fact = Books fact false
 
 -- The plain rows: the declarations, periods and critical values in order, and then the live facts with their last values.
-abbrev pub plain_rows : List StoredRow → List BookRow
-plain_rows rows = settled_rows rows ++ map (λ fact. FactRow fact) (live_facts (facts_of rows))
+abbrev pub plain_rows : List StoredRow → List Effect
+plain_rows rows = settled_rows rows ++ map booked (live_facts (facts_of rows))
 
 -- rows of the records from a number on
-abbrev pub numbered : ℕ → List BookRow → List StoredRow
+abbrev pub numbered : ℕ → List Effect → List StoredRow
 numbered at [] = []
-numbered at (row ∷ rows) = record { at = at; row = row } ∷ numbered (at + 1) rows
+numbered at (effect ∷ effects) = record { at = at; effect = effect } ∷ numbered (at + 1) effects
 
 -- the rows of the records of an edited file
 abbrev pub plain_stored : List StoredRow → List StoredRow

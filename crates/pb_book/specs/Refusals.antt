@@ -9,8 +9,6 @@ use Rattle.pb_site.specs.declared.declared.ArcKind.{ArcKind}
 use Rattle.pb_site.specs.declared.declared.ArcKind.TheVariants.{Metered, Batch, Tank}
 use Rattle.pb_site.specs.declared.declared.Declared.{Declared}
 use Rattle.pb_site.specs.declared.declared.Declared.TheVariants.{CritGlobal, CritNodal, CritMeasure}
-use Rattle.pb_site.specs.declared.declared.SiteFault.{SiteFault}
-use Rattle.pb_site.specs.declared.declared.SiteFault.TheVariants.{Unknown as UnknownDeclared, Duplicate as DuplicateDeclared, Order as OrderDeclared, Mismatch as MismatchDeclared, Full as FullDeclared}
 use Rattle.pb_site.specs.Site.{kind_of, table_of}
 use Rattle.pb_site.specs.Faults.{is_unknown as is_unknown_declared, is_duplicate as is_duplicate_declared, is_out_of_order as is_out_of_order_declared, is_mismatch as is_mismatch_declared, is_full as is_full_declared}
 use Rattle.pb_facts.specs.declared.fact.Change.{Change}
@@ -20,13 +18,15 @@ use Rattle.pb_facts.specs.declared.facts.KeptFact.{KeptFact}
 use Rattle.pb_facts.specs.Fact.{is_out_of_order as is_out_of_order_fact, is_too_long}
 use Rattle.pb_facts.specs.Changes.{changed, fits}
 use Rattle.pb_facts.specs.Facts.{is_duplicate as is_duplicate_fact, is_full as is_full_fact, is_live_with}
+use Rattle.pb_kinds.specs.declared.rows.Edit.TheVariants as edits
+use Rattle.pb_kinds.specs.declared.rows.Effect.{Effect}
+use Rattle.pb_kinds.specs.declared.rows.Effect.TheVariants.{Declares, Opens, Books, Edits, Closes}
 use Rattle.pb_book.specs.declared.answer.Refused.{Refused}
 use Rattle.pb_book.specs.declared.answer.Refused.TheVariants.{Unknown, Duplicate, Order, Mismatch, Sealed, Closed, Range, Full}
-use Rattle.pb_book.specs.declared.rows.BookRow.{BookRow}
-use Rattle.pb_book.specs.declared.rows.BookRow.TheVariants.{Declaration, Period as PeriodRow, Fact as FactRow, Late, Amend, Strike, Close}
 use Rattle.pb_book.specs.declared.rows.Period.{Period}
+use Rattle.pb_book.specs.declared.rows.StoredRow.{StoredRow}
 use Rattle.pb_book.specs.Apart.{is_named, shares_a_day}
-use Rattle.pb_book.specs.Rows.{StoredRow, declared_of, facts_of, periods_of}
+use Rattle.pb_book.specs.Rows.{declared_of, facts_of, periods_of}
 use Rattle.pb_book.specs.Touching.{some_closed, touches_closed}
 
 -- the kind of the stream, or of the tank, that a fact names, if one is declared
@@ -45,31 +45,27 @@ names_other fact (Some kind) = false
 
 -- Unknown: a fact of a stream, or of a tank, that isn't declared; what a declaration doesn't find; no live fact of
 -- the id, or no period of the name
-abbrev pub is_unknown : List Declared → List KeptFact → List Period → BookRow → Bool
-is_unknown declared kept periods (Declaration row) = is_unknown_declared declared row
-is_unknown declared kept periods (FactRow fact) = names_other fact (kind_of_fact declared fact)
-is_unknown declared kept periods (Late fact) = names_other fact (kind_of_fact declared fact)
-is_unknown declared kept periods (Amend id change reason) = not (list_any (is_live_with id) kept)
-is_unknown declared kept periods (Strike id reason) = not (list_any (is_live_with id) kept)
-is_unknown declared kept periods (Close name) = not (list_any (is_named name) periods)
-is_unknown declared kept periods row = false
+abbrev pub is_unknown : List Declared → List KeptFact → List Period → Effect → Bool
+is_unknown declared kept periods (Declares row) = is_unknown_declared declared row
+is_unknown declared kept periods (Books fact late) = names_other fact (kind_of_fact declared fact)
+is_unknown declared kept periods (Edits id edit reason) = not (list_any (is_live_with id) kept)
+is_unknown declared kept periods (Closes name) = not (list_any (is_named name) periods)
+is_unknown declared kept periods effect = false
 
 -- Duplicate: a name that is taken, such a critical value, the id of an accepted fact, or a day that has its
 -- reading or dip
-abbrev pub is_duplicate : List Declared → List KeptFact → List Period → BookRow → Bool
-is_duplicate declared kept periods (Declaration row) = is_duplicate_declared declared row
-is_duplicate declared kept periods (PeriodRow name first last) = list_any (is_named name) periods
-is_duplicate declared kept periods (FactRow fact) = is_duplicate_fact kept fact
-is_duplicate declared kept periods (Late fact) = is_duplicate_fact kept fact
-is_duplicate declared kept periods row = false
+abbrev pub is_duplicate : List Declared → List KeptFact → List Period → Effect → Bool
+is_duplicate declared kept periods (Declares row) = is_duplicate_declared declared row
+is_duplicate declared kept periods (Opens name first last) = list_any (is_named name) periods
+is_duplicate declared kept periods (Books fact late) = is_duplicate_fact kept fact
+is_duplicate declared kept periods effect = false
 
 -- Order: a table that doesn't rise, or a first day after the last one
-abbrev pub is_out_of_order : List Declared → BookRow → Bool
-is_out_of_order declared (Declaration row) = is_out_of_order_declared declared row
-is_out_of_order declared (PeriodRow name first last) = int_lt last first
-is_out_of_order declared (FactRow fact) = is_out_of_order_fact fact
-is_out_of_order declared (Late fact) = is_out_of_order_fact fact
-is_out_of_order declared row = false
+abbrev pub is_out_of_order : List Declared → Effect → Bool
+is_out_of_order declared (Declares row) = is_out_of_order_declared declared row
+is_out_of_order declared (Opens name first last) = int_lt last first
+is_out_of_order declared (Books fact late) = is_out_of_order_fact fact
+is_out_of_order declared effect = false
 
 -- a reading is of a metered stream, a transfer of a batch stream
 abbrev pub is_of_other_kind : Fact → Option ArcKind → Bool
@@ -85,15 +81,14 @@ is_misfit id change kept = is_live_with id kept && not (fits change kept.fact)
 -- Mismatch: a stream from a node to itself, a period that shares a day with another one, a reading of a stream
 -- that isn't metered, a transfer of one that isn't moved in batches, a level for another fact than a dip, or an amount
 -- for a dip
-abbrev pub is_mismatch : List Declared → List KeptFact → List Period → BookRow → Bool
-is_mismatch declared kept periods (Declaration row) = is_mismatch_declared declared row
-is_mismatch declared kept periods (PeriodRow name first last) =
+abbrev pub is_mismatch : List Declared → List KeptFact → List Period → Effect → Bool
+is_mismatch declared kept periods (Declares row) = is_mismatch_declared declared row
+is_mismatch declared kept periods (Opens name first last) =
     list_any (shares_a_day first last) periods
-is_mismatch declared kept periods (FactRow fact) =
+is_mismatch declared kept periods (Books fact late) =
     is_of_other_kind fact (kind_of_fact declared fact)
-is_mismatch declared kept periods (Late fact) = is_of_other_kind fact (kind_of_fact declared fact)
-is_mismatch declared kept periods (Amend id change reason) = list_any (is_misfit id change) kept
-is_mismatch declared kept periods row = false
+is_mismatch declared kept periods (Edits id (edits.Change change) reason) = list_any (is_misfit id change) kept
+is_mismatch declared kept periods effect = false
 
 -- a unit, a tank, a point of its table or a stream
 abbrev pub is_of_plant : Declared → Bool
@@ -103,19 +98,19 @@ is_of_plant (CritMeasure value) = false
 is_of_plant declared = true
 
 -- Sealed: a part of the plant, once some period is closed
-abbrev pub is_sealed : List Period → BookRow → Bool
-is_sealed periods (Declaration declared) = is_of_plant declared && some_closed periods
-is_sealed periods row = false
+abbrev pub is_sealed : List Period → Effect → Bool
+is_sealed periods (Declares declared) = is_of_plant declared && some_closed periods
+is_sealed periods effect = false
 
 -- the period of this name is closed
 abbrev pub is_closed_named : List ℕ → Period → Bool
 is_closed_named name period = period.closed && is_named name period
 
 -- Closed: a fact that touches a closed period and doesn't come as a late one; a second closing
-abbrev pub is_closed : List Period → BookRow → Bool
-is_closed periods (FactRow fact) = list_any (touches_closed fact) periods
-is_closed periods (Close name) = list_any (is_closed_named name) periods
-is_closed periods row = false
+abbrev pub is_closed : List Period → Effect → Bool
+is_closed periods (Books fact late) = not late && list_any (touches_closed fact) periods
+is_closed periods (Closes name) = list_any (is_closed_named name) periods
+is_closed periods effect = false
 
 -- a dip whose level is outside the table of its tank
 abbrev pub is_outside_table : List Declared → Fact → Bool
@@ -129,44 +124,34 @@ is_moved_outside declared id change kept =
     is_live_with id kept && is_outside_table declared (changed change kept.fact)
 
 -- Range: a period of more than 100 days, a transfer of more than 366, a level outside the tank's table
-abbrev pub is_out_of_range : List Declared → List KeptFact → BookRow → Bool
-is_out_of_range declared kept (PeriodRow name first last) =
+abbrev pub is_out_of_range : List Declared → List KeptFact → Effect → Bool
+is_out_of_range declared kept (Opens name first last) =
     int_le (pos most_days_of_period) (last -ℤ first)
-is_out_of_range declared kept (FactRow fact) = is_too_long fact || is_outside_table declared fact
-is_out_of_range declared kept (Late fact) = is_too_long fact || is_outside_table declared fact
-is_out_of_range declared kept (Amend id change reason) =
+is_out_of_range declared kept (Books fact late) = is_too_long fact || is_outside_table declared fact
+is_out_of_range declared kept (Edits id (edits.Change change) reason) =
     list_any (is_moved_outside declared id change) kept
-is_out_of_range declared kept row = false
+is_out_of_range declared kept effect = false
 
 -- Full: as many as there may be
-abbrev pub is_full : List Declared → List KeptFact → List Period → BookRow → Bool
-is_full declared kept periods (Declaration row) = is_full_declared declared row
-is_full declared kept periods (PeriodRow name first last) = nat_le most_periods (length periods)
-is_full declared kept periods (FactRow fact) = is_full_fact kept
-is_full declared kept periods (Late fact) = is_full_fact kept
-is_full declared kept periods row = false
-
--- what a fault of a declaration is as a cause
-abbrev pub cause_of_declaration : SiteFault → Refused
-cause_of_declaration UnknownDeclared = Unknown
-cause_of_declaration DuplicateDeclared = Duplicate
-cause_of_declaration OrderDeclared = Order
-cause_of_declaration MismatchDeclared = Mismatch
-cause_of_declaration FullDeclared = Full
+abbrev pub is_full : List Declared → List KeptFact → List Period → Effect → Bool
+is_full declared kept periods (Declares row) = is_full_declared declared row
+is_full declared kept periods (Opens name first last) = nat_le most_periods (length periods)
+is_full declared kept periods (Books fact late) = is_full_fact kept
+is_full declared kept periods effect = false
 
 -- The first of these causes that holds of a row, behind what is declared, the facts and the periods.
-abbrev pub refusal_behind : List Declared → List KeptFact → List Period → BookRow → Option Refused
-refusal_behind declared kept periods row =
-    if is_unknown declared kept periods row then Some Unknown
-    else if is_duplicate declared kept periods row then Some Duplicate
-    else if is_out_of_order declared row then Some Order
-    else if is_mismatch declared kept periods row then Some Mismatch
-    else if is_sealed periods row then Some Sealed
-    else if is_closed periods row then Some Closed
-    else if is_out_of_range declared kept row then Some Range
-    else if is_full declared kept periods row then Some Full
+abbrev pub refusal_behind : List Declared → List KeptFact → List Period → Effect → Option Refused
+refusal_behind declared kept periods effect =
+    if is_unknown declared kept periods effect then Some Unknown
+    else if is_duplicate declared kept periods effect then Some Duplicate
+    else if is_out_of_order declared effect then Some Order
+    else if is_mismatch declared kept periods effect then Some Mismatch
+    else if is_sealed periods effect then Some Sealed
+    else if is_closed periods effect then Some Closed
+    else if is_out_of_range declared kept effect then Some Range
+    else if is_full declared kept periods effect then Some Full
     else None
 
 -- The first cause to refuse a row behind the stored ones.
-abbrev pub refusal_of : List StoredRow → BookRow → Option Refused
-refusal_of rows row = refusal_behind (declared_of rows) (facts_of rows) (periods_of rows) row
+abbrev pub refusal_of : List StoredRow → Effect → Option Refused
+refusal_of rows effect = refusal_behind (declared_of rows) (facts_of rows) (periods_of rows) effect

@@ -3,8 +3,7 @@
 ghost use Rattle.std.specs.Prelude.{◌≡◌, ◌≤◌};
 ghost use Rattle.pb_book.specs.Answer.{code_of};
 
-use pb_facts::FactFault;
-use pb_site::SiteFault;
+use pb_form::FormFault;
 use std::alloc::AllocError;
 
 /// What the book did with a record that it accepted.
@@ -107,18 +106,18 @@ impl From<AllocError> for NotAccepted {
     }
 }
 
-impl From<SiteFault> for Refused {
-    ghost use Rattle.pb_book.specs.Refusals.{cause_of_declaration};
+impl From<FormFault> for Refused {
+    ghost use Rattle.pb_book.specs.Answer.{cause_of};
 
-    ghost from_gives = { λ fault cause. cause ≡ cause_of_declaration fault };
+    ghost from_gives = { λ fault cause. cause ≡ cause_of fault };
 
-    fn from(fault: SiteFault) -> Refused {
+    fn from(fault: FormFault) -> Refused {
         match fault {
-            SiteFault::Unknown => Refused::Unknown,
-            SiteFault::Duplicate => Refused::Duplicate,
-            SiteFault::Order => Refused::Order,
-            SiteFault::Mismatch => Refused::Mismatch,
-            SiteFault::Full => Refused::Full,
+            FormFault::Kind | FormFault::Word => Refused::Kind,
+            FormFault::Fields => Refused::Fields,
+            FormFault::Name => Refused::BadName,
+            FormFault::Number => Refused::Number,
+            FormFault::Date => Refused::Date,
         }
     }
 }

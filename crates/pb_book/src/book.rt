@@ -1,39 +1,41 @@
 // The book of accepted rows.
 
-ghost use Rattle.std.specs.Prelude.{◌≡◌, ◌≢◌, ◌<◌, ◌≤◌, ◌∷◌, ◌++◌, [], length, Err, None, IfOk, OnOk, OnErr, slice_get, Some, option_and_then};
-ghost use Rattle.pb_book.specs.declared.rows.BookRow.TheVariants.{Declaration, Fact as FactRow, Late, Period as PeriodRow};
+ghost use Rattle.std.specs.Prelude.{◌≡◌, ◌≢◌, ◌<◌, ◌≤◌, [], length, Err, Ok, IfOk, OnOk, OnErr, slice_get, Some, false, true};
 ghost use Rattle.pb_limits.specs.Limits.{most_periods};
+ghost use Rattle.pb_facts.specs.Facts.{NoRepeats};
+ghost use Rattle.pb_kinds.specs.declared.rows.Effect.TheVariants.{Books, Closes, Declares, Edits, Opens};
+ghost use Rattle.pb_kinds.specs.Ranges.{IsEffectInRange, IsRequestInRange};
+ghost use Rattle.pb_book.specs.declared.answer.Accepted.TheVariants.{Stored};
 ghost use Rattle.pb_book.specs.declared.answer.NotAccepted.TheVariants.{NoMemory};
 ghost use Rattle.pb_book.specs.Accepted.{AreAccepted, AreInTables, IsAcceptable};
 ghost use Rattle.pb_book.specs.Answer.{after, after_answer, answer_of, answer_to, said_of, stored_or_refused};
-ghost use Rattle.pb_book.specs.Apart.{AreApart, is_named};
-ghost use Rattle.pb_book.specs.Edits.{edit_at, edit_by, edit_in, edit_touches, edits_of, row_touches, touches_at, touches_by_id};
-ghost use Rattle.pb_book.specs.Kept.{edited_row, edits_shelved, part_takes_out, row_at, told_at};
+ghost use Rattle.pb_book.specs.Apart.{AreApart};
+ghost use Rattle.pb_book.specs.Edits.{edit_touches, edits_of, touches_at};
 ghost use Rattle.pb_book.specs.Plain.{plain_rows};
-ghost use Rattle.pb_book.specs.Ranges.{IsPeriod, IsRequestInRange, IsRowInRange};
+ghost use Rattle.pb_book.specs.Ranges.{IsPeriod};
 ghost use Rattle.pb_book.specs.Refusals.{refusal_of};
-ghost use Rattle.pb_book.specs.Rows.{declared_of, facts_of, period_place, periods_of, version_of, with_row};
-ghost use Rattle.pb_book.specs.TakenOut.{takes_out, touched_at};
+ghost use Rattle.pb_book.specs.Rows.{declared_of, facts_of, period_place, periods_of, with_row};
+ghost use Rattle.pb_book.specs.TakenOut.{last_row, takes_out, touched_at, touches_by_id};
 ghost use Rattle.pb_book.specs.Written.{WriteRows};
 
 use crate::answer::{Accepted, NotAccepted, Refused};
 use crate::judge::judge;
-use crate::laws::requests_law;
-use crate::originals::{keep_original, told_at};
+use crate::originals::keep_original;
 use crate::periods::Periods;
 use crate::plain::plain_records;
-use crate::requests::{Request, Version, read_request};
-use crate::rows::{BookRow, Edit, EditWord, Edited, Part, Period, Place};
+use crate::rows::{Edited, Part, Period, Place, StoredRow};
+use crate::shelves::row_at;
 use crate::touching::touches;
 use pb_facts::{Fact, Facts};
-use pb_rows::{Name, Row, Rows};
+use pb_kinds::{Edit, Effect, Request, read_request};
+use pb_rows::{Name, Reason, Row, Rows};
 use pb_site::{Declared, Site};
 use std::alloc::{AllocError, Global};
 use std::collections::HashMap;
 use std::marker::Model;
 
 /// The accepted rows of a session, in order: the places of all and those of the edits, and what they hold by its parts.
-/// The facts are kept with their last values, and those that an amendment changed also as they came, by their places.
+/// The facts are kept with their last values, and those that an edit changed also as they came, by their places.
 #[derive(Drop)]
 pub struct Book {
     places: Vec<Place>,
@@ -47,7 +49,7 @@ pub struct Book {
 
 impl Model for Book {
     ghost use Rattle.std.specs.Prelude.{List};
-    ghost use Rattle.pb_book.specs.Rows.{StoredRow};
+    ghost use Rattle.pb_book.specs.declared.rows.StoredRow.{StoredRow};
     ghost use Rattle.pb_book.specs.Kept.{IsKept, rows_at, shelves_of, told_at};
 
     ghost Value = { List StoredRow };
@@ -56,8 +58,8 @@ impl Model for Book {
         rows_at (shelves_of a.site (told_at a.facts a.originals) a.periods a.edited.items)
         a.places.items };
 
-    ghost invariant = { λ a. IsKept
-        (shelves_of a.site (told_at a.facts a.originals) a.periods a.edited.items)
+    ghost invariant = { λ a.
+        IsKept (shelves_of a.site (told_at a.facts a.originals) a.periods a.edited.items)
         a.facts a.places.items a.edits.items };
 }
 
@@ -78,29 +80,32 @@ impl Book {
     }
 
     /// Takes the record with the number `at`, counted from 1: it is refused with the first cause that holds, or it joins the
-    /// book, or it asks for a design, a report or a history. After a refusal the book is as it was.
+    /// book, or it asks for a design, a report or a history. After a refusal the book is as it was. After a row was stored no
+    /// two facts have one id.
     pub fn accept(&mut self, at: u32, row: &Row) -> Result<Accepted, NotAccepted>
         ensures answer { result ≢ Err NoMemory → result ≡ said_of (answer_of self.old row.now) }
         ensures stored { result ≢ Err NoMemory → self.new ≡ after self.old at row.now }
         ensures unchanged { result ≡ Err NoMemory → self.new ≡ self.old }
+        ensures no_repeats { result ≡ Ok Stored → NoRepeats (facts_of self.new) }
     {
-        requests_law();
-        match read_request(self.version(), row) {
+        match read_request(row) {
             Ok(request) => self.answer(at, &request),
-            Err(cause) => Err(NotAccepted::Refused(cause)),
+            Err(fault) => Err(NotAccepted::Refused(Refused::from(fault))),
         }
     }
 
-    /// The declared plant.
+    /// The declared plant. The rows were accepted, one after the other.
     pub fn site(&self) -> &Site
-        ensures { result.now ≡ declared_of self.now }
+        ensures value { result.now ≡ declared_of self.now }
+        ensures accepted { AreAccepted self.now }
     {
         &self.site
     }
 
-    /// The facts, of which each dip lies in its tank's table.
+    /// The facts, of which no two have one id and each dip lies in its tank's table.
     pub fn facts(&self) -> &Facts
         ensures value { result.now ≡ facts_of self.now }
+        ensures no_repeats { NoRepeats (facts_of self.now) }
         ensures in_tables { AreInTables (declared_of self.now) (facts_of self.now) }
     {
         &self.facts
@@ -131,63 +136,59 @@ impl Book {
         self.periods.place_of(name)
     }
 
-    /// The number of edits: rows that close a period, come late, amend a fact or strike it.
+    /// The number of edits: rows that close a period, come late, change a fact or strike it.
     pub fn edits(&self) -> usize
         ensures { result ≡ length (edits_of self.now) }
     {
         self.edits.len()
     }
 
-    /// The edit at a place, counted from 0 in the order of the records.
-    pub fn edit(&self, i: usize) -> Edit
-        requires { i < length (edits_of self.now) }
-        ensures { edit_at self.now i ≡ Some result }
+    /// The edit at a place, counted from 0 in the order of the records; `None` exactly where there is none.
+    pub fn edit(&self, i: usize) -> Option<StoredRow>
+        ensures { result ≡ slice_get (edits_of self.now) i }
     {
-        match edit_kept(&self.facts, &self.originals, &self.edited, self.edits[i]) {
-            Some(edit) => edit,
-            None => unreachable!(),
+        match self.edits.get(i) {
+            Some(place) => row_at(
+                self.site.declared(),
+                &self.facts,
+                &self.originals,
+                &self.periods,
+                &self.edited,
+                place,
+            ),
+            None => None,
         }
     }
 
-    /// Whether an edit touches the period at a place: a closing its own, a late fact those that it touches, an amendment
+    /// Whether an edit touches the period at a place: a closing its own, a late fact those that it touches, a change
     /// and a strike those that their fact touches.
     pub fn touches(&self, e: usize, i: u32) -> bool
         requires edit { e < length (edits_of self.now) }
         requires period { i < length (periods_of self.now) }
         ensures { result ≡ touches_at self.now e i }
     {
-        let period = self.periods.at(i);
-        kept_touches(
-            &self.facts,
-            &self.originals,
-            &self.edited,
-            self.edits[e],
-            &period,
-        )
+        match self.edit(e) {
+            Some(edit) => edit_touches(&self.facts, &edit.effect, &self.periods.at(i)),
+            None => false,
+        }
     }
 
-    /// Whether the row that was stored last takes the period at a place out of those whose studies are kept: a fact, an
-    /// amendment and a strike each that they touch, a declaration and a critical value every one. False where no row is
+    /// Whether the row that was stored last takes the period at a place out of those whose studies are kept: a fact, a
+    /// change and a strike each that they touch, a declaration and a critical value every one. False where no row is
     /// stored.
     pub fn touched(&self, i: u32) -> bool
         requires { i < length (periods_of self.now) }
         ensures { result ≡ touched_at self.now i }
     {
-        match self.places.last() {
-            Some(place) => takes_out(
-                &self.facts,
-                &self.originals,
-                &self.edited,
-                place.part,
-                &self.periods.at(i),
-            ),
+        match self.last_row() {
+            Some(row) => takes_out(&self.facts, &row.effect, &self.periods.at(i)),
             None => false,
         }
     }
 
     /// The plain rows as records: the declarations, periods and critical values in order, and then the live facts with
     /// their last values. None of them is refused, and a report behind them is the one behind the book's rows. Refused
-    /// alone for want of memory.
+    /// alone when out of memory.
     pub fn plain(&self, alloc: Global) -> Result<Rows, AllocError>
         ensures { IfOk result (λ records. WriteRows records (plain_rows self.now)) }
     {
@@ -200,18 +201,21 @@ impl Book {
         )
     }
 
-    /// Its rows were accepted, one behind the other.
-    pub fn accepted_law(&self)
-        ensures { AreAccepted self.now }
+    // The row that was stored last.
+    fn last_row(&self) -> Option<StoredRow>
+        ensures { result ≡ last_row self.now }
     {
-        let _rows = &self.places;
-    }
-
-    // The version of the session, which no row sets so far.
-    fn version(&self) -> Version
-        ensures { result ≡ version_of self.now }
-    {
-        Version::One
+        match self.places.last() {
+            Some(place) => row_at(
+                self.site.declared(),
+                &self.facts,
+                &self.originals,
+                &self.periods,
+                &self.edited,
+                place,
+            ),
+            None => None,
+        }
     }
 
     // Answers what a record asks.
@@ -221,10 +225,11 @@ impl Book {
         ensures stored { result ≢ Err NoMemory
             → self.new ≡ after_answer self.old at (answer_to self.old request.now) }
         ensures unchanged { result ≡ Err NoMemory → self.new ≡ self.old }
+        ensures no_repeats { result ≡ Ok Stored → NoRepeats (facts_of self.new) }
     {
         match request {
             Request::Blank => Ok(Accepted::Blank),
-            Request::Store(row) => self.store(at, row),
+            Request::Store(effect) => self.store(at, effect),
             Request::Design => Ok(Accepted::Design),
             Request::Report(name) => match self.period_of(name) {
                 Some(period) => Ok(Accepted::Report(period)),
@@ -238,71 +243,65 @@ impl Book {
     }
 
     // Stores a row, or says why it is refused.
-    fn store(&mut self, at: u32, row: &BookRow) -> Result<Accepted, NotAccepted>
-        requires { IsRowInRange row.now }
+    fn store(&mut self, at: u32, effect: &Effect) -> Result<Accepted, NotAccepted>
+        requires { IsEffectInRange effect.now }
         ensures answer { result ≢ Err NoMemory
-            → result ≡ said_of (stored_or_refused row.now (refusal_of self.old row.now)) }
-        ensures stored { result ≢ Err NoMemory
-            → self.new
-            ≡ after_answer self.old at (stored_or_refused row.now (refusal_of self.old row.now)) }
+            → result ≡ said_of (stored_or_refused effect.now (refusal_of self.old effect.now)) }
+        ensures stored { result ≢ Err NoMemory → self.new
+            ≡ after_answer self.old at
+            (stored_or_refused effect.now (refusal_of self.old effect.now)) }
         ensures unchanged { result ≡ Err NoMemory → self.new ≡ self.old }
+        ensures no_repeats { result ≡ Ok Stored → NoRepeats (facts_of self.new) }
     {
-        if let Some(cause) = judge(&self.site, &self.facts, &self.periods, row) {
-            return Err(NotAccepted::Refused(cause));
+        match judge(&self.site, &self.facts, &self.periods, effect) {
+            Some(cause) => Err(NotAccepted::Refused(cause)),
+            None => {
+                self.add(at, effect)?;
+                Ok(Accepted::Stored)
+            }
         }
-        self.add(at, row)?;
-        Ok(Accepted::Stored)
     }
 
-    // Adds a row that there is no cause to refuse. After an `Err`, want of memory, the book is as it was.
-    fn add(&mut self, at: u32, row: &BookRow) -> Result<(), AllocError>
-        requires { IsAcceptable self.old row.now }
-        ensures ok { OnOk result (self.new ≡ with_row self.old at row.now) }
+    // Adds a row that there is no cause to refuse. After an `Err`, out of memory, the book is as it was.
+    fn add(&mut self, at: u32, effect: &Effect) -> Result<(), AllocError>
+        requires { IsAcceptable self.old effect.now }
+        ensures ok { OnOk result (self.new ≡ with_row self.old at effect.now) }
         ensures err { OnErr result (self.new ≡ self.old) }
     {
-        match row {
-            BookRow::Declaration(declared) => self.add_declaration(at, declared),
-            BookRow::Period { name, first, last } => self.add_period(at, name, *first, *last),
-            BookRow::Fact(fact) => self.add_fact(at, fact),
-            BookRow::Late(fact) => self.add_late(at, fact),
-            BookRow::Amend { id, change, reason } => self.add_edit(
-                at,
-                &Edited::Amend {
-                    id: *id,
-                    change: *change,
-                    reason: *reason,
-                },
-            ),
-            BookRow::Strike { id, reason } => self.add_edit(
-                at,
-                &Edited::Strike {
-                    id: *id,
-                    reason: *reason,
-                },
-            ),
-            BookRow::Close(name) => self.add_edit(at, &Edited::Close(*name)),
+        match effect {
+            Effect::Declares(declared) => self.add_declaration(at, declared),
+            Effect::Opens { name, first, last } => self.add_period(at, name, *first, *last),
+            Effect::Books { fact, late } => {
+                if *late {
+                    self.add_late(at, fact)
+                } else {
+                    self.add_fact(at, fact)
+                }
+            }
+            Effect::Edits { id, edit, reason } => self.add_edit(at, id, edit, reason),
+            Effect::Closes(name) => self.close(at, name),
         }
     }
 
     fn add_declaration(&mut self, at: u32, declared: &Declared) -> Result<(), AllocError>
-        requires { IsAcceptable self.old (Declaration declared.now) }
-        ensures ok { OnOk result (self.new ≡ with_row self.old at (Declaration declared.now)) }
+        requires { IsAcceptable self.old (Declares declared.now) }
+        ensures ok { OnOk result (self.new ≡ with_row self.old at (Declares declared.now)) }
         ensures err { OnErr result (self.new ≡ self.old) }
     {
         self.places.reserve(1)?;
-        let part = Part::Declaration(self.site.len());
+        let part = Part::Declared(self.site.len());
         self.site.add(*declared)?;
         self.places.push_reserved(Place { at, part });
         Ok(())
     }
 
     fn add_period(&mut self, at: u32, name: &Name, first: i32, last: i32) -> Result<(), AllocError>
-        requires { IsAcceptable self.old (PeriodRow name.now first last) }
-        ensures ok { OnOk result (self.new ≡ with_row self.old at (PeriodRow name.now first last)) }
+        requires { IsAcceptable self.old (Opens name.now first last) }
+        ensures ok { OnOk result (self.new ≡ with_row self.old at (Opens name.now first last)) }
         ensures err { OnErr result (self.new ≡ self.old) }
     {
         self.places.reserve(1)?;
-        let part = Part::Period(self.periods.len());
+        let part = Part::Opened(self.periods.len());
         self.periods.push(Period {
             name: *name,
             first,
@@ -314,197 +313,120 @@ impl Book {
     }
 
     fn add_fact(&mut self, at: u32, fact: &Fact) -> Result<(), AllocError>
-        requires { IsAcceptable self.old (FactRow fact.now) }
-        ensures ok { OnOk result (self.new ≡ with_row self.old at (FactRow fact.now)) }
+        requires { IsAcceptable self.old (Books fact.now false) }
+        ensures ok { OnOk result (self.new ≡ with_row self.old at (Books fact.now false)) }
         ensures err { OnErr result (self.new ≡ self.old) }
     {
         self.places.reserve(1)?;
-        let part = Part::Fact(self.facts.len());
+        let part = Part::Booked {
+            place: self.facts.len(),
+            late: false,
+        };
         self.facts.add(*fact)?;
         self.places.push_reserved(Place { at, part });
         Ok(())
     }
 
     fn add_late(&mut self, at: u32, fact: &Fact) -> Result<(), AllocError>
-        requires { IsAcceptable self.old (Late fact.now) }
-        ensures ok { OnOk result (self.new ≡ with_row self.old at (Late fact.now)) }
+        requires { IsAcceptable self.old (Books fact.now true) }
+        ensures ok { OnOk result (self.new ≡ with_row self.old at (Books fact.now true)) }
         ensures err { OnErr result (self.new ≡ self.old) }
     {
         self.places.reserve(1)?;
         self.edits.reserve(1)?;
-        let part = Part::Late(self.facts.len());
+        let part = Part::Booked {
+            place: self.facts.len(),
+            late: true,
+        };
         self.facts.add(*fact)?;
         self.edits.push_reserved(Place { at, part });
         self.places.push_reserved(Place { at, part });
         Ok(())
     }
 
-    fn add_edit(&mut self, at: u32, edited: &Edited) -> Result<(), AllocError>
-        requires { IsAcceptable self.old (edited_row edited.now) }
-        ensures ok { OnOk result (self.new ≡ with_row self.old at (edited_row edited.now)) }
+    fn add_edit(
+        &mut self,
+        at: u32,
+        id: &Name,
+        edit: &Edit,
+        reason: &Reason,
+    ) -> Result<(), AllocError>
+        requires { IsAcceptable self.old (Edits id.now edit.now reason.now) }
+        ensures ok { OnOk result
+            (self.new ≡ with_row self.old at (Edits id.now edit.now reason.now)) }
         ensures err { OnErr result (self.new ≡ self.old) }
     {
         self.places.reserve(1)?;
         self.edits.reserve(1)?;
         self.edited.reserve(1)?;
-        let part = Part::Edit(self.edited.len());
-        match edited {
-            Edited::Amend {
-                id,
-                change,
-                reason: _reason,
-            } => {
+        let part = Part::Edited(self.edited.len());
+        match edit {
+            Edit::Change(change) => {
                 keep_original(&self.facts, &mut self.originals, id)?;
                 self.facts.amend(id, *change)
             }
-            Edited::Strike {
-                id,
-                reason: _reason,
-            } => self.facts.strike(id),
-            Edited::Close(name) => self.periods.close(name)?,
+            Edit::Strike => self.facts.strike(id),
         }
-        self.edited.push_reserved(*edited);
+        self.edited.push_reserved(Edited {
+            id: *id,
+            edit: *edit,
+            reason: *reason,
+        });
+        self.edits.push_reserved(Place { at, part });
+        self.places.push_reserved(Place { at, part });
+        Ok(())
+    }
+
+    // Adds a closing, of which there is no cause to refuse it: so there is such a period.
+    fn close(&mut self, at: u32, name: &Name) -> Result<(), AllocError>
+        requires { IsAcceptable self.old (Closes name.now) }
+        ensures ok { OnOk result (self.new ≡ with_row self.old at (Closes name.now)) }
+        ensures err { OnErr result (self.new ≡ self.old) }
+    {
+        match self.period_of(name) {
+            Some(place) => self.add_closing(at, name, place),
+            None => Ok(()),
+        }
+    }
+
+    // Adds the closing of the period at a place.
+    fn add_closing(&mut self, at: u32, name: &Name, place: u32) -> Result<(), AllocError>
+        requires place { period_place self.old name.now ≡ Some place }
+        requires acceptable { IsAcceptable self.old (Closes name.now) }
+        ensures ok { OnOk result (self.new ≡ with_row self.old at (Closes name.now)) }
+        ensures err { OnErr result (self.new ≡ self.old) }
+    {
+        self.places.reserve(1)?;
+        self.edits.reserve(1)?;
+        self.periods.close(name)?;
+        let part = Part::Closed(place);
         self.edits.push_reserved(Place { at, part });
         self.places.push_reserved(Place { at, part });
         Ok(())
     }
 }
 
-// What is told of the edit at a place; `None` where that has another row.
-fn edit_kept(
-    facts: &Facts,
-    originals: &HashMap<u32, Fact>,
-    edited: &[Edited],
-    place: Place,
-) -> Option<Edit>
-    ensures { result ≡ option_and_then edit_in
-        (row_at (edits_shelved (told_at facts.now originals.now) edited.now) place) }
+// Whether a row takes out a period, by what it does; that a period begins or is closed takes out none.
+fn takes_out(facts: &Facts, effect: &Effect, period: &Period) -> bool
+    ensures { result ≡ takes_out facts.now effect.now period.now }
 {
-    match place.part {
-        Part::Late(i) => match told_at(facts, originals, i) {
-            Some(fact) => late_edit(place.at, &fact),
-            None => None,
-        },
-        Part::Edit(i) => match edited.get(i) {
-            Some(edited) => edit_by(place.at, edited),
-            None => None,
-        },
-        _ => None,
+    match effect {
+        Effect::Declares(_) => true,
+        Effect::Opens { .. } => false,
+        Effect::Books { fact, .. } => touches(fact, period),
+        Effect::Edits { id, .. } => touches_by_id(facts, id, period),
+        Effect::Closes(_) => false,
     }
 }
 
-// What is told of a late fact.
-fn late_edit(at: u32, fact: &Fact) -> Option<Edit>
-    ensures { result ≡ edit_by at (Late fact.now) }
+// Whether an edit touches a period, by what it does.
+fn edit_touches(facts: &Facts, effect: &Effect, period: &Period) -> bool
+    ensures { result ≡ edit_touches facts.now effect.now period.now }
 {
-    Some(Edit {
-        at,
-        word: EditWord::Late,
-        id: Some(fact.id()),
-        reason: None,
-    })
-}
-
-// What is told of an edit.
-fn edit_by(at: u32, edited: &Edited) -> Option<Edit>
-    ensures { result ≡ edit_by at (edited_row edited.now) }
-{
-    Some(match edited {
-        Edited::Close(_) => Edit {
-            at,
-            word: EditWord::Close,
-            id: None,
-            reason: None,
-        },
-        Edited::Amend { id, reason, .. } => Edit {
-            at,
-            word: EditWord::Amend,
-            id: Some(*id),
-            reason: Some(*reason),
-        },
-        Edited::Strike { id, reason } => Edit {
-            at,
-            word: EditWord::Strike,
-            id: Some(*id),
-            reason: Some(*reason),
-        },
-    })
-}
-
-// Whether the edit at a place touches a period; none does where that has another row.
-fn kept_touches(
-    facts: &Facts,
-    originals: &HashMap<u32, Fact>,
-    edited: &[Edited],
-    place: Place,
-    period: &Period,
-) -> bool
-    ensures { result ≡ row_touches facts.now period.now
-        (row_at (edits_shelved (told_at facts.now originals.now) edited.now) place) }
-{
-    match place.part {
-        Part::Late(i) => match told_at(facts, originals, i) {
-            Some(fact) => touches(&fact, period),
-            None => false,
-        },
-        Part::Edit(i) => match edited.get(i) {
-            Some(edited) => edit_touches(facts, edited, period),
-            None => false,
-        },
-        _ => false,
+    match effect {
+        Effect::Closes(name) => *name == period.name,
+        _ => takes_out(facts, effect, period),
     }
-}
-
-// Whether the row at a place of a part takes out a period.
-fn takes_out(
-    facts: &Facts,
-    originals: &HashMap<u32, Fact>,
-    edited: &[Edited],
-    part: Part,
-    period: &Period,
-) -> bool
-    ensures { result ≡ part_takes_out facts.now (told_at facts.now originals.now) edited.now
-        period.now part }
-{
-    match part {
-        Part::Declaration(_) => true,
-        Part::Period(_) => false,
-        Part::Fact(i) | Part::Late(i) => match told_at(facts, originals, i) {
-            Some(fact) => touches(&fact, period),
-            None => false,
-        },
-        Part::Edit(i) => match edited.get(i) {
-            Some(edited) => edit_takes_out(facts, edited, period),
-            None => false,
-        },
-    }
-}
-
-// Whether an edit takes out a period; a closing takes out none.
-fn edit_takes_out(facts: &Facts, edited: &Edited, period: &Period) -> bool
-    ensures { result ≡ takes_out facts.now (edited_row edited.now) period.now }
-{
-    match edited {
-        Edited::Close(_) => false,
-        _ => edit_touches(facts, edited, period),
-    }
-}
-
-// Whether an edit touches a period.
-fn edit_touches(facts: &Facts, edited: &Edited, period: &Period) -> bool
-    ensures { result ≡ edit_touches facts.now (edited_row edited.now) period.now }
-{
-    match edited {
-        Edited::Close(name) => is_named(name, period),
-        Edited::Amend { id, .. } => touches_by_id(facts, id, period),
-        Edited::Strike { id, .. } => touches_by_id(facts, id, period),
-    }
-}
-
-fn is_named(name: &Name, period: &Period) -> bool
-    ensures { result ≡ is_named name.now period.now }
-{
-    *name == period.name
 }
 
 // Whether the fact of an id, struck or not, touches a period.

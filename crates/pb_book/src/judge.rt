@@ -1,50 +1,41 @@
 // Why a row is refused: the causes in the order in which they are asked for. What is declared and the facts tell some of them.
 
-ghost use Rattle.std.specs.Prelude.{◌≡◌, Option, Some};
+ghost use Rattle.std.specs.Prelude.{◌≡◌, ◌&&◌, [], not, Option, Some};
+ghost use Rattle.std.specs.List.{list_any};
 ghost use Rattle.pb_facts.specs.Changes.{changed, fits};
+ghost use Rattle.pb_facts.specs.Fact.{IsInRange};
 ghost use Rattle.pb_site.specs.declared.declared.ArcKind.{ArcKind};
-ghost use Rattle.pb_book.specs.declared.rows.BookRow.TheVariants.{Amend, Close, Declaration, Fact as FactRow, Late, Period as PeriodRow, Strike};
-ghost use Rattle.pb_book.specs.Causes.{cause_of_change, cause_of_fact};
-ghost use Rattle.pb_book.specs.Ranges.{IsRowInRange};
-ghost use Rattle.pb_book.specs.Refusals.{is_of_other_kind, is_of_plant, is_outside_table, kind_of_fact, names_other, refusal_behind};
+ghost use Rattle.pb_kinds.specs.declared.rows.Effect.TheVariants.{Books, Closes, Declares, Edits, Opens};
+ghost use Rattle.pb_kinds.specs.Ranges.{IsEffectInRange};
+ghost use Rattle.pb_book.specs.Causes.{cause_of_change, cause_of_edit};
+ghost use Rattle.pb_book.specs.Refusals.{is_closed, is_of_other_kind, is_of_plant, is_outside_table, kind_of_fact, names_other, refusal_behind};
 
 use crate::answer::Refused;
 use crate::periods::Periods;
-use crate::rows::BookRow;
 use pb_facts::{Change, Fact, FactFault, Facts};
+use pb_kinds::{Edit, Effect};
 use pb_limits::{MOST_DAYS_OF_PERIOD, MOST_PERIODS};
-use pb_rows::{Name, Reason};
+use pb_rows::Name;
 use pb_site::{ArcKind, Declared, Site, SiteFault};
 
 /// The first cause to refuse a row, behind what is declared, the facts and the periods; `None` exactly where
 /// there is none.
-pub fn judge(site: &Site, facts: &Facts, periods: &Periods, row: &BookRow) -> Option<Refused>
-    requires { IsRowInRange row.now }
-    ensures { result ≡ refusal_behind site.now facts.now periods.now row.now }
+pub fn judge(site: &Site, facts: &Facts, periods: &Periods, effect: &Effect) -> Option<Refused>
+    requires { IsEffectInRange effect.now }
+    ensures { result ≡ refusal_behind site.now facts.now periods.now effect.now }
 {
-    match row {
-        BookRow::Declaration(declared) => judge_declaration(site, facts, periods, declared),
-        BookRow::Period { name, first, last } => {
-            judge_period(site, facts, periods, name, *first, *last)
-        }
-        BookRow::Fact(fact) => judge_fact(site, facts, periods, fact),
-        BookRow::Late(fact) => judge_late(site, facts, periods, fact),
-        BookRow::Amend { id, change, reason } => {
-            judge_amend(site, facts, periods, id, change, reason)
-        }
-        BookRow::Strike { id, reason } => judge_strike(site, facts, periods, id, reason),
-        BookRow::Close(name) => judge_close(site, facts, periods, name),
+    match effect {
+        Effect::Declares(declared) => judge_declaration(site, periods, declared),
+        Effect::Opens { name, first, last } => judge_period(periods, name, *first, *last),
+        Effect::Books { fact, late } => judge_fact(site, facts, periods, fact, *late),
+        Effect::Edits { id, edit, .. } => judge_edit(site, facts, id, edit),
+        Effect::Closes(name) => judge_closing(periods, name),
     }
 }
 
 // The first cause to refuse a declaration: that some period is closed comes before that there are too many.
-fn judge_declaration(
-    site: &Site,
-    _facts: &Facts,
-    periods: &Periods,
-    declared: &Declared,
-) -> Option<Refused>
-    ensures { result ≡ refusal_behind site.now _facts.now periods.now (Declaration declared.now) }
+fn judge_declaration(site: &Site, periods: &Periods, declared: &Declared) -> Option<Refused>
+    ensures { result ≡ refusal_behind site.now [] periods.now (Declares declared.now) }
 {
     let sealed = is_of_plant(declared) && periods.some_closed();
     match site.judge(declared) {
@@ -73,16 +64,8 @@ fn is_of_plant(declared: &Declared) -> bool
 }
 
 // The first cause to refuse a period.
-fn judge_period(
-    _site: &Site,
-    _facts: &Facts,
-    periods: &Periods,
-    name: &Name,
-    first: i32,
-    last: i32,
-) -> Option<Refused>
-    ensures { result
-        ≡ refusal_behind _site.now _facts.now periods.now (PeriodRow name.now first last) }
+fn judge_period(periods: &Periods, name: &Name, first: i32, last: i32) -> Option<Refused>
+    ensures { result ≡ refusal_behind [] [] periods.now (Opens name.now first last) }
 {
     if periods.has_name(name) {
         Some(Refused::Duplicate)
@@ -99,24 +82,16 @@ fn judge_period(
     }
 }
 
-// The first cause to refuse a fact that doesn't come as a late one.
-fn judge_fact(site: &Site, facts: &Facts, periods: &Periods, fact: &Fact) -> Option<Refused>
-    requires { IsRowInRange (FactRow fact.now) }
-    ensures { result ≡ refusal_behind site.now facts.now periods.now (FactRow fact.now) }
-{
-    cause_of_fact(site, facts, fact, periods.touches_closed(fact))
-}
-
-// The first cause to refuse a late fact.
-fn judge_late(site: &Site, facts: &Facts, _periods: &Periods, fact: &Fact) -> Option<Refused>
-    ensures { result ≡ refusal_behind site.now facts.now _periods.now (Late fact.now) }
-{
-    cause_of_fact(site, facts, fact, false)
-}
-
-// The first cause to refuse a fact, which is closed out or not.
-fn cause_of_fact(site: &Site, facts: &Facts, fact: &Fact, closed: bool) -> Option<Refused>
-    ensures { result ≡ cause_of_fact site.now facts.now closed fact.now }
+// The first cause to refuse a fact. A late one may touch a closed period.
+fn judge_fact(
+    site: &Site,
+    facts: &Facts,
+    periods: &Periods,
+    fact: &Fact,
+    late: bool,
+) -> Option<Refused>
+    requires { IsInRange fact.now }
+    ensures { result ≡ refusal_behind site.now facts.now periods.now (Books fact.now late) }
 {
     let kind = kind_of_fact(site, fact);
     if names_other(fact, kind) {
@@ -129,7 +104,7 @@ fn cause_of_fact(site: &Site, facts: &Facts, fact: &Fact, closed: bool) -> Optio
         Some(Refused::Order)
     } else if is_of_other_kind(fact, kind) {
         Some(Refused::Mismatch)
-    } else if closed {
+    } else if is_closed(periods, fact, late) {
         Some(Refused::Closed)
     } else if fault == Some(FactFault::Range) || is_outside_table(site, fact) {
         Some(Refused::Range)
@@ -140,21 +115,31 @@ fn cause_of_fact(site: &Site, facts: &Facts, fact: &Fact, closed: bool) -> Optio
     }
 }
 
-// The first cause to refuse an amendment.
-fn judge_amend(
-    site: &Site,
-    facts: &Facts,
-    _periods: &Periods,
-    id: &Name,
-    change: &Change,
-    _reason: &Reason,
-) -> Option<Refused>
-    ensures { result
-        ≡ refusal_behind site.now facts.now _periods.now (Amend id.now change.now _reason.now) }
+// Whether a fact touches a closed period and doesn't come as a late one.
+fn is_closed(periods: &Periods, fact: &Fact, late: bool) -> bool
+    requires { IsInRange fact.now }
+    ensures { result ≡ is_closed periods.now (Books fact.now late) }
+{
+    !late && periods.touches_closed(fact)
+}
+
+// The first cause to refuse an edit of the fact of an id.
+fn judge_edit(site: &Site, facts: &Facts, id: &Name, edit: &Edit) -> Option<Refused>
+    ensures { result ≡ refusal_behind site.now facts.now [] (Edits id.now edit.now []) }
 {
     match facts.find(id) {
-        Some(place) => cause_of_change(site, &facts.kept(place).fact, change),
+        Some(place) => cause_of_edit(site, &facts.kept(place).fact, edit),
         None => Some(Refused::Unknown),
+    }
+}
+
+// The first cause to refuse an edit of a live fact: a strike has none.
+fn cause_of_edit(site: &Site, fact: &Fact, edit: &Edit) -> Option<Refused>
+    ensures { result ≡ cause_of_edit site.now fact.now edit.now }
+{
+    match edit {
+        Edit::Change(change) => cause_of_change(site, fact, change),
+        Edit::Strike => None,
     }
 }
 
@@ -171,25 +156,9 @@ fn cause_of_change(site: &Site, fact: &Fact, change: &Change) -> Option<Refused>
     }
 }
 
-// The first cause to refuse a strike.
-fn judge_strike(
-    _site: &Site,
-    facts: &Facts,
-    _periods: &Periods,
-    id: &Name,
-    _reason: &Reason,
-) -> Option<Refused>
-    ensures { result ≡ refusal_behind _site.now facts.now _periods.now (Strike id.now _reason.now) }
-{
-    match facts.find(id) {
-        Some(_) => None,
-        None => Some(Refused::Unknown),
-    }
-}
-
 // The first cause to refuse a closing.
-fn judge_close(_site: &Site, _facts: &Facts, periods: &Periods, name: &Name) -> Option<Refused>
-    ensures { result ≡ refusal_behind _site.now _facts.now periods.now (Close name.now) }
+fn judge_closing(periods: &Periods, name: &Name) -> Option<Refused>
+    ensures { result ≡ refusal_behind [] [] periods.now (Closes name.now) }
 {
     if !periods.has_name(name) {
         Some(Refused::Unknown)

@@ -1,41 +1,34 @@
 // Laws of the book.
 
-ghost use Rattle.pb_book.specs.Laws.{AcceptedLaw, RequestsLaw};
+ghost use Rattle.pb_book.specs.Laws.{AcceptedLaw};
 ghost use Rattle.pb_book.specs.Live.{LiveLaw};
 ghost use Rattle.pb_book.specs.Named.{NamedLaw, RangesLaw};
 ghost use Rattle.pb_book.specs.Plain.{PlainLaw};
 ghost use Rattle.pb_book.specs.TakenOut.{TouchedLaw};
 
-use pb_rows::date_text_law;
+use pb_kinds::stored_law;
 
-/// The law that the numbers and days of a row that a record asks to be stored lie in their ranges.
-pub fn requests_law()
-    ensures { RequestsLaw }
-{
-    date_text_law();
-}
-
-/// The law that the rows of a session were accepted one behind the other, whatever its records; and that then no
+/// The law that the rows of a session were accepted one after the other, whatever its records; and that then no
 /// two periods share a name or a day, and each dip lies in its tank's table, which may have grown since.
 pub fn accepted_law()
     ensures { AcceptedLaw }
 {
-    requests_law();
+    stored_law();
 }
 
-/// The law that the plain rows of accepted rows are accepted one behind the other, and that they declare the same plant and the
+/// The law that the plain rows of accepted rows are accepted one after the other, and that they declare the same plant and the
 /// same periods and have the live facts with their last values.
 pub fn plain_law()
     ensures { PlainLaw }
 {}
 
-/// The law that the live facts of accepted rows are the fact rows in order, late or not, whose id no row strikes, each with the values
-/// of the last row that amends it, else its own.
+/// The law that the live facts of accepted rows are the booked facts in order, late or not, whose id no row strikes, each with the
+/// values of the last row that changes it, else its own.
 pub fn live_law()
     ensures { LiveLaw }
 {}
 
-/// The law that after one more row it is that row which takes out a period, over the facts and the periods behind it.
+/// The law that after one more row it is that row which takes out a period, over the facts and the periods after it.
 pub fn touched_law()
     ensures { TouchedLaw }
 {}
@@ -43,7 +36,9 @@ pub fn touched_law()
 /// The law that the names of units, tanks, streams and periods in the rows of a session are names, whatever its records.
 pub fn named_law()
     ensures { NamedLaw }
-{}
+{
+    stored_law();
+}
 
 /// The law that the numbers that accepted rows declare lie in their ranges.
 pub fn ranges_law()

@@ -1,52 +1,13 @@
-// The rows of a book, and what they are kept as.
+// The stored rows of a book, its periods, and where the rows are kept.
 
-use pb_facts::{Change, Fact};
+use pb_kinds::{Edit, Effect};
 use pb_rows::{Name, Reason};
-use pb_site::Declared;
 
-/// A row of a book, parsed.
+/// A stored row: the number of its record in the session, counted from 1, and what it does.
 #[derive(Clone, Copy)]
-pub enum BookRow {
-    /// A unit, a tank, a point of its table, a stream or a critical value.
-    Declaration(Declared),
-    /// A period from its first day to its last one, both included, as days since 1970-01-01.
-    Period {
-        name: Name,
-        first: i32,
-        last: i32,
-    },
-    /// A reading, a transfer or a dip.
-    Fact(Fact),
-    /// A fact that may touch a closed period.
-    Late(Fact),
-    /// New values for the live fact of this id, and why.
-    Amend {
-        id: Name,
-        change: Change,
-        reason: Reason,
-    },
-    /// The live fact of this id counts no more, and why.
-    Strike {
-        id: Name,
-        reason: Reason,
-    },
-    /// The period of this name is closed.
-    Close(Name),
-}
-
-/// A row that amends a fact, strikes it or closes a period, as it is kept.
-#[derive(Clone, Copy)]
-pub enum Edited {
-    Amend {
-        id: Name,
-        change: Change,
-        reason: Reason,
-    },
-    Strike {
-        id: Name,
-        reason: Reason,
-    },
-    Close(Name),
+pub struct StoredRow {
+    pub at: u32,
+    pub effect: Effect,
 }
 
 /// A period: its name, its first and its last day, and whether it is closed.
@@ -58,39 +19,31 @@ pub struct Period {
     pub closed: bool,
 }
 
-/// What was done to the books of a period.
-#[derive(Clone, Copy, PartialEq, Eq, Debug)]
-pub enum EditWord {
-    Close,
-    Late,
-    Amend,
-    Strike,
-}
-
-/// A row that closes a period, comes late, amends a fact or strikes it: the number of its record, counted from 1, the
-/// id of its fact, which a closing hasn't, and the reason, which a closing and a late fact haven't.
-#[derive(Clone, Copy)]
-pub struct Edit {
-    pub at: u32,
-    pub word: EditWord,
-    pub id: Option<Name>,
-    pub reason: Option<Reason>,
-}
-
-/// Where a stored row is kept: the number of its record in the session, counted from 1, and its place among
-/// the rows of its part of the book.
+/// Where a stored row is kept: the number of its record, and its place in a part of the book.
 #[derive(Clone, Copy)]
 pub struct Place {
     pub at: u32,
     pub part: Part,
 }
 
-/// A part of the book, and a place in it.
+/// A part of the book, and a place in it: what the row does, and where that is kept. A fact is kept among the facts, late or not, and
+/// a closing is of the period at its place.
 #[derive(Clone, Copy)]
 pub enum Part {
-    Declaration(usize),
-    Period(u32),
-    Fact(u32),
-    Late(u32),
-    Edit(usize),
+    Declared(usize),
+    Opened(u32),
+    Booked {
+        place: u32,
+        late: bool,
+    },
+    Edited(usize),
+    Closed(u32),
+}
+
+/// An edit of a fact, as it is kept.
+#[derive(Clone, Copy)]
+pub struct Edited {
+    pub id: Name,
+    pub edit: Edit,
+    pub reason: Reason,
 }

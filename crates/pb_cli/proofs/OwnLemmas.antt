@@ -1,6 +1,6 @@
 -- The reports of a run read back as the stages of their studies, each of which passes.
 use Rattle.std.proofs.Common.{◌≡◌, ◌∙◌, ◌&&◌, ℕ, ◌+◌, ◌≤◌, Bool, true, false, List, [], ◌∷◌, ◌++◌, length, map, All, Option, Some, None, Result, Ok, Err, ap, ap₂, sym, refl, subst, arith, slice_get, get_or, codes}
-use Rattle.std.specs.Prelude.{is_some, slice_index_or}
+use Rattle.std.specs.Prelude.{filter_map, is_some, slice_index_or}
 use Rattle.std.proofs.lemmas.Option.{get_or_from_slice_get, slice_get-get_or, slice_get_within}
 use Rattle.std.specs.List.{flat_map, list_all, list_any}
 use Rattle.std.proofs.lemmas.List.{map-append}
@@ -30,8 +30,9 @@ use Rattle.pb_book.specs.Accepted.{AreAccepted}
 use Rattle.pb_book.specs.Answer.{Answer, Refused, Says, Stored, answer_of, code_of}
 use Rattle.pb_book.specs.Edits.{history_of}
 use Rattle.pb_book.specs.Laws.{AcceptedLaw}
-use Rattle.pb_book.specs.Named.{AreNamed, DeclareNames, NamedLaw}
-use Rattle.pb_book.specs.Rows.{StoredRow, declared_of, periods_of}
+use Rattle.pb_book.specs.Named.{AreNamed, HaveNames, NamedLaw}
+use Rattle.pb_book.specs.declared.rows.StoredRow.{StoredRow}
+use Rattle.pb_book.specs.Rows.{declared_of, periods_of}
 use Rattle.pb_period.specs.declared.days.Days.{Days}
 use Rattle.pb_period.specs.Days.{days_of}
 use Rattle.pb_period.specs.declared.graph.Assembly.{Assembly}
@@ -97,7 +98,7 @@ pub record IsSound (state : SessionState) : Type 0 where
   pub form : state.form ≡ Csv
   pub options : AreOptions state.options
   pub accepted : AreAccepted state.rows
-  pub named : DeclareNames state.rows
+  pub named : HaveNames state.rows
 
 sound_after : AcceptedLaw → NamedLaw → (state : SessionState) (at : ℕ) (fields : List (List ℕ)) → IsSound state → IsSound (state_after state at fields)
 sound_after accepted named state at fields sound = record {
@@ -216,7 +217,7 @@ record_read known law state at fields text sound adds = by (answer_of state.rows
     tells : (found : Option Period) → Tells state found text → ReadsBack text
     tells None is = absurd is
     tells (Some period) is =
-        let edits = map told (history_of state.rows period) in
+        let edits = filter_map told (history_of state.rows period) in
         let rows : List OutputRow = told_history state.rows period in
         passed_over rows text (in_csv state rows text sound.form is) (known.words.histories (told_period period) edits) (known.others.histories (told_period period) edits)
 
@@ -238,7 +239,7 @@ record_read known law state at fields text sound adds = by (answer_of state.rows
     by (Refused cause) is =
         let rows : List OutputRow = refused_row at (code_of cause) ∷ [] in
         passed_over rows text (in_csv state rows text sound.form is) (known.words.refused at (code_of cause)) (known.others.refused at (code_of cause))
-    by (Stored row) is = nothing is
+    by (Stored effect) is = nothing is
     by (Says accepted) is = said accepted is
 
 pub session_read : AreKnown → NamedLaw → AcceptedLaw → (state : SessionState) (at : ℕ) (records : List (List (List ℕ))) (text : List ℕ) → IsSound state → IsSessionText state at records text → ReadsBack text

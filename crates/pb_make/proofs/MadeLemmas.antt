@@ -14,10 +14,11 @@ use Rattle.pb_site.specs.Row.{measure_value, nodal_value, node_name as declared_
 use Rattle.pb_site.specs.Site.{arc_names, arcs_of, node_names}
 use Rattle.pb_site.specs.Faults.{is_among, is_node}
 use Rattle.pb_facts.specs.declared.facts.KeptFact.{KeptFact}
-use Rattle.pb_book.specs.declared.rows.BookRow.TheVariants.{Declaration, Period as PeriodRow}
+use Rattle.pb_kinds.specs.declared.rows.Effect.TheVariants.{Declares, Opens}
+use Rattle.pb_kinds.specs.Laws.{AskingLaw}
 use Rattle.pb_book.specs.declared.rows.Period.{Period}
 use Rattle.pb_book.specs.Answer.{after}
-use Rattle.pb_book.specs.Rows.{StoredRow}
+use Rattle.pb_book.specs.declared.rows.StoredRow.{StoredRow}
 use Rattle.pb_make.specs.declared.plant.MadeStream.{MadeStream}
 use Rattle.pb_make.specs.Bounds.{IsMade}
 use Rattle.pb_make.specs.Laws.{AreTaken}
@@ -30,7 +31,7 @@ use Rattle.pb_make.proofs.TakenLemmas.{HasNoCause, IsAt, fewer, store_declaratio
 -- ---- units
 
 -- no cause to refuse the next unit
-unit_fine : (k : ℕ) → k < 1000 → HasNoCause (units 1 k) [] [] (Declaration (declared_unit (k + 1)))
+unit_fine : (k : ℕ) → k < 1000 → HasNoCause (units 1 k) [] [] (Declares (declared_unit (k + 1)))
 unit_fine k few =
     let name = node_name (k + 1) in
     let nodes : filter_map declared_node (units 1 k) ≡ map node_name (range_with_len 1 k) = nodes_of 1 k in
@@ -59,18 +60,18 @@ abbrev pub Rest : (List StoredRow → Type 0) → List Declared → List KeptFac
 Rest Holds declared kept periods records = (rows : List StoredRow) (at : ℕ) → IsAt rows declared kept periods → AreTaken Holds rows at records
 
 -- the units that are left, behind k of them
-pub units_taken : (Holds : List StoredRow → Type 0) (k left : ℕ) (records : List (List (List ℕ))) → k + left ≤ 1000 → Rest Holds (units 1 (k + left)) [] [] records
+pub units_taken : AskingLaw → (Holds : List StoredRow → Type 0) (k left : ℕ) (records : List (List (List ℕ))) → k + left ≤ 1000 → Rest Holds (units 1 (k + left)) [] [] records
     → Rest Holds (units 1 k) [] [] (map unit_row (range_with_len (k + 1) left) ++ records)
-units_taken Holds k zero records few rest rows at is =
+units_taken law Holds k zero records few rest rows at is =
     let same : k ≡ k + 0 = omega arith in
     rest rows at (subst (λ (n : ℕ). IsAt rows (units 1 n) [] []) same is)
-units_taken Holds k (suc left) records few rest rows at is =
+units_taken law Holds k (suc left) records few rest rows at is =
     let taken = store_declaration rows at (unit_row (k + 1)) (declared_unit (k + 1)) (units 1 k) [] [] is
-    (unit_asks (node_name (k + 1)) (is_node_name (k + 1) (omega (arith, few)))) (unit_fine k (omega (arith, few))) in
+    (unit_asks law (node_name (k + 1)) (is_node_name (k + 1) (omega (arith, few)))) (unit_fine k (omega (arith, few))) in
     let more : units 1 k ++ declared_unit (k + 1) ∷ [] ≡ units 1 (k + 1) = sym (map-range_with_len_more declared_unit 1 k (k + 1) (omega arith)) in
     let same : k + suc left ≡ (k + 1) + left = omega arith in (
       taken.fine,
-      units_taken Holds (k + 1) left records (omega (arith, few)) (subst (λ (n : ℕ). Rest Holds (units 1 n) [] [] records) same rest) (after rows at (unit_row (k + 1))) (at + 1)
+      units_taken law Holds (k + 1) left records (omega (arith, few)) (subst (λ (n : ℕ). Rest Holds (units 1 n) [] [] records) same rest) (after rows at (unit_row (k + 1))) (at + 1)
           (subst (λ (d : List Declared). IsAt (after rows at (unit_row (k + 1))) d [] []) more taken.next),
     )
 
@@ -81,7 +82,7 @@ none_other = record { no_node = refl; no_arc = λ nodes. refl }
 
 -- no cause to refuse the next stream
 stream_fine : (n i : ℕ) (streams : List MadeStream) (stream : MadeStream) → n ≤ 1000 → length streams < most_streams → i ≡ length streams + 1 → IsMade n stream
-    → HasNoCause (plant_of n streams []) [] [] (Declaration (declared_stream i stream))
+    → HasNoCause (plant_of n streams []) [] [] (Declares (declared_stream i stream))
 stream_fine n i streams stream few less is made =
     let declared = plant_of n streams [] in
     let names = node_names declared in
@@ -106,21 +107,21 @@ stream_fine n i streams stream few less is made =
     }
 
 -- the streams that are left, behind those before them
-pub streams_taken : (Holds : List StoredRow → Type 0) (n i : ℕ) (before streams : List MadeStream) (records : List (List (List ℕ))) → n ≤ 1000 → length before + length streams ≤ most_streams → i ≡ length before + 1
+pub streams_taken : AskingLaw → (Holds : List StoredRow → Type 0) (n i : ℕ) (before streams : List MadeStream) (records : List (List (List ℕ))) → n ≤ 1000 → length before + length streams ≤ most_streams → i ≡ length before + 1
     → AllByRecursion (IsMade n) streams → Rest Holds (plant_of n (before ++ streams) []) [] [] records → Rest Holds (plant_of n before []) [] [] (stream_rows i streams ++ records)
-streams_taken Holds n i before [] records few less is made rest rows at here =
+streams_taken law Holds n i before [] records few less is made rest rows at here =
     rest rows at (subst (λ (l : List MadeStream). IsAt rows (plant_of n l []) [] []) (sym (append-nil before)) here)
-streams_taken Holds n i before (stream ∷ streams) records few less is made rest rows at here =
+streams_taken law Holds n i before (stream ∷ streams) records few less is made rest rows at here =
     let next = before ++ stream ∷ [] in
     let row = stream_row i stream in
     let small : i < 2 ^ 32 = omega (arith, is, less) in
     let taken = store_declaration rows at row (declared_stream i stream) (plant_of n before []) [] [] here
-    (stream_asks i (stream_name i) (node_name stream.from) (node_name stream.to) (is_stream_name i small) (is_node_name stream.from (omega (arith, made.0.within, few)))
+    (stream_asks law i (stream_name i) (node_name stream.from) (node_name stream.to) (is_stream_name i small) (is_node_name stream.from (omega (arith, made.0.within, few)))
     (is_node_name stream.to (omega (arith, made.0.ends, few))))
     (stream_fine n i before stream few (omega (arith, less)) is made.0) in
     let long : length next ≡ length before + 1 = length-append before (stream ∷ []) in (
       taken.fine,
-      streams_taken Holds n (i + 1) next streams records few (omega (arith, less, long)) (omega (arith, is, long)) made.1
+      streams_taken law Holds n (i + 1) next streams records few (omega (arith, less, long)) (omega (arith, is, long)) made.1
           (subst (λ (l : List MadeStream). Rest Holds (plant_of n l []) [] [] records) (sym (append_assoc before (stream ∷ []) streams)) rest)
           (after rows at row) (at + 1) (subst (λ (d : List Declared). IsAt (after rows at row) d [] []) (plant_push n i before stream is) taken.next),
     )
@@ -136,11 +137,11 @@ nodal = CritNodal (pos 3841)
 abbrev pub measure : Declared
 measure = CritMeasure (pos 3841)
 
-period_fine : (declared : List Declared) → HasNoCause declared [] [] (PeriodRow made_period (day_at 1) (day_at 30))
+period_fine : (declared : List Declared) → HasNoCause declared [] [] (Opens made_period (day_at 1) (day_at 30))
 unfolding days_from_civil day_count days_of_years days_of_months
 period_fine declared = record { known = refl; new = refl; ordered = refl; matching = refl; unsealed = refl; still_open = refl; in_range = refl; room = refl }
 
-nodal_fine : (n : ℕ) (streams : List MadeStream) (periods : List Period) → HasNoCause (plant_of n streams []) [] periods (Declaration nodal)
+nodal_fine : (n : ℕ) (streams : List MadeStream) (periods : List Period) → HasNoCause (plant_of n streams []) [] periods (Declares nodal)
 nodal_fine n streams periods = record {
   known = refl;
   new = ap (λ (l : List ℤ). is_some (slice_get l 0)) (skip nodal_value (λ i. refl) (λ i s. refl) n streams []);
@@ -152,7 +153,7 @@ nodal_fine n streams periods = record {
   room = refl;
 }
 
-measure_fine : (n : ℕ) (streams : List MadeStream) (periods : List Period) → HasNoCause (plant_of n streams (nodal ∷ [])) [] periods (Declaration measure)
+measure_fine : (n : ℕ) (streams : List MadeStream) (periods : List Period) → HasNoCause (plant_of n streams (nodal ∷ [])) [] periods (Declares measure)
 measure_fine n streams periods = record {
   known = refl;
   new = ap (λ (l : List ℤ). is_some (slice_get l 0)) (skip measure_value (λ i. refl) (λ i s. refl) n streams (nodal ∷ []));
@@ -169,15 +170,15 @@ plant_more : (n : ℕ) (streams : List MadeStream) (more : List Declared) (row :
 plant_more n streams more row =
     append_assoc (units 1 n) (streams_from 1 streams ++ more) (row ∷ []) ∙ ap (λ (l : List Declared). units 1 n ++ l) (append_assoc (streams_from 1 streams) more (row ∷ []))
 
-pub middle_taken : (Holds : List StoredRow → Type 0) → HaveOneDateText → (n : ℕ) (streams : List MadeStream) (records : List (List (List ℕ))) → Rest Holds (plant_of n streams (nodal ∷ measure ∷ [])) [] (the_period ∷ []) records
+pub middle_taken : AskingLaw → (Holds : List StoredRow → Type 0) → HaveOneDateText → (n : ℕ) (streams : List MadeStream) (records : List (List (List ℕ))) → Rest Holds (plant_of n streams (nodal ∷ measure ∷ [])) [] (the_period ∷ []) records
     → Rest Holds (plant_of n streams []) [] [] (middle_rows ++ records)
-middle_taken Holds dates n streams records rest rows at is =
-    let first = store_period rows at period_row made_period (day_at 1) (day_at 30) (plant_of n streams []) [] [] is (period_asks dates) (period_fine (plant_of n streams [])) in
+middle_taken law Holds dates n streams records rest rows at is =
+    let first = store_period rows at period_row made_period (day_at 1) (day_at 30) (plant_of n streams []) [] [] is (period_asks law dates) (period_fine (plant_of n streams [])) in
     let one = after rows at period_row in
-    let second = store_declaration one (at + 1) (critical_row (codes "nodal")) nodal (plant_of n streams []) [] (the_period ∷ []) first.next nodal_asks (nodal_fine n streams (the_period ∷ [])) in
+    let second = store_declaration one (at + 1) (critical_row (codes "nodal")) nodal (plant_of n streams []) [] (the_period ∷ []) first.next (nodal_asks law) (nodal_fine n streams (the_period ∷ [])) in
     let two = after one (at + 1) (critical_row (codes "nodal")) in
     let two_is = subst (λ (d : List Declared). IsAt two d [] (the_period ∷ [])) (plant_more n streams [] nodal) second.next in
-    let third = store_declaration two (at + 1 + 1) (critical_row (codes "measure")) measure (plant_of n streams (nodal ∷ [])) [] (the_period ∷ []) two_is measure_asks
+    let third = store_declaration two (at + 1 + 1) (critical_row (codes "measure")) measure (plant_of n streams (nodal ∷ [])) [] (the_period ∷ []) two_is (measure_asks law)
     (measure_fine n streams (the_period ∷ [])) in
     let three = after two (at + 1 + 1) (critical_row (codes "measure")) in
     let three_is = subst (λ (d : List Declared). IsAt three d [] (the_period ∷ [])) (plant_more n streams (nodal ∷ []) measure) third.next in

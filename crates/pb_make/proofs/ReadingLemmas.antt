@@ -24,14 +24,13 @@ use Rattle.pb_facts.specs.declared.fact.Fact.{Fact}
 use Rattle.pb_facts.specs.declared.fact.Fact.TheVariants.{Reading}
 use Rattle.pb_facts.specs.declared.facts.KeptFact.{KeptFact}
 use Rattle.pb_facts.specs.Facts.{is_repeat}
-use Rattle.pb_book.specs.declared.rows.BookRow.TheVariants.{Fact as FactRow}
+use Rattle.pb_kinds.specs.declared.rows.Effect.TheVariants.{Books}
 use Rattle.pb_book.specs.declared.rows.Period.{Period}
 use Rattle.pb_book.specs.Answer.{after, answer_if, is_refused, report_or_refused}
 use Rattle.pb_book.specs.Apart.{is_named}
-use Rattle.pb_book.specs.Requests.{request_in}
-use Rattle.pb_rows.specs.Records.{without_trailing_empty}
+use Rattle.pb_kinds.specs.Laws.{AskingLaw}
 use Rattle.pb_book.specs.Refusals.{is_of_other_kind, names_other}
-use Rattle.pb_book.specs.Rows.{StoredRow}
+use Rattle.pb_book.specs.declared.rows.StoredRow.{StoredRow}
 use Rattle.pb_make.specs.declared.plant.MadeStream.{MadeStream}
 use Rattle.pb_make.specs.Bounds.{IsMade}
 use Rattle.pb_make.specs.Laws.{Anything}
@@ -162,7 +161,7 @@ kind_is n place streams few within =
     kind_by plain = arc_kind (if plain then Plain else Metered)
 
 reading_fine : HaveOneDateText → (number sides n place : ℕ) (streams : List MadeStream) → length streams ≤ most_streams → place < readings_of (length streams)
-    → HasNoCause (plant_of n streams (nodal ∷ measure ∷ [])) (kept_to number sides streams place) (the_period ∷ []) (FactRow (fact_at number sides streams place))
+    → HasNoCause (plant_of n streams (nodal ∷ measure ∷ [])) (kept_to number sides streams place) (the_period ∷ []) (Books (fact_at number sides streams place) false)
 reading_fine dates number sides n place streams few within =
     let fact = fact_at number sides streams place in
     let kind = kind_is n place streams few within in
@@ -190,14 +189,14 @@ error_fits draw =
     (omega (arith, ints, small), omega (arith, ints, small))
 
 -- the readings that are left, behind those before them
-pub readings_taken : (Holds : List StoredRow → Type 0) → HaveOneNumberText → HaveOneDateText → (number sides n place left : ℕ) (streams : List MadeStream) (records : List (List (List ℕ))) → length streams ≤ most_streams
+pub readings_taken : AskingLaw → (Holds : List StoredRow → Type 0) → HaveOneNumberText → HaveOneDateText → (number sides n place left : ℕ) (streams : List MadeStream) (records : List (List (List ℕ))) → length streams ≤ most_streams
     → All (IsMade n) streams → place + left ≤ readings_of (length streams)
     → Rest Holds (plant_of n streams (nodal ∷ measure ∷ [])) (kept_to number sides streams (place + left)) (the_period ∷ []) records
     → Rest Holds (plant_of n streams (nodal ∷ measure ∷ [])) (kept_to number sides streams place) (the_period ∷ []) (map (reading_row_at number sides streams) (range_with_len place left) ++ records)
-readings_taken Holds numbers dates number sides n place zero streams records few made within rest rows at is =
+readings_taken law Holds numbers dates number sides n place zero streams records few made within rest rows at is =
     let same : place ≡ place + 0 = omega arith in
     rest rows at (subst (λ (k : ℕ). IsAt rows (plant_of n streams (nodal ∷ measure ∷ [])) (kept_to number sides streams k) (the_period ∷ [])) same is)
-readings_taken Holds numbers dates number sides n place (suc left) streams records few made within rest rows at is =
+readings_taken law Holds numbers dates number sides n place (suc left) streams records few made within rest rows at is =
     let declared = plant_of n streams (nodal ∷ measure ∷ []) in
     let row = reading_row_at number sides streams place in
     let j = stream_read place in
@@ -209,24 +208,23 @@ readings_taken Holds numbers dates number sides n place (suc left) streams recor
     let error_is = error_fits (reading_draw number sides place) in
     let are = shown truth error truth_is.0 truth_is.1 error_is.0 error_is.1 in
     let taken = store_fact rows at row (fact_at number sides streams place) declared (kept_to number sides streams place) (the_period ∷ []) is
-    (reading_asks numbers dates (reading_id place) (stream_name j) (day_read place) (shown_grams truth error) (variance_of truth) (is_reading_id place (omega (arith, here, few)))
+    (reading_asks law numbers dates (reading_id place) (stream_name j) (day_read place) (shown_grams truth error) (variance_of truth) (is_reading_id place (omega (arith, here, few)))
     (is_stream_name j (omega (arith, there, few))) (omega arith) (omega arith) are.low are.high are.least are.most)
     (reading_fine dates number sides n place streams few here) in
     let more : kept_to number sides streams place ++ kept_at number sides streams place ∷ [] ≡ kept_to number sides streams (place + 1) =
     sym (map-range_with_len_more (kept_at number sides streams) 0 place place (omega arith)) in
     let same : place + suc left ≡ (place + 1) + left = omega arith in (
       taken.fine,
-      readings_taken Holds numbers dates number sides n (place + 1) left streams records few made (omega (arith, within))
+      readings_taken law Holds numbers dates number sides n (place + 1) left streams records few made (omega (arith, within))
           (subst (λ (k : ℕ). Rest Holds declared (kept_to number sides streams k) (the_period ∷ []) records) same rest) (after rows at row) (at + 1)
           (subst (λ (k : List KeptFact). IsAt (after rows at row) declared k (the_period ∷ [])) more taken.next),
     )
 
 -- ---- the report
 
-pub report_taken : (declared : List Declared) (kept : List KeptFact) → Rest Anything declared kept (the_period ∷ []) (report_row ∷ [])
-report_taken declared kept rows at is = (
-  ap (λ v. is_refused (answer_if rows (request_in v (without_trailing_empty report_row)))) is.version
-      ∙ ap (λ r. is_refused (answer_if rows r)) report_asks
+pub report_taken : AskingLaw → (declared : List Declared) (kept : List KeptFact) → Rest Anything declared kept (the_period ∷ []) (report_row ∷ [])
+report_taken law declared kept rows at is = (
+  ap (λ r. is_refused (answer_if rows r)) (report_asks law)
       ∙ ap (λ (p : List Period). is_refused (report_or_refused (position (is_named made_period) p))) is.periods_is,
   tt,
 )

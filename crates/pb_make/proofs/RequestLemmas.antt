@@ -1,50 +1,30 @@
 -- What the rows of a made session ask.
-use Rattle.std.proofs.Common.{◌≡◌, ◌≢◌, ◌≤◌, ◌∙◌, ℕ, ◌+◌, ◌/◌, ◌%◌, ◌++◌, ◌∷◌, [], List, Bool, true, false, ℤ, pos, Some, Ok, length, ap, refl, arith}
-use Rattle.std.specs.Prelude.{◌==◌, ◌&&◌, ◌≤ℤ◌, int_le, neg_ℤ, codes, if◌then◌else◌, slice_index}
-use Rattle.std.proofs.lemmas.Bool.{ne_eqb}
+use Rattle.std.proofs.Common.{◌≡◌, ◌≢◌, ◌≤◌, ◌∙◌, ℕ, ◌+◌, ◌/◌, ◌%◌, ◌∷◌, [], List, Bool, true, false, ℤ, pos, Some, Ok, ap, refl, arith}
+use Rattle.std.specs.Prelude.{◌≤ℤ◌, int_le, neg_ℤ, codes, if◌then◌else◌, slice_index}
 use Rattle.std.proofs.lemmas.Int.{ints}
 use Rattle.jiff_core.specs.Calendar.{days_from_civil}
 use Rattle.pb_limits.specs.Limits.{most_grams, most_row_variance}
 use Rattle.pb_rows.specs.Date.{IsDate, day_of}
 use Rattle.pb_rows.specs.Name.{is_name}
-use Rattle.pb_rows.specs.Number.{number, whole_text, within}
-use Rattle.pb_rows.specs.Records.{without_trailing_empty}
+use Rattle.pb_rows.specs.Number.{whole_text, within}
 use Rattle.pb_rows.specs.Texts.{HaveOneDateText, HaveOneNumberText}
+use Rattle.pb_form.specs.Value as value
+use Rattle.pb_form.specs.declared.session.SessionKind.TheVariants as kind
 use Rattle.pb_site.specs.declared.declared.Declared.TheVariants.{Unit as UnitDeclared, Stream as StreamDeclared, CritNodal, CritMeasure}
 use Rattle.pb_site.specs.declared.declared.Kind.{Kind}
 use Rattle.pb_site.specs.declared.declared.Kind.TheVariants.{Metered, Plain}
 use Rattle.pb_facts.specs.declared.fact.Fact.TheVariants.{Reading as ReadingFact}
-use Rattle.pb_book.specs.declared.rows.BookRow.TheVariants.{Declaration, Period as PeriodRow, Fact as FactRow}
-use Rattle.pb_book.specs.declared.requests.Request.TheVariants.{Store, Report as ReportAsked}
-use Rattle.pb_book.specs.declared.requests.Version.TheVariants.{One}
-use Rattle.pb_book.specs.Requests.{request_in}
+use Rattle.pb_kinds.specs.declared.rows.Effect.TheVariants.{Declares, Opens, Books}
+use Rattle.pb_kinds.specs.declared.rows.Request.TheVariants.{Store, Report as ReportAsked}
+use Rattle.pb_kinds.specs.Laws.{AskingLaw}
+use Rattle.pb_kinds.specs.Requests.{request_in}
 use Rattle.pb_make.specs.Readings.{is_plain}
 use Rattle.pb_make.specs.Rows.{critical_row, day_text, kind_fields, made_period, period_row, report_row}
 
--- ---- no empty field at the end
-
-full : (name : List ℕ) → is_name name ≡ true → (length name == 0) ≡ false
-full [] e = cc e
-full (b ∷ bytes) e = ne_eqb (length (b ∷ bytes)) 0 (λ same. absurd (omega (arith, same)))
-
--- a record whose last field isn't empty keeps all of them
-kept : (front : List (List ℕ)) (last : List ℕ) → (length last == 0) ≡ false → without_trailing_empty (front ++ last ∷ []) ≡ front ++ last ∷ []
-kept [] last some = rw some refl
-kept (field ∷ front) last some = rw (kept front last some, many front) (by (length field == 0))
-  where
-    many : (front : List (List ℕ)) → (length (front ++ last ∷ []) == 0) ≡ false
-    many [] = ne_eqb (length (last ∷ [])) 0 (λ same. absurd (omega (arith, same)))
-    many (f ∷ fs) = ne_eqb (length (f ∷ (fs ++ last ∷ []))) 0 (λ same. absurd (omega (arith, same)))
-
-    by : (b : Bool) → (if b && false then [] else field ∷ (front ++ last ∷ [])) ≡ field ∷ (front ++ last ∷ [])
-    by true = refl
-    by false = refl
-
 -- ---- declarations
 
-pub unit_asks : (name : List ℕ) → is_name name ≡ true
-    → request_in One (without_trailing_empty (codes "unit" ∷ name ∷ [])) ≡ Ok (Store (Declaration (UnitDeclared name)))
-unit_asks name good = ap (request_in One) (kept (codes "unit" ∷ []) name (full name good)) ∙ rw good refl
+pub unit_asks : AskingLaw → (name : List ℕ) → is_name name ≡ true → request_in (codes "unit" ∷ name ∷ []) ≡ Ok (Store (Declares (UnitDeclared name)))
+unit_asks law name good = law kind.Unit (value.Word 0 ∷ value.Name name ∷ []) (codes "unit" ∷ name ∷ []) (rw good refl) ∙ rw good refl
 
 -- the kind of a stream, and its base variance
 abbrev pub kind_at : ℕ → Kind
@@ -53,14 +33,20 @@ kind_at i = if is_plain i then Plain else Metered
 abbrev pub base_at : ℕ → ℤ
 base_at i = if is_plain i then pos 0 else pos 1
 
-pub stream_asks : (i : ℕ) (name from to : List ℕ) → is_name name ≡ true → is_name from ≡ true → is_name to ≡ true
-    → request_in One (without_trailing_empty (codes "stream" ∷ name ∷ from ∷ to ∷ kind_fields i)) ≡ Ok (Store (Declaration (StreamDeclared name from to (kind_at i) (base_at i))))
-stream_asks i name from to name_is from_is to_is = by (is_plain i)
+pub stream_asks : AskingLaw → (i : ℕ) (name from to : List ℕ) → is_name name ≡ true → is_name from ≡ true → is_name to ≡ true
+    → request_in (codes "stream" ∷ name ∷ from ∷ to ∷ kind_fields i) ≡ Ok (Store (Declares (StreamDeclared name from to (kind_at i) (base_at i))))
+stream_asks law i name from to name_is from_is to_is = by (is_plain i)
   where
-    by : (plain : Bool) → request_in One (without_trailing_empty (codes "stream" ∷ name ∷ from ∷ to ∷ (if plain then codes "plain" ∷ codes "0" ∷ [] else codes "metered" ∷ codes "1" ∷ [])))
-        ≡ Ok (Store (Declaration (StreamDeclared name from to (if plain then Plain else Metered) (if plain then pos 0 else pos 1))))
-    by true = ap (request_in One) (kept (codes "stream" ∷ name ∷ from ∷ to ∷ codes "plain" ∷ []) (codes "0") refl) ∙ rw (name_is, from_is, to_is) refl
-    by false = ap (request_in One) (kept (codes "stream" ∷ name ∷ from ∷ to ∷ codes "metered" ∷ []) (codes "1") refl) ∙ rw (name_is, from_is, to_is) refl
+    by : (plain : Bool) → request_in (codes "stream" ∷ name ∷ from ∷ to ∷ (if plain then codes "plain" ∷ codes "0" ∷ [] else codes "metered" ∷ codes "1" ∷ []))
+        ≡ Ok (Store (Declares (StreamDeclared name from to (if plain then Plain else Metered) (if plain then pos 0 else pos 1))))
+    by true =
+        law kind.StreamPlain (value.Word 0 ∷ value.Name name ∷ value.Name from ∷ value.Name to ∷ value.Word 0 ∷ value.Number (pos 0) ∷ [])
+        (codes "stream" ∷ name ∷ from ∷ to ∷ codes "plain" ∷ codes "0" ∷ []) (rw (name_is, from_is, to_is) refl)
+        ∙ rw (name_is, from_is, to_is) refl
+    by false =
+        law kind.StreamMetered (value.Word 0 ∷ value.Name name ∷ value.Name from ∷ value.Name to ∷ value.Word 0 ∷ value.Number (pos 1) ∷ [])
+        (codes "stream" ∷ name ∷ from ∷ to ∷ codes "metered" ∷ codes "1" ∷ []) (rw (name_is, from_is, to_is) refl)
+        ∙ rw (name_is, from_is, to_is) refl
 
 -- ---- the rows between the plant and its readings
 
@@ -84,17 +70,17 @@ days_apart law m n m_from m_to n_from n_to other = λ same.
     let ones : 48 + m % 10 ≡ 48 + n % 10 = ap (λ (text : List ℕ). slice_index text 9) texts in
     other (omega (arith, tens, ones))
 
-pub period_asks : HaveOneDateText → request_in One (without_trailing_empty period_row) ≡ Ok (Store (PeriodRow made_period (day_at 1) (day_at 30)))
-period_asks law = refl
+pub period_asks : AskingLaw → HaveOneDateText → request_in period_row ≡ Ok (Store (Opens made_period (day_at 1) (day_at 30)))
+period_asks law dates = law kind.Period (value.Word 0 ∷ value.Name made_period ∷ value.Date (day_at 1) ∷ value.Date (day_at 30) ∷ []) period_row refl
 
-pub nodal_asks : request_in One (without_trailing_empty (critical_row (codes "nodal"))) ≡ Ok (Store (Declaration (CritNodal (pos 3841))))
-nodal_asks = refl
+pub nodal_asks : AskingLaw → request_in (critical_row (codes "nodal")) ≡ Ok (Store (Declares (CritNodal (pos 3841))))
+nodal_asks law = law kind.CriticalNodal (value.Word 0 ∷ value.Word 0 ∷ value.Number (pos 3841) ∷ []) (critical_row (codes "nodal")) refl
 
-pub measure_asks : request_in One (without_trailing_empty (critical_row (codes "measure"))) ≡ Ok (Store (Declaration (CritMeasure (pos 3841))))
-measure_asks = refl
+pub measure_asks : AskingLaw → request_in (critical_row (codes "measure")) ≡ Ok (Store (Declares (CritMeasure (pos 3841))))
+measure_asks law = law kind.CriticalMeasure (value.Word 0 ∷ value.Word 0 ∷ value.Number (pos 3841) ∷ []) (critical_row (codes "measure")) refl
 
-pub report_asks : request_in One (without_trailing_empty report_row) ≡ Ok (ReportAsked made_period)
-report_asks = refl
+pub report_asks : AskingLaw → request_in report_row ≡ Ok (ReportAsked made_period)
+report_asks law = law kind.Report (value.Word 0 ∷ value.Name made_period ∷ []) report_row refl
 
 -- ---- readings
 
@@ -108,23 +94,15 @@ passes lo hi z from to =
     at_most : (a b : ℤ) → a ≤ℤ b → int_le a b ≡ true
     at_most a b le = grind (arith, ints)
 
--- the text of a number isn't empty
-some_text : HaveOneNumberText → (z : ℤ) → (length (whole_text z) == 0) ≡ false
-some_text law z = by (whole_text z) (law.read z)
-  where
-    by : (text : List ℕ) → number text ≡ Some z → (length text == 0) ≡ false
-    by [] e = cc e
-    by (b ∷ bytes) e = ne_eqb (length (b ∷ bytes)) 0 (λ same. absurd (omega (arith, same)))
-
-pub reading_asks : HaveOneNumberText → HaveOneDateText → (id stream : List ℕ) (day : ℕ) (grams variance : ℤ) → is_name id ≡ true → is_name stream ≡ true → 1 ≤ day → day ≤ 31
+pub reading_asks : AskingLaw → HaveOneNumberText → HaveOneDateText → (id stream : List ℕ) (day : ℕ) (grams variance : ℤ) → is_name id ≡ true → is_name stream ≡ true → 1 ≤ day → day ≤ 31
     → neg_ℤ (pos most_grams) ≤ℤ grams → grams ≤ℤ pos most_grams → pos 0 ≤ℤ variance → variance ≤ℤ pos most_row_variance
-    → request_in One (without_trailing_empty (codes "reading" ∷ id ∷ stream ∷ day_text day ∷ whole_text grams ∷ whole_text variance ∷ []))
-    ≡ Ok (Store (FactRow (ReadingFact id stream (day_at day) grams variance)))
-reading_asks numbers dates id stream day grams variance id_is stream_is from to grams_low grams_high variance_low variance_high =
-    let front = codes "reading" ∷ id ∷ stream ∷ day_text day ∷ whole_text grams ∷ [] in
+    → request_in (codes "reading" ∷ id ∷ stream ∷ day_text day ∷ whole_text grams ∷ whole_text variance ∷ [])
+    ≡ Ok (Store (Books (ReadingFact id stream (day_at day) grams variance) false))
+reading_asks law numbers dates id stream day grams variance id_is stream_is from to grams_low grams_high variance_low variance_high =
+    let fields = codes "reading" ∷ id ∷ stream ∷ day_text day ∷ whole_text grams ∷ whole_text variance ∷ [] in
+    let values = value.Word 0 ∷ value.Name id ∷ value.Name stream ∷ value.Date (day_at day) ∷ value.Number grams ∷ value.Number variance ∷ [] in
     let read = day_read_back dates day from to in
-    ap (request_in One) (kept front (whole_text variance) (some_text numbers variance))
-    ∙ rw (
+    law kind.Reading values fields (rw (
       id_is,
       stream_is,
       read,
@@ -132,4 +110,5 @@ reading_asks numbers dates id stream day grams variance id_is stream_is from to 
       numbers.read variance,
       passes (neg_ℤ (pos most_grams)) (pos most_grams) grams grams_low grams_high,
       passes (pos 0) (pos most_row_variance) variance variance_low variance_high,
-    ) refl
+    ) refl)
+    ∙ rw (id_is, stream_is) refl

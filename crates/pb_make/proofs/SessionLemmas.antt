@@ -9,8 +9,9 @@ use Rattle.pb_limits.specs.Limits.{most_streams}
 use Rattle.pb_rows.specs.Texts.{HaveOneDateText, HaveOneNumberText}
 use Rattle.pb_rows.specs.Written.{begins_with_word}
 use Rattle.pb_site.specs.declared.declared.Declared.{Declared}
+use Rattle.pb_kinds.specs.Laws.{AskingLaw}
 use Rattle.pb_book.specs.Answer.{after}
-use Rattle.pb_book.specs.Rows.{StoredRow}
+use Rattle.pb_book.specs.declared.rows.StoredRow.{StoredRow}
 use Rattle.pb_make.specs.declared.plant.MadeStream.{MadeStream}
 use Rattle.pb_make.specs.Bounds.{IsMade}
 use Rattle.pb_make.specs.Laws.{Anything, AreTaken, HasMadePeriod}
@@ -65,32 +66,32 @@ IsMadeOf number streams rows =
     (kept_to number (sides_of streams) (made_streams number streams) (0 + readings_of streams)) (the_period ∷ [])
 
 -- the readings
-readings_are : HaveOneNumberText → HaveOneDateText → (number streams : ℕ) → least_streams ≤ streams → streams ≤ most_streams
+readings_are : AskingLaw → HaveOneNumberText → HaveOneDateText → (number streams : ℕ) → least_streams ≤ streams → streams ≤ most_streams
     → Rest (IsMadeOf number streams) (plant_of (units_of streams) (made_streams number streams) (nodal ∷ measure ∷ [])) [] (the_period ∷ []) (reading_rows number streams)
-readings_are numbers dates number streams least most =
+readings_are law numbers dates number streams least most =
     let n = units_of streams in
     let plant = made_streams number streams in
     let is = plant_is number streams least most in
     let declared = plant_of n plant (nodal ∷ measure ∷ []) in
     let count : 0 + readings_of streams ≤ readings_of (length plant) = omega (arith, is.count) in
     subst (λ (rows : List (List (List ℕ))). Rest (IsMadeOf number streams) declared [] (the_period ∷ []) rows) (append-nil (reading_rows number streams))
-    (readings_taken (IsMadeOf number streams) numbers dates number (sides_of streams) n 0 (readings_of streams) plant [] (omega (arith, is.count, most)) is.fits count (λ rows at here. here))
+    (readings_taken law (IsMadeOf number streams) numbers dates number (sides_of streams) n 0 (readings_of streams) plant [] (omega (arith, is.count, most)) is.fits count (λ rows at here. here))
 
 -- the rows that are stored
-pub stored_taken : HaveOneNumberText → HaveOneDateText → (number streams : ℕ) → least_streams ≤ streams → streams ≤ most_streams
+pub stored_taken : AskingLaw → HaveOneNumberText → HaveOneDateText → (number streams : ℕ) → least_streams ≤ streams → streams ≤ most_streams
     → AreTaken (IsMadeOf number streams) [] 1 (stored_rows number streams)
-stored_taken numbers dates number streams least most =
+stored_taken law numbers dates number streams least most =
     let Holds = IsMadeOf number streams in
     let n = units_of streams in
     let plant = made_streams number streams in
     let is = plant_is number streams least most in
     let few : n ≤ 1000 = omega (arith, most) in
     let left = middle_rows ++ reading_rows number streams in
-    let middle : Rest Holds (plant_of n plant []) [] [] left = middle_taken Holds dates n plant (reading_rows number streams) (readings_are numbers dates number streams least most) in
+    let middle : Rest Holds (plant_of n plant []) [] [] left = middle_taken law Holds dates n plant (reading_rows number streams) (readings_are law numbers dates number streams least most) in
     let streams_are : Rest Holds (plant_of n [] []) [] [] (stream_rows 1 plant ++ left) =
-    streams_taken Holds n 1 [] plant left few (omega (arith, is.count, most)) (omega arith) (recursion_from_All (IsMade n) plant is.fits) middle in
+    streams_taken law Holds n 1 [] plant left few (omega (arith, is.count, most)) (omega arith) (recursion_from_All (IsMade n) plant is.fits) middle in
     let bare : plant_of n [] [] ≡ units 1 (0 + n) = append-nil (units 1 n) ∙ ap (λ (k : ℕ). units 1 k) (sum n) in
-    units_taken Holds 0 n (stream_rows 1 plant ++ left) (omega (arith, few)) (subst (λ (d : List Declared). Rest Holds d [] [] (stream_rows 1 plant ++ left)) bare streams_are) [] 1 none_stored
+    units_taken law Holds 0 n (stream_rows 1 plant ++ left) (omega (arith, few)) (subst (λ (d : List Declared). Rest Holds d [] [] (stream_rows 1 plant ++ left)) bare streams_are) [] 1 none_stored
   where
     sum : (n : ℕ) → n ≡ 0 + n
     sum n = omega arith
@@ -102,18 +103,18 @@ taken_then Before After rows at [] rest taken more = more rows at taken
 taken_then Before After rows at (fields ∷ first) rest taken more = (taken.0, taken_then Before After (after rows at fields) (at + 1) first rest taken.1 more)
 
 -- the whole session
-pub session_taken : HaveOneNumberText → HaveOneDateText → (number streams : ℕ) → least_streams ≤ streams → streams ≤ most_streams
+pub session_taken : AskingLaw → HaveOneNumberText → HaveOneDateText → (number streams : ℕ) → least_streams ≤ streams → streams ≤ most_streams
     → AreTaken Anything [] 1 (session_rows number streams)
-session_taken numbers dates number streams least most =
-    taken_then (IsMadeOf number streams) Anything [] 1 (stored_rows number streams) (report_row ∷ []) (stored_taken numbers dates number streams least most)
-    (report_taken (plant_of (units_of streams) (made_streams number streams) (nodal ∷ measure ∷ [])) (kept_to number (sides_of streams) (made_streams number streams) (0 + readings_of streams)))
+session_taken law numbers dates number streams least most =
+    taken_then (IsMadeOf number streams) Anything [] 1 (stored_rows number streams) (report_row ∷ []) (stored_taken law numbers dates number streams least most)
+    (report_taken law (plant_of (units_of streams) (made_streams number streams) (nodal ∷ measure ∷ [])) (kept_to number (sides_of streams) (made_streams number streams) (0 + readings_of streams)))
 
 -- its period
-pub period_stored : HaveOneNumberText → HaveOneDateText → (number streams : ℕ) → least_streams ≤ streams → streams ≤ most_streams
+pub period_stored : AskingLaw → HaveOneNumberText → HaveOneDateText → (number streams : ℕ) → least_streams ≤ streams → streams ≤ most_streams
     → AreTaken HasMadePeriod [] 1 (stored_rows number streams)
-period_stored numbers dates number streams least most =
+period_stored law numbers dates number streams least most =
     subst (λ (records : List (List (List ℕ))). AreTaken HasMadePeriod [] 1 records) (append-nil (stored_rows number streams))
-    (taken_then (IsMadeOf number streams) HasMadePeriod [] 1 (stored_rows number streams) [] (stored_taken numbers dates number streams least most) (λ rows next is. is.periods_is))
+    (taken_then (IsMadeOf number streams) HasMadePeriod [] 1 (stored_rows number streams) [] (stored_taken law numbers dates number streams least most) (λ rows next is. is.periods_is))
 
 -- ---- how many rows there are
 

@@ -4,51 +4,49 @@ use Rattle.std.specs.Prelude.{nat_le}
 use Rattle.std.proofs.lemmas.Bool.{cases_Bool, leb-true}
 use Rattle.std.proofs.lemmas.List.Elements.{filter_map-append}
 use Rattle.std.proofs.lemmas.List.Sums.{fold_push}
-use Rattle.pb_rows.specs.Records.{without_trailing_empty}
 use Rattle.pb_site.specs.declared.declared.Declared.{Declared}
 use Rattle.pb_facts.specs.declared.fact.Fact.{Fact}
 use Rattle.pb_facts.specs.declared.facts.KeptFact.{KeptFact}
-use Rattle.pb_book.specs.declared.requests.Request.TheVariants.{Store}
-use Rattle.pb_book.specs.declared.requests.Version.TheVariants.{One}
-use Rattle.pb_book.specs.declared.rows.BookRow.{BookRow}
-use Rattle.pb_book.specs.declared.rows.BookRow.TheVariants.{Declaration, Period as PeriodRow, Fact as FactRow}
+use Rattle.pb_kinds.specs.declared.rows.Effect.{Effect}
+use Rattle.pb_kinds.specs.declared.rows.Effect.TheVariants.{Declares, Opens, Books}
+use Rattle.pb_kinds.specs.declared.rows.Request.TheVariants.{Store}
+use Rattle.pb_kinds.specs.Requests.{request_in}
 use Rattle.pb_book.specs.declared.rows.Period.{Period}
 use Rattle.pb_book.specs.Answer.{Stored, after, after_answer, answer_if, answer_of, is_refused, stored_or_refused}
 use Rattle.pb_book.specs.Refusals.{is_closed, is_duplicate, is_full, is_mismatch, is_out_of_order, is_out_of_range, is_sealed, is_unknown, refusal_behind, refusal_of}
-use Rattle.pb_book.specs.Requests.{request_in}
-use Rattle.pb_book.specs.Rows.{StoredRow, declaration_in, declared_of, facts_after, facts_of, periods_after, periods_of, version_of}
+use Rattle.pb_book.specs.declared.rows.StoredRow.{StoredRow}
+use Rattle.pb_book.specs.Rows.{declaration_in, declared_of, facts_after, facts_of, periods_after, periods_of}
 
 -- what is stored so far
 pub record IsAt (rows : List StoredRow) (declared : List Declared) (kept : List KeptFact) (periods : List Period) : Type 0 where
-  pub version : version_of rows ≡ One
   pub declared_is : declared_of rows ≡ declared
   pub kept_is : facts_of rows ≡ kept
   pub periods_is : periods_of rows ≡ periods
 
 pub none_stored : IsAt [] [] [] []
-none_stored = record { version = refl; declared_is = refl; kept_is = refl; periods_is = refl }
+none_stored = record { declared_is = refl; kept_is = refl; periods_is = refl }
 
 -- no cause to refuse a row
-pub record HasNoCause (declared : List Declared) (kept : List KeptFact) (periods : List Period) (row : BookRow) : Type 0 where
-  pub known : is_unknown declared kept periods row ≡ false
-  pub new : is_duplicate declared kept periods row ≡ false
-  pub ordered : is_out_of_order declared row ≡ false
-  pub matching : is_mismatch declared kept periods row ≡ false
-  pub unsealed : is_sealed periods row ≡ false
-  pub still_open : is_closed periods row ≡ false
-  pub in_range : is_out_of_range declared kept row ≡ false
-  pub room : is_full declared kept periods row ≡ false
+pub record HasNoCause (declared : List Declared) (kept : List KeptFact) (periods : List Period) (effect : Effect) : Type 0 where
+  pub known : is_unknown declared kept periods effect ≡ false
+  pub new : is_duplicate declared kept periods effect ≡ false
+  pub ordered : is_out_of_order declared effect ≡ false
+  pub matching : is_mismatch declared kept periods effect ≡ false
+  pub unsealed : is_sealed periods effect ≡ false
+  pub still_open : is_closed periods effect ≡ false
+  pub in_range : is_out_of_range declared kept effect ≡ false
+  pub room : is_full declared kept periods effect ≡ false
 
-no_refusal : (declared : List Declared) (kept : List KeptFact) (periods : List Period) (row : BookRow) → HasNoCause declared kept periods row → refusal_behind declared kept periods row ≡ None
-no_refusal declared kept periods row none = rw (none.known, none.new, none.ordered, none.matching, none.unsealed, none.still_open, none.in_range, none.room) refl
+no_refusal : (declared : List Declared) (kept : List KeptFact) (periods : List Period) (effect : Effect) → HasNoCause declared kept periods effect → refusal_behind declared kept periods effect ≡ None
+no_refusal declared kept periods effect none = rw (none.known, none.new, none.ordered, none.matching, none.unsealed, none.still_open, none.in_range, none.room) refl
 
 -- no cause to refuse it behind the stored rows
-none_behind : (rows : List StoredRow) (declared : List Declared) (kept : List KeptFact) (periods : List Period) (row : BookRow) → IsAt rows declared kept periods
-    → HasNoCause declared kept periods row → refusal_of rows row ≡ None
-none_behind rows declared kept periods row is none =
-    ap (λ (d : List Declared). refusal_behind d (facts_of rows) (periods_of rows) row) is.declared_is
-    ∙ ap (λ (k : List KeptFact). refusal_behind declared k (periods_of rows) row) is.kept_is
-    ∙ ap (λ (p : List Period). refusal_behind declared kept p row) is.periods_is ∙ no_refusal declared kept periods row none
+none_behind : (rows : List StoredRow) (declared : List Declared) (kept : List KeptFact) (periods : List Period) (effect : Effect) → IsAt rows declared kept periods
+    → HasNoCause declared kept periods effect → refusal_of rows effect ≡ None
+none_behind rows declared kept periods effect is none =
+    ap (λ (d : List Declared). refusal_behind d (facts_of rows) (periods_of rows) effect) is.declared_is
+    ∙ ap (λ (k : List KeptFact). refusal_behind declared k (periods_of rows) effect) is.kept_is
+    ∙ ap (λ (p : List Period). refusal_behind declared kept p effect) is.periods_is ∙ no_refusal declared kept periods effect none
 
 -- a record that is taken, and what is stored after it
 pub record IsTaken (rows : List StoredRow) (at : ℕ) (fields : List (List ℕ)) (declared : List Declared) (kept : List KeptFact) (periods : List Period) : Type 0 where
@@ -56,30 +54,29 @@ pub record IsTaken (rows : List StoredRow) (at : ℕ) (fields : List (List ℕ))
   pub next : IsAt (after rows at fields) declared kept periods
 
 -- what one more stored row adds
-stored_is : (rows : List StoredRow) (at : ℕ) (row : BookRow) (declared more : List Declared) (kept : List KeptFact) (periods : List Period) → IsAt rows declared kept periods
-    → declared_of (record { at = at; row = row } ∷ []) ≡ more
-    → IsAt (rows ++ record { at = at; row = row } ∷ []) (declared ++ more) (facts_after kept row) (periods_after periods row)
-stored_is rows at row declared more kept periods is declared_is =
-    let stored : StoredRow = record { at = at; row = row } in
+stored_is : (rows : List StoredRow) (at : ℕ) (effect : Effect) (declared more : List Declared) (kept : List KeptFact) (periods : List Period) → IsAt rows declared kept periods
+    → declared_of (record { at = at; effect = effect } ∷ []) ≡ more
+    → IsAt (rows ++ record { at = at; effect = effect } ∷ []) (declared ++ more) (facts_after kept effect) (periods_after periods effect)
+stored_is rows at effect declared more kept periods is declared_is =
+    let stored : StoredRow = record { at = at; effect = effect } in
     record {
-      version = refl;
-      declared_is = filter_map-append (λ (s : StoredRow). declaration_in s.row) rows (stored ∷ []) ∙ ap₂ (λ (a b : List Declared). a ++ b) is.declared_is declared_is;
-      kept_is = fold_push (λ (k : List KeptFact) (s : StoredRow). facts_after k s.row) [] rows stored ∙ ap (λ (k : List KeptFact). facts_after k row) is.kept_is;
-      periods_is = fold_push (λ (p : List Period) (s : StoredRow). periods_after p s.row) [] rows stored ∙ ap (λ (p : List Period). periods_after p row) is.periods_is;
+      declared_is = filter_map-append (λ (s : StoredRow). declaration_in s.effect) rows (stored ∷ []) ∙ ap₂ (λ (a b : List Declared). a ++ b) is.declared_is declared_is;
+      kept_is = fold_push (λ (k : List KeptFact) (s : StoredRow). facts_after k s.effect) [] rows stored ∙ ap (λ (k : List KeptFact). facts_after k effect) is.kept_is;
+      periods_is = fold_push (λ (p : List Period) (s : StoredRow). periods_after p s.effect) [] rows stored ∙ ap (λ (p : List Period). periods_after p effect) is.periods_is;
     }
 
 -- a record that asks to store a row which has no cause against it is taken
-store : (rows : List StoredRow) (at : ℕ) (fields : List (List ℕ)) (row : BookRow) (declared more : List Declared) (kept : List KeptFact) (periods : List Period) → IsAt rows declared kept periods
-    → request_in One (without_trailing_empty fields) ≡ Ok (Store row) → HasNoCause declared kept periods row → declared_of (record { at = at; row = row } ∷ []) ≡ more
-    → IsTaken rows at fields (declared ++ more) (facts_after kept row) (periods_after periods row)
-store rows at fields row declared more kept periods is asks none declared_is =
-    let answer : answer_of rows fields ≡ Stored row =
-    ap (λ v. answer_if rows (request_in v (without_trailing_empty fields))) is.version ∙ ap (answer_if rows) asks ∙ ap (stored_or_refused row) (none_behind rows declared kept periods row is none) in
-    let joined : after rows at fields ≡ rows ++ record { at = at; row = row } ∷ [] = ap (after_answer rows at) answer in
+store : (rows : List StoredRow) (at : ℕ) (fields : List (List ℕ)) (effect : Effect) (declared more : List Declared) (kept : List KeptFact) (periods : List Period) → IsAt rows declared kept periods
+    → request_in fields ≡ Ok (Store effect) → HasNoCause declared kept periods effect → declared_of (record { at = at; effect = effect } ∷ []) ≡ more
+    → IsTaken rows at fields (declared ++ more) (facts_after kept effect) (periods_after periods effect)
+store rows at fields effect declared more kept periods is asks none declared_is =
+    let answer : answer_of rows fields ≡ Stored effect =
+    ap (answer_if rows) asks ∙ ap (stored_or_refused effect) (none_behind rows declared kept periods effect is none) in
+    let joined : after rows at fields ≡ rows ++ record { at = at; effect = effect } ∷ [] = ap (after_answer rows at) answer in
     record {
       fine = ap is_refused answer;
-      next = subst (λ (r : List StoredRow). IsAt r (declared ++ more) (facts_after kept row) (periods_after periods row)) (sym joined)
-          (stored_is rows at row declared more kept periods is declared_is);
+      next = subst (λ (r : List StoredRow). IsAt r (declared ++ more) (facts_after kept effect) (periods_after periods effect)) (sym joined)
+          (stored_is rows at effect declared more kept periods is declared_is);
     }
 
 -- with no more declarations
@@ -88,7 +85,6 @@ no_more : (rows : List StoredRow) (at : ℕ) (fields : List (List ℕ)) (declare
 no_more rows at fields declared kept periods taken = record {
   fine = taken.fine;
   next = record {
-    version = taken.next.version;
     declared_is = taken.next.declared_is ∙ append-nil declared;
     kept_is = taken.next.kept_is;
     periods_is = taken.next.periods_is;
@@ -97,26 +93,26 @@ no_more rows at fields declared kept periods taken = record {
 
 -- a declaration
 pub store_declaration : (rows : List StoredRow) (at : ℕ) (fields : List (List ℕ)) (row : Declared) (declared : List Declared) (kept : List KeptFact) (periods : List Period)
-    → IsAt rows declared kept periods → request_in One (without_trailing_empty fields) ≡ Ok (Store (Declaration row)) → HasNoCause declared kept periods (Declaration row)
+    → IsAt rows declared kept periods → request_in fields ≡ Ok (Store (Declares row)) → HasNoCause declared kept periods (Declares row)
     → IsTaken rows at fields (declared ++ row ∷ []) kept periods
 store_declaration rows at fields row declared kept periods is asks none =
-    store rows at fields (Declaration row) declared (row ∷ []) kept periods is asks none refl
+    store rows at fields (Declares row) declared (row ∷ []) kept periods is asks none refl
 
 -- a period
 pub store_period : (rows : List StoredRow) (at : ℕ) (fields : List (List ℕ)) (name : List ℕ) (first last : ℤ) (declared : List Declared) (kept : List KeptFact) (periods : List Period)
-    → IsAt rows declared kept periods → request_in One (without_trailing_empty fields) ≡ Ok (Store (PeriodRow name first last)) → HasNoCause declared kept periods (PeriodRow name first last)
+    → IsAt rows declared kept periods → request_in fields ≡ Ok (Store (Opens name first last)) → HasNoCause declared kept periods (Opens name first last)
     → IsTaken rows at fields declared kept (periods ++ record { name = name; first = first; last = last; closed = false } ∷ [])
 store_period rows at fields name first last declared kept periods is asks none =
     no_more rows at fields declared kept (periods ++ record { name = name; first = first; last = last; closed = false } ∷ [])
-    (store rows at fields (PeriodRow name first last) declared [] kept periods is asks none refl)
+    (store rows at fields (Opens name first last) declared [] kept periods is asks none refl)
 
 -- a fact
 pub store_fact : (rows : List StoredRow) (at : ℕ) (fields : List (List ℕ)) (fact : Fact) (declared : List Declared) (kept : List KeptFact) (periods : List Period)
-    → IsAt rows declared kept periods → request_in One (without_trailing_empty fields) ≡ Ok (Store (FactRow fact)) → HasNoCause declared kept periods (FactRow fact)
+    → IsAt rows declared kept periods → request_in fields ≡ Ok (Store (Books fact false)) → HasNoCause declared kept periods (Books fact false)
     → IsTaken rows at fields declared (kept ++ record { fact = fact; struck = false } ∷ []) periods
 store_fact rows at fields fact declared kept periods is asks none =
     no_more rows at fields declared (kept ++ record { fact = fact; struck = false } ∷ []) periods
-    (store rows at fields (FactRow fact) declared [] kept periods is asks none refl)
+    (store rows at fields (Books fact false) declared [] kept periods is asks none refl)
 
 -- fewer than there may be
 pub fewer : (a b : ℕ) → b < a → nat_le a b ≡ false

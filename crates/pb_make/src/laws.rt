@@ -2,6 +2,7 @@
 
 ghost use Rattle.pb_make.specs.Laws.{AcceptedLaw, AreMetered, BalanceLaw, CountLaw, PeriodLaw, ReadsBackLaw};
 
+use pb_kinds::asking_law;
 use pb_rows::{date_text_law, number_text_law, written_rows_law};
 
 /// The law that the rows of a made session read back from its text.
@@ -21,6 +22,7 @@ pub fn accepted_law()
     ensures { AcceptedLaw }
 {
     reads_back_law();
+    asking_law();
     number_text_law();
     date_text_law();
 }
@@ -29,6 +31,7 @@ pub fn accepted_law()
 pub fn period_law()
     ensures { PeriodLaw }
 {
+    asking_law();
     number_text_law();
     date_text_law();
 }

@@ -8,7 +8,8 @@ use Rattle.pb_site.specs.Site.{arcs_of, names_of, node_names}
 use Rattle.pb_facts.specs.Facts.{live_facts}
 use Rattle.pb_facts.specs.declared.fact.Fact.{Fact}
 use Rattle.pb_book.specs.Plain.{ArePlain}
-use Rattle.pb_book.specs.Rows.{StoredRow, declared_of, facts_of}
+use Rattle.pb_book.specs.declared.rows.StoredRow.{StoredRow}
+use Rattle.pb_book.specs.Rows.{declared_of, facts_of}
 use Rattle.pb_period.specs.Laws.{HaveSameGraphs}
 use Rattle.pb_period.specs.Measurement.{measured}
 use Rattle.pb_period.specs.PeriodGraph.{assembly_of, base_of, design_graph, is_over, period_graph, stream_with, unless_over}

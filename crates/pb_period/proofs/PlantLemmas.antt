@@ -12,12 +12,13 @@ use Rattle.pb_site.specs.Laws.{IsPlant, PlantLaw}
 use Rattle.pb_facts.specs.Fact.{IsInRange}
 use Rattle.pb_facts.specs.declared.facts.KeptFact.{KeptFact}
 use Rattle.pb_book.specs.declared.answer.Refused.TheVariants.{Unknown, Duplicate, Order, Mismatch, Sealed, Closed, Range, Full}
-use Rattle.pb_book.specs.declared.rows.BookRow.{BookRow}
-use Rattle.pb_book.specs.declared.rows.BookRow.TheVariants.{Declaration, Period as PeriodRow, Fact as FactRow, Late, Amend, Strike, Close}
+use Rattle.pb_kinds.specs.declared.rows.Effect.{Effect}
+use Rattle.pb_kinds.specs.declared.rows.Effect.TheVariants.{Declares, Opens, Books, Edits, Closes}
 use Rattle.pb_book.specs.Accepted.{AreAccepted, IsAcceptable}
 use Rattle.pb_book.specs.Laws.{AcceptedLaw}
 use Rattle.pb_book.specs.Refusals.{is_sealed}
-use Rattle.pb_book.specs.Rows.{StoredRow, declaration_in, declared_of, facts_of, periods_of}
+use Rattle.pb_book.specs.declared.rows.StoredRow.{StoredRow}
+use Rattle.pb_book.specs.Rows.{declaration_in, declared_of, facts_of, periods_of}
 
 -- the declarations are a plant, and each fact lies in its ranges
 pub record IsReady (rows : List StoredRow) : Type 0 where
@@ -37,7 +38,7 @@ no_fault false false false false false true none = cc none
 no_fault false false false false false false none = refl
 
 declared_more : (rows : List StoredRow) (stored : StoredRow) → declared_of (rows ++ stored ∷ []) ≡ declared_of rows ++ declared_of (stored ∷ [])
-declared_more rows stored = filter_map-append (λ (s : StoredRow). declaration_in s.row) rows (stored ∷ [])
+declared_more rows stored = filter_map-append (λ (s : StoredRow). declaration_in s.effect) rows (stored ∷ [])
 
 -- one more row that declares nothing
 same_plant : (rows : List StoredRow) (stored : StoredRow) → declared_of (stored ∷ []) ≡ [] → IsPlant (declared_of rows) → IsPlant (declared_of (rows ++ stored ∷ []))
@@ -45,23 +46,21 @@ same_plant rows stored none right =
     subst IsPlant (sym (declared_more rows stored ∙ ap (λ (more : List Declared). declared_of rows ++ more) none ∙ append-nil (declared_of rows))) right
 
 -- one more row
-one_more : PlantLaw → (rows : List StoredRow) (at : ℕ) (row : BookRow) → IsPlant (declared_of rows) → IsAcceptable rows row
-    → IsPlant (declared_of (rows ++ record { at = at; row = row } ∷ []))
-one_more law rows at (Declaration declared) right accepted =
-    let stored : StoredRow = record { at = at; row = Declaration declared } in
+one_more : PlantLaw → (rows : List StoredRow) (at : ℕ) (effect : Effect) → IsPlant (declared_of rows) → IsAcceptable rows effect
+    → IsPlant (declared_of (rows ++ record { at = at; effect = effect } ∷ []))
+one_more law rows at (Declares declared) right accepted =
+    let stored : StoredRow = record { at = at; effect = Declares declared } in
     let before = declared_of rows in
     let none = no_fault (is_unknown_declared before declared) (is_duplicate_declared before declared) (is_out_of_order_declared before declared) (is_mismatch_declared before declared)
-    (is_sealed (periods_of rows) (Declaration declared)) (is_full_declared before declared) accepted.no_cause in
+    (is_sealed (periods_of rows) (Declares declared)) (is_full_declared before declared) accepted.no_cause in
     subst IsPlant (sym (declared_more rows stored)) (law.1 before declared right accepted.in_range none)
-one_more law rows at (PeriodRow name first last) right accepted = same_plant rows (record { at = at; row = PeriodRow name first last }) refl right
-one_more law rows at (FactRow fact) right accepted = same_plant rows (record { at = at; row = FactRow fact }) refl right
-one_more law rows at (Late fact) right accepted = same_plant rows (record { at = at; row = Late fact }) refl right
-one_more law rows at (Amend id change reason) right accepted = same_plant rows (record { at = at; row = Amend id change reason }) refl right
-one_more law rows at (Strike id reason) right accepted = same_plant rows (record { at = at; row = Strike id reason }) refl right
-one_more law rows at (Close name) right accepted = same_plant rows (record { at = at; row = Close name }) refl right
+one_more law rows at (Opens name first last) right accepted = same_plant rows (record { at = at; effect = Opens name first last }) refl right
+one_more law rows at (Books fact late) right accepted = same_plant rows (record { at = at; effect = Books fact late }) refl right
+one_more law rows at (Edits id how reason) right accepted = same_plant rows (record { at = at; effect = Edits id how reason }) refl right
+one_more law rows at (Closes name) right accepted = same_plant rows (record { at = at; effect = Closes name }) refl right
 
 some_row : StoredRow
-some_row = record { at = 0; row = PeriodRow [] (pos 0) (pos 0) }
+some_row = record { at = 0; effect = Opens [] (pos 0) (pos 0) }
 
 plant_up_to : PlantLaw → (rows : List StoredRow) → AreAccepted rows → (n : ℕ) → n ≤ length rows → IsPlant (declared_of (take n rows))
 plant_up_to law rows accepted zero le = law.0
@@ -70,7 +69,7 @@ plant_up_to law rows accepted (suc n) le =
     let stored = get_or rows n some_row in
     let before = plant_up_to law rows accepted n (omega (arith, le)) in
     let next = accepted n stored (slice_get-get_or rows n some_row within) in
-    subst (λ (rs : List StoredRow). IsPlant (declared_of rs)) (sym (take-suc rows n some_row within)) (one_more law (take n rows) stored.at stored.row before next)
+    subst (λ (rs : List StoredRow). IsPlant (declared_of rs)) (sym (take-suc rows n some_row within)) (one_more law (take n rows) stored.at stored.effect before next)
 
 pub ready : PlantLaw → AcceptedLaw → (rows : List StoredRow) → AreAccepted rows → IsReady rows
 ready law book rows accepted = record {

@@ -27,13 +27,14 @@ use Rattle.pb_facts.specs.declared.facts.KeptFact.{KeptFact}
 use Rattle.pb_facts.specs.Changes.{amended, changed, struck}
 use Rattle.pb_facts.specs.Fact.{id_of, is_dip_on, is_reading_on}
 use Rattle.pb_facts.specs.Facts.{NoRepeats, has_id, is_live_with, is_repeat, live_fact, live_facts}
-use Rattle.pb_book.specs.declared.rows.BookRow.{BookRow}
-use Rattle.pb_book.specs.declared.rows.BookRow.TheVariants.{Declaration, Period as PeriodRow, Fact as FactRow, Late as LateRow, Amend as AmendRow, Strike as StrikeRow, Close as CloseRow}
+use Rattle.pb_kinds.specs.declared.rows.Effect.{Effect}
+use Rattle.pb_kinds.specs.declared.rows.Edit.TheVariants as edits
+use Rattle.pb_kinds.specs.declared.rows.Effect.TheVariants.{Declares, Opens, Books, Edits, Closes}
 use Rattle.pb_book.specs.declared.rows.Period.{Period}
 use Rattle.pb_book.specs.Apart.{shares_a_day}
-use Rattle.pb_book.specs.Edits.{touches_by_id}
-use Rattle.pb_book.specs.TakenOut.{takes_out}
-use Rattle.pb_book.specs.Rows.{StoredRow, declaration_in, declared_of, facts_after, facts_of, live}
+use Rattle.pb_book.specs.TakenOut.{takes_out, touches_by_id}
+use Rattle.pb_book.specs.declared.rows.StoredRow.{StoredRow}
+use Rattle.pb_book.specs.Rows.{declaration_in, declared_of, facts_after, facts_of, live}
 use Rattle.pb_book.specs.Touching.{is_boundary_of, touches}
 use Rattle.pb_period.specs.declared.amount.Amount.{Amount}
 use Rattle.pb_period.specs.declared.days.Days.{Days}
@@ -307,24 +308,21 @@ added_same period fact kept away =
     ∙ ap (λ (b : Bool). touching period (live_facts kept) ++ cond b (fact ∷ []) []) away
     ∙ append-nil (touching period (live_facts kept))
 
-touching_same : (period : Period) (kept : List KeptFact) (row : BookRow) → NoRepeats (facts_after kept row) → takes_out (facts_after kept row) row period ≡ false
-    → touching period (live_facts (facts_after kept row)) ≡ touching period (live_facts kept)
-touching_same period kept (Declaration declared) apart spared = cc spared
-touching_same period kept (PeriodRow name first last) apart spared = refl
-touching_same period kept (FactRow fact) apart spared = added_same period fact kept spared
-touching_same period kept (LateRow fact) apart spared = added_same period fact kept spared
-touching_same period kept (AmendRow id change reason) apart spared = amended_same period id change kept (all_away period id (amended id change kept) apart spared)
-touching_same period kept (StrikeRow id reason) apart spared = struck_same period id kept (all_away period id (struck id kept) apart spared)
-touching_same period kept (CloseRow name) apart spared = refl
+touching_same : (period : Period) (kept : List KeptFact) (effect : Effect) → NoRepeats (facts_after kept effect) → takes_out (facts_after kept effect) effect period ≡ false
+    → touching period (live_facts (facts_after kept effect)) ≡ touching period (live_facts kept)
+touching_same period kept (Declares declared) apart spared = cc spared
+touching_same period kept (Opens name first last) apart spared = refl
+touching_same period kept (Books fact late) apart spared = added_same period fact kept spared
+touching_same period kept (Edits id (edits.Change change) reason) apart spared = amended_same period id change kept (all_away period id (amended id change kept) apart spared)
+touching_same period kept (Edits id edits.Strike reason) apart spared = struck_same period id kept (all_away period id (struck id kept) apart spared)
+touching_same period kept (Closes name) apart spared = refl
 
-declared_same : (period : Period) (kept : List KeptFact) (row : BookRow) → takes_out kept row period ≡ false → declaration_in row ≡ None
-declared_same period kept (Declaration declared) spared = cc spared
-declared_same period kept (PeriodRow name first last) spared = refl
-declared_same period kept (FactRow fact) spared = refl
-declared_same period kept (LateRow fact) spared = refl
-declared_same period kept (AmendRow id change reason) spared = refl
-declared_same period kept (StrikeRow id reason) spared = refl
-declared_same period kept (CloseRow name) spared = refl
+declared_same : (period : Period) (kept : List KeptFact) (effect : Effect) → takes_out kept effect period ≡ false → declaration_in effect ≡ None
+declared_same period kept (Declares declared) spared = cc spared
+declared_same period kept (Opens name first last) spared = refl
+declared_same period kept (Books fact late) spared = refl
+declared_same period kept (Edits id how reason) spared = refl
+declared_same period kept (Closes name) spared = refl
 
 -- the graph of what is declared
 abbrev graph_by : (Arc → Option Meas) → List Declared → ProcessGraph
@@ -337,19 +335,19 @@ same_graph declared period facts other same =
     (sym (measured_among declared period other) ∙ ap (λ (fs : List Fact). measured declared fs (days_of period)) same ∙ measured_among declared period facts)
 
 -- a row that doesn't touch a period leaves what is declared and its graph
-pub leaves : (rows : List StoredRow) (stored : StoredRow) (period : Period) → NoRepeats (facts_of (rows ++ stored ∷ [])) → takes_out (facts_of (rows ++ stored ∷ [])) stored.row period ≡ false
+pub leaves : (rows : List StoredRow) (stored : StoredRow) (period : Period) → NoRepeats (facts_of (rows ++ stored ∷ [])) → takes_out (facts_of (rows ++ stored ∷ [])) stored.effect period ≡ false
     → LeavesDays rows (rows ++ stored ∷ []) (days_of period)
 leaves rows stored period apart spared =
-    let facts : facts_of (rows ++ stored ∷ []) ≡ facts_after (facts_of rows) stored.row = fold_push (λ (kept : List KeptFact) (s : StoredRow). facts_after kept s.row) [] rows stored in
+    let facts : facts_of (rows ++ stored ∷ []) ≡ facts_after (facts_of rows) stored.effect = fold_push (λ (kept : List KeptFact) (s : StoredRow). facts_after kept s.effect) [] rows stored in
     let apart_now = subst NoRepeats facts apart in
-    let spared_now = subst (λ (kept : List KeptFact). takes_out kept stored.row period ≡ false) facts spared in
-    let none : declared_of (stored ∷ []) ≡ [] = ap (λ (o : Option Declared). cons_option o []) (declared_same period (facts_after (facts_of rows) stored.row) stored.row spared_now) in
+    let spared_now = subst (λ (kept : List KeptFact). takes_out kept stored.effect period ≡ false) facts spared in
+    let none : declared_of (stored ∷ []) ≡ [] = ap (λ (o : Option Declared). cons_option o []) (declared_same period (facts_after (facts_of rows) stored.effect) stored.effect spared_now) in
     let declared : declared_of (rows ++ stored ∷ []) ≡ declared_of rows =
-    filter_map-append (λ (s : StoredRow). declaration_in s.row) rows (stored ∷ []) ∙ ap (λ (ds : List Declared). declared_of rows ++ ds) none ∙ append-nil (declared_of rows) in
-    let same = touching_same period (facts_of rows) stored.row apart_now spared_now in
+    filter_map-append (λ (s : StoredRow). declaration_in s.effect) rows (stored ∷ []) ∙ ap (λ (ds : List Declared). declared_of rows ++ ds) none ∙ append-nil (declared_of rows) in
+    let same = touching_same period (facts_of rows) stored.effect apart_now spared_now in
     let graph : period_graph (rows ++ stored ∷ []) (days_of period) ≡ period_graph rows (days_of period) =
     ap₂ (λ (ds : List Declared) (kept : List KeptFact). graph_by (measured ds (live_facts kept) (days_of period)) ds) declared facts
-    ∙ same_graph (declared_of rows) period (live_facts (facts_of rows)) (live_facts (facts_after (facts_of rows) stored.row)) same in
+    ∙ same_graph (declared_of rows) period (live_facts (facts_of rows)) (live_facts (facts_after (facts_of rows) stored.effect)) same in
     record {
       declared = declared;
       graph = ap (λ (g : ProcessGraph). unless_over g (position is_over g.streams)) graph;

@@ -7,7 +7,8 @@ use Rattle.pb_book.specs.declared.rows.Period.{Period}
 use Rattle.pb_book.specs.Accepted.{AreAccepted}
 use Rattle.pb_book.specs.TakenOut.{takes_out}
 use Rattle.pb_book.specs.Plain.{plain_stored}
-use Rattle.pb_book.specs.Rows.{StoredRow, declared_of, facts_of, periods_of}
+use Rattle.pb_book.specs.declared.rows.StoredRow.{StoredRow}
+use Rattle.pb_book.specs.Rows.{declared_of, facts_of, periods_of}
 use Rattle.pb_period.specs.Days.{days_of}
 use Rattle.pb_period.specs.declared.days.Days.{Days}
 use Rattle.pb_period.specs.PeriodGraph.{assembly_of, design_graph, period_names}
@@ -41,5 +42,5 @@ pub record LeavesDays (rows other : List StoredRow) (days : Days) : Type 0 where
 abbrev pub UntouchedLaw : Type 0
 UntouchedLaw =
     (rows : List StoredRow) (stored : StoredRow) (period : Period) → NoRepeats (facts_of (rows ++ stored ∷ []))
-    → takes_out (facts_of (rows ++ stored ∷ [])) stored.row period ≡ false
+    → takes_out (facts_of (rows ++ stored ∷ [])) stored.effect period ≡ false
     → LeavesDays rows (rows ++ stored ∷ []) (days_of period)

@@ -11,7 +11,8 @@ use Rattle.pb_site.specs.declared.declared.ArcKind.TheVariants.{Plain}
 use Rattle.pb_rows.specs.declared.name.Names.{Names}
 use Rattle.pb_site.specs.Site.{arcs_of, names_of, node_names}
 use Rattle.pb_facts.specs.Facts.{live_facts}
-use Rattle.pb_book.specs.Rows.{StoredRow, declared_of, facts_of}
+use Rattle.pb_book.specs.declared.rows.StoredRow.{StoredRow}
+use Rattle.pb_book.specs.Rows.{declared_of, facts_of}
 use Rattle.pb_period.specs.declared.days.Days.{Days}
 use Rattle.pb_period.specs.declared.graph.Assembly.{Assembly}
 use Rattle.pb_period.specs.declared.graph.Assembly.TheVariants.{NoMemory, Over}

@@ -8,24 +8,24 @@ use Rattle.std.proofs.Math.Seq.{get_or-append_seam, take-append_seam}
 use Rattle.std.proofs.Common.{length-append}
 use Rattle.pb_graph.specs.ProcessGraph.{ProcessGraph}
 use Rattle.pb_rows.specs.declared.name.Names.{Names}
-use Rattle.pb_rows.specs.Records.{without_trailing_empty}
 use Rattle.pb_elim.specs.Study.{IsStudyOf}
 use Rattle.pb_site.specs.declared.declared.Declared.{Declared}
 use Rattle.pb_book.specs.declared.answer.Accepted.{Accepted}
 use Rattle.pb_book.specs.declared.answer.Accepted.TheVariants.{Report}
 use Rattle.pb_book.specs.declared.answer.Refused.{Refused as Refusal}
-use Rattle.pb_book.specs.declared.requests.Request.{Request}
-use Rattle.pb_book.specs.declared.requests.Request.TheVariants.{Blank as BlankAsked, Store, Design as DesignAsked, Report as ReportAsked, History as HistoryAsked}
-use Rattle.pb_book.specs.declared.requests.Version.TheVariants.{One}
-use Rattle.pb_book.specs.declared.rows.BookRow.{BookRow}
+use Rattle.pb_form.specs.declared.fault.FormFault.{FormFault}
+use Rattle.pb_kinds.specs.declared.rows.Request.{Request}
+use Rattle.pb_kinds.specs.declared.rows.Request.TheVariants as asked
+use Rattle.pb_kinds.specs.declared.rows.Effect.{Effect}
 use Rattle.pb_book.specs.declared.rows.Period.{Period}
 use Rattle.pb_book.specs.Accepted.{AreAccepted}
 use Rattle.pb_book.specs.Answer.{Answer, Refused, Says, Stored, after_answer, answer_if, answer_of, history_or_refused, is_refused, report_or_refused, stored_or_refused}
 use Rattle.pb_book.specs.Apart.{is_named}
 use Rattle.pb_book.specs.Plain.{ArePlain, PlainLaw, numbered, opened, plain_rows, plain_stored}
 use Rattle.pb_book.specs.Refusals.{refusal_of}
-use Rattle.pb_book.specs.Requests.{request_in}
-use Rattle.pb_book.specs.Rows.{StoredRow, declared_of, period_place, periods_of}
+use Rattle.pb_kinds.specs.Requests.{request_in}
+use Rattle.pb_book.specs.declared.rows.StoredRow.{StoredRow}
+use Rattle.pb_book.specs.Rows.{declared_of, period_place, periods_of}
 use Rattle.pb_book.specs.Written.{WriteRows, WritesRow}
 use Rattle.pb_period.specs.Days.{days_of}
 use Rattle.pb_period.specs.Laws.{HaveSameGraphs, PlainGraphsLaw}
@@ -46,16 +46,17 @@ with_rows state rows = record { options = state.options; form = state.form; rows
 -- ---- records that write accepted rows
 
 -- a row was acceptable behind those before it
-seam : (done more : List StoredRow) (stored : StoredRow) → AreAccepted (done ++ stored ∷ more) → refusal_of done stored.row ≡ None
+seam : (done more : List StoredRow) (stored : StoredRow) → AreAccepted (done ++ stored ∷ more) → refusal_of done stored.effect ≡ None
 seam done more stored accepted =
     let long = length-append done (stored ∷ more) in
     let here : length done < length (done ++ stored ∷ more) = omega (arith, long) in
     let at = slice_get-get_or (done ++ stored ∷ more) (length done) stored here ∙ ap (λ (s : StoredRow). Some s) (get_or-append_seam done stored more stored) in
     let is = accepted (length done) stored at in
-    subst (λ (rs : List StoredRow). refusal_of rs stored.row ≡ None) (take-append_seam done (stored ∷ more)) is.no_cause
+    subst (λ (rs : List StoredRow). refusal_of rs stored.effect ≡ None) (take-append_seam done (stored ∷ more)) is.no_cause
 
-stored_answer : (rows : List StoredRow) (fields : List (List ℕ)) (row : BookRow) → WritesRow fields row → refusal_of rows row ≡ None → answer_of rows fields ≡ Stored row
-stored_answer rows fields row writes none = ap (λ (r : Result Request Refusal). answer_if rows r) writes.asks ∙ ap (λ (o : Option Refusal). stored_or_refused row o) none
+stored_answer : (rows : List StoredRow) (fields : List (List ℕ)) (effect : Effect) → WritesRow fields effect → refusal_of rows effect ≡ None → answer_of rows fields ≡ Stored effect
+stored_answer rows fields effect writes none =
+    ap (λ (r : Result Request FormFault). answer_if rows r) writes.asks ∙ ap (λ (o : Option Refusal). stored_or_refused effect o) none
 
 -- none of these records is refused, none adds a text, and so they end
 record StoreAll (state : SessionState) (at : ℕ) (records : List (List (List ℕ))) (end : SessionState) : Type 0 where
@@ -73,9 +74,9 @@ store_none state at =
       back = λ tail text is. subst (λ (n : ℕ). IsSessionText state n tail text) here (subst (λ (s : SessionState). IsSessionText s (at + 0) tail text) same is);
     }
 
-store_one : (state next end : SessionState) (at : ℕ) (fields : List (List ℕ)) (row : BookRow) (records : List (List (List ℕ))) → answer_of state.rows fields ≡ Stored row → state_after state at fields ≡ next
+store_one : (state next end : SessionState) (at : ℕ) (fields : List (List ℕ)) (effect : Effect) (records : List (List (List ℕ))) → answer_of state.rows fields ≡ Stored effect → state_after state at fields ≡ next
     → StoreAll next (at + 1) records end → StoreAll state at (fields ∷ records) end
-store_one state next end at fields row records answer after_is rest =
+store_one state next end at fields effect records answer after_is rest =
     let here : (at + 1) + length records ≡ at + suc (length records) = omega arith in
     record {
       none = ap₂ (λ (a b : Bool). a || b) (ap is_refused answer) (ap (λ (s : SessionState). refuses_some s (at + 1) records) after_is ∙ rest.none);
@@ -89,19 +90,19 @@ store_one state next end at fields row records answer after_is rest =
           ([], text, subst (λ (a : Answer). AddsBy state at a []) (sym answer) refl, subst (λ (s : SessionState). IsSessionText s (at + 1) (records ++ tail) text) (sym after_is) moved, refl);
     }
 
-store_all : (state : SessionState) (at : ℕ) (records : List (List (List ℕ))) (rows : List BookRow) → AreAccepted (state.rows ++ numbered at rows) → WriteRows records rows
-    → StoreAll state at records (with_rows state (state.rows ++ numbered at rows))
+store_all : (state : SessionState) (at : ℕ) (records : List (List (List ℕ))) (effects : List Effect) → AreAccepted (state.rows ++ numbered at effects) → WriteRows records effects
+    → StoreAll state at records (with_rows state (state.rows ++ numbered at effects))
 store_all state at [] [] accepted writes = store_none state at
-store_all state at [] (row ∷ rows) accepted writes = absurd writes
+store_all state at [] (effect ∷ effects) accepted writes = absurd writes
 store_all state at (fields ∷ records) [] accepted writes = absurd writes
-store_all state at (fields ∷ records) (row ∷ rows) accepted (here, more) =
-    let stored : StoredRow = record { at = at; row = row } in
-    let answer = stored_answer state.rows fields row here (seam state.rows (numbered (at + 1) rows) stored accepted) in
+store_all state at (fields ∷ records) (effect ∷ effects) accepted (here, more) =
+    let stored : StoredRow = record { at = at; effect = effect } in
+    let answer = stored_answer state.rows fields effect here (seam state.rows (numbered (at + 1) effects) stored accepted) in
     let next = with_rows state (state.rows ++ stored ∷ []) in
     let after_is : state_after state at fields ≡ next = ap (λ (a : Answer). with_rows state (after_answer state.rows at a)) answer in
-    let moved : (state.rows ++ stored ∷ []) ++ numbered (at + 1) rows ≡ state.rows ++ stored ∷ numbered (at + 1) rows = append_assoc state.rows (stored ∷ []) (numbered (at + 1) rows) in
-    let rest = store_all next (at + 1) records rows (subst AreAccepted (sym moved) accepted) more in
-    store_one state next (with_rows state (state.rows ++ stored ∷ numbered (at + 1) rows)) at fields row records answer after_is
+    let moved : (state.rows ++ stored ∷ []) ++ numbered (at + 1) effects ≡ state.rows ++ stored ∷ numbered (at + 1) effects = append_assoc state.rows (stored ∷ []) (numbered (at + 1) effects) in
+    let rest = store_all next (at + 1) records effects (subst AreAccepted (sym moved) accepted) more in
+    store_one state next (with_rows state (state.rows ++ stored ∷ numbered (at + 1) effects)) at fields effect records answer after_is
     (subst (λ (rs : List StoredRow). StoreAll next (at + 1) records (with_rows state rs)) moved rest)
 
 -- the text of one record
@@ -126,22 +127,22 @@ same_place : (rows plain : List StoredRow) (name : List ℕ) → periods_of plai
 same_place rows plain name same = ap (position (is_named name)) same ∙ position_map (is_named name) opened (periods_of rows)
 
 -- a row is never answered with a report
-not_said : (row : BookRow) (cause : Option Refusal) (i : ℕ) → stored_or_refused row cause ≡ Says (Report i) → ⊥
-not_said row (Some cause) i is = cc is
-not_said row None i is = cc is
+not_said : (effect : Effect) (cause : Option Refusal) (i : ℕ) → stored_or_refused effect cause ≡ Says (Report i) → ⊥
+not_said effect (Some cause) i is = cc is
+not_said effect None i is = cc is
 
 not_told : (place : Option ℕ) (i : ℕ) → history_or_refused place ≡ Says (Report i) → ⊥
 not_told (Some place) i is = cc is
 not_told None i is = cc is
 
-report_answer : (rows plain : List StoredRow) (i : ℕ) (request : Result Request Refusal) → periods_of plain ≡ map opened (periods_of rows) → answer_if rows request ≡ Says (Report i)
+report_answer : (rows plain : List StoredRow) (i : ℕ) (request : Result Request FormFault) → periods_of plain ≡ map opened (periods_of rows) → answer_if rows request ≡ Says (Report i)
     → answer_if plain request ≡ Says (Report i)
-report_answer rows plain i (Ok BlankAsked) same is = cc is
-report_answer rows plain i (Ok (Store row)) same is = absurd (not_said row (refusal_of rows row) i is)
-report_answer rows plain i (Ok DesignAsked) same is = cc is
-report_answer rows plain i (Ok (ReportAsked name)) same is = ap report_or_refused (same_place rows plain name same) ∙ is
-report_answer rows plain i (Ok (HistoryAsked name)) same is = absurd (not_told (period_place rows name) i is)
-report_answer rows plain i (Err cause) same is = cc is
+report_answer rows plain i (Ok asked.Blank) same is = cc is
+report_answer rows plain i (Ok (asked.Store effect)) same is = absurd (not_said effect (refusal_of rows effect) i is)
+report_answer rows plain i (Ok asked.Design) same is = cc is
+report_answer rows plain i (Ok (asked.Report name)) same is = ap report_or_refused (same_place rows plain name same) ∙ is
+report_answer rows plain i (Ok (asked.History name)) same is = absurd (not_told (period_place rows name) i is)
+report_answer rows plain i (Err fault) same is = cc is
 
 -- the study of a graph asks the declarations alone
 report_as : (state : SessionState) (rows other : List StoredRow) (names : Names) (period : List ℕ) (graph : ProcessGraph) (text : List ℕ) → declared_of rows ≡ declared_of other
@@ -190,14 +191,14 @@ adds_to : (state : SessionState) (plain : List StoredRow) (at after i : ℕ) (re
 adds_to state plain at after i report text are graphs is adds =
     let here = subst (λ (a : Answer). AddsBy state at a text) is adds in
     let there = reports_to state plain (slice_get (periods_of state.rows) i) text are graphs here in
-    let other = report_answer state.rows plain i (request_in One (without_trailing_empty report)) are.periods is in
+    let other = report_answer state.rows plain i (request_in report) are.periods is in
     subst (λ (a : Answer). AddsBy (with_rows state plain) after a text) (sym other)
     (subst (λ (found : Option Period). Reports (with_rows state plain) found text) (sym (found_plain state.rows plain i are)) there)
 
 adds_back : (state : SessionState) (plain : List StoredRow) (at after i : ℕ) (report : List (List ℕ)) (text : List ℕ) → ArePlain state.rows plain → HaveSameGraphs state.rows plain
     → answer_of state.rows report ≡ Says (Report i) → Adds (with_rows state plain) after report text → Adds state at report text
 adds_back state plain at after i report text are graphs is adds =
-    let other = report_answer state.rows plain i (request_in One (without_trailing_empty report)) are.periods is in
+    let other = report_answer state.rows plain i (request_in report) are.periods is in
     let there = subst (λ (a : Answer). AddsBy (with_rows state plain) after a text) other adds in
     let here = subst (λ (found : Option Period). Reports (with_rows state plain) found text) (found_plain state.rows plain i are) there in
     subst (λ (a : Answer). AddsBy state at a text) (sym is) (reports_back state plain (slice_get (periods_of state.rows) i) text are graphs here)

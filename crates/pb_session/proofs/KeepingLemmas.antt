@@ -28,17 +28,18 @@ use Rattle.pb_book.specs.declared.answer.Accepted.{Accepted}
 use Rattle.pb_book.specs.declared.answer.Accepted.TheVariants.{Blank, Stored as StoredAccepted, Design, Report, History}
 use Rattle.pb_book.specs.declared.answer.NotAccepted.{NotAccepted}
 use Rattle.pb_book.specs.declared.answer.Refused.{Refused as Refusal}
-use Rattle.pb_book.specs.declared.requests.Request.{Request}
-use Rattle.pb_book.specs.declared.requests.Request.TheVariants.{Blank as BlankAsked, Store, Design as DesignAsked, Report as ReportAsked, History as HistoryAsked}
-use Rattle.pb_book.specs.declared.rows.BookRow.{BookRow}
-use Rattle.pb_book.specs.declared.rows.BookRow.TheVariants.{Declaration, Period as PeriodRow, Fact as FactRow, Late as LateRow, Amend as AmendRow, Strike as StrikeRow, Close as CloseRow}
+use Rattle.pb_form.specs.declared.fault.FormFault.{FormFault}
+use Rattle.pb_kinds.specs.declared.rows.Request.{Request}
+use Rattle.pb_kinds.specs.declared.rows.Request.TheVariants as asked
+use Rattle.pb_kinds.specs.declared.rows.Effect.{Effect}
+use Rattle.pb_kinds.specs.declared.rows.Effect.TheVariants.{Declares, Opens, Books, Edits, Closes}
 use Rattle.pb_book.specs.declared.rows.Period.{Period}
 use Rattle.pb_book.specs.Answer.{Answer, Refused, Says, Stored, after_answer, answer_if, answer_of, answer_to, history_or_refused, report_or_refused, said_of, stored_or_refused}
 use Rattle.pb_book.specs.Apart.{is_named}
 use Rattle.pb_book.specs.Refusals.{refusal_of}
-use Rattle.pb_book.specs.Requests.{request_in}
-use Rattle.pb_book.specs.Rows.{StoredRow, closed_if_named, declared_of, facts_of, open_period, period_place, periods_after, periods_of, version_of, with_row}
-use Rattle.pb_rows.specs.Records.{without_trailing_empty}
+use Rattle.pb_kinds.specs.Requests.{request_in}
+use Rattle.pb_book.specs.declared.rows.StoredRow.{StoredRow}
+use Rattle.pb_book.specs.Rows.{closed_if_named, declared_of, facts_of, open_period, period_place, periods_after, periods_of, with_row}
 use Rattle.pb_period.specs.Days.{days_of}
 use Rattle.pb_book.specs.TakenOut.{row_takes_out, takes_out, touched_at}
 use Rattle.pb_period.specs.Laws.{UntouchedLaw}
@@ -138,18 +139,16 @@ record Stays (periods : List Period) (i : ℕ) (before : Period) : Type 0 where
   there : slice_get periods i ≡ Some period
   days : days_of period ≡ days_of before
 
-stays : (periods : List Period) (row : BookRow) (i : ℕ) (period : Period) → slice_get periods i ≡ Some period → Stays (periods_after periods row) i period
-stays periods (PeriodRow name first last) i period at = record { period = period; there = front_at periods (open_period name first last ∷ []) i period at; days = refl }
-stays periods (CloseRow name) i period at = record {
+stays : (periods : List Period) (effect : Effect) (i : ℕ) (period : Period) → slice_get periods i ≡ Some period → Stays (periods_after periods effect) i period
+stays periods (Opens name first last) i period at = record { period = period; there = front_at periods (open_period name first last ∷ []) i period at; days = refl }
+stays periods (Closes name) i period at = record {
   period = closed_if_named name period;
   there = slice_get-map (closed_if_named name) periods i ∙ ap (option_map (closed_if_named name)) at;
   days = same_days name period;
 }
-stays periods (Declaration declared) i period at = record { period = period; there = at; days = refl }
-stays periods (FactRow fact) i period at = record { period = period; there = at; days = refl }
-stays periods (LateRow fact) i period at = record { period = period; there = at; days = refl }
-stays periods (AmendRow id change reason) i period at = record { period = period; there = at; days = refl }
-stays periods (StrikeRow id reason) i period at = record { period = period; there = at; days = refl }
+stays periods (Declares declared) i period at = record { period = period; there = at; days = refl }
+stays periods (Books fact late) i period at = record { period = period; there = at; days = refl }
+stays periods (Edits id how reason) i period at = record { period = period; there = at; days = refl }
 
 -- what is kept of a graph stays kept, where neither what is asked nor the critical values change
 kept_still : (state other : SessionState) (graph : ProcessGraph) (study : Study) → other.options ≡ state.options → critical_of other.rows ≡ critical_of state.rows
@@ -163,34 +162,34 @@ kept_still state other graph study options critical kept = record {
 }
 
 -- a study whose period the row doesn't touch stays that of its period
-still : UntouchedLaw → (state : SessionState) (at : ℕ) (row : BookRow) (i : ℕ) (study : Study) → HasUniqueIds (with_row state.rows at row) → touched_at (with_row state.rows at row) i ≡ false
+still : UntouchedLaw → (state : SessionState) (at : ℕ) (effect : Effect) (i : ℕ) (study : Study) → HasUniqueIds (with_row state.rows at effect) → touched_at (with_row state.rows at effect) i ≡ false
     → IsKeptAt state (slice_get (periods_of state.rows) i) study
-    → IsKeptAt (state_with state (with_row state.rows at row)) (slice_get (periods_of (with_row state.rows at row)) i) study
-still law state at row i study accepted spared kept =
-    let stored : StoredRow = record { at = at; row = row } in
-    let rows = with_row state.rows at row in
+    → IsKeptAt (state_with state (with_row state.rows at effect)) (slice_get (periods_of (with_row state.rows at effect)) i) study
+still law state at effect i study accepted spared kept =
+    let stored : StoredRow = record { at = at; effect = effect } in
+    let rows = with_row state.rows at effect in
     let has = has_graph state (slice_get (periods_of state.rows) i) study kept in
-    let periods : periods_of rows ≡ periods_after (periods_of state.rows) row = fold_push (λ (ps : List Period) (s : StoredRow). periods_after ps s.row) [] state.rows stored in
-    let stay = stays (periods_of state.rows) row i has.period has.there in
+    let periods : periods_of rows ≡ periods_after (periods_of state.rows) effect = fold_push (λ (ps : List Period) (s : StoredRow). periods_after ps s.effect) [] state.rows stored in
+    let stay = stays (periods_of state.rows) effect i has.period has.there in
     let now = stay.period in
     let there_now : slice_get (periods_of rows) i ≡ Some now = ap (λ (ps : List Period). slice_get ps i) periods ∙ stay.there in
     let long = length-append state.rows (stored ∷ []) in
     let place : length rows - 1 ≡ length state.rows = omega (arith, long) in
     let last : slice_get rows (length rows - 1) ≡ Some stored = ap (slice_get rows) place ∙ last_at state.rows stored in
-    let spared_now : takes_out (facts_of rows) row now ≡ false = sym (ap₂ (λ (o : Option Period) (s : Option StoredRow). option_map_or (λ (p : Period). row_takes_out (facts_of rows) p s) o false) there_now last) ∙ spared in
+    let spared_now : takes_out (facts_of rows) effect now ≡ false = sym (ap₂ (λ (o : Option Period) (s : Option StoredRow). option_map_or (λ (p : Period). row_takes_out (facts_of rows) p s) o false) there_now last) ∙ spared in
     let leaves = law state.rows stored now accepted spared_now in
     let graph_now : Ok has.graph ≡ assembly_of rows (days_of now) = has.is ∙ ap (assembly_of state.rows) (sym stay.days) ∙ sym leaves.graph in
     let critical : critical_of rows ≡ critical_of state.rows = ap declared_critical leaves.declared in
     kept_at (state_with state rows) (slice_get (periods_of rows) i) now has.graph study there_now graph_now (kept_still state (state_with state rows) has.graph study refl critical has.kept)
 
-all_still : UntouchedLaw → (state : SessionState) (at : ℕ) (row : BookRow) (kept : List KeptStudy) → HasUniqueIds (with_row state.rows at row) → AllByRecursion (IsKeptStudy state) kept
-    → AllByRecursion (IsKeptStudy (state_with state (with_row state.rows at row))) (untouched_studies (with_row state.rows at row) kept)
-all_still law state at row [] accepted all = tt
-all_still law state at row (k ∷ kept) accepted (here, all) =
-    let rest = all_still law state at row kept accepted all in
-    elim (cases_Bool (touched_at (with_row state.rows at row) k.period)) [
+all_still : UntouchedLaw → (state : SessionState) (at : ℕ) (effect : Effect) (kept : List KeptStudy) → HasUniqueIds (with_row state.rows at effect) → AllByRecursion (IsKeptStudy state) kept
+    → AllByRecursion (IsKeptStudy (state_with state (with_row state.rows at effect))) (untouched_studies (with_row state.rows at effect) kept)
+all_still law state at effect [] accepted all = tt
+all_still law state at effect (k ∷ kept) accepted (here, all) =
+    let rest = all_still law state at effect kept accepted all in
+    elim (cases_Bool (touched_at (with_row state.rows at effect) k.period)) [
       | inl gone ↦ rw gone rest
-      | inr spared ↦ rw spared (still law state at row k.period k.study accepted spared here, rest)
+      | inr spared ↦ rw spared (still law state at effect k.period k.study accepted spared here, rest)
     ]
 
 -- what an answer says, but that it stores a row
@@ -206,7 +205,7 @@ left_same (Report i) rows kept said = refl
 left_same (History i) rows kept said = refl
 
 -- what the book says of a record that it takes
-abbrev said_ok : Accepted → Result Accepted NotAccepted
+abbrev pub said_ok : Accepted → Result Accepted NotAccepted
 said_ok accepted = Ok accepted
 
 -- and so does a record that isn't stored
@@ -222,12 +221,12 @@ same_accepted a b is = cc is
 
 -- the studies that are left are those of their periods by the rows that are stored then
 pub left_kept : UntouchedLaw → (state : SessionState) (new : List StoredRow) (at : ℕ) (answer : Answer) (accepted : Accepted) (kept : List KeptStudy) → said_ok accepted ≡ said_of answer
-    → IsSaid answer → new ≡ after_answer state.rows at answer → HasUniqueIds new → AllByRecursion (IsKeptStudy state) kept
+    → IsSaid answer → new ≡ after_answer state.rows at answer → (accepted ≡ StoredAccepted → HasUniqueIds new) → AllByRecursion (IsKeptStudy state) kept
     → AllByRecursion (IsKeptStudy (state_with state new)) (left_by accepted new kept)
 left_kept law state new at (Refused cause) accepted kept is said new_is are all = cc is
-left_kept law state new at (Stored row) accepted kept is said new_is are all =
+left_kept law state new at (Stored effect) accepted kept is said new_is are all =
     let same = same_accepted accepted StoredAccepted is in
-    let here = all_still law state at row kept (subst HasUniqueIds new_is are) all in
+    let here = all_still law state at effect kept (subst HasUniqueIds new_is (are same)) all in
     subst (λ (a : Accepted). AllByRecursion (IsKeptStudy (state_with state new)) (left_by a new kept)) (sym same)
     (subst (λ (rows : List StoredRow). AllByRecursion (IsKeptStudy (state_with state rows)) (untouched_studies rows kept)) (sym new_is) here)
 left_kept law state new at (Says one) accepted kept is said new_is are all =
@@ -248,7 +247,7 @@ pub keeps_by : (state : SessionState) (new : List StoredRow) (at : ℕ) (answer 
     → IsSaid answer → new ≡ after_answer state.rows at answer → KeepsAccepted (state_with state new) (periods_in (left_by accepted new kept)) accepted after
     → KeepsBy state (periods_in kept) at answer after
 keeps_by state new at (Refused cause) accepted kept after is said new_is keeps = cc is
-keeps_by state new at (Stored row) accepted kept after is said new_is keeps =
+keeps_by state new at (Stored effect) accepted kept after is said new_is keeps =
     let same = same_accepted accepted StoredAccepted is in
     let here : after ≡ periods_in (untouched_studies new kept) = subst (λ (a : Accepted). KeepsAccepted (state_with state new) (periods_in (left_by a new kept)) a after) same keeps in
     here ∙ untouched_periods new kept ∙ ap (λ (rows : List StoredRow). untouched rows (periods_in kept)) new_is
@@ -263,15 +262,15 @@ keeps_by state new at (Says one) accepted kept after is said new_is keeps =
 pub reported_still : (state : SessionState) (new : List StoredRow) (at : ℕ) (answer : Answer) (accepted : Accepted) (before : Option ProcessGraph) → said_ok accepted ≡ said_of answer
     → new ≡ after_answer state.rows at answer → reported_behind (state_with state new) before accepted ≡ reported_after state before answer
 reported_still state new at (Refused cause) accepted before is new_is = cc is
-reported_still state new at (Stored row) accepted before is new_is =
+reported_still state new at (Stored effect) accepted before is new_is =
     ap (reported_behind (state_with state new) before) (same_accepted accepted StoredAccepted is)
 reported_still state new at (Says one) accepted before is new_is =
     ap (reported_behind (state_with state new) before) (same_accepted accepted one is) ∙ ap (λ (rows : List StoredRow). reported_behind (state_with state rows) before one) new_is
 
 -- no answer says that a row was stored, but the one that stores it
-said_stored : (row : BookRow) (cause : Option Refusal) → IsSaid (stored_or_refused row cause)
-said_stored row (Some cause) = tt
-said_stored row None = tt
+said_stored : (effect : Effect) (cause : Option Refusal) → IsSaid (stored_or_refused effect cause)
+said_stored effect (Some cause) = tt
+said_stored effect None = tt
 
 said_report : (found : Option ℕ) → IsSaid (report_or_refused found)
 said_report (Some i) = tt
@@ -282,18 +281,18 @@ said_history (Some i) = tt
 said_history None = tt
 
 said_to : (rows : List StoredRow) (request : Request) → IsSaid (answer_to rows request)
-said_to rows BlankAsked = tt
-said_to rows (Store row) = said_stored row (refusal_of rows row)
-said_to rows DesignAsked = tt
-said_to rows (ReportAsked name) = said_report (period_place rows name)
-said_to rows (HistoryAsked name) = said_history (period_place rows name)
+said_to rows asked.Blank = tt
+said_to rows (asked.Store effect) = said_stored effect (refusal_of rows effect)
+said_to rows asked.Design = tt
+said_to rows (asked.Report name) = said_report (period_place rows name)
+said_to rows (asked.History name) = said_history (period_place rows name)
 
-said_if : (rows : List StoredRow) (request : Result Request Refusal) → IsSaid (answer_if rows request)
+said_if : (rows : List StoredRow) (request : Result Request FormFault) → IsSaid (answer_if rows request)
 said_if rows (Ok request) = said_to rows request
-said_if rows (Err cause) = tt
+said_if rows (Err fault) = tt
 
 pub said : (rows : List StoredRow) (fields : List (List ℕ)) → IsSaid (answer_of rows fields)
-said rows fields = said_if rows (request_in (version_of rows) (without_trailing_empty fields))
+said rows fields = said_if rows (request_in fields)
 
 -- ---- behind a report
 

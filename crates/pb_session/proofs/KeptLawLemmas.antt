@@ -14,7 +14,8 @@ use Rattle.pb_book.specs.declared.rows.Period.{Period}
 use Rattle.pb_book.specs.Accepted.{AreAccepted}
 use Rattle.pb_book.specs.Answer.{Answer, Refused, Says, Stored, answer_of}
 use Rattle.pb_book.specs.Laws.{AcceptedLaw}
-use Rattle.pb_book.specs.Rows.{StoredRow, periods_of, with_row}
+use Rattle.pb_book.specs.declared.rows.StoredRow.{StoredRow}
+use Rattle.pb_book.specs.Rows.{periods_of, with_row}
 use Rattle.pb_period.specs.Days.{days_of}
 use Rattle.pb_period.specs.Laws.{GraphsLaw, HaveGraphs}
 use Rattle.pb_period.specs.declared.graph.Assembly.{Assembly}

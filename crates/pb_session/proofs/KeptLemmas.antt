@@ -7,7 +7,7 @@ use Rattle.std.proofs.lemmas.List.{take-map}
 use Rattle.std.proofs.lemmas.List.Folds.{find_at}
 use Rattle.std.proofs.lemmas.Option.{slice_get-get_or, slice_get_past}
 use Rattle.pb_graph.specs.declared.results.Study.{Study}
-use Rattle.pb_book.specs.Rows.{StoredRow}
+use Rattle.pb_book.specs.declared.rows.StoredRow.{StoredRow}
 use Rattle.pb_session.specs.declared.kept.KeptStudy.{KeptStudy}
 use Rattle.pb_session.specs.Kept.{kept_behind, most_kept, untouched, without}
 use Rattle.pb_session.specs.Keeping.{is_of, others_than, place_in, settled, settled_by, studies_behind, untouched_studies}

@@ -5,7 +5,8 @@ use Rattle.pb_graph.specs.ProcessGraph.{ProcessGraph}
 use Rattle.pb_graph.specs.declared.records.Meas.{Meas}
 use Rattle.pb_site.specs.declared.declared.Arc.{Arc}
 use Rattle.pb_site.specs.Site.{HasDistinctNames, arc_names, arcs_of, names_of}
-use Rattle.pb_book.specs.Rows.{StoredRow, declared_of}
+use Rattle.pb_book.specs.declared.rows.StoredRow.{StoredRow}
+use Rattle.pb_book.specs.Rows.{declared_of}
 use Rattle.pb_period.specs.declared.days.Days.{Days}
 use Rattle.pb_period.specs.declared.graph.Assembly.{Assembly}
 use Rattle.pb_period.specs.PeriodGraph.{assembly_of, graph_with, is_over, period_graph, period_names, stream_with, unless_over}

@@ -2,19 +2,20 @@
 use Rattle.std.proofs.Common.{◌≡◌, ◌≢◌, ℕ, ◌<◌, false, List, [], length, Option, Some, None, IfSome, Result, Ok, Err, sym, ap, refl, subst, position}
 use Rattle.std.proofs.lemmas.List.Quantifiers.{position-Some}
 use Rattle.std.specs.Prelude.{pos}
-use Rattle.pb_rows.specs.Records.{without_trailing_empty}
-use Rattle.pb_book.specs.declared.rows.BookRow.{BookRow}
+use Rattle.pb_kinds.specs.declared.rows.Effect.{Effect}
 use Rattle.pb_book.specs.declared.rows.Period.{Period}
 use Rattle.pb_book.specs.declared.answer.Refused.{Refused as Refusal}
 use Rattle.pb_book.specs.declared.answer.NotAccepted.{NotAccepted}
 use Rattle.pb_book.specs.declared.answer.NotAccepted.TheVariants.{Refused as NotAcceptedFor}
 use Rattle.pb_book.specs.declared.answer.Accepted.{Accepted}
 use Rattle.pb_book.specs.declared.answer.Accepted.TheVariants.{Stored as StoredAccepted}
-use Rattle.pb_book.specs.declared.requests.Request.{Request}
-use Rattle.pb_book.specs.declared.requests.Request.TheVariants.{Blank as BlankAsked, Store, Design as DesignAsked, Report as ReportAsked, History as HistoryAsked}
+use Rattle.pb_form.specs.declared.fault.FormFault.{FormFault}
+use Rattle.pb_kinds.specs.declared.rows.Request.{Request}
+use Rattle.pb_kinds.specs.declared.rows.Request.TheVariants as asked
 use Rattle.pb_book.specs.Apart.{is_named}
-use Rattle.pb_book.specs.Rows.{StoredRow, period_place, periods_of, version_of}
-use Rattle.pb_book.specs.Requests.{request_in}
+use Rattle.pb_book.specs.declared.rows.StoredRow.{StoredRow}
+use Rattle.pb_book.specs.Rows.{period_place, periods_of}
+use Rattle.pb_kinds.specs.Requests.{request_in}
 use Rattle.pb_book.specs.Refusals.{refusal_of}
 use Rattle.pb_book.specs.Answer.{Answer, Refused, Says, Stored, after_answer, answer_if, answer_of, answer_to, history_or_refused, is_refused, report_or_refused, said_of, stored_or_refused}
 use Rattle.pb_session.specs.Session.{AddsAccepted, AddsBy, SessionState}
@@ -30,7 +31,7 @@ said_err cause = Err (NotAcceptedFor cause)
 -- an accepted record's answer is no refusal
 pub accepted_is : (answer : Answer) (accepted : Accepted) → said_ok accepted ≡ said_of answer → false ≡ is_refused answer
 accepted_is (Refused cause) accepted is = cc is
-accepted_is (Stored row) accepted is = refl
+accepted_is (Stored effect) accepted is = refl
 accepted_is (Says said) accepted is = refl
 
 same_accepted : (a b : Accepted) → said_ok a ≡ said_ok b → a ≡ b
@@ -40,7 +41,7 @@ same_accepted a b is = cc is
 pub accepted_adds : (state new : SessionState) (at : ℕ) (answer : Answer) (accepted : Accepted) (text : List ℕ) → said_ok accepted ≡ said_of answer
     → new ≡ record { options = state.options; form = state.form; rows = after_answer state.rows at answer } → AddsAccepted new accepted text → AddsBy state at answer text
 accepted_adds state new at (Refused cause) accepted text is new_is adds = cc is
-accepted_adds state new at (Stored row) accepted text is new_is adds = subst (λ (a : Accepted). AddsAccepted new a text) (same_accepted accepted StoredAccepted is) adds
+accepted_adds state new at (Stored effect) accepted text is new_is adds = subst (λ (a : Accepted). AddsAccepted new a text) (same_accepted accepted StoredAccepted is) adds
 accepted_adds state new at (Says said) accepted text is new_is adds =
     subst (λ (s : SessionState). AddsAccepted s said text) new_is (subst (λ (a : Accepted). AddsAccepted new a text) (same_accepted accepted said is) adds)
 
@@ -53,7 +54,7 @@ AnswersOf rows answer = Unit {0}
 pub of_periods : (rows new : List StoredRow) (at : ℕ) (answer : Answer) (accepted : Accepted) → said_ok accepted ≡ said_of answer → AnswersOf rows answer
     → new ≡ after_answer rows at answer → IsOfPeriods new accepted
 of_periods rows new at (Refused cause) accepted is of is_new = cc is
-of_periods rows new at (Stored row) accepted is of is_new = subst (λ (a : Accepted). IsOfPeriods new a) (sym (same_accepted accepted StoredAccepted is)) tt
+of_periods rows new at (Stored effect) accepted is of is_new = subst (λ (a : Accepted). IsOfPeriods new a) (sym (same_accepted accepted StoredAccepted is)) tt
 of_periods rows new at (Says said) accepted is of is_new =
     let here : IsOfPeriods new said = subst (λ (r : List StoredRow). IsOfPeriods r said) (sym is_new) of in
     subst (λ (a : Accepted). IsOfPeriods new a) (sym (same_accepted accepted said is)) here
@@ -74,29 +75,29 @@ histories_of : (rows : List StoredRow) (found : Option ℕ) → IfSome found (λ
 histories_of rows (Some i) lt = lt
 histories_of rows None lt = tt
 
-stores_of : (rows : List StoredRow) (row : BookRow) (cause : Option Refusal) → AnswersOf rows (stored_or_refused row cause)
-stores_of rows row (Some cause) = tt
-stores_of rows row None = tt
+stores_of : (rows : List StoredRow) (effect : Effect) (cause : Option Refusal) → AnswersOf rows (stored_or_refused effect cause)
+stores_of rows effect (Some cause) = tt
+stores_of rows effect None = tt
 
 answers_to : (rows : List StoredRow) (request : Request) → AnswersOf rows (answer_to rows request)
-answers_to rows BlankAsked = tt
-answers_to rows (Store row) = stores_of rows row (refusal_of rows row)
-answers_to rows DesignAsked = tt
-answers_to rows (ReportAsked name) = reports_of rows (period_place rows name) (found_within name (periods_of rows) (period_place rows name) refl)
-answers_to rows (HistoryAsked name) = histories_of rows (period_place rows name) (found_within name (periods_of rows) (period_place rows name) refl)
+answers_to rows asked.Blank = tt
+answers_to rows (asked.Store effect) = stores_of rows effect (refusal_of rows effect)
+answers_to rows asked.Design = tt
+answers_to rows (asked.Report name) = reports_of rows (period_place rows name) (found_within name (periods_of rows) (period_place rows name) refl)
+answers_to rows (asked.History name) = histories_of rows (period_place rows name) (found_within name (periods_of rows) (period_place rows name) refl)
 
-answers_if : (rows : List StoredRow) (request : Result Request Refusal) → AnswersOf rows (answer_if rows request)
-answers_if rows (Err cause) = tt
+answers_if : (rows : List StoredRow) (request : Result Request FormFault) → AnswersOf rows (answer_if rows request)
+answers_if rows (Err fault) = tt
 answers_if rows (Ok request) = answers_to rows request
 
 pub answers : (rows : List StoredRow) (fields : List (List ℕ)) → AnswersOf rows (answer_of rows fields)
-answers rows fields = answers_if rows (request_in (version_of rows) (without_trailing_empty fields))
+answers rows fields = answers_if rows (request_in fields)
 
 -- an accepted record that stores nothing leaves the rows as they were
 pub unchanged_by : (rows : List StoredRow) (at : ℕ) (answer : Answer) (accepted : Accepted) → said_ok accepted ≡ said_of answer
     → accepted ≢ StoredAccepted → after_answer rows at answer ≡ rows
 unchanged_by rows at (Refused cause) accepted is other = refl
-unchanged_by rows at (Stored row) accepted is other = absurd (other (same_accepted accepted StoredAccepted is))
+unchanged_by rows at (Stored effect) accepted is other = absurd (other (same_accepted accepted StoredAccepted is))
 unchanged_by rows at (Says said) accepted is other = refl
 
 same_refusal : (a b : Refusal) → said_err a ≡ said_err b → a ≡ b
@@ -105,5 +106,5 @@ same_refusal a b is = cc is
 -- a record that the book refuses has this cause for an answer
 pub refused_is : (answer : Answer) (cause : Refusal) → said_err cause ≡ said_of answer → answer ≡ Refused cause
 refused_is (Refused other) cause is = ap Refused (sym (same_refusal cause other is))
-refused_is (Stored row) cause is = cc is
+refused_is (Stored effect) cause is = cc is
 refused_is (Says said) cause is = cc is

@@ -2,7 +2,8 @@
 use Rattle.std.specs.Prelude.{ℕ, ◌<◌, List, length}
 use Rattle.pb_book.specs.declared.answer.Accepted.{Accepted}
 use Rattle.pb_book.specs.declared.answer.Accepted.TheVariants.{Report, History}
-use Rattle.pb_book.specs.Rows.{StoredRow, periods_of}
+use Rattle.pb_book.specs.declared.rows.StoredRow.{StoredRow}
+use Rattle.pb_book.specs.Rows.{periods_of}
 
 -- a report, or a history, is of a period that there is
 abbrev pub IsOfPeriods : List StoredRow → Accepted → Type 0

@@ -5,7 +5,8 @@ use Rattle.pb_graph.specs.declared.results.CriticalRow.{CriticalRow}
 use Rattle.pb_site.specs.declared.declared.Declared.{Declared}
 use Rattle.pb_site.specs.declared.declared.Declared.TheVariants.{CritGlobal}
 use Rattle.pb_site.specs.Site.{measure_of, nodal_of}
-use Rattle.pb_book.specs.Rows.{StoredRow, declared_of}
+use Rattle.pb_book.specs.declared.rows.StoredRow.{StoredRow}
+use Rattle.pb_book.specs.Rows.{declared_of}
 
 -- the critical value of the global test that a declaration declares, with its degrees of freedom
 abbrev pub critical_row : Declared → Option CriticalRow

@@ -1,28 +1,37 @@
 -- Statement. The history of a period, as it is told.
-use Rattle.std.specs.Prelude.{List, map}
-use Rattle.pb_book.specs.declared.rows.Edit.{Edit}
-use Rattle.pb_book.specs.declared.rows.EditWord.{EditWord}
-use Rattle.pb_book.specs.declared.rows.EditWord.TheVariants.{Close, Late, Amend, Strike}
+use Rattle.std.specs.Prelude.{ℕ, List, filter_map, Option, Some, None}
+use Rattle.pb_facts.specs.Fact.{id_of}
+use Rattle.pb_kinds.specs.declared.rows.Edit.{Edit}
+use Rattle.pb_kinds.specs.declared.rows.Edit.TheVariants as edits
+use Rattle.pb_kinds.specs.declared.rows.Effect.{Effect}
+use Rattle.pb_kinds.specs.declared.rows.Effect.TheVariants.{Books, Edits, Closes}
 use Rattle.pb_book.specs.declared.rows.Period.{Period}
+use Rattle.pb_book.specs.declared.rows.StoredRow.{StoredRow}
 use Rattle.pb_book.specs.Edits.{history_of}
-use Rattle.pb_book.specs.Rows.{StoredRow}
 use Rattle.pb_report.specs.declared.history.HistoryRow.{HistoryRow}
 use Rattle.pb_report.specs.declared.history.HistoryWord.{HistoryWord}
-use Rattle.pb_report.specs.declared.history.HistoryWord.TheVariants.{Close as CloseTold, Late as LateTold, Amend as AmendTold, Strike as StrikeTold}
+use Rattle.pb_report.specs.declared.history.HistoryWord.TheVariants as word
 use Rattle.pb_report.specs.declared.history.Period.{Period as PeriodTold}
 use Rattle.pb_report.specs.History.{history_rows}
 use Rattle.pb_report.specs.Row.{OutputRow}
 
--- the word of an edit
-abbrev pub told_word : EditWord → HistoryWord
-told_word Close = CloseTold
-told_word Late = LateTold
-told_word Amend = AmendTold
-told_word Strike = StrikeTold
+-- what an edit of a fact does
+abbrev pub word_of : Edit → HistoryWord
+word_of (edits.Change change) = word.Amend
+word_of edits.Strike = word.Strike
 
--- an edit
-abbrev pub told : Edit → HistoryRow
-told edit = record { at = edit.at; word = told_word edit.word; id = edit.id; reason = edit.reason }
+-- how an edit of a record is told: what it did, the id of its fact and the reason; a row that edits nothing isn't told
+abbrev pub told_as : ℕ → Effect → Option HistoryRow
+told_as at (Closes name) = Some (record { at = at; word = word.Close; id = None; reason = None })
+told_as at (Books fact late) =
+    Some (record { at = at; word = word.Late; id = Some (id_of fact); reason = None })
+told_as at (Edits id how reason) =
+    Some (record { at = at; word = word_of how; id = Some id; reason = Some reason })
+told_as at effect = None
+
+-- how a stored row is told
+abbrev pub told : StoredRow → Option HistoryRow
+told row = told_as row.at row.effect
 
 -- a period: its name, and whether it is closed
 abbrev pub told_period : Period → PeriodTold
@@ -30,4 +39,4 @@ told_period period = record { name = period.name; closed = period.closed }
 
 -- The rows that tell the history of a period: its state, and the edits that touch it, in the order of their records.
 abbrev pub told_history : List StoredRow → Period → List OutputRow
-told_history rows period = history_rows (told_period period) (map told (history_of rows period))
+told_history rows period = history_rows (told_period period) (filter_map told (history_of rows period))

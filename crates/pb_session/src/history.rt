@@ -1,12 +1,14 @@
 // The history of a period, as it is told.
 
-ghost use Rattle.std.specs.Prelude.{◌≡◌, ◌<◌, length, map, IfOk, IfSome, slice_get};
-ghost use Rattle.pb_book.specs.Edits.{history_of};
+ghost use Rattle.std.specs.Prelude.{◌≡◌, ◌<◌, ◌++◌, [], length, filter_map, IfOk, IfSome, OnOk, option_and_then, slice_get};
+ghost use Rattle.std.specs.List.{cons_option};
+ghost use Rattle.pb_book.specs.Edits.{edits_of, history_of};
 ghost use Rattle.pb_book.specs.Rows.{periods_of};
-ghost use Rattle.pb_session.specs.History.{told, told_period, told_word};
+ghost use Rattle.pb_session.specs.History.{told, told_period, word_of};
 
-use pb_book::{Book, Edit, EditWord, Period};
+use pb_book::{Book, Period, StoredRow};
 use pb_graph::List;
+use pb_kinds::{Edit, Effect};
 use pb_report::{HistoryRow, HistoryWord};
 use std::alloc::{AllocError, Global};
 
@@ -24,36 +26,71 @@ pub fn told_period(period: &Period) -> pb_report::Period
 pub fn told_edits(alloc: Global, book: &Book, i: u32) -> Result<List<HistoryRow>, AllocError>
     requires { i < length (periods_of book.now) }
     ensures { IfOk result (λ edits. IfSome (slice_get (periods_of book.now) i)
-        (λ period. edits ≡ map told (history_of book.now period))) }
+        (λ period. edits ≡ filter_map told (history_of book.now period))) }
 {
     let mut edits = List::new(alloc);
     for e in 0..book.edits() {
         if book.touches(e, i) {
-            let Edit {
-                at,
-                word,
-                id,
-                reason,
-            } = book.edit(e);
-            edits.push(HistoryRow {
-                at,
-                word: told_word(word),
-                id,
-                reason,
-            })?;
+            push_told(book, e, &mut edits)?;
         }
     }
     Ok(edits)
 }
 
-// The word of an edit.
-fn told_word(word: EditWord) -> HistoryWord
-    ensures { result ≡ told_word word }
+// Appends how the edit at a place is told.
+fn push_told(book: &Book, e: usize, edits: &mut List<HistoryRow>) -> Result<(), AllocError>
+    ensures { OnOk result (edits.new ≡ edits.old
+        ++ cons_option (option_and_then told (slice_get (edits_of book.now) e)) []) }
 {
-    match word {
-        EditWord::Close => HistoryWord::Close,
-        EditWord::Late => HistoryWord::Late,
-        EditWord::Amend => HistoryWord::Amend,
-        EditWord::Strike => HistoryWord::Strike,
+    match told_at(book, e) {
+        Some(row) => edits.push(row),
+        None => Ok(()),
+    }
+}
+
+// How the edit at a place is told; `None` where there is none.
+fn told_at(book: &Book, e: usize) -> Option<HistoryRow>
+    ensures { result ≡ option_and_then told (slice_get (edits_of book.now) e) }
+{
+    match book.edit(e) {
+        Some(row) => told(&row),
+        None => None,
+    }
+}
+
+// How a row is told: what it did, the id of its fact and the reason; `None` where it edits nothing.
+fn told(row: &StoredRow) -> Option<HistoryRow>
+    ensures { result ≡ told row.now }
+{
+    match &row.effect {
+        Effect::Closes(_) => Some(HistoryRow {
+            at: row.at,
+            word: HistoryWord::Close,
+            id: None,
+            reason: None,
+        }),
+        Effect::Books { fact, .. } => Some(HistoryRow {
+            at: row.at,
+            word: HistoryWord::Late,
+            id: Some(fact.id()),
+            reason: None,
+        }),
+        Effect::Edits { id, edit, reason } => Some(HistoryRow {
+            at: row.at,
+            word: word_of(edit),
+            id: Some(*id),
+            reason: Some(*reason),
+        }),
+        Effect::Declares(_) | Effect::Opens { .. } => None,
+    }
+}
+
+// What an edit of a fact does.
+fn word_of(edit: &Edit) -> HistoryWord
+    ensures { result ≡ word_of edit.now }
+{
+    match edit {
+        Edit::Change(_) => HistoryWord::Amend,
+        Edit::Strike => HistoryWord::Strike,
     }
 }

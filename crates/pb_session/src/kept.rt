@@ -1,15 +1,12 @@
 // The studies that a session keeps.
 
 ghost use Rattle.std.specs.Prelude.{◌≡◌, ◌<◌, ◌≤◌, ◌∷◌, take, vec_capacity, vec_len};
-ghost use Rattle.pb_facts.specs.Facts.{NoRepeats};
-ghost use Rattle.pb_book.specs.Rows.{facts_of};
 ghost use Rattle.pb_book.specs.TakenOut.{touched_at};
 ghost use Rattle.pb_session.specs.Kept.{most_kept};
 ghost use Rattle.pb_session.specs.Keeping.{left_by, others_than, place_in, settled, studies_behind, untouched_studies};
 
 use pb_book::{Accepted, Book};
 use pb_graph::Study;
-use pb_rows::Name;
 
 /// A study that is kept, with the place of its period.
 #[derive(Debug, Drop)]
@@ -26,18 +23,6 @@ pub fn place_of(kept: &[KeptStudy], period: u32) -> Option<usize>
     ensures { result ≡ place_in period kept.now }
 {
     kept.iter().position(|k| k.period == period)
-}
-
-/// The law that no two facts of a book have one id: a look-up says so, of whatever id.
-pub fn ids_law(book: &Book)
-    ensures { NoRepeats (facts_of book.now) }
-{
-    match Name::read(b"id") {
-        Some(id) => {
-            let _place = book.facts().find(&id);
-        }
-        None => unreachable!(),
-    }
 }
 
 /// Lets the studies go that a stored row touches: the last one of the book, where the record was stored.

@@ -9,7 +9,7 @@ ghost use Rattle.pb_book.specs.Rows.{periods_of};
 use crate::classes::{Classes, classes_in, copied, renew};
 use crate::criticals::declared_critical;
 use crate::history::{told_edits, told_period};
-use crate::kept::{KeptStudy, drop_study, drop_touched, ids_law, place_of, settle};
+use crate::kept::{KeptStudy, drop_study, drop_touched, place_of, settle};
 use pb_book::{Accepted, Book, NotAccepted, Refused};
 use pb_classify::{alike_law, classify};
 use pb_elim::{least_throughout_law, stage, study_classed, tested_law};
@@ -139,7 +139,6 @@ impl Session {
         match self.book.accept(at, row) {
             Ok(accepted) => {
                 untouched_law();
-                ids_law(&self.book);
                 drop_touched(&mut self.kept, &self.book, accepted);
                 self.write(accepted, out)?;
                 Ok(false)

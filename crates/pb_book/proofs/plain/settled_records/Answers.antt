@@ -2,10 +2,10 @@ use Rattle.std.specs.Prelude.{take}
 use Rattle.std.proofs.Common.{◌≡◌, ◌+◌, List, suc, arith, subst, sym}
 use Rattle.std.proofs.lemmas.List.{take_all}
 use Rattle.pb_book.specs.declared.rows.Place.{Place}
-use Rattle.pb_book.specs.declared.rows.BookRow.{BookRow}
+use Rattle.pb_kinds.specs.declared.rows.Effect.{Effect}
 use Rattle.pb_book.specs.Kept.{settled_at}
 use Rattle.pb_book.specs.Written.{WriteRows}
-use Rattle.pb_book.proofs.WrittenLemmas.{adds, settled_more}
+use Rattle.pb_book.proofs.RecordLemmas.{adds, settled_more}
 use Rattle.pb_book.proofs.plain.settled_records.Goals as goal
 
 pub loop-i-preserved : goal.loop-i-preserved
@@ -15,7 +15,7 @@ loop-i-preserved c =
     let places = c.args.places.now in
     let next : c.loop-i.i + 1 ≡ suc c.loop-i.i = omega arith in
     let more = adds c.loop-i.records c.push_settled.new.records (settled_at declared periods (take c.loop-i.i places)) _ c.loop-i.invariant c.in_ok-push_settled.ensures in
-    rw next (subst (λ (rows : List BookRow). WriteRows c.push_settled.new.records rows) (sym (settled_more declared periods places c.loop-i.i _ c.loop-i-test.true)) more)
+    rw next (subst (λ (rows : List Effect). WriteRows c.push_settled.new.records rows) (sym (settled_more declared periods places c.loop-i.i _ c.loop-i-test.true)) more)
 
 pub returns : goal.returns
 returns c =

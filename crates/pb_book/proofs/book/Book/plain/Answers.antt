@@ -1,16 +1,14 @@
 use Rattle.std.specs.Prelude.{map, IfOk}
 use Rattle.std.proofs.Common.{◌≡◌, ◌∙◌, ◌++◌, List, ap₂, subst, sym}
 use Rattle.pb_site.specs.declared.declared.Declared.{Declared}
-use Rattle.pb_facts.specs.declared.fact.Fact.{Fact}
 use Rattle.pb_facts.specs.declared.facts.KeptFact.{KeptFact}
 use Rattle.pb_facts.specs.Facts.{live_facts}
-use Rattle.pb_book.specs.declared.rows.BookRow.{BookRow}
-use Rattle.pb_book.specs.declared.rows.BookRow.TheVariants.{Fact as FactRow}
+use Rattle.pb_kinds.specs.declared.rows.Effect.{Effect}
 use Rattle.pb_book.specs.declared.rows.Place.{Place}
 use Rattle.pb_book.specs.Kept.{rows_at, settled_at, shelves_of, told_at}
-use Rattle.pb_book.specs.Plain.{plain_rows, settled_rows}
+use Rattle.pb_book.specs.Plain.{booked, plain_rows, settled_rows}
 use Rattle.pb_book.specs.Written.{WriteRows}
-use Rattle.pb_book.proofs.WrittenLemmas.{settled_places}
+use Rattle.pb_book.proofs.RecordLemmas.{settled_places}
 use Rattle.pb_book.proofs.book.Book.plain.Goals as goal
 
 pub returns : goal.returns
@@ -20,7 +18,7 @@ returns c =
     let settled : settled_at c.declared.result.now inside.periods c.deref.result.now ≡ settled_rows rows =
     ap₂ (λ (ds : List Declared) (ps : List Place). settled_at ds inside.periods ps) c.declared.ensures.value c.deref.ensures.value
     ∙ sym (settled_places inside.site (told_at inside.facts inside.originals) inside.periods inside.edited.items inside.places.items) in
-    let all : settled_at c.declared.result.now inside.periods c.deref.result.now ++ map (λ (fact : Fact). FactRow fact) (live_facts inside.facts) ≡ plain_rows rows =
-    ap₂ (λ (xs : List BookRow) (ks : List KeptFact). xs ++ map (λ (fact : Fact). FactRow fact) (live_facts ks)) settled c.self.invariant.parts.facts in
+    let all : settled_at c.declared.result.now inside.periods c.deref.result.now ++ map booked (live_facts inside.facts) ≡ plain_rows rows =
+    ap₂ (λ (xs : List Effect) (ks : List KeptFact). xs ++ map booked (live_facts ks)) settled c.self.invariant.parts.facts in
     rw (← c.self.view_is)
-    (subst (λ (rs : List BookRow). IfOk c.plain_records.result (λ records. WriteRows records rs)) all c.plain_records.ensures)
+    (subst (λ (rs : List Effect). IfOk c.plain_records.result (λ records. WriteRows records rs)) all c.plain_records.ensures)

@@ -1,7 +1,8 @@
 use Rattle.std.proofs.Common.{◌≡◌, ◌≢◌, ◌∙◌, ◌<◌, ℕ, List, length, IfErr, IfSome, Result, Ok, Err, slice_get, ap, refl, sym, subst}
 use Rattle.pb_graph.specs.declared.results.Stage.{Stage}
 use Rattle.pb_graph.specs.ProcessGraph.{ProcessGraph}
-use Rattle.pb_book.specs.Rows.{StoredRow, periods_of}
+use Rattle.pb_book.specs.declared.rows.StoredRow.{StoredRow}
+use Rattle.pb_book.specs.Rows.{periods_of}
 use Rattle.pb_period.specs.Days.{days_of}
 use Rattle.pb_period.specs.declared.graph.Assembly.{Assembly}
 use Rattle.pb_period.specs.declared.graph.Assembly.TheVariants.{NoMemory}

@@ -5,7 +5,8 @@ use Rattle.pb_graph.specs.ProcessGraph.{ProcessGraph}
 use Rattle.pb_classify.specs.Classification.{IsClassification}
 use Rattle.pb_elim.specs.Printed.{printed_classes}
 use Rattle.pb_book.specs.declared.rows.Period.{Period}
-use Rattle.pb_book.specs.Rows.{StoredRow, periods_of}
+use Rattle.pb_book.specs.declared.rows.StoredRow.{StoredRow}
+use Rattle.pb_book.specs.Rows.{periods_of}
 use Rattle.pb_period.specs.Days.{days_of}
 use Rattle.pb_period.specs.PeriodGraph.{period_names}
 use Rattle.pb_report.specs.declared.form.Form.{Form}

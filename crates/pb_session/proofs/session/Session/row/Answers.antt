@@ -4,13 +4,13 @@ use Rattle.pb_book.specs.declared.answer.Accepted.{Accepted}
 use Rattle.pb_book.specs.declared.answer.Refused.{Refused as Refusal}
 use Rattle.pb_book.specs.declared.answer.NotAccepted.{NotAccepted}
 use Rattle.pb_book.specs.declared.answer.NotAccepted.TheVariants.{Refused as NotAcceptedFor, NoMemory}
-use Rattle.pb_book.specs.Rows.{StoredRow}
+use Rattle.pb_book.specs.declared.rows.StoredRow.{StoredRow}
 use Rattle.pb_book.specs.Answer.{Answer, Refused, after, after_answer, answer_of, is_refused}
 use Rattle.pb_session.specs.declared.kept.KeptStudy.{KeptStudy}
 use Rattle.pb_session.specs.Keeping.{IsKeptStudy, held_of, left_by}
 use Rattle.pb_session.specs.Kept.{Held, Keeps, KeepsAccepted, KeepsBy, most_kept, reported_after}
 use Rattle.pb_session.specs.Session.{AddsBy, Adds, SessionState, state_after}
-use Rattle.pb_session.proofs.KeepingLemmas.{keeps_by, left_few, left_kept, left_other, reported_still, said, state_with}
+use Rattle.pb_session.proofs.KeepingLemmas.{keeps_by, left_few, left_kept, left_other, reported_still, said, said_ok, state_with}
 use Rattle.pb_session.proofs.KeptLemmas.{periods_in}
 use Rattle.pb_session.proofs.RowLemmas.{accepted_adds, answers, of_periods, refused_is, unchanged_by}
 use Rattle.pb_session.proofs.session.Session.row.Goals as goal
@@ -46,7 +46,8 @@ invariant_of-self c =
     let said_is = sym c.in-Ok.is ∙ c.accept.ensures.answer sure in
     let answer = answer_of state.rows c.args.row.now in
     let left = c.drop_touched.ensures in
-    let studies = left_kept c.untouched_law.ensures state rows c.args.at answer accepted kept said_is (said state.rows c.args.row.now) (c.accept.ensures.stored sure) c.ids_law.ensures c.self.invariant.studies in
+    let studies = left_kept c.untouched_law.ensures state rows c.args.at answer accepted kept said_is (said state.rows c.args.row.now) (c.accept.ensures.stored sure)
+    (λ stored. c.accept.ensures.no_repeats (c.in-Ok.is ∙ ap (λ (a : Accepted). said_ok a) stored)) c.self.invariant.studies in
     record {
       options = c.self.invariant.options;
       studies = subst (AllByRecursion (IsKeptStudy (state_with state rows))) (sym left) studies;

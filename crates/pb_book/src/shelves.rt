@@ -1,0 +1,114 @@
+// What the stored rows do, by where they are kept.
+
+ghost use Rattle.std.specs.Prelude.{◌≡◌, All, IfSome};
+ghost use Rattle.pb_site.specs.Row.{IsInRange as IsDeclaredInRange};
+ghost use Rattle.pb_kinds.specs.Ranges.{IsEffectInRange};
+ghost use Rattle.pb_book.specs.Kept.{closing, editing, effect_in, opening, row_at, settled_in, shelves_of, told_at};
+
+use crate::originals::told_at;
+use crate::periods::Periods;
+use crate::rows::{Edited, Part, Period, Place, StoredRow};
+use pb_facts::{Fact, Facts};
+use pb_kinds::Effect;
+use pb_site::Declared;
+use std::collections::HashMap;
+
+// The stored row at a place; `None` exactly where there is none.
+pub(crate) fn row_at(
+    declared: &[Declared],
+    facts: &Facts,
+    originals: &HashMap<u32, Fact>,
+    periods: &Periods,
+    edited: &[Edited],
+    place: &Place,
+) -> Option<StoredRow>
+    requires { All IsDeclaredInRange declared.now }
+    ensures { result ≡ row_at
+        (shelves_of declared.now (told_at facts.now originals.now) periods.now edited.now)
+        place.now }
+{
+    match effect_in(declared, facts, originals, periods, edited, place.part) {
+        Some(effect) => Some(StoredRow {
+            at: place.at,
+            effect,
+        }),
+        None => None,
+    }
+}
+
+// What the row at a place of a part does; `None` exactly where there is none.
+fn effect_in(
+    declared: &[Declared],
+    facts: &Facts,
+    originals: &HashMap<u32, Fact>,
+    periods: &Periods,
+    edited: &[Edited],
+    part: Part,
+) -> Option<Effect>
+    requires { All IsDeclaredInRange declared.now }
+    ensures { result ≡ effect_in
+        (shelves_of declared.now (told_at facts.now originals.now) periods.now edited.now) part }
+{
+    match part {
+        Part::Declared(_) | Part::Opened(_) => settled_in(declared, periods, part),
+        Part::Booked { place, late } => match told_at(facts, originals, place) {
+            Some(fact) => Some(Effect::Books { fact, late }),
+            None => None,
+        },
+        Part::Edited(i) => match edited.get(i) {
+            Some(edited) => Some(editing(edited)),
+            None => None,
+        },
+        Part::Closed(i) => {
+            if i < periods.len() {
+                Some(Effect::Closes(periods.at(i).name))
+            } else {
+                None
+            }
+        }
+    }
+}
+
+// The same where the row declares something, or a period; `None` where it does something else.
+pub(crate) fn settled_in(declared: &[Declared], periods: &Periods, part: Part) -> Option<Effect>
+    requires { All IsDeclaredInRange declared.now }
+    ensures value { result ≡ settled_in declared.now periods.now part }
+    ensures in_range { IfSome result IsEffectInRange }
+{
+    match part {
+        Part::Declared(i) => match declared.get(i) {
+            Some(declared) => Some(Effect::Declares(*declared)),
+            None => None,
+        },
+        Part::Opened(i) => {
+            if i < periods.len() {
+                Some(opening(&periods.at(i)))
+            } else {
+                None
+            }
+        }
+        _ => None,
+    }
+}
+
+// What the row of a period does.
+fn opening(period: &Period) -> Effect
+    ensures { result ≡ opening period.now }
+{
+    Effect::Opens {
+        name: period.name,
+        first: period.first,
+        last: period.last,
+    }
+}
+
+// What an edit of a fact does.
+fn editing(edited: &Edited) -> Effect
+    ensures { result ≡ editing edited.now }
+{
+    Effect::Edits {
+        id: edited.id,
+        edit: edited.edit,
+        reason: edited.reason,
+    }
+}
