@@ -505,7 +505,7 @@ def test_wrong(
 
 
 def test_checksums_of_any_name() -> None:
-    text = checksums([("0" * 64, Path("a\nb\\c")), ("1" * 64, Path("plain"))])
+    text = checksums([("0" * 64, "a\nb\\c"), ("1" * 64, "plain")])
     assert text == f"\\{'0' * 64}  a\\nb\\\\c\n{'1' * 64}  plain\n"
 
 
