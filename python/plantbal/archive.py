@@ -7,8 +7,10 @@ import datetime
 import os
 import re
 import sys
+from dataclasses import replace
 from pathlib import Path
 
+from plantbal.build import build_of
 from plantbal.bundle import (
     MANIFEST,
     OUTPUT,
@@ -37,8 +39,8 @@ SESSION is a file; `-` is standard input. The program is run, and the bundle is 
   session.csv    the session, byte for byte
   output.csv     what the program writes of it
   summary.txt    what a person has to know, and the flows of the period in tonnes
-  manifest.json  the period, its days, the time, the words, the program's digest and version,
-                 and the digest of each file
+  manifest.json  the period, its days, the time, the words, the program's digest, its version
+                 and what says it, and the digest of each file
   SHA256SUMS     the digests of all these, for `sha256sum --check`
 
 The same session, words, program and time give the same bytes. The time is that of --time, else that
@@ -55,16 +57,14 @@ _TIME = "%Y-%m-%dT%H:%M:%SZ"
 
 
 def program_of(path: Path) -> dict[str, str]:
-    """Return the digest of a program, with its version and commit where a build record has them."""
-    found = {"sha256": digest(path.read_bytes()), "version": "unknown", "commit": "commit unknown"}
-    record = path.parent.parent / "share" / "plantbal" / "BUILD"
-    if record.is_file():
-        text = record.read_text(encoding="utf-8", errors="replace")
-        if found["sha256"] in text:
-            said = dict(re.findall(r"^([a-z0-9 ]+): (.*)$", text, re.M))
-            found["version"] = said.get("version", "unknown")
-            found["commit"] = f"commit {said.get('commit', 'unknown')}"
-    return found
+    """Return what the manifest says of a program."""
+    build = build_of(path)
+    return {
+        "sha256": build.sha256,
+        "version": build.version,
+        "commit": f"commit {build.commit}",
+        "from": build.source,
+    }
 
 
 def time_of(text: str | None) -> str:
@@ -90,29 +90,14 @@ def time_of(text: str | None) -> str:
 
 
 def manifest_of(
-    ledger: Ledger,
-    output: Output,
-    files: dict[str, bytes],
-    *,
-    plant: str,
-    period: str,
-    made: str,
-    words: str,
-    program: dict[str, str],
-    desk: str,
+    stated: Manifest, ledger: Ledger, output: Output, files: dict[str, bytes]
 ) -> Manifest:
-    """Return the manifest of files: what follows from them is computed from them."""
-    days = ledger.periods[period]
-    return Manifest(
-        archive=VERSION,
-        plant=plant,
-        period=period,
+    """Return the manifest of files: what follows from them is computed, and the rest is stated."""
+    days = ledger.periods[stated.period]
+    return replace(
+        stated,
         first=day_text(days.first),
         last=day_text(days.last),
-        made=made,
-        words=words,
-        program=program,
-        desk=desk,
         reports=[f"{block.period}, round {block.round}" for block in output.blocks_in_order],
         refused=sum(row["row"] == "refused" for row in output.rows),
         files={name: digest(data) for name, data in sorted(files.items())},
@@ -143,17 +128,9 @@ def bundle_files(session: bytes, output: bytes, stated: Manifest) -> dict[str, b
     """Return the files of a bundle; plant, period, time, words, program and desk are stated."""
     ledger, report = Ledger(SESSION, session), parse_report(output.decode("utf-8"), OUTPUT)
     files = {SESSION: session, OUTPUT: output}
-    said = {
-        "plant": stated.plant,
-        "period": stated.period,
-        "made": stated.made,
-        "words": stated.words,
-        "desk": stated.desk,
-    }
-    first = manifest_of(ledger, report, files, program=stated.program, **said)
+    first = manifest_of(stated, ledger, report, files)
     files[SUMMARY] = summary_text(first, ledger, report).encode("utf-8")
-    whole = manifest_of(ledger, report, files, program=stated.program, **said)
-    files[MANIFEST] = whole.to_json()
+    files[MANIFEST] = manifest_of(stated, ledger, report, files).to_json()
     files[DIGESTS] = digests_text(files)
     return files
 
