@@ -153,7 +153,7 @@ complete -c plantbal-desk -n '__fish_seen_subcommand_from fleet' -l again -d 'ru
 complete -c plantbal-desk -n '__fish_seen_subcommand_from fleet' -l recursive -d 'take the sessions in folders inside FOLDER too'
 complete -c plantbal-desk -n '__fish_seen_subcommand_from fleet' -l engine -x -a 'parallel dask' -d 'dask with --scheduler or --send'
 complete -c plantbal-desk -n '__fish_seen_subcommand_from fleet' -l jobs -x -d 'N sessions at once; as many as there are processors without it'
-complete -c plantbal-desk -n '__fish_seen_subcommand_from fleet' -l timeout -x -d 'stop a session after so long'
+complete -c plantbal-desk -n '__fish_seen_subcommand_from fleet' -l timeout -x -d 'stop a session after that many seconds'
 complete -c plantbal-desk -n '__fish_seen_subcommand_from fleet' -l retries -x -d 'try a failing one N times in all'
 complete -c plantbal-desk -n '__fish_seen_subcommand_from fleet' -l scheduler -x -d 'the scheduler of a dask cluster'
 complete -c plantbal-desk -n '__fish_seen_subcommand_from fleet' -l send -d 'send bytes to the cluster, not paths'

@@ -226,7 +226,7 @@ _plantbal_desk() {
             '--recursive[take the sessions in folders inside FOLDER too]'
             '--engine=[dask with --scheduler or --send]:ENGINE:(parallel dask)'
             '--jobs=[N sessions at once; as many as there are processors without it]:N:'
-            '--timeout=[stop a session after so long]:SECONDS:'
+            '--timeout=[stop a session after that many seconds]:SECONDS:'
             '--retries=[try a failing one N times in all]:N:'
             '--scheduler=[the scheduler of a dask cluster]:ADDRESS:'
             '--send[send bytes to the cluster, not paths]'

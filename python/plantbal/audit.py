@@ -244,7 +244,7 @@ def _made_again(
 ) -> list[str]:
     """Make manifest and summary again from session and output, and return those that differ.
 
-    Where they differ since the session or the output was changed, this was said already.
+    If they differ because the session or the output was changed, this was said already.
     """
     try:
         again = bundle_files(files[SESSION], files[OUTPUT], manifest)

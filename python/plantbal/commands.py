@@ -1,4 +1,5 @@
-"""Runs, checks, solutions and conversions as subcommands: what a shell wants of the package's calls."""
+"""Runs, checks, solutions and conversions as subcommands: what a shell wants of the package's
+calls."""
 
 from __future__ import annotations
 
@@ -19,14 +20,16 @@ from plantbal.records import read_records
 from plantbal.report import Block, refuse_other, refuse_parts
 
 OUTPUT_HELP = """
-The report goes to standard output, or to the file of --out by its ending: .csv, .sqlite or .xlsx. The
-file is written whole or not at all. Why a report isn't to be booked without a look (refused rows, no
-report, not converged, a global test that rejects) is said on standard error, and the status is 1.
+The report goes to standard output, or to the file of --out by its ending: .csv, .sqlite or .xlsx.
+The file is written whole or not at all. Why a report isn't to be booked without a look (refused
+rows, no report, not converged, a global test that rejects) is said on standard error, and the
+status is 1.
 """
 RUN_HELP = """
-On standard error: how many rows are refused and the first five with their lines, in sentences; of each
-period whether it has a report, whether this has converged, and what its global test says; where the
-output is. A long run shows on a terminal how far it is. The status is 2 to 6 if that is the program's.
+On standard error: how many rows are refused and the first five with their lines, in sentences; of
+each period whether it has a report, whether this has converged, and what its global test says;
+where the output is. A long run shows on a terminal how far it is. The status is 2 to 6 if that is
+the program's.
 """
 FIRST = 5
 
@@ -261,8 +264,8 @@ examples:
 SOLVE = SimpleNamespace(
     __doc__="Reconciles a session by scipy, and hands out what plantbal's check says yes to.",
     HELP=f"""
-It serves plants on which sweeps don't come near, such as long lines of units with equal meters. SESSION
-is a file; without it standard input is read.{OUTPUT_HELP}
+It serves plants on which sweeps don't come near, such as long lines of units with equal meters.
+SESSION is a file; without it standard input is read.{OUTPUT_HELP}
 examples:
   plantbal-desk solve line.csv --out line.csv
 """,
@@ -272,8 +275,8 @@ examples:
 CHECK = SimpleNamespace(
     __doc__="Checks a report, of CSV or of JSON lines, and says in a sentence what is wrong.",
     HELP="""
-REPORT is a file; without it standard input is read. The status is 0 where each block gets a yes, else 1;
-a file without a block is a fault.
+REPORT is a file; without it standard input is read. The status is 0 if each block gets a yes, else
+1; a file without a block is a fault.
 
 examples:
   plantbal-desk check report.jsonl
@@ -284,8 +287,8 @@ examples:
 REPORT = SimpleNamespace(
     __doc__="Turns a report into CSV, a database of SQLite, or a workbook with one table a sheet.",
     HELP="""
-REPORT is what plantbal wrote, as CSV or as JSON lines; without it standard input is read. JSON lines
-become CSV again, so that a check takes them.
+REPORT is what plantbal wrote, as CSV or as JSON lines; without it standard input is read. JSON
+lines become CSV again, so that a check takes them.
 
 examples:
   plantbal-desk report day.jsonl | plantbal check
@@ -295,7 +298,8 @@ examples:
     run=_report,
 )
 SCHEMA = SimpleNamespace(
-    __doc__="Writes the rows of sessions and outputs as data: kinds, columns, ranges, words, codes.",
+    __doc__="Writes the rows of sessions and outputs as data: kinds, columns, ranges, words, "
+    "codes.",
     HELP="""
 examples:
   plantbal-desk schema | jq '.session[] | .kind'

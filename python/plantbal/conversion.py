@@ -26,7 +26,7 @@ WORKBOOK is an xlsx file, or a folder of CSV files, of which each is a sheet by 
   readings   the days down and a column a tag; or days across; or long: day, tag, value, unit
   dips       tank, day, level, density, error
   tickets    id, stream, first, last, amount, unit, density, error
-  estimates  tag, day, amount, unit, density, error: a figure with a wide error for a day that lacks
+  estimates  tag, day, amount, unit, density, error: a figure with a wide error for a missing day
   critical   test, dof, value
   periods    name, first, last (without it, each calendar month with a reading is a period)
   rows       rows of a session as they are, such as amend, strike and close
@@ -112,7 +112,7 @@ def convert(
     Raises
     ------
     Fault
-        Where the workbook itself can't be read, or there is no such locale.
+        If the workbook itself can't be read, or there is no such locale.
     """
     words = MISSING | {word.casefold() for word in missing}
     reader = Reader(check_locale(locale), words, 2 if limits else 1)

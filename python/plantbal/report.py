@@ -17,7 +17,7 @@ from plantbal.schema import Row, schema
 
 # A field with a power of ten; no name has a plus sign.
 _POWER = re.compile(r"(?<=,)-?[0-9]+(?:\.[0-9]+)?[eE]\+[0-9]+(?=[,\r\n])")
-# A row by its columns; `row` has its kind. A stream of an older report lacks its least bounds.
+# A row by its columns; `row` has its kind. A stream of an older report has no least bounds.
 Values = dict[str, str]
 _AS_WRITTEN = "give the file as plantbal wrote it: this one was cut off, or edited"
 _OF_CHECKS = ("yes", "no", "unreadable")
@@ -201,7 +201,7 @@ def refuse_other(source: str, text: str) -> None:
 
 
 def refuse_parts(source: str, rows: list[Values], *, checks: bool = False) -> None:
-    """Refuse an output that is empty or cut off, or is a check's where this isn't meant.
+    """Refuse an output that is empty or cut off, or is a check's although this isn't meant.
 
     Parameters
     ----------
@@ -295,7 +295,7 @@ class Block:
 
     @property
     def title(self) -> str:
-        """The period, and the round where it isn't the first."""
+        """The period, and the round if it isn't the first."""
         return f"{self.period}, round {self.round}" if self.round else self.period
 
     def suspects(self) -> list[str]:

@@ -26,7 +26,8 @@ goes to standard output, as CSV:
 
 or as lines with tabs between:
 
-  suspects   of each round the streams whose measurement test rejects: period, round, stream, statistic
+  suspects   of each round the streams whose measurement test rejects: period, round, stream,
+             statistic
   imbalance  what the measurements leave over at each unit whose streams are all measured: period,
              unit, tonnes
 
@@ -74,7 +75,8 @@ def pivot(streams: pandas.DataFrame, what: str) -> pandas.DataFrame:
 
 
 def with_deviations(table: pandas.DataFrame, rows: list[Values]) -> pandas.DataFrame:
-    """Return a table of flows with a column ± beside each period: the standard deviation in tonnes."""
+    """Return a table of flows with a column ± beside each period: the standard deviation in
+    tonnes."""
     from plantbal.output import Output
     from plantbal.uncertainty import last_of_each_period
 

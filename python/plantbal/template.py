@@ -51,7 +51,7 @@ ABOUT = {
     "readings": "the days down, and a column a tag of the sheet streams, with the tag over it",
     "dips": "the levels of the tanks at the end of a day, that of the day before a period too",
     "tickets": "the batches of ships, trains and trucks",
-    "estimates": "a figure with a wide error for a day whose reading lacks",
+    "estimates": "a figure with a wide error for a day without a reading",
     "critical": "critical values of the tests; plantbal-desk critical gives them",
     "periods": "the periods; without a row each calendar month with a reading is one",
 }

@@ -1,4 +1,5 @@
-"""How a page looks by what a browser makes of it: texts, sizes, colours and boxes, whatever the fonts."""
+"""How a page looks by what a browser makes of it: texts, sizes, colours and boxes, whatever the
+fonts."""
 
 from __future__ import annotations
 
@@ -12,8 +13,8 @@ from pages import PAPER, Asked, on_paper
 import plantbal
 
 SCRIPT = Path(__file__).with_name("looks.js").read_text(encoding="utf-8")
-# By how many parts in a hundred of the page's width a box may stand elsewhere than in the reference:
-# a column is as wide as its texts are, and that depends on the font.
+# By how many parts in a hundred of the page's width a box may stand elsewhere than in the
+# reference: a column is as wide as its texts are, and that depends on the font.
 MOST_ASIDE = 9.0
 
 
@@ -91,15 +92,19 @@ class Look:
         """Return the look that a browser answers with."""
         said = cast(dict[str, Any], answer)
         texts = [
-            Seen(*each["sides"], *(each[name] for name in ("size", "weight", "ink", "ground")),
-                 each["kind"], each["text"].replace(plantbal.__version__, "VERSION"))
+            Seen(
+                *each["sides"],
+                *(each[name] for name in ("size", "weight", "ink", "ground", "kind")),
+                each["text"].replace(plantbal.__version__, "VERSION"),
+            )
             for each in said["found"]
         ]
         return cls(texts, said["onOneAnother"], said["beyond"], said["drawn"])
 
     def text(self) -> str:
         """Return it as it is kept."""
-        return "".join(f"{line}\n" for line in [f"{self.drawn} arrows", *(t.line() for t in self.texts)])
+        lines = [f"{self.drawn} arrows", *(text.line() for text in self.texts)]
+        return "".join(f"{line}\n" for line in lines)
 
     @classmethod
     def read(cls, text: str) -> Look:
@@ -109,10 +114,12 @@ class Look:
 
 
 def asked(page: str, width: int, font: str = "") -> Asked:
-    """Return the question how a page looks: at a width, or on paper if this is 0, in a font or its own."""
+    """Return the question how a page looks: at a width, or on paper if this is 0, in a font or its
+    own."""
     style = f'body, svg text {{ font-family: "{font}" !important }}' if font else ""
     if not width:
-        return Asked(on_paper(page), f"{SCRIPT}({PAPER})", PAPER, f"body {{ padding: 0 !important }} {style}")
+        style += " body { padding: 0 !important }"
+        return Asked(on_paper(page), f"{SCRIPT}({PAPER})", PAPER, style)
     return Asked(page, f"{SCRIPT}({width})", width, style)
 
 
@@ -137,9 +144,8 @@ def faults(look: Look, width: int) -> list[str]:
     said = [f"on another text: {text}" for text in look.on_one_another]
     said += [f"beyond its box: {text}" for text in look.beyond]
     said += [f"beyond the page: {text.line()}" for text in look.texts if text.right > 100.2]
-    smallest = 11.0 if width else 8.0
-    said += [f"too small: {text.line()}" for text in look.texts if text.text and text.size < smallest]
-    return said
+    least = 11.0 if width else 8.0
+    return said + [f"too small: {t.line()}" for t in look.texts if t.text and t.size < least]
 
 
 def in_columns(texts: Sequence[Seen]) -> bool:

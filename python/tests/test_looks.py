@@ -1,7 +1,7 @@
 """How the month's statement looks: by its texts and boxes in any font, and by pictures besides.
 
-The references are in the folder `pictures`: a page's look as text, which holds on every machine, and its
-picture, which is compared where browser and font are those that it was made with. With
+The references are in the folder `pictures`: a page's look as text, which holds on every machine,
+and its picture, which is compared where browser and font are those that it was made with. With
 PLANTBAL_PICTURES=write both are made anew: look at the pictures, and at what changed in the texts,
 before they are kept.
 """
@@ -47,8 +47,10 @@ HIDDEN = "<style>td.booked { visibility: hidden }</style></head>"
 MOST_APART = 0.01
 
 
-def looks_of(font: str, folder: Path, names: Sequence[str] = tuple(LOOKS), end: str = "</head>") -> dict[str, Look]:
-    """How the pages look in a font."""
+def looks_of(
+    font: str, folder: Path, names: Sequence[str] = tuple(LOOKS), end: str = "</head>"
+) -> dict[str, Look]:
+    """How pages look in a font, with something more at the end of their heads."""
     made = {files: page_of(*files).replace("</head>", end) for files in (REFINERY, CONCENTRATOR)}
     questions = [asked(made[LOOKS[name][0]], LOOKS[name][1], font) for name in names]
     return {name: Look.of(answer) for name, answer in zip(names, ask_all(questions, folder))}
@@ -67,7 +69,8 @@ def test_references_made_anew(tmp_path: Path) -> None:
 
 @pytest.mark.parametrize("font", FONTS, ids=lambda font: font or "its own")
 def test_looks(font: str, tmp_path: Path) -> None:
-    """In each font the texts, their sizes and colours are those of the reference, and near their places."""
+    """In each font the texts, their sizes and colours are those of the reference, and near their
+    places."""
     for name, look in looks_of(font, tmp_path).items():
         assert not faults(look, LOOKS[name][1]), name
         assert not differences(look, kept(name)), name
@@ -97,8 +100,9 @@ def test_a_column_that_is_not_there_shows(tmp_path: Path) -> None:
     }
     for said, end in changes.items():
         for name, look in looks_of("", tmp_path, names, end).items():
+            found = differences(look, kept(name))
             if said != "elsewhere: " or name == "refinery_1280":
-                assert any(each.startswith(said) for each in differences(look, kept(name))), (said, name)
+                assert any(each.startswith(said) for each in found), (said, name)
 
 
 # ---- pictures, as a second look
@@ -115,7 +119,8 @@ def surroundings() -> str:
 
 
 def apart(picture: Image.Image, name: str) -> float:
-    """Return which part of a picture differs from the one that is kept; all of it if the sizes do."""
+    """Return which part of a picture differs from the one that is kept; all of it if the sizes
+    do."""
     small, reference = kept_form(picture), Image.open(PICTURES / f"{name}.png").convert("RGB")
     if small.width != reference.width or abs(small.height / reference.height - 1) > 0.02:
         return 1.0
@@ -124,7 +129,8 @@ def apart(picture: Image.Image, name: str) -> float:
 
 
 def judge(part: float, name: str) -> None:
-    """Fail if a picture differs; with another browser or font than it was made with, only say so."""
+    """Fail if a picture differs; with another browser or font than it was made with, only say
+    so."""
     if surroundings() != text_of(MADE_WITH):
         warnings.warn(f"{name}: {part:.1%} differs, with another browser or font", stacklevel=2)
     else:

@@ -64,7 +64,7 @@ COMMANDS: Sequence[Inner] = (
     Inner("strike", "editing:STRIKE", "take a fact out, with a reason"),
     Inner("report", "reporting", "write the reports of periods"),
     Inner("close", "editing:CLOSE", "close a period with its report"),
-    Inner("status", "overview", "say what is open, what lacks, and how full the year is"),
+    Inner("status", "overview", "say what is open, what is missing, and how full the year is"),
     Inner("next", "following", "begin the next year"),
 )
 

@@ -1,4 +1,5 @@
-"""How a workbook that is added to a book is read; what it lacks of the plant is the book's."""
+"""How a workbook that is added to a book is read; what it doesn't have of the plant is the
+book's."""
 
 from __future__ import annotations
 
@@ -90,7 +91,7 @@ def _together(faults: Sequence[Fault], then: str) -> Fault:
 def converted(
     options: argparse.Namespace, plant: list[tuple[str, ...]], meters: dict[str, Meter]
 ) -> Converter:
-    """Return what a workbook holds; what it lacks of the plant is the book's.
+    """Return what a workbook holds; what it doesn't have of the plant is the book's.
 
     Raises
     ------

@@ -78,7 +78,8 @@ def add_arguments(parser: argparse.ArgumentParser) -> None:
     add("--engine", choices=["parallel", "dask"], help="dask with --scheduler or --send")
     processors = "N sessions at once; as many as there are processors without it"
     add("--jobs", metavar="N", type=_count, help=processors)
-    add("--timeout", metavar="SECONDS", type=_seconds, help="stop a session after so long")
+    timeout = "stop a session after that many seconds"
+    add("--timeout", metavar="SECONDS", type=_seconds, help=timeout)
     add("--retries", metavar="N", type=_count, default=1, help="try a failing one N times in all")
     add("--scheduler", metavar="ADDRESS", help="the scheduler of a dask cluster")
     add("--send", action="store_true", help="send bytes to the cluster, not paths")
@@ -198,7 +199,7 @@ class Fleet:
         self.plants[site.name] = gather(self.night, site, kept, self.given[site])
 
     def run(self, engine: Engine, asked: Asked, again: bool) -> None:
-        """Run what lacks; sessions are read, and outputs taken in, while others run."""
+        """Run what has no output yet; sessions are read, and outputs taken in, while others run."""
         taken = list[Future[None]]()
         try:
             # Mostly these wait for the disk.

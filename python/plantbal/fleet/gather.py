@@ -120,7 +120,7 @@ def _of_status(said: Path, status: int) -> tuple[str, str]:
     """Return the state of a plant by a status other than 0 and 1, and a sentence."""
     name, remedy = STATUSES.get(status, ("ended", ""))
     if status > 128:
-        remedy = f"signal {status - 128} stopped it; signal 9 is often a lack of memory"
+        remedy = f"signal {status - 128} stopped it; signal 9 often means that memory ran out"
     try:
         lines = said.read_text(encoding="utf-8", errors="replace").split("\n")
     except OSError:
@@ -175,7 +175,7 @@ def _of_block(told: Told, block: Block) -> tuple[Row, list[str]]:
         elif verdict == "nocritical" and told.has_critical:
             said.append(
                 "the global test can't be made: there are critical values, and none for "
-                f"{solved['dof']} degrees of freedom; a meter lacks, or is one too many"
+                f"{solved['dof']} degrees of freedom; a meter is missing, or is one too many"
             )
     row = Row(
         site.name,

@@ -14,8 +14,9 @@ from pathlib import Path
 
 WROTE, SAID, STATUS = "output", "stderr.txt", "run.json"
 # `sh -c JOB job SESSION PART PROGRAM WORD..` runs a session and leaves three files in the folder
-# PART. STATUS has the program's status, and later becomes the record of the run. The folder is as old
-# as the program's start, and STATUS as its end. The job ends with a fault if the program wasn't done.
+# PART. STATUS has the program's status, and later becomes the record of the run. The folder is as
+# old as the program's start, and STATUS as its end. The job ends with a fault if the program wasn't
+# done.
 JOB = f"""
 session=$1 part=$2
 shift 2

@@ -37,7 +37,7 @@ what lies within two steps of the chosen stream is drawn. If Graphviz needs long
 the page comes without drawings and says so.
 
 --xlsx writes the tables as a workbook, --pdf the page on A4 by chromium. If one of them is named,
-the page itself is written only where --out says.
+the page itself is written only if --out names a file.
 
 examples:
   plantbal run --tests < may.csv | plantbal-desk page --title May --session may.csv > may.html
@@ -111,7 +111,7 @@ def prepare(source: Source) -> Prepared:
     Raises
     ------
     InputFault
-        Where a row can't be shown, or the output is that of another session.
+        If a row can't be shown, or the output is that of another session.
     """
     check_rows(source.rows, source.name)
     refused = refused_of(source.rows)

@@ -12,7 +12,7 @@ from plantbal.page.layout import Box, Layout, Plan, Point, Route, layout_of, nea
 from plantbal.page.statement import Line
 from plantbal.topology import Arc
 
-# Above so many streams the neighbourhood of one is drawn.
+# Above this many streams the neighbourhood of one is drawn.
 MOST = 60
 THINNEST, WIDEST = 1.2, 9.0
 MARGIN = 6.0
