@@ -88,7 +88,7 @@ complete -c plantbal-desk -n '__fish_seen_subcommand_from book' -l book -x -a '(
 complete -c plantbal-desk -n '__fish_seen_subcommand_from book' -l who -x -d 'who does it, for the journal: the login'
 complete -c plantbal-desk -n '__fish_seen_subcommand_from book' -l why -x -d 'the reason'
 complete -c plantbal-desk -n '__fish_seen_subcommand_from book' -l strike -d 'strike facts that aren\'t in the workbook any more'
-complete -c plantbal-desk -n '__fish_seen_subcommand_from book' -l anyway -d 'also if its report wants a look before it is booked'
+complete -c plantbal-desk -n '__fish_seen_subcommand_from book' -l anyway -d 'also if its report needs a look before it is booked'
 complete -c plantbal-desk -n '__fish_seen_subcommand_from book' -l year -x -d 'whose plant it is; the last without it'
 complete -c plantbal-desk -n '__fish_seen_subcommand_from book' -l dry-run -d 'say it, and book nothing'
 complete -c plantbal-desk -n '__fish_seen_subcommand_from book' -l density -x -d 'another density: 862'

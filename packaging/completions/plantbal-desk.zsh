@@ -121,7 +121,7 @@ _plantbal_desk() {
             '--who=[who does it, for the journal\: the login]:NAME:'
             '--why=[the reason]:TEXT:'
             '--strike[strike facts that aren'\''t in the workbook any more]'
-            '--anyway[also if its report wants a look before it is booked]'
+            '--anyway[also if its report needs a look before it is booked]'
             '--year=[whose plant it is; the last without it]:YEAR:'
             '--dry-run[say it, and book nothing]'
             '--density=[another density\: 862]:TEXT:'

@@ -916,7 +916,7 @@ class Session:
             The value itself, with at most three decimals.
         """
         if (thousandths is None) == (value is None):
-            raise Fault("a critical value wants thousandths, or value, and not both")
+            raise Fault("a critical value needs thousandths, or value, and not both")
         if value is not None:
             exact = decimal_of(value, "VALUE") * 1000
             if exact != int(exact):
@@ -1065,7 +1065,7 @@ class Session:
             return
         if mm is None or density is None or grams is not None or tonnes is not None:
             raise Fault(
-                "an amendment of a dip wants mm and density, that of another fact an amount"
+                "an amendment of a dip needs mm and density, that of another fact an amount"
             )
         self.row("amend", id, whole_of(mm, "MM"), whole_of(density, "DENSITY"), var, reason)
 
@@ -1256,7 +1256,7 @@ def _variance(
 def _amount(grams: int | None, tonnes: Tonnes | None) -> str:
     """Return an amount in grams, of which exactly one is given."""
     if (grams is None) == (tonnes is None):
-        raise Fault("an amount wants grams, or tonnes, and not both")
+        raise Fault("an amount needs grams, or tonnes, and not both")
     if grams is not None:
         return whole_of(grams, "GRAMS")
     assert tonnes is not None

@@ -93,7 +93,7 @@ def test_engine(program: Path, plants: Path, tmp_path: Path, words: list[str]) -
     said = done.stderr.splitlines()
     assert said[0].startswith("fleet: site 07: 1 row is refused: ") and "'V W'" in said[0]
     assert "it asks for nothing; add a row report,PERIOD" in said[1]
-    assert said[2:] == [f"fleet: 20 plants, of which 2 want a person: {out / 'index.html'}"]
+    assert said[2:] == [f"fleet: 20 plants, of which 2 need a person: {out / 'index.html'}"]
     assert done.returncode == 1
     kept = {path.relative_to(out / "site 01").as_posix() for path in out.glob("site 01/**/*")}
     files = {f"{NIGHT}/{name}" for name in ("output.csv", "stderr.txt", "run.json")}
@@ -135,7 +135,7 @@ def test_what_is_kept(program: Path, tmp_path: Path, say: Desk) -> None:
         said = ("a b", "converged", 0.0, 1, None)
         assert plants.fetchall() == [("2026-11-28", *said), (NIGHT, *said)]
     page = text_of(out / "index.html")
-    assert "<h1>1 plant, of which none wants a person</h1>" in page
+    assert "<h1>1 plant, of which none needs a person</h1>" in page
     assert 'href="a%20b/2026-11-29/output.csv"' in page
     assert page.count('title="2026-11-') == 2
     # an older night changes no link

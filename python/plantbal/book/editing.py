@@ -171,7 +171,7 @@ def _strike(options: argparse.Namespace) -> int:
 def _add_close(parser: argparse.ArgumentParser) -> None:
     parser.add_argument("period", metavar="PERIOD", help="the period")
     parser.add_argument(
-        "--anyway", action="store_true", help="also if its report wants a look before it is booked"
+        "--anyway", action="store_true", help="also if its report needs a look before it is booked"
     )
     add_program(parser)
 
@@ -217,7 +217,7 @@ STRIKE = SimpleNamespace(
 )
 CLOSE = SimpleNamespace(
     __doc__="Closes a period with its report: what is added to it from then on comes late, and its "
-    "history says so. If the report wants a look before it is booked, only with --anyway.",
+    "history says so. If the report needs a look before it is booked, only with --anyway.",
     add_arguments=_add_close,
     run=_close,
 )

@@ -1,4 +1,4 @@
-"""Runs a folder of sessions, keeps each night, and says which plants want a person."""
+"""Runs a folder of sessions, keeps each night, and says which plants need a person."""
 
 from __future__ import annotations
 
@@ -49,7 +49,7 @@ The table goes to standard output too, with a row for each period's last report:
 (the output is none of plantbal's), yes or no (of a check). Of a plant without an output it is the
 name of the program's status of 2 to 6, ended (another status), timeout, lost (by a machine of the
 cluster), nosession or nooutput (files that can't be read or written). `verdict` is that of the
-global test, which wants --tests or --eliminate N among WORDS; `suspects` are there only if it
+global test, which needs --tests or --eliminate N among WORDS; `suspects` are there only if it
 rejects and no row is refused, or if a stream was taken. `look` says why a person has to look: a
 row is refused, there is no report, it isn't converged, the global test rejects or can't be made.
 It is said on standard error too. The status is 1 if a person has to look at any plant, else 0.
@@ -324,8 +324,8 @@ def _program(named: str | None, elsewhere: bool) -> Path:
 
 
 def _say_all(say: Callable[[str], None], plants: list[Plant], out: Path) -> int:
-    """Say which plants want a person and why, and return the status."""
-    wanting = [plant for plant in plants if plant.wants]
+    """Say which plants need a person and why, and return the status."""
+    wanting = [plant for plant in plants if plant.needs]
     for plant in wanting:
         for said in plant.says():
             say(said)

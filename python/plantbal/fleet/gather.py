@@ -58,7 +58,7 @@ class Told:
 
     @cached_property
     def session(self) -> bytes:
-        """The session, which is read again if a report wants more of it than its periods."""
+        """The session, which is read again if more of it is needed than its periods."""
         return read_bytes(self.site.path)[1] if self.site.path.exists() else b""
 
     @cached_property

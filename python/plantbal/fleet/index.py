@@ -1,4 +1,4 @@
-"""The page of a night: plants that want a person first, and each plant's nights before it."""
+"""The page of a night: plants that need a person first, and each plant's nights before it."""
 
 from __future__ import annotations
 
@@ -70,7 +70,7 @@ def index(night: Night, plants: Sequence[Plant], times: Times) -> None:
         nights = base.execute(
             "SELECT night, plants, wanting FROM nights ORDER BY night DESC LIMIT 31"
         ).fetchall()
-    ordered = sorted(plants, key=lambda plant: (not plant.wants, plant.site))
+    ordered = sorted(plants, key=lambda plant: (not plant.needs, plant.site))
     lines = [
         Line(
             row,
@@ -93,10 +93,10 @@ def index(night: Night, plants: Sequence[Plant], times: Times) -> None:
 
 
 def summary(plants: Sequence[Plant]) -> str:
-    """Return how many plants there are, and how many want a person."""
-    wanting = sum(plant.wants for plant in plants)
+    """Return how many plants there are, and how many need a person."""
+    wanting = sum(plant.needs for plant in plants)
     count = "1 plant" if len(plants) == 1 else f"{len(plants)} plants"
-    some = f"{wanting} wants" if wanting == 1 else f"{wanting} want" if wanting else "none wants"
+    some = f"{wanting} needs" if wanting == 1 else f"{wanting} need" if wanting else "none needs"
     return f"{count}, of which {some} a person"
 
 

@@ -147,7 +147,7 @@ def _insert(base: sqlite3.Connection, night: Night, plants: Sequence[Plant], tim
             for row in plant.rows
         ),
     )
-    wanting = sum(plant.wants for plant in plants)
+    wanting = sum(plant.needs for plant in plants)
     words = " ".join(night.words)
     program = str(night.program), night.program_sha256, words
     base.execute(

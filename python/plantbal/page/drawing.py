@@ -95,7 +95,7 @@ def arcs_of(lines: Iterable[Line]) -> list[Arc]:
 
 
 def to_look_at(lines: Sequence[Line]) -> str:
-    """Return which stream wants a look most: a suspect, or that of the greatest adjustment."""
+    """Return which stream most needs a look: a suspect, or that of the greatest adjustment."""
     for line in lines:
         if line.mark:
             return line.name

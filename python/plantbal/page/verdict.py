@@ -48,7 +48,7 @@ class Verdict:
         return SIGNS[self.level]
 
     def but(self, what: str, more: Sequence[str]) -> Verdict:
-        """Return it with something that wants a look: in a few words, and in sentences."""
+        """Return it with something that needs a look: in a few words, and in sentences."""
         if self.level not in ("good", "plain"):
             return replace(self, reasons=[*self.reasons, *more])
         joined = "but" if self.level == "good" else "and"
