@@ -41,14 +41,11 @@ class Told:
     ----------
     site : Site
         The plant.
-    given : Given
-        Its session before the run.
     rows : list of dict
         The rows of the output that say something of the plant as a whole.
     """
 
     site: Site
-    given: Given
     rows: list[Values]
 
     @cached_property
@@ -58,13 +55,8 @@ class Told:
 
     @cached_property
     def session(self) -> bytes:
-        """The session, which is read again if more of it is needed than its periods."""
+        """The session."""
         return read_bytes(self.site.path)[1] if self.site.path.exists() else b""
-
-    @cached_property
-    def days(self) -> dict[str, str]:
-        """The first and the last day of each period that isn't refused."""
-        return days_of(self.session, self.refused) if self.refused else self.given.days
 
     @cached_property
     def has_critical(self) -> bool:
@@ -104,7 +96,7 @@ def gather(night: Night, site: Site, kept: Kept, given: Given) -> Plant:
         rows = parse_rows(source, decoded(source, kept.output), _TOLD)
     except InputFault as fault:
         return failed(site, "unreadable", str(fault), run)
-    plant = _of_rows(Told(site, given, rows))
+    plant = _of_rows(Told(site, rows))
     plant.rows = [
         replace(row, status=str(run.status), seconds=f"{run.seconds:.3f}") for row in plant.rows
     ]
@@ -137,13 +129,15 @@ def _of_rows(told: Told) -> Plant:
     plant = Plant(site.name)
     blocks = {block.period: block for block in blocks_of(rows)}
     over = {row["period"]: row["stream"] for row in rows if row["row"] == "over"}
-    for period in dict.fromkeys([*blocks, *over]):
+    periods = dict.fromkeys([*blocks, *over])
+    days = days_of(told.session, periods, told.refused)
+    for period in periods:
         if period in blocks:
             row, said = _of_block(told, blocks[period])
         else:
             row = Row(site.name, period, state="over")
             said = [f"no report: the total of {over[period]} is beyond the limits"]
-        plant.rows.append(replace(row, days=told.days.get(period, ""), refused="0"))
+        plant.rows.append(replace(row, days=days.get(period, ""), refused="0"))
         plant.why_of[period] = said
     _of_check(plant, rows)
     if told.refused or not plant.rows:

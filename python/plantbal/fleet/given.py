@@ -1,4 +1,4 @@
-"""A plant's session as it is before its run: its digest and its periods, and whether it changed."""
+"""A plant's session: its digest before the run, whether it changed, and what it says of periods."""
 
 from __future__ import annotations
 
@@ -8,6 +8,7 @@ import re
 import time
 from collections.abc import Collection, Iterable, Iterator
 from dataclasses import dataclass
+from itertools import islice
 from pathlib import Path
 
 from plantbal.faults import InputFault, Place
@@ -26,8 +27,6 @@ class Given:
     ----------
     sha256 : str
         Its digest.
-    days : dict of str to str
-        The first and the last day of each of its periods.
     state : tuple of int
         The file's number, size and times.
     settled : bool
@@ -35,13 +34,12 @@ class Given:
     """
 
     sha256: str
-    days: dict[str, str]
     state: tuple[int, ...]
     settled: bool
 
     @classmethod
     def read(cls, path: Path) -> Given:
-        """Read a session, once for all.
+        """Read a session.
 
         Raises
         ------
@@ -52,11 +50,11 @@ class Given:
         try:
             with path.open("rb") as file:
                 found = os.fstat(file.fileno())
-                data = file.read()
+                digest = hashlib.file_digest(file, "sha256").hexdigest()
         except OSError as error:
             raise _unread(path, error) from error
         settled = max(found.st_mtime_ns, found.st_ctime_ns) < now - _STEP
-        return cls(hashlib.sha256(data).hexdigest(), days_of(data), _state(found), settled)
+        return cls(digest, _state(found), settled)
 
     def changed(self, path: Path) -> bool:
         """Say whether the file has other bytes by now; it is read again only if it may have.
@@ -115,10 +113,15 @@ def _lines(data: bytes, kind: str) -> Iterator[tuple[str, ...]]:
         yield tuple(found[1].decode("latin-1").split(","))
 
 
-def days_of(data: bytes, refused: Collection[int] = ()) -> dict[str, str]:
-    """Return the first and the last day of each period of a session, without the refused rows."""
-    periods = _rows(data, "period", refused)
-    return {row[1]: f"{row[2]}..{row[3]}" for row in periods if len(row) > 3}
+def days_of(
+    data: bytes, wanted: Collection[str], refused: Collection[int] = ()
+) -> dict[str, str]:
+    """Return the first and the last day of some periods of a session, without the refused rows.
+
+    Mostly they stand at its beginning, and the rest needn't be searched.
+    """
+    rows = (row for row in _rows(data, "period", refused) if len(row) > 3 and row[1] in wanted)
+    return {row[1]: f"{row[2]}..{row[3]}" for row in islice(rows, len(wanted))}
 
 
 def has_critical(data: bytes, refused: Collection[int] = ()) -> bool:
