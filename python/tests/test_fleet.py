@@ -19,6 +19,8 @@ import pytest
 from conftest import TOP, Desk, example, text_of
 from mistakes import BASE, MISTAKES, Mistake
 
+from plantbal.faults import InputFault
+from plantbal.fleet.given import Given, days_of, has_critical, sha256_of
 from plantbal.fleet.keep import checksums
 from plantbal.fleet.rows import HEADS
 from plantbal.fleet.sites import sites
@@ -358,6 +360,47 @@ def test_changed_meanwhile(tmp_path: Path, say: Desk) -> None:
     program.chmod(0o755)
     found = say("fleet", "--program", program, "--out", tmp_path / "out", folder)
     assert found.status == 1 and "its session was changed while it ran" in found.err
+
+
+def test_a_session_that_changed(tmp_path: Path, monkeypatch: pytest.MonkeyPatch) -> None:
+    """A change shows in the file's times; one that was written just before is read again."""
+    path = tmp_path / "a.csv"
+    path.write_text("unit,U\n")
+    given = Given.read(path)
+    assert not given.settled and not given.changed(path)
+    path.write_text("unit,V\n")
+    assert given.changed(path)
+    monkeypatch.setattr("plantbal.fleet.given._STEP", -(10**12))
+    given = Given.read(path)
+    monkeypatch.setattr("plantbal.fleet.given.sha256_of", lambda path: pytest.fail("read again"))
+    assert given.settled and not given.changed(path)
+    monkeypatch.setattr("plantbal.fleet.given.sha256_of", sha256_of)
+    os.utime(path, (1, 1))
+    assert not given.changed(path)
+    path.write_text("unit,W\n")
+    os.utime(path, (1, 1))
+    assert given.changed(path)
+    path.unlink()
+    with pytest.raises(InputFault, match="No such file"):
+        given.changed(path)
+
+
+PERIODS = {
+    "first": (b"period,may,2024-05-01,2024-05-31\nunit,U\n", set()),
+    "after a mark": (b"\xef\xbb\xbfperiod,may,2024-05-01,2024-05-31\n", set()),
+    "among others": (b"unit,U\nperiod,june,a,b\nperiod,may,2024-05-01,2024-05-31", set()),
+    "quoted": (b'unit,U\n"period",may,"2024-05-01",2024-05-31\n', set()),
+    "other ends": (b"unit,U\rperiod,may,2024-05-01,2024-05-31\r\n", set()),
+    "refused before": (b"period,may,2024-05-02,1\nperiod,may,2024-05-01,2024-05-31\n", {1}),
+}
+
+
+@pytest.mark.parametrize("data, refused", PERIODS.values(), ids=PERIODS)
+def test_days(data: bytes, refused: set[int]) -> None:
+    assert days_of(data, ["may"], refused) == {"may": "2024-05-01..2024-05-31"}
+    assert days_of(data, ["july"], refused) == {}
+    assert not has_critical(data, refused)
+    assert has_critical(data + b"\ncritical,global,1,3841\n", refused)
 
 
 def test_alone(forty: tuple[Path, Path, list[object]], say: Desk) -> None:
