@@ -18,6 +18,7 @@
   const textOf = node => {
     if (node.nodeType === Node.TEXT_NODE) return node.nodeValue
     if (node.nodeType !== Node.ELEMENT_NODE || node.matches('svg, script, style')) return ''
+    if (node.matches('br')) return ' '
     return [...node.childNodes].map(child => child.nodeType === Node.ELEMENT_NODE && child.matches(seen) ? ' ' : textOf(child)).join('')
   }
   const before = each => {
