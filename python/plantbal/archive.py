@@ -27,6 +27,7 @@ from plantbal.faults import Fault, Place, ProgramFault, read_bytes
 from plantbal.files import write_bytes
 from plantbal.held import Ledger
 from plantbal.lintbook import day_text
+from plantbal.options import add_run
 from plantbal.output import Output, parse_report
 from plantbal.program import STATUSES, call, find_program
 from plantbal.progress import Progress
@@ -40,11 +41,11 @@ SESSION is a file; `-` is standard input. The program is run, and the bundle is 
   output.csv     what the program writes of it
   summary.txt    what a person has to know, and the flows of the period in tonnes
   manifest.json  the period, its days, the time, the words, the program's digest, its version
-                 and what says it, and the digest of each file
+                 and where that is from, and the digest of each file
   SHA256SUMS     the digests of all these, for `sha256sum --check`
 
 The same session, words, program and time give the same bytes. The time is that of --time, else that
-of the variable SOURCE_DATE_EPOCH, else now. A bundle that is there already isn't written over.
+of the variable SOURCE_DATE_EPOCH, else now. A bundle that is there already isn't overwritten.
 
 The status is 1 if a person has to look (a row is refused, a report isn't converged, a global test
 rejects), and 2 to 6 as the program's. The bundle is written all the same, if there is a report.
@@ -138,19 +139,14 @@ def bundle_files(session: bytes, output: bytes, stated: Manifest) -> dict[str, b
 def add_arguments(parser: argparse.ArgumentParser) -> None:
     """Add the words of the command."""
     parser.add_argument("session", metavar="SESSION")
-    parser.add_argument("--period", metavar="NAME", help="without it the one reported last")
-    parser.add_argument("--plant", metavar="NAME", help="without it the name of the file")
-    parser.add_argument("--out", metavar="FILE", help="without it PLANT_PERIOD.zip")
-    parser.add_argument(
-        "--time", metavar="TIME", help="such as 2024-05-02T06:00:00Z; now without it"
-    )
-    parser.add_argument("--gap", metavar="N", type=int, default=10, help="10 without it")
-    parser.add_argument("--sweeps", metavar="N", type=int, default=5000, help="5,000 without it")
-    parser.add_argument("--no-tests", action="store_true", help="make no tests")
-    parser.add_argument(
-        "--eliminate", metavar="N", type=int, default=0, help="at most N rounds of elimination"
-    )
-    parser.add_argument("--program", metavar="PATH", help="the program")
+    period = "the period to archive (default: the one reported last)"
+    parser.add_argument("--period", metavar="NAME", help=period)
+    plant = "what the plant is called (default: the name of the file)"
+    parser.add_argument("--plant", metavar="NAME", help=plant)
+    parser.add_argument("--out", metavar="FILE", help="the bundle (default: PLANT_PERIOD.zip)")
+    time = "when it is archived, such as 2024-05-02T06:00:00Z (default: now)"
+    parser.add_argument("--time", metavar="TIME", help=time)
+    add_run(parser)
 
 
 def _write(path: str, data: bytes) -> bool:

@@ -293,7 +293,7 @@ def add_arguments(parser: argparse.ArgumentParser) -> None:
         metavar="N",
         type=int,
         default=12,
-        help="show the N meters that are adjusted most; 12 without it",
+        help="show the N meters that are adjusted most (default: 12)",
     )
     parser.add_argument(
         "--stream",

@@ -13,6 +13,7 @@ from types import SimpleNamespace
 
 from plantbal.faults import Fault, ProgramFault, decoded, read_bytes
 from plantbal.files import unwritten, write_text
+from plantbal.options import add_program, add_run, add_sweeps
 from plantbal.output import Output, parse_report, read_report
 from plantbal.program import STATUSES, check, run
 from plantbal.progress import Progress
@@ -70,17 +71,11 @@ def writer_of(path: str) -> Callable[[Output], object]:
 def _add_session(parser: argparse.ArgumentParser) -> None:
     parser.add_argument("session", metavar="SESSION", nargs="?", default="-")
     parser.add_argument("--out", metavar="FILE", default="-", help="a .csv, .sqlite or .xlsx file")
-    parser.add_argument("--gap", metavar="N", type=int, default=10, help="10 without it")
-    parser.add_argument("--sweeps", metavar="N", type=int, default=5000, help="5,000 without it")
-    parser.add_argument("--program", metavar="PATH", help="the program")
 
 
 def _add_run(parser: argparse.ArgumentParser) -> None:
     _add_session(parser)
-    parser.add_argument("--no-tests", action="store_true", help="make no tests")
-    parser.add_argument(
-        "--eliminate", metavar="N", type=int, default=0, help="at most N rounds of elimination"
-    )
+    add_run(parser)
 
 
 def _run(options: argparse.Namespace) -> int:
@@ -179,6 +174,12 @@ def _say_reading(path: str) -> None:
         print("reading standard input, up to Ctrl-D", file=sys.stderr)
 
 
+def _add_solve(parser: argparse.ArgumentParser) -> None:
+    _add_session(parser)
+    add_program(parser)
+    add_sweeps(parser)
+
+
 def _solve(options: argparse.Namespace) -> int:
     from plantbal.solver import solve
 
@@ -194,7 +195,7 @@ def _solve(options: argparse.Namespace) -> int:
 
 def _add_check(parser: argparse.ArgumentParser) -> None:
     parser.add_argument("report", metavar="REPORT", nargs="?", default="-")
-    parser.add_argument("--program", metavar="PATH", help="the program")
+    add_program(parser)
 
 
 def _check(options: argparse.Namespace) -> int:
@@ -269,7 +270,7 @@ SESSION is a file; without it standard input is read.{OUTPUT_HELP}
 examples:
   plantbal-desk solve line.csv --out line.csv
 """,
-    add_arguments=_add_session,
+    add_arguments=_add_solve,
     run=_solve,
 )
 CHECK = SimpleNamespace(

@@ -23,7 +23,7 @@ WORKBOOK is an xlsx file, or a folder of CSV files, of which each is a sheet by 
   units      name (without it, units are the ends of streams that are no tanks)
   tanks      tank, error, base, density
   straps     tank, level, volume, unit (m3 without it)
-  readings   the days down and a column a tag; or days across; or long: day, tag, value, unit
+  readings   the days down and a column for each tag; or days across; or long: day, tag, value, unit
   dips       tank, day, level, density, error
   tickets    id, stream, first, last, amount, unit, density, error
   estimates  tag, day, amount, unit, density, error: a figure with a wide error for a missing day
@@ -141,9 +141,8 @@ def add_arguments(parser: argparse.ArgumentParser) -> None:
     """Add the words of the command."""
     parser.add_argument("workbook", metavar="WORKBOOK")
     parser.add_argument("--out", metavar="FILE", default="-", help="the session")
-    parser.add_argument(
-        "--locale", metavar="NAME", default="", help="whose numbers and days: de, en_GB, fr"
-    )
+    form = "how numbers and days are written: de, en_GB, fr"
+    parser.add_argument("--locale", metavar="NAME", default="", help=form)
     parser.add_argument(
         "--missing",
         metavar="TEXT",

@@ -63,7 +63,7 @@ COMMANDS: tuple[Command, ...] = (
     Command("report", "commands:REPORT", "turn a report into CSV, SQLite or a workbook"),
     Command("solve", "commands:SOLVE", "reconcile by scipy what sweeps don't come near"),
     Command("convert", "conversion", "a session from a plant's workbook"),
-    Command("book", "book.command", "keep a plant's book, a session a year"),
+    Command("book", "book.command", "keep a plant's book, a session for each year"),
     Command("template", "template", "an empty workbook for convert"),
     Command("from-spreadsheet", "spreadsheet", "a session from daily readings and tags"),
     Command("tables", "tables", "tables of flows, classes, suspects, imbalances"),

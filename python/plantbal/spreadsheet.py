@@ -22,8 +22,8 @@ from plantbal.schema import schema
 from plantbal.session import rows_of_kind
 
 HELP = """
-READINGS is a CSV file with a row a day: the day in the first column, then a column for each tag, in
-tonnes. The heads of the columns are the tags. An empty field is a missing reading.
+READINGS is a CSV file with a row for each day: the day in the first column, then a column for each
+tag, in tonnes. The heads of the columns are the tags. An empty field is a missing reading.
 
 TAGS is a CSV file with the heads tag,stream,from,to,error and, if it is wanted, base:
   tag     the head of the column in READINGS; empty for a stream without a meter

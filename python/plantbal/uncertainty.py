@@ -348,9 +348,8 @@ def text_of(table: pandas.DataFrame) -> str:
 def add_arguments(parser: argparse.ArgumentParser) -> None:
     """Add the words of the command."""
     parser.add_argument("output", metavar="OUTPUT", nargs="?", default="-")
-    parser.add_argument(
-        "--form", choices=["text", "csv", "json"], default="text", help="text without it"
-    )
+    form = "the form of the table (default: text)"
+    parser.add_argument("--form", choices=["text", "csv", "json"], default="text", help=form)
 
 
 def run(options: argparse.Namespace) -> int:

@@ -24,7 +24,8 @@ _FIRST = 12  # faults that are said; the others are counted
 
 def add_reading(parser: argparse.ArgumentParser) -> None:
     """Add the words that say how a workbook is read."""
-    parser.add_argument("--locale", metavar="NAME", default="", help="whose numbers and days: de")
+    form = "how numbers and days are written, such as de"
+    parser.add_argument("--locale", metavar="NAME", default="", help=form)
     parser.add_argument(
         "--missing",
         metavar="TEXT",

@@ -72,18 +72,18 @@ def add_arguments(parser: argparse.ArgumentParser) -> None:
     add = parser.add_argument
     add("folder", metavar="FOLDER")
     add("--out", metavar="OUT", required=True, help="the folder of all nights")
-    add("--date", metavar="NIGHT", type=_night, help="the night's name; today's date without it")
+    add("--date", metavar="NIGHT", type=_night, help="the night's name (default: today's date)")
     add("--again", action="store_true", help="run what has its output too")
     add("--recursive", action="store_true", help="take the sessions in folders inside FOLDER too")
     add("--engine", choices=["parallel", "dask"], help="dask with --scheduler or --send")
-    processors = "N sessions at once; as many as there are processors without it"
+    processors = "N sessions at once (default: as many as there are processors)"
     add("--jobs", metavar="N", type=_count, help=processors)
     timeout = "stop a session after that many seconds"
     add("--timeout", metavar="SECONDS", type=_seconds, help=timeout)
     add("--retries", metavar="N", type=_count, default=1, help="try a failing one N times in all")
     add("--scheduler", metavar="ADDRESS", help="the scheduler of a dask cluster")
     add("--send", action="store_true", help="send bytes to the cluster, not paths")
-    program = "the program; without it that of PLANTBAL, of the path, or of this checkout"
+    program = "the program (default: that of PLANTBAL, of the path, or of this checkout)"
     add("--program", metavar="PATH", help=program)
     add("--lint", action="store_true", help="say what lint warns of, too")
     parser.set_defaults(words=[])
