@@ -210,6 +210,23 @@ def test_outputs(tmp_path: Path, say: Desk, monkeypatch: pytest.MonkeyPatch, eng
     assert f"{len(OUTPUTS) + 1} plants, of which {len(OUTPUTS)} want" in found.err
 
 
+@pytest.mark.parametrize("engine", ["parallel", "dask"])
+def test_a_plant_that_cannot_begin(tmp_path: Path, say: Desk, engine: str) -> None:
+    """It has its row, and the one after it that the time limit stops is still known by its name."""
+    program, canned = tmp_path / "stub", example("refinery_day.out.csv")
+    program.write_text(f"#!/bin/sh\nread case\n[ $case != c ] || exec sleep 60\ncat {canned}\n")
+    program.chmod(0o755)
+    sessions = {f"{name}.csv": f"{name}\n".encode() for name in "abcd"}
+    folder, out = folder_of(tmp_path / "sessions", sessions), tmp_path / "out"
+    out.mkdir()
+    (out / "b").write_text("no folder")
+    words = ["fleet", "--engine", engine, "--program", program, "--timeout", 2, "--out", out]
+    found = say(*words, folder)
+    states = {row["site"]: row["state"] for row in rows_of(found.out)}
+    assert states == {"a": "converged", "b": "nooutput", "c": "timeout", "d": "converged"}
+    assert "b: " in found.err and "Not a directory" in found.err
+
+
 def test_tries_again(tmp_path: Path, say: Desk) -> None:
     """A plant that fails once is tried again, if more tries are allowed."""
     program = tmp_path / "stub"

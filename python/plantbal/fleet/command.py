@@ -36,9 +36,9 @@ Each FOLDER/SITE.csv is a session. What is kept of a night, which has the name o
   OUT/fleet.sqlite            the tables `nights` and `plants` of all nights
   OUT/index.html              the last night, for a browser
 
-An output gets its place when it is whole. A fleet that was stopped goes on where it was if the
-same words are given again: what has its output isn't run again, unless the session, the program or
-the words changed.
+An output gets its place when it is whole. A fleet that was stopped continues if the same words are
+given again: plants that have their output aren't run again, unless the session, the program or the
+words changed.
 
 The table goes to standard output too, with a row for each period's last report:
 
