@@ -536,7 +536,7 @@ def read_tests(block: Block, rows: Rows, names: dict[str, Collection[str]]) -> N
         if kind == "end":
             ask(values == [block.period, block.round], 5)
             return
-        test = Test(*(["", 0, None] if kind == "global" else []), *values)
+        test = Test("", 0, None, *values) if kind == "global" else Test(*values)
         ask(test.name in names[kind], 5)
         ask(test.verdict in VERDICTS, 7)
         block.tests[kind].append(test)

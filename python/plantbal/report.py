@@ -7,7 +7,7 @@ import io
 import json
 import re
 import sys
-from collections.abc import Collection, Iterable, Iterator
+from collections.abc import Collection, Iterable, Iterator, Mapping
 from dataclasses import dataclass, field
 from pathlib import Path
 
@@ -99,17 +99,25 @@ def _row_of_json(source: str, line: int, text: str) -> Values:
     return values
 
 
-def _lines_of(text: str) -> Iterator[tuple[int, list[str]]]:
-    """Give the number and the fields of each line; only quotes and CR need the reader of CSV."""
+def _lines_of(text: str, passed: Mapping[str, int]) -> Iterator[tuple[int, list[str]]]:
+    """Give the number and the fields of each line, but not of whole rows that are passed over.
+
+    Parameters
+    ----------
+    text : str
+        The lines. Only quotes and CR need the reader of CSV.
+    passed : mapping of str to int
+        The kinds that are passed over, and how many columns such a row has after its kind.
+    """
     if '"' in text or "\r" in text:
         csv.field_size_limit(sys.maxsize)
         reader = csv.reader(io.StringIO(text, newline=""))
         for fields in reader:
-            if fields:
+            if fields and len(fields) - 1 != passed.get(fields[0]):
                 yield reader.line_num, fields
         return
     for number, line in enumerate(text.split("\n"), 1):
-        if line:
+        if line and line.count(",") != passed.get(line.partition(",")[0]):
             yield number, line.split(",")
 
 
@@ -145,9 +153,11 @@ def parse_rows(source: str, text: str, kinds: Collection[str] | None = None) -> 
             remedy="take the file as plantbal wrote it; plantbal-desk report FILE --out FILE.xlsx "
             "makes a workbook of it",
         )
-    keys = {kind: ("row", *row.names) for kind, row in schema().output.items()}
+    output = schema().output
+    keys = {kind: ("row", *row.names) for kind, row in output.items()}
+    unwanted = [] if kinds is None else [kind for kind in output if kind not in kinds]
     found: list[Values] = []
-    for number, fields in _lines_of(text):
+    for number, fields in _lines_of(text, {kind: len(output[kind].names) for kind in unwanted}):
         names = keys.get(fields[0], ())
         if len(names) != len(fields):
             names = _names_of(source, number, fields)

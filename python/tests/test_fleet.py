@@ -207,7 +207,7 @@ def test_outputs(tmp_path: Path, say: Desk, monkeypatch: pytest.MonkeyPatch, eng
     for name, (_, state, said) in OUTPUTS.items():
         row = row_of(found.out, name)
         assert (row["state"], said in row["look"]) == (state, True), row
-    assert f"{len(OUTPUTS) + 1} plants, of which {len(OUTPUTS)} want" in found.err
+    assert f"{len(OUTPUTS) + 1} plants, of which {len(OUTPUTS)} need" in found.err
 
 
 @pytest.mark.parametrize("engine", ["parallel", "dask"])

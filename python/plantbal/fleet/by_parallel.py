@@ -19,6 +19,7 @@ from plantbal.fleet.engines import Asked, Begin, Ended, Job
 from plantbal.fleet.job import JOB
 
 HEADS = "Seq Host Starttime JobRuntime Send Receive Exitval Signal Command".split()
+_AT_ONCE = 8  # how many jobs are made ready at once
 _TROUBLE = 255  # parallel's own; up to 101 it is how many jobs failed
 
 
@@ -82,15 +83,17 @@ def run(
 
 
 def _hand_out(given: IO[bytes], handed: list[Job], jobs: Sequence[Job], begin: Begin) -> None:
-    """Hand jobs to parallel, each once it is ready; those that are done first."""
-    with suppress(BrokenPipeError), given:  # it may be stopped
+    """Hand jobs to parallel: those that are done first, then each other one once it is ready."""
+    with suppress(BrokenPipeError), given, ThreadPoolExecutor(4, "begin") as pool:
         for job in handed:
             given.write(_arguments(job))
-        for job in jobs:
-            if begin(job):
-                handed.append(job)
-                given.write(_arguments(job))
-                given.flush()
+        for place in range(0, len(jobs), _AT_ONCE):
+            some = jobs[place : place + _AT_ONCE]
+            for job, is_ready in zip(some, pool.map(begin, some)):
+                if is_ready:
+                    handed.append(job)
+                    given.write(_arguments(job))
+            given.flush()
 
 
 def _arguments(job: Job) -> bytes:

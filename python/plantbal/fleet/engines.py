@@ -19,7 +19,7 @@ class Job:
     session : Path
         The file of its session.
     part : Path
-        The folder that its files go to: empty, once the job has begun.
+        The folder that its files go to, once it is ready.
     """
 
     site: str

@@ -2,6 +2,8 @@
 
 from __future__ import annotations
 
+from collections.abc import Collection
+from contextlib import suppress
 from dataclasses import dataclass, replace
 from functools import cached_property
 from pathlib import Path
@@ -27,6 +29,8 @@ _VERDICTS = {
     "reject": "the global test rejects",
     "undecided": "the global test is undecided; a smaller --gap among the words decides it",
 }
+# The bytes of a session in which its periods are looked for first.
+_HEAD = 1 << 16
 # The rows of an output that say something of the plant as a whole.
 _TOLD = frozenset(
     "refused over report taken solved global measure end yes no unreadable".split()
@@ -57,6 +61,16 @@ class Told:
     def session(self) -> bytes:
         """The session."""
         return read_bytes(self.site.path)[1] if self.site.path.exists() else b""
+
+    def days(self, periods: Collection[str]) -> dict[str, str]:
+        """Return the first and the last day of periods: mostly they stand in the first rows."""
+        if not self.refused:
+            with suppress(OSError), self.site.path.open("rb") as file:
+                head = file.read(_HEAD)
+                found = days_of(head[: head.rfind(b"\n") + 1], periods)
+                if len(found) == len(periods):
+                    return found
+        return days_of(self.session, periods, self.refused)
 
     @cached_property
     def has_critical(self) -> bool:
@@ -130,7 +144,7 @@ def _of_rows(told: Told) -> Plant:
     blocks = {block.period: block for block in blocks_of(rows)}
     over = {row["period"]: row["stream"] for row in rows if row["row"] == "over"}
     periods = dict.fromkeys([*blocks, *over])
-    days = days_of(told.session, periods, told.refused)
+    days = told.days(periods)
     for period in periods:
         if period in blocks:
             row, said = _of_block(told, blocks[period])

@@ -8,7 +8,7 @@ import re
 import time
 from collections.abc import Collection, Iterable, Iterator
 from dataclasses import dataclass
-from itertools import islice
+from itertools import chain, islice
 from pathlib import Path
 
 from plantbal.faults import InputFault, Place
@@ -108,18 +108,16 @@ def _rows(data: bytes, kind: str, refused: Collection[int]) -> Iterable[tuple[st
 
 def _lines(data: bytes, kind: str) -> Iterator[tuple[str, ...]]:
     """Give the fields of the lines that begin with a kind."""
-    text = b"\n" + data.removeprefix(b"\xef\xbb\xbf")
-    for found in re.finditer(rf"\n({kind},.*)".encode("ascii"), text):
-        yield tuple(found[1].decode("latin-1").split(","))
+    text, row = data.removeprefix(b"\xef\xbb\xbf"), f"{kind},.*".encode("ascii")
+    first = re.match(row, text)
+    for found in chain([first] if first else [], re.finditer(b"\n" + row, text)):
+        yield tuple(found[0].lstrip().decode("latin-1").split(","))
 
 
 def days_of(
     data: bytes, wanted: Collection[str], refused: Collection[int] = ()
 ) -> dict[str, str]:
-    """Return the first and the last day of some periods of a session, without the refused rows.
-
-    Mostly they stand at its beginning, and the rest needn't be searched.
-    """
+    """Return the first and the last day of some periods of a session, without the refused rows."""
     rows = (row for row in _rows(data, "period", refused) if len(row) > 3 and row[1] in wanted)
     return {row[1]: f"{row[2]}..{row[3]}" for row in islice(rows, len(wanted))}
 

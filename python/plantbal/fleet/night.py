@@ -23,12 +23,12 @@ import os
 import shutil
 from collections.abc import Iterator
 from contextlib import contextmanager, suppress
-from dataclasses import asdict, dataclass, replace
+from dataclasses import dataclass, replace
 from pathlib import Path
 
 from plantbal.faults import Fault, InputFault, Place
 from plantbal.fleet.given import Given
-from plantbal.fleet.job import SAID, STATUS, WROTE, ended
+from plantbal.fleet.job import SAID, STATUS, WROTE, ended, make_ready
 from plantbal.fleet.sites import Site
 
 
@@ -65,6 +65,11 @@ class Run:
     status: int | None = None
     begun: float = 0.0
     seconds: float = 0.0
+
+    def to_json(self) -> bytes:
+        """Return it as JSON, an item a line."""
+        items = {name: getattr(self, name) for name in self.__slots__}
+        return (json.dumps(items, indent=1) + "\n").encode("utf-8")
 
     @property
     def asked(self) -> tuple[str, str, list[str]]:
@@ -169,7 +174,7 @@ class Night:
         return found if found.sums[self.output_name] == run.output_sha256 else None
 
     def begin(self, site: Site) -> None:
-        """Make the empty folder in which the program runs for a plant.
+        """Make the folder in which the program runs for a plant.
 
         Raises
         ------
@@ -182,7 +187,7 @@ class Night:
                 if stopped.name.startswith(".") and stopped.name.endswith(".part"):
                     shutil.rmtree(stopped, ignore_errors=True)
         try:
-            part.mkdir(parents=True)
+            make_ready(str(part))
         except OSError as error:
             raise InputFault(
                 error.strerror or "it can't be written", place=Place(file=str(part))
@@ -209,9 +214,7 @@ class Night:
         files = {name: _on_disk(part / name) for name in os.listdir(part) if name != STATUS}
         output, sums = files.get(self.output_name, b""), _sums(files)
         run = replace(run, output_sha256=sums.get(self.output_name, ""))
-        text = json.dumps(asdict(run), indent=1) + "\n"
-        (part / STATUS).write_text(text, encoding="utf-8")
-        sums |= _sums({STATUS: _on_disk(part / STATUS)})
+        sums |= _sums({STATUS: _to_disk(part / STATUS, run.to_json())})
         put(part, self.folder_of(site))
         if status in (0, 1):
             newest = self.out / site.name / "latest"
@@ -223,6 +226,15 @@ class Night:
 def _sums(files: dict[str, bytes]) -> dict[str, str]:
     """Return the digests of files."""
     return {name: hashlib.sha256(data).hexdigest() for name, data in files.items()}
+
+
+def _to_disk(path: Path, data: bytes) -> bytes:
+    """Write a file, and return its bytes once the disk has them."""
+    with path.open("wb") as file:
+        file.write(data)
+        file.flush()
+        os.fsync(file.fileno())
+    return data
 
 
 def _on_disk(path: Path) -> bytes:
