@@ -29,7 +29,8 @@
   const kind = each => [each.localName, ...each.classList].join('.')
 
   const found = [...document.querySelectorAll(seen)].filter(isVisible).map(each => {
-    const style = getComputedStyle(each), box = each.getBoundingClientRect()
+    // a legend's items follow one another as a text's words do: their list has a place
+    const style = getComputedStyle(each), box = (each.closest('ul.legend') || each).getBoundingClientRect()
     const sides = [box.left, box.right].map(side => Math.round(1000 * side / pixels) / 10)
     return {
       kind: kind(each), size: Math.round(10 * parseFloat(style.fontSize)) / 10, weight: style.fontWeight,

@@ -23,7 +23,7 @@ import os
 import shutil
 from collections.abc import Iterator
 from contextlib import contextmanager, suppress
-from dataclasses import dataclass, replace
+from dataclasses import dataclass, fields, replace
 from pathlib import Path
 
 from plantbal.faults import Fault, InputFault, Place
@@ -68,7 +68,7 @@ class Run:
 
     def to_json(self) -> bytes:
         """Return it as JSON, an item a line."""
-        items = {name: getattr(self, name) for name in self.__slots__}
+        items = {each.name: getattr(self, each.name) for each in fields(self)}
         return (json.dumps(items, indent=1) + "\n").encode("utf-8")
 
     @property
