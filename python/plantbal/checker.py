@@ -383,15 +383,16 @@ def named(text: str) -> str:
     return text
 
 
+def number(text: str, low: int, high: int) -> int:
+    """Return a whole number of a range."""
+    ask(WHOLE.fullmatch(text), 4)
+    ask(low <= int(text) <= high, 4)
+    return int(text)
+
+
 def whole(low: int, high: int) -> Callable[[str], int]:
     """Return what reads a whole number of a range."""
-
-    def read(text: str) -> int:
-        ask(WHOLE.fullmatch(text), 4)
-        ask(low <= int(text) <= high, 4)
-        return int(text)
-
-    return read
+    return lambda text: number(text, low, high)
 
 
 def maybe(read: Callable[[str], int]) -> Callable[[str], int | None]:

@@ -331,7 +331,7 @@ def test_stopped(
     done = {path.parent.parent.name for path in out.glob(f"*/{NIGHT}/output.csv")}
     assert 8 <= len(done) < 40
     if by != signal.SIGKILL:
-        assert fleet.returncode == 130
+        assert fleet.returncode == 130, said
         assert f"the same words with --date {NIGHT} run the others" in said
         assert "Traceback" not in said and not list(out.rglob("*.part"))
     assert not (out / "latest").exists()

@@ -60,8 +60,10 @@ def run(
         ThreadPoolExecutor(1, "hand-out") as other,
         _started(asked, said.fileno()) as process,
     ):
-        assert process.stdin is not None and process.stdout is not None
-        handing = other.submit(_hand_out, process.stdin, handed, jobs, begin)
+        # What hands the jobs out closes the pipe: if parallel is stopped, that may fail.
+        given, process.stdin = process.stdin, None
+        assert given is not None and process.stdout is not None
+        handing = other.submit(_hand_out, given, handed, jobs, begin)
         try:
             for line in process.stdout:
                 job = handed[int(line) - 1]
