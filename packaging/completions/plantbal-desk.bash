@@ -31,9 +31,9 @@ _plantbal_desk() {
     done
     case $word:$before in
         run:--out) _plantbal_files -f; return ;;
+        run:--program) _plantbal_files -f; return ;;
         run:--gap) :; return ;;
         run:--sweeps) :; return ;;
-        run:--program) _plantbal_files -f; return ;;
         run:--eliminate) :; return ;;
         lint:--ignore) _plantbal_words 'refused nothing-asked missing-reading missing-dip no-period after-report one-sided near-names magnitude small-deviation large-deviation density worse-class no-critical nearly-full untested no-elimination no-transfer unused-dip not-reported'; return ;;
         explain:--program) _plantbal_files -f; return ;;
@@ -42,17 +42,17 @@ _plantbal_desk() {
         archive:--plant) :; return ;;
         archive:--out) _plantbal_files -f; return ;;
         archive:--time) :; return ;;
+        archive:--program) _plantbal_files -f; return ;;
         archive:--gap) :; return ;;
         archive:--sweeps) :; return ;;
         archive:--eliminate) :; return ;;
-        archive:--program) _plantbal_files -f; return ;;
         audit:--words) :; return ;;
         audit:--program) _plantbal_files -f; return ;;
         report:--out) _plantbal_files -f; return ;;
         solve:--out) _plantbal_files -f; return ;;
+        solve:--program) _plantbal_files -f; return ;;
         solve:--gap) :; return ;;
         solve:--sweeps) :; return ;;
-        solve:--program) _plantbal_files -f; return ;;
         convert:--out) _plantbal_files -f; return ;;
         convert:--locale) :; return ;;
         convert:--missing) :; return ;;
@@ -68,9 +68,9 @@ _plantbal_desk() {
         book:--density) :; return ;;
         book:--error) :; return ;;
         book:--session) _plantbal_files -f; return ;;
-        book:--eliminate) :; return ;;
         book:--gap) :; return ;;
         book:--sweeps) :; return ;;
+        book:--eliminate) :; return ;;
         book:--plant) _plantbal_files -f; return ;;
         book:--first) :; return ;;
         from-spreadsheet:--decimal) _plantbal_words 'point comma'; return ;;
@@ -115,7 +115,7 @@ _plantbal_desk() {
             _plantbal_files -f
             return
         fi
-        _plantbal_words '-h --help --out --gap --sweeps --program --no-tests --eliminate' ;;
+        _plantbal_words '-h --help --out --program --gap --sweeps --no-tests --eliminate' ;;
     lint)
         if [[ $here != -* ]]; then
             _plantbal_files -f
@@ -139,7 +139,7 @@ _plantbal_desk() {
             _plantbal_files -f
             return
         fi
-        _plantbal_words '-h --help --period --plant --out --time --gap --sweeps --no-tests --eliminate --program' ;;
+        _plantbal_words '-h --help --period --plant --out --time --program --gap --sweeps --no-tests --eliminate' ;;
     audit)
         if [[ $here != -* ]]; then
             _plantbal_files -f
@@ -157,7 +157,7 @@ _plantbal_desk() {
             _plantbal_files -f
             return
         fi
-        _plantbal_words '-h --help --out --gap --sweeps --program' ;;
+        _plantbal_words '-h --help --out --program --gap --sweeps' ;;
     convert)
         if [[ $here != -* ]]; then
             _plantbal_files -f
@@ -170,7 +170,7 @@ _plantbal_desk() {
             _plantbal_more 'new add show amend strike report close status next'
             return
         fi
-        _plantbal_words '-h --help --program --locale --missing --skip --limits --book --who --why --strike --anyway --year --dry-run --density --error --session --no-tests --eliminate --gap --sweeps --all --plant --first' ;;
+        _plantbal_words '-h --help --program --locale --missing --skip --limits --book --who --why --strike --anyway --year --dry-run --density --error --session --gap --sweeps --no-tests --eliminate --all --plant --first' ;;
     template)
         if [[ $here != -* ]]; then
             _plantbal_files -f

@@ -22,14 +22,14 @@ def decimal_of(amount: Tonnes, what: str) -> Decimal:
     Parameters
     ----------
     amount : Decimal, int or str
-        The number, with a decimal point where it has one.
+        The number, with a decimal point if it has one.
     what : str
         What it is called in what is said.
 
     Raises
     ------
     Fault
-        Where it is a float, or no number.
+        If it is a float, or no number.
     """
     if isinstance(amount, Decimal):
         number = amount
@@ -59,7 +59,7 @@ def grams_of(tonnes: Tonnes, what: str = "TONNES") -> int:
     Raises
     ------
     Fault
-        Where they are finer than a gram, or no exact number.
+        If they are finer than a gram, or no exact number.
     """
     if isinstance(tonnes, int) and not isinstance(tonnes, bool):
         return tonnes * GRAMS_A_TONNE
@@ -104,7 +104,7 @@ def variance_of(
     Raises
     ------
     Fault
-        Where not exactly one of them is given, or it is no exact number.
+        If not exactly one of them is given, or it is no exact number.
     """
     given = [value for value in (variance, deviation_grams, deviation_tonnes) if value is not None]
     if len(given) != 1:
@@ -133,7 +133,7 @@ def day_text(day: Day, what: str = "DATE") -> str:
     Raises
     ------
     Fault
-        Where it is no date, or has a time of the day.
+        If it is no date, or has a time of the day.
     """
     if isinstance(day, str):
         return day

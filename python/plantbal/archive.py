@@ -7,8 +7,10 @@ import datetime
 import os
 import re
 import sys
+from dataclasses import replace
 from pathlib import Path
 
+from plantbal.build import build_of
 from plantbal.bundle import (
     MANIFEST,
     OUTPUT,
@@ -25,6 +27,7 @@ from plantbal.faults import Fault, Place, ProgramFault, read_bytes
 from plantbal.files import write_bytes
 from plantbal.held import Ledger
 from plantbal.lintbook import day_text
+from plantbal.options import add_run
 from plantbal.output import Output, parse_report
 from plantbal.program import STATUSES, call, find_program
 from plantbal.progress import Progress
@@ -37,12 +40,12 @@ SESSION is a file; `-` is standard input. The program is run, and the bundle is 
   session.csv    the session, byte for byte
   output.csv     what the program writes of it
   summary.txt    what a person has to know, and the flows of the period in tonnes
-  manifest.json  the period, its days, the time, the words, the program's digest and version,
-                 and the digest of each file
+  manifest.json  the period, its days, the time, the words, the program's digest, its version
+                 and where that is from, and the digest of each file
   SHA256SUMS     the digests of all these, for `sha256sum --check`
 
 The same session, words, program and time give the same bytes. The time is that of --time, else that
-of the variable SOURCE_DATE_EPOCH, else now. A bundle that is there already isn't written over.
+of the variable SOURCE_DATE_EPOCH, else now. A bundle that is there already isn't overwritten.
 
 The status is 1 if a person has to look (a row is refused, a report isn't converged, a global test
 rejects), and 2 to 6 as the program's. The bundle is written all the same, if there is a report.
@@ -55,16 +58,14 @@ _TIME = "%Y-%m-%dT%H:%M:%SZ"
 
 
 def program_of(path: Path) -> dict[str, str]:
-    """Return the digest of a program, with its version and commit where a build record has them."""
-    found = {"sha256": digest(path.read_bytes()), "version": "unknown", "commit": "commit unknown"}
-    record = path.parent.parent / "share" / "plantbal" / "BUILD"
-    if record.is_file():
-        text = record.read_text(encoding="utf-8", errors="replace")
-        if found["sha256"] in text:
-            said = dict(re.findall(r"^([a-z0-9 ]+): (.*)$", text, re.M))
-            found["version"] = said.get("version", "unknown")
-            found["commit"] = f"commit {said.get('commit', 'unknown')}"
-    return found
+    """Return what the manifest says of a program."""
+    build = build_of(path)
+    return {
+        "sha256": build.sha256,
+        "version": build.version,
+        "commit": f"commit {build.commit}",
+        "from": build.source,
+    }
 
 
 def time_of(text: str | None) -> str:
@@ -90,29 +91,14 @@ def time_of(text: str | None) -> str:
 
 
 def manifest_of(
-    ledger: Ledger,
-    output: Output,
-    files: dict[str, bytes],
-    *,
-    plant: str,
-    period: str,
-    made: str,
-    words: str,
-    program: dict[str, str],
-    desk: str,
+    stated: Manifest, ledger: Ledger, output: Output, files: dict[str, bytes]
 ) -> Manifest:
-    """Return the manifest of files: what follows from them is computed from them."""
-    days = ledger.periods[period]
-    return Manifest(
-        archive=VERSION,
-        plant=plant,
-        period=period,
+    """Return the manifest of files: what follows from them is computed, and the rest is stated."""
+    days = ledger.periods[stated.period]
+    return replace(
+        stated,
         first=day_text(days.first),
         last=day_text(days.last),
-        made=made,
-        words=words,
-        program=program,
-        desk=desk,
         reports=[f"{block.period}, round {block.round}" for block in output.blocks_in_order],
         refused=sum(row["row"] == "refused" for row in output.rows),
         files={name: digest(data) for name, data in sorted(files.items())},
@@ -143,17 +129,9 @@ def bundle_files(session: bytes, output: bytes, stated: Manifest) -> dict[str, b
     """Return the files of a bundle; plant, period, time, words, program and desk are stated."""
     ledger, report = Ledger(SESSION, session), parse_report(output.decode("utf-8"), OUTPUT)
     files = {SESSION: session, OUTPUT: output}
-    said = {
-        "plant": stated.plant,
-        "period": stated.period,
-        "made": stated.made,
-        "words": stated.words,
-        "desk": stated.desk,
-    }
-    first = manifest_of(ledger, report, files, program=stated.program, **said)
+    first = manifest_of(stated, ledger, report, files)
     files[SUMMARY] = summary_text(first, ledger, report).encode("utf-8")
-    whole = manifest_of(ledger, report, files, program=stated.program, **said)
-    files[MANIFEST] = whole.to_json()
+    files[MANIFEST] = manifest_of(stated, ledger, report, files).to_json()
     files[DIGESTS] = digests_text(files)
     return files
 
@@ -161,19 +139,14 @@ def bundle_files(session: bytes, output: bytes, stated: Manifest) -> dict[str, b
 def add_arguments(parser: argparse.ArgumentParser) -> None:
     """Add the words of the command."""
     parser.add_argument("session", metavar="SESSION")
-    parser.add_argument("--period", metavar="NAME", help="without it the one reported last")
-    parser.add_argument("--plant", metavar="NAME", help="without it the name of the file")
-    parser.add_argument("--out", metavar="FILE", help="without it PLANT_PERIOD.zip")
-    parser.add_argument(
-        "--time", metavar="TIME", help="such as 2024-05-02T06:00:00Z; now without it"
-    )
-    parser.add_argument("--gap", metavar="N", type=int, default=10, help="10 without it")
-    parser.add_argument("--sweeps", metavar="N", type=int, default=5000, help="5,000 without it")
-    parser.add_argument("--no-tests", action="store_true", help="make no tests")
-    parser.add_argument(
-        "--eliminate", metavar="N", type=int, default=0, help="at most N rounds of elimination"
-    )
-    parser.add_argument("--program", metavar="PATH", help="the program")
+    period = "the period to archive (default: the one reported last)"
+    parser.add_argument("--period", metavar="NAME", help=period)
+    plant = "what the plant is called (default: the name of the file)"
+    parser.add_argument("--plant", metavar="NAME", help=plant)
+    parser.add_argument("--out", metavar="FILE", help="the bundle (default: PLANT_PERIOD.zip)")
+    time = "when it is archived, such as 2024-05-02T06:00:00Z (default: now)"
+    parser.add_argument("--time", metavar="TIME", help=time)
+    add_run(parser)
 
 
 def _write(path: str, data: bytes) -> bool:

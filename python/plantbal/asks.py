@@ -110,7 +110,7 @@ _ASKS = {
 
 
 def _class(row: Values) -> str:
-    """Return why the class of a stream can't be that, or what lacks beside it."""
+    """Return why the class of a stream can't be that, or what is missing beside it."""
     name, kind = row["name"], row["class"]
     if bool(row["value"]) != (kind in _MEASURED):
         has, classes = ("a", _MEASURED) if row["value"] else ("no", ("observable", "unobservable"))

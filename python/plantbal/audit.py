@@ -25,6 +25,7 @@ from plantbal.bundle import (
 )
 from plantbal.faults import Fault, InputFault, Place, ProgramFault, ToolMissing, read_bytes
 from plantbal.held import Ledger, Pair, answers_of, refused_differ
+from plantbal.options import add_program
 from plantbal.output import Output, parse_report
 from plantbal.program import call, find_program
 from plantbal.progress import Progress
@@ -244,7 +245,7 @@ def _made_again(
 ) -> list[str]:
     """Make manifest and summary again from session and output, and return those that differ.
 
-    Where they differ since the session or the output was changed, this was said already.
+    If they differ because the session or the output was changed, this was said already.
     """
     try:
         again = bundle_files(files[SESSION], files[OUTPUT], manifest)
@@ -404,7 +405,7 @@ def add_arguments(parser: argparse.ArgumentParser) -> None:
     parser.add_argument("--words", metavar="WORDS", help="the words of the run, as one word")
     parser.add_argument("--no-program", action="store_true", help="don't run the program")
     parser.add_argument("--strict", action="store_true", help="status 1 on notes too")
-    parser.add_argument("--program", metavar="PATH", help="the program")
+    add_program(parser)
 
 
 def given_of(audit: Audit, options: argparse.Namespace) -> Given:

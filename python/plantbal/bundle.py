@@ -18,8 +18,9 @@ from plantbal.faults import InputFault, Place, read_bytes
 SESSION, OUTPUT, SUMMARY = "session.csv", "output.csv", "summary.txt"
 MANIFEST, DIGESTS = "manifest.json", "SHA256SUMS"
 NAMES = (SESSION, OUTPUT, SUMMARY, MANIFEST, DIGESTS)
-VERSION = 1
-_PROGRAM = ("sha256", "version", "commit")
+VERSION = 2
+# What a manifest has of the program, by the version of its form.
+_PROGRAM = {1: ("sha256", "version", "commit"), 2: ("sha256", "version", "commit", "from")}
 _MOST_BYTES = 1 << 30
 _WHEN = (1980, 1, 1, 0, 0, 0)
 _BROKEN = (
@@ -69,7 +70,8 @@ class Manifest:
     words : str
         The words of the run.
     program : dict
-        The program's ``sha256``, ``version`` and ``commit``; what isn't known is said to be so.
+        The program's ``sha256``, ``version`` and ``commit``, and what these two are ``from``; what
+        isn't known is said to be so.
     desk : str
         The version of the package that made it.
     reports : list of str
@@ -126,15 +128,16 @@ class Manifest:
             texts = inner.values() if isinstance(inner, dict) else inner if type_ is list else []
             if not isinstance(inner, type_) or not all(isinstance(text, str) for text in texts):
                 raise InputFault(f"its item {name!r} isn't of its form", place=place)
-        if set(found["program"]) != set(_PROGRAM):
-            remedy = f"it has {', '.join(_PROGRAM)}"
-            raise InputFault("its item 'program' isn't of its form", place=place, remedy=remedy)
-        if found["archive"] != VERSION:
+        names = _PROGRAM.get(found["archive"])
+        if names is None:
             what = f"it says that it is of version {found['archive']}"
             remedy = "if it wasn't changed, a newer plantbal-desk reads it"
             raise InputFault(what, place=place, remedy=remedy)
+        if set(found["program"]) != set(names):
+            remedy = f"it has {', '.join(names)}"
+            raise InputFault("its item 'program' isn't of its form", place=place, remedy=remedy)
         # In the order in which they are written, so that another order is a difference.
-        found["program"] = {name: found["program"][name] for name in _PROGRAM}
+        found["program"] = {name: found["program"][name] for name in names}
         return cls(**found)
 
 

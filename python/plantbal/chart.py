@@ -190,7 +190,7 @@ class Chart:
             )
 
     def _ticks(self, axes: Any, most: int, *, labels: bool) -> None:
-        """Set the ticks of the axis of time: at most so many, or one for each of few periods."""
+        """Set the ticks of the axis of time: a limited number, or one for each of few periods."""
         from matplotlib import dates, ticker
 
         trend = self.trend
@@ -293,7 +293,7 @@ def add_arguments(parser: argparse.ArgumentParser) -> None:
         metavar="N",
         type=int,
         default=12,
-        help="show the N meters that are adjusted most; 12 without it",
+        help="show the N meters that are adjusted most (default: 12)",
     )
     parser.add_argument(
         "--stream",

@@ -5,8 +5,8 @@
 
 It makes the tests that `plantbal check` makes, and writes the same rows: yes, no or unreadable. It
 is written from docs/GUIDE.md and docs/FORMAT.md, is a file by itself, and needs Python alone. Every
-number is a whole number or a fraction. The status is 0 if each block gets a yes, and 1 if one
-doesn't, if a row can't be read, or if there is no block.
+number is a whole number. The status is 0 if each block gets a yes, and 1 if one doesn't, if a row
+can't be read, or if there is no block.
 """
 
 from __future__ import annotations
@@ -15,18 +15,15 @@ import csv
 import io
 import re
 import sys
-from collections.abc import Callable, Iterator, Sequence
+from collections.abc import Callable, Collection, Iterable, Iterator, Sequence
 from dataclasses import dataclass, field
-from fractions import Fraction
 from functools import cached_property
 from math import isqrt
+from typing import Any
 
 UNREADABLE = "kind fields name number unknown duplicate word shape count env ended".split()
 MOST_BYTES = 67_108_864
-MOST_NODES, MOST_STREAMS, MOST_FREEDOM = 1001, 2000, 2000
-MOST_ROUND, MOST_SWEEPS = 20, 100_000
-MOST_GAP, MOST_PRICE, MOST_VALUE, MOST_VARIANCE = 10**6, 2**120, 10**15, 10**22
-MOST_FLOW, MOST_CRITICAL, MOST = 2**68 - 1, 10**12, 2**126
+MOST_NODES, MOST_STREAMS = 1001, 2000
 GRAM = 2**56  # what a price and a dual flow are parts of
 PART = 2**20  # what a deviation, a gap and a root are parts of
 PASSED_OVER = {"refused", "over", "design", "class", "history", "edit", "taken", "stop"}
@@ -36,51 +33,63 @@ VERDICTS = {"reject", "accept", "undecided", "nocritical", "notest"}
 NAME = re.compile(r"[A-Za-z0-9_.-]{1,32}")
 WHOLE = re.compile(r"0|-?[1-9][0-9]{0,39}")
 
-Member = tuple[int, int]  # a stream by its place, and its sign
+Ends = tuple[int, int]
+Member = tuple["Stream", int]  # a stream and its sign
 Found = tuple[str, int, int]  # the name of a node or a stream, what is stated, what the rule gives
 
 
-class Bad(Exception):
-    """A row that can't be read, by its code and, if it isn't the row read last, its number."""
-
-    def __init__(self, code: int, at: int | None = None) -> None:
-        super().__init__(code, at)
-        self.code = code
-        self.at = at
+# ---- a block as it stands in a report, and what follows from its numbers
 
 
-@dataclass
-class Stream:
-    """A `stream` row: the ends are places of nodes; without a value it isn't measured."""
+@dataclass(eq=False)
+class Node:
+    """A `node` row, and its place among these."""
 
-    row: int
     name: str
-    start: int
-    end: int
-    value: int | None
+    price: int
+    place: int
+
+
+@dataclass(eq=False)
+class Stream:
+    """A `stream` row; value and variance are 0 unless it is measured."""
+
+    name: str
+    start: Node
+    end: Node
+    measured: bool
+    value: int
     variance: int
     kind: str
     flow: int
-    bounds: tuple[int, int] | None
-    least: tuple[int, int] | None
+    bounds: Ends | None
+    least: Ends | None
     shape: str
-    side: tuple[int, ...]
-    said: list[tuple[str, int]]
+    side: frozenset[Node]
     parts: list[Member] = field(default_factory=list)
 
     @property
-    def measured(self) -> bool:
-        """Whether it has a value."""
-        return self.value is not None
+    def rise(self) -> int:
+        """What the price rises along it."""
+        return self.end.price - self.start.price
 
-    def sign_at(self, nodes: frozenset[int]) -> int:
-        """Return 1 if it enters a set of nodes, -1 if it leaves it, else 0."""
-        return (self.end in nodes) - (self.start in nodes)
+    @property
+    def dual(self) -> int:
+        """The flow that the prices give it, in parts of a gram."""
+        return self.value * GRAM + self.variance * self.rise
+
+    @property
+    def sum(self) -> list[Member]:
+        """The measured streams that add up to its flow."""
+        if self.measured:
+            return [(self, 1)]
+        own = dict(self.parts)[self]
+        return [(other, -own * sign) for other, sign in self.parts if other is not self]
 
 
 @dataclass
 class Test:
-    """A row of a test; a nodal test has `net` and `variance` in the places of `low` and `high`."""
+    """A row of a test; a nodal test has its net flow and its variance in place of low and high."""
 
     name: str
     low: int
@@ -91,89 +100,71 @@ class Test:
 
 @dataclass
 class Block:
-    """A block of a report as it stands there, and what follows from its numbers."""
+    """A block: its `report` row, its nodes and streams, its `solved` row, and its tests by kind."""
 
     period: str
     round: int
     gap: int
     sweeps: int
-    nodes: list[str] = field(default_factory=list)
-    prices: list[int] = field(default_factory=list)
-    streams: list[Stream] = field(default_factory=list)
-    state: str = ""
-    k: int = 0
-    g: int = 0
-    h: int = 0
-    dof: int = 0
-    low: int = 0
-    high: int | None = None
-    whole: Test | None = None
-    nodal: list[Test] = field(default_factory=list)
-    measure: list[Test] = field(default_factory=list)
+    nodes: list[Node]
+    streams: list[Stream]
+    k: int
+    state: str
+    g: int
+    h: int
+    dof: int
+    low: int
+    high: int | None
+    tests: dict[str, list[Test]] = field(default_factory=dict)
+    cuts: dict[frozenset[Node], list[Member]] = field(default_factory=dict)
 
     @cached_property
-    def group(self) -> list[int]:
-        """The least node of the group of each node: unmeasured streams join nodes to groups."""
-        return joined(len(self.nodes), [s for s in self.streams if not s.measured])
+    def measured(self) -> list[Stream]:
+        """The streams that have a value."""
+        return [s for s in self.streams if s.measured]
 
     @cached_property
-    def free(self) -> list[int]:
+    def group(self) -> dict[Node, Node]:
+        """The first node of the group of each node: unmeasured streams join nodes to groups."""
+        return joined(self.nodes, (s for s in self.streams if not s.measured))
+
+    @cached_property
+    def free(self) -> list[Node]:
         """The groups that aren't that of `env` and have a stream with exactly one end in them."""
-        crossed = {
-            label
-            for s in self.streams
-            if self.group[s.start] != self.group[s.end]
-            for label in (self.group[s.start], self.group[s.end])
-        }
-        return sorted(crossed - {0})
+        ends = [{self.group[s.start], self.group[s.end]} for s in self.streams]
+        crossed = {group for pair in ends if len(pair) == 2 for group in pair}
+        return [node for node in self.nodes[1:] if node in crossed]
 
-    @cached_property
-    def dual_flows(self) -> list[int]:
-        """The flow that the prices give each measured stream, in 2^-56 g; 0 for the others."""
-        return [
-            0 if s.value is None else s.value * GRAM + s.variance * self.rise(s)
-            for s in self.streams
-        ]
-
-    def rise(self, stream: Stream) -> int:
-        """Return what the price rises along a stream."""
-        return self.prices[stream.end] - self.prices[stream.start]
-
-    def boundary(self, side: Sequence[int]) -> list[Member]:
+    def cut(self, side: frozenset[Node]) -> list[Member]:
         """Return the streams with exactly one end in a set of nodes, in order."""
-        nodes = frozenset(side)
-        signs = ((place, s.sign_at(nodes)) for place, s in enumerate(self.streams))
-        return [(place, sign) for place, sign in signs if sign]
-
-    def sum_for(self, place: int) -> list[Member]:
-        """Return the measured streams that add up to the flow of a stream."""
-        if self.streams[place].measured:
-            return [(place, 1)]
-        own = dict(self.streams[place].parts)[place]
-        return [(j, -own * sign) for j, sign in self.streams[place].parts if j != place]
+        if side not in self.cuts:
+            signs = ((s, (s.end in side) - (s.start in side)) for s in self.streams)
+            self.cuts[side] = [(s, sign) for s, sign in signs if sign]
+        return self.cuts[side]
 
     def half_width(self, members: list[Member]) -> int:
         """Return how far the bounds of a sum reach: the gap times its standard deviation."""
         if not members:
             return 0
-        root = scaled_root(sum(self.streams[j].variance for j, _ in members)) + 1
+        root = root_of(sum(s.variance for s, _ in members)) + 1
         return up(root * self.g * 2**self.h, PART * PART)
 
 
-def joined(count: int, streams: Sequence[Stream]) -> list[int]:
-    """Return the least node that each node is joined to by streams."""
-    label = list(range(count))
+def joined(nodes: Sequence[Node], streams: Iterable[Stream]) -> dict[Node, Node]:
+    """Return the first node that each node is joined to by streams."""
+    first = {node: node for node in nodes}
 
-    def find(node: int) -> int:
-        """Return the least node known so far, and shorten the way to it."""
-        while label[node] != node:
-            label[node] = node = label[label[node]]
+    def find(node: Node) -> Node:
+        """Return the first node known so far, and shorten the way to it."""
+        while first[node] is not node:
+            first[node] = node = first[first[node]]
         return node
 
     for stream in streams:
-        one, other = sorted((find(stream.start), find(stream.end)))
-        label[other] = one
-    return [find(node) for node in range(count)]
+        ends = find(stream.start), find(stream.end)
+        one, other = sorted(ends, key=lambda node: node.place)
+        first[other] = one
+    return {node: find(node) for node in nodes}
 
 
 def up(number: int, parts: int) -> int:
@@ -181,194 +172,161 @@ def up(number: int, parts: int) -> int:
     return -(-number // parts)
 
 
-def root_up(number: int) -> int:
-    """Return a square root, rounded up."""
-    return isqrt(number - 1) + 1 if number else 0
-
-
-def scaled_root(variance: int) -> int:
+def root_of(variance: int) -> int:
     """Return a standard deviation in parts of 2^-20, rounded down."""
     return isqrt(variance * PART * PART)
 
 
-# ---- what a block has to be: each test returns the first place where it isn't so, or nothing
+# ---- what a block has to be: each test gives the places where it isn't so, the first one first
 
 
-def test_class(block: Block) -> Found | None:
+def differ(name: str, *pairs: tuple[int | None, int | None]) -> Iterator[Found]:
+    """Give the numbers that are stated and that a rule gives, if they differ; none counts as -1."""
+    for stated, found in pairs:
+        if stated != found:
+            yield name, -1 if stated is None else stated, -1 if found is None else found
+
+
+def test_class(block: Block) -> Iterator[Found]:
     """The class is that of a measured stream iff there is a value, and bounds are there or not."""
     has_least = any(s.least for s in block.streams)
     for s in block.streams:
         bounds = s.kind != "unobservable"
-        classed = s.measured == (s.kind in MEASURED)
-        if not classed or bool(s.bounds) != bounds or bool(s.least) != (bounds and has_least):
-            return s.name, 0, 0
-    return None
+        there = s.measured, bool(s.bounds), bool(s.least)
+        if there != (s.kind in MEASURED, bounds, bounds and has_least):
+            yield s.name, 0, 0
 
 
-def test_witness(block: Block) -> Found | None:
-    """The cut or cycle shows the class."""
-    cuts: dict[tuple[int, ...], list[Member]] = {}
-    for place, s in enumerate(block.streams):
-        wanted = "cut" if s.kind in ("observable", "redundant") else "cycle"
-        others = [block.streams[j].measured for j, _ in s.parts if j != place]
-        shown = s.shape == wanted and len(others) == len(s.parts) - 1
-        if shown and s.shape == "cut":
-            if s.side not in cuts:
-                cuts[s.side] = block.boundary(s.side)
-            shown = all(others) and s.parts == cuts[s.side]
-        elif shown:
-            shown = not any(others) and is_cycle(block, s.parts)
-        if not shown:
-            return s.name, 0, 0
-    return None
+def test_witness(block: Block) -> Iterator[Found]:
+    """The cut or cycle has the stream once, and shows its class."""
+    for s in block.streams:
+        others = [other.measured for other, _ in s.parts if other is not s]
+        if s.kind in ("observable", "redundant"):
+            shown = s.shape == "cut" and all(others) and s.parts == block.cut(s.side)
+        else:
+            shown = s.shape == "cycle" and not any(others) and is_cycle(s.parts)
+        if not shown or len(others) != len(s.parts) - 1:
+            yield s.name, 0, 0
 
 
-def is_cycle(block: Block, steps: list[Member]) -> bool:
+def is_cycle(steps: list[Member]) -> bool:
     """Return whether steps lead round, and come to no node and no stream twice."""
-    walked = [(block.streams[j], sign) for j, sign in steps]
-    begins = [s.start if sign > 0 else s.end for s, sign in walked]
-    ends = [s.end if sign > 0 else s.start for s, sign in walked]
-    once = len(set(begins)) == len(steps) == len({j for j, _ in steps})
+    begins = [s.start if sign > 0 else s.end for s, sign in steps]
+    ends = [s.end if sign > 0 else s.start for s, sign in steps]
+    once = len(set(begins)) == len(steps) == len({s for s, _ in steps})
     return bool(steps) and once and ends == begins[1:] + begins[:1]
 
 
-def test_balance(block: Block) -> Found | None:
+def test_balance(block: Block) -> Iterator[Found]:
     """What comes in is what goes out, at each node."""
-    net = [0] * len(block.nodes)
+    net = dict.fromkeys(block.nodes, 0)
     for s in block.streams:
         net[s.end] += s.flow
         net[s.start] -= s.flow
-    return next(((name, 0, here) for name, here in zip(block.nodes, net) if here), None)
+    for node in block.nodes:
+        yield from differ(node.name, (0, net[node]))
 
 
-def test_price(block: Block) -> Found | None:
+def test_price(block: Block) -> Iterator[Found]:
     """Nodes of a group share a price, which is 0 if the group isn't free."""
     free = set(block.free)
-    for name, price, group in zip(block.nodes, block.prices, block.group):
-        if price != block.prices[group]:
-            return name, price, block.prices[group]
-        if price and group not in free:
-            return name, price, 0
-    return None
+    for node in block.nodes:
+        group = block.group[node]
+        fixed = node.price if group in free else 0
+        yield from differ(node.name, (node.price, group.price), (node.price, fixed))
 
 
-def test_box(block: Block) -> Found | None:
+def test_box(block: Block) -> Iterator[Found]:
     """Variance times rise of the price is at most 2^112 along a measured stream."""
-    for s in block.streams:
-        if s.measured and s.variance * abs(block.rise(s)) > 2**112:
-            return s.name, abs(block.rise(s)), 2**112 // s.variance
-    return None
+    for s in block.measured:
+        if s.variance * abs(s.rise) > 2**112:
+            yield s.name, abs(s.rise), 2**112 // s.variance
 
 
-def test_dof(block: Block) -> Found | None:
+def test_dof(block: Block) -> Iterator[Found]:
     """There are as many degrees of freedom as groups, less one for each part of the plant."""
-    parts = joined(len(block.nodes), block.streams)
-    dof = len(set(block.group)) - len(set(parts))
-    return None if block.dof == dof else ("", block.dof, dof)
+    parts = joined(block.nodes, block.streams)
+    yield from differ("", (block.dof, len(set(block.group.values())) - len(set(parts.values()))))
 
 
-def test_gap(block: Block) -> Found | None:
+def test_gap(block: Block) -> Iterator[Found]:
     """The gap is that of the flows and of those that the prices give."""
     deviations = [
-        up(abs(s.flow * GRAM - dual), scaled_root(s.variance) * 2**16)
-        for s, dual in zip(block.streams, block.dual_flows)
-        if s.measured
+        up(abs(s.flow * GRAM - s.dual), root_of(s.variance) * 2**16) for s in block.measured
     ]
     h = 0
     while any(each > 2 ** (57 + h) for each in deviations):
         h += 1
-    g = root_up(sum(up(each, 2**h) ** 2 for each in deviations))
-    if block.h != h:
-        return "", block.h, h
-    return None if block.g == g else ("", block.g, g)
+    squares = sum(up(each, 2**h) ** 2 for each in deviations)
+    yield from differ("", (block.h, h), (block.g, isqrt(squares - 1) + 1 if squares else 0))
 
 
-def test_state(block: Block) -> Found | None:
+def test_state(block: Block) -> Iterator[Found]:
     """It has converged iff the gap is met, in as many sweeps as are allowed."""
-    met = Fraction(block.g * 2**block.h, PART) <= Fraction(block.gap, 1000)
-    if met:
+    if 1000 * block.g * 2**block.h <= block.gap * PART:
         holds = block.state == "converged" and block.k <= block.sweeps
     else:
         holds = block.state == "unconverged" and block.k == block.sweeps
-    return None if holds else ("", block.k, block.sweeps)
+    if not holds:
+        yield "", block.k, block.sweeps
 
 
-def first_end(name: str, stated: tuple[int, int], found: tuple[int, int]) -> Found | None:
-    """Return the first of two ends that is another one."""
-    return next(((name, one, other) for one, other in zip(stated, found) if one != other), None)
-
-
-def test_bounds(block: Block) -> Found | None:
+def test_bounds(block: Block) -> Iterator[Found]:
     """The bounds are those that the prices, the gap and the certificates give."""
-    for place, s in enumerate(block.streams):
+    for s in block.streams:
         if s.bounds:
-            members = block.sum_for(place)
-            middle = sum(sign * block.dual_flows[j] for j, sign in members)
-            width = block.half_width(members)
-            found = first_end(s.name, s.bounds, (middle // GRAM - width, up(middle, GRAM) + width))
-            if found:
-                return found
-    return None
+            dual = sum(sign * other.dual for other, sign in s.sum)
+            width = block.half_width(s.sum)
+            ends = dual // GRAM - width, up(dual, GRAM) + width
+            yield from differ(s.name, *zip(s.bounds, ends))
 
 
-def test_statistic(block: Block) -> Found | None:
+def test_statistic(block: Block) -> Iterator[Found]:
     """The ends of the statistic are those of the flows, the values and the gap."""
     most = 2**32 * PART
-    below, above, has_high = 0, 0, True
-    for s in block.streams:
-        if s.value is not None:
-            off, root = abs(s.flow - s.value) * PART * PART, scaled_root(s.variance)
-            below += min(off // (root + 1), most) ** 2
-            above += up(off, root) ** 2
-            has_high = has_high and up(off, root) <= most
-    size = block.g * 2**block.h
-    low = 0 if size > 2**57 else max(0, 1000 * (below - size * size) // (PART * PART))
-    if block.low != low:
-        return "", block.low, low
-    high = up(1000 * above, PART * PART) if has_high else None
-    if block.high == high:
-        return None
-    return "", -1 if block.high is None else block.high, -1 if high is None else high
+    sizes = [(abs(s.flow - s.value) * PART * PART, root_of(s.variance)) for s in block.measured]
+    below = sum(min(off // (root + 1), most) ** 2 for off, root in sizes)
+    above = [up(off, root) for off, root in sizes]
+    gap = block.g * 2**block.h
+    low = 0 if gap > 2**57 else max(0, 1000 * (below - gap**2) // PART**2)
+    has_high = all(each <= most for each in above)
+    high = up(1000 * sum(each**2 for each in above), PART**2) if has_high else None
+    yield from differ("", (block.low, low), (block.high, high))
 
 
-def test_nodal(block: Block) -> Found | None:
+def test_nodal(block: Block) -> Iterator[Found]:
     """There is a nodal test of each free group, with its net flow and its variance."""
-    if block.whole is None:
-        return None
-    if len(block.nodal) != len(block.free):
-        return "", len(block.nodal), len(block.free)
-    nets, variances = dict.fromkeys(block.free, 0), dict.fromkeys(block.free, 0)
-    for s in block.streams:
-        if s.value is not None and block.group[s.start] != block.group[s.end]:
-            for node, sign in ((s.end, 1), (s.start, -1)):
-                if block.group[node] in nets:
-                    nets[block.group[node]] += sign * s.value
-                    variances[block.group[node]] += s.variance
-    for test, group in zip(block.nodal, block.free):
-        place = block.nodes.index(test.name)
-        stated = (place, test.low, test.high)
-        for one, other in zip(stated, (group, nets[group], variances[group])):
-            if one is not None and one != other:
-                return test.name, one, other
-    return None
+    if not block.tests["global"]:
+        return
+    yield from differ("", (len(block.tests["nodal"]), len(block.free)))
+    net, variance = dict.fromkeys(block.nodes, 0), dict.fromkeys(block.nodes, 0)
+    for s in block.measured:
+        start, end = block.group[s.start], block.group[s.end]
+        if start is not end:
+            net[end] += s.value
+            net[start] -= s.value
+            variance[end] += s.variance
+            variance[start] += s.variance
+    places = {node.name: node.place for node in block.nodes}
+    for test, group in zip(block.tests["nodal"], block.free):
+        stated = places[test.name], test.low, test.high
+        yield from differ(test.name, *zip(stated, (group.place, net[group], variance[group])))
 
 
-def test_verdict(block: Block) -> Found | None:
+def test_verdict(block: Block) -> Iterator[Found]:
     """Each verdict follows from the numbers in its row."""
-    if block.whole is None:
-        return None
-    wanted = "notest" if not block.dof else verdict(block.low, block.high, block.whole.critical)
-    if block.whole.verdict != wanted:
-        return "", 0, 0
-    for test in block.nodal:
-        squared, asked = 1000 * test.low**2, test.critical
-        ends = None if asked is None else asked * (test.high or 0)
-        if test.verdict != verdict(squared, squared, ends):
-            return test.name, 0, 0
-    for test in block.measure:
+    for test in block.tests["global"]:
+        wanted = verdict(block.low, block.high, test.critical) if block.dof else "notest"
+        if test.verdict != wanted:
+            yield "", 0, 0
+    for test in block.tests["nodal"]:
+        squared, scale = 1000 * test.low**2, test.high or 0
+        critical = None if test.critical is None else test.critical * scale
+        if test.verdict != verdict(squared, squared, critical):
+            yield test.name, 0, 0
+    for test in block.tests["measure"]:
         if test.verdict != verdict(test.low, test.high, test.critical):
-            return test.name, 0, 0
-    return None
+            yield test.name, 0, 0
 
 
 def verdict(low: int, high: int | None, critical: int | None) -> str:
@@ -380,23 +338,19 @@ def verdict(low: int, high: int | None, critical: int | None) -> str:
     return "accept" if high is not None and high <= critical else "undecided"
 
 
-def test_least(block: Block) -> Found | None:
+def test_least(block: Block) -> Iterator[Found]:
     """The least bounds reach half as far about the middle of the flow and the dual flow."""
-    for place, s in enumerate(block.streams):
+    for s in block.streams:
         if s.least:
-            members = block.sum_for(place)
-            flow = sum(sign * block.streams[j].flow for j, sign in members)
-            dual = sum(sign * block.dual_flows[j] for j, sign in members)
-            width = up(block.half_width(members), 2)
+            flow = sum(sign * other.flow for other, sign in s.sum)
+            dual = sum(sign * other.dual for other, sign in s.sum)
+            width = up(block.half_width(s.sum), 2)
             ends = (flow + dual // GRAM) // 2 - width, up(flow + up(dual, GRAM), 2) + width
-            found = first_end(s.name, s.least, ends)
-            if found:
-                return found
-    return None
+            yield from differ(s.name, *zip(s.least, ends))
 
 
 # The tests in their order, by their words.
-TESTS: dict[str, Callable[[Block], Found | None]] = {
+TESTS: dict[str, Callable[[Block], Iterator[Found]]] = {
     test.__name__.removeprefix("test_"): test
     for test in (
         *(test_class, test_witness, test_balance, test_price, test_box, test_dof, test_gap),
@@ -405,35 +359,80 @@ TESTS: dict[str, Callable[[Block], Found | None]] = {
 }
 
 
-# ---- how a block is read: of several faults of a row the one with the lowest code is told
+# ---- how a block is read: of several faults of a row the one with the lowest code counts
 
 
-def ask(holds: bool, code: int) -> None:
+class Bad(Exception):
+    """A row that can't be read, by its code and, if it isn't the row read last, its number."""
+
+    def __init__(self, code: int, at: int | None = None) -> None:
+        super().__init__(code, at)
+        self.code = code
+        self.at = at
+
+
+def ask(holds: object, code: int) -> None:
     """Refuse a row with a code."""
     if not holds:
         raise Bad(code)
 
 
+def named(text: str) -> str:
+    """Return a name."""
+    ask(NAME.fullmatch(text), 3)
+    return text
+
+
 def number(text: str, low: int, high: int) -> int:
     """Return a whole number of a range."""
-    ask(WHOLE.fullmatch(text) is not None, 4)
+    ask(WHOLE.fullmatch(text), 4)
     ask(low <= int(text) <= high, 4)
     return int(text)
 
 
-def option(text: str, low: int, high: int) -> int | None:
-    """Return a whole number of a range, or nothing where a field is empty."""
-    return number(text, low, high) if text else None
+def whole(low: int, high: int) -> Callable[[str], int]:
+    """Return what reads a whole number of a range."""
+    return lambda text: number(text, low, high)
 
 
-def pair(one: int | None, other: int | None) -> tuple[int, int] | None:
-    """Return two ends that are there both or neither."""
-    ask((one is None) == (other is None), 4)
-    return None if one is None or other is None else (one, other)
+def maybe(read: Callable[[str], int]) -> Callable[[str], int | None]:
+    """Return what reads a field that may be empty."""
+    return lambda text: read(text) if text else None
+
+
+# The columns of each kind of row. Names come before numbers, and words are asked after both.
+ANY, ROUND, SWEEPS = whole(-(2**126), 2**126), whole(0, 20), whole(0, 100_000)
+CRITICAL = maybe(whole(0, 10**12))
+MEASURED_AS = maybe(whole(-(10**15), 10**15)), maybe(whole(1, 10**22))
+FLOW = whole(1 - 2**68, 2**68 - 1)
+COLUMNS: dict[str, Sequence[Callable[[str], Any]]] = {
+    "report": (named, ROUND, ANY, ANY, whole(1, 10**6), SWEEPS),
+    "node": (named, whole(-(2**120), 2**120)),
+    "stream": (named, named, named, *MEASURED_AS, str, FLOW, *[maybe(ANY)] * 4, str, str, str),
+    "solved": (SWEEPS, str, whole(0, 2**63), whole(0, 32), whole(0, 2000), ANY, maybe(ANY)),
+    "global": (CRITICAL, str),
+    "nodal": (named, ANY, ANY, CRITICAL, str),
+    "measure": (named, ANY, maybe(ANY), CRITICAL, str),
+    "end": (named, ROUND),
+}
+# The rows that may come after a row.
+AFTER = {
+    "solved": ("end", "global"),
+    "global": ("end", "nodal", "measure"),
+    "nodal": ("end", "nodal", "measure"),
+    "measure": ("end", "measure"),
+}
+
+
+def values_of(fields: list[str]) -> list[Any]:
+    """Return the values of a row after its kind."""
+    columns = COLUMNS[fields[0]]
+    ask(len(fields) == len(columns) + 1, 2)
+    return [read(text) for read, text in zip(columns, fields[1:])]
 
 
 class Rows:
-    """The records of a report, one after the other, and the number of the last one."""
+    """The rows of a report, one after the other, and the number of the last one."""
 
     def __init__(self, data: bytes) -> None:
         csv.field_size_limit(sys.maxsize)
@@ -441,136 +440,107 @@ class Rows:
         self.records = filter(None, csv.reader(io.StringIO(text, newline="")))
         self.number = 0
 
-    def take(self) -> list[str] | None:
-        """Return the fields of the next record, or nothing at the end."""
+    def next(self) -> list[str] | None:
+        """Return the fields of the next row, or nothing at the end."""
         self.number += 1
         return next(self.records, None)
 
-    def take_of(self, kinds: Sequence[str], count: dict[str, int]) -> list[str]:
-        """Return the next record, of some kinds that have so many fields."""
-        fields = self.take()
+    def take(self, *kinds: str) -> list[str]:
+        """Return the fields of the next row within a block, of one of some kinds."""
+        fields = self.next()
         if fields is None:
             raise Bad(11)
         ask(fields[0] in kinds, 1)
-        ask(len(fields) == count.get(fields[0], len(fields)), 2)
         return fields
-
-
-def named(*names: str) -> None:
-    """Ask of fields that each is a name."""
-    ask(all(NAME.fullmatch(name) for name in names), 3)
 
 
 def read_block(rows: Rows, fields: list[str]) -> Block:
     """Return the block that a `report` row begins."""
-    ask(len(fields) == 7, 2)
-    named(fields[1])
-    turn = number(fields[2], 0, MOST_ROUND)
-    nodes, streams = (number(text, -MOST, MOST) for text in fields[3:5])
-    gap, sweeps = number(fields[5], 1, MOST_GAP), number(fields[6], 0, MOST_SWEEPS)
-    ask(1 <= nodes <= MOST_NODES and 0 <= streams <= MOST_STREAMS, 9)
-    block = Block(fields[1], turn, gap, sweeps)
-    for _ in range(nodes):
-        read_node(block, rows.take_of(["node"], {"node": 3}))
-    places = {name: place for place, name in enumerate(block.nodes)}
-    known: dict[str, int] = {}
-    columns = 0
-    for place in range(streams):
-        fields = rows.take_of(["stream"], {"stream": columns} if columns else {})
-        columns = len(fields)
-        ask(columns in (13, 15), 2)
-        block.streams.append(read_stream(rows.number, fields, places, known))
-        known[fields[1]] = place
-    for stream in block.streams:  # parts may name streams that come later
-        if any(name not in known for name, _ in stream.said):
-            raise Bad(5, stream.row)
-        stream.parts = [(known[name], sign) for name, sign in stream.said]
-    read_solved(block, rows.take_of(["solved"], {"solved": 8}))
-    read_tests(block, rows, known)
+    period, turn, count, stream_count, gap, sweeps = values_of(fields)
+    ask(1 <= count <= MOST_NODES and 0 <= stream_count <= MOST_STREAMS, 9)
+    nodes: dict[str, Node] = {}
+    for place in range(count):
+        called, price = values_of(rows.take("node"))
+        ask(called not in nodes, 6)
+        ask(nodes or called == "env", 10)
+        nodes[called] = Node(called, price, place)
+    streams = read_streams(rows, stream_count, nodes)
+    head = period, turn, gap, sweeps, [*nodes.values()], [*streams.values()]
+    block = Block(*head, *values_of(rows.take("solved")))
+    ask(block.state in ("converged", "unconverged"), 7)
+    read_tests(block, rows, {"global": [""], "nodal": nodes, "measure": streams})
     return block
 
 
-def read_node(block: Block, fields: list[str]) -> None:
-    """Read a `node` row."""
-    named(fields[1])
-    price = number(fields[2], -MOST_PRICE, MOST_PRICE)
-    ask(fields[1] not in block.nodes, 6)
-    ask(bool(block.nodes) or fields[1] == "env", 10)
-    block.nodes.append(fields[1])
-    block.prices.append(price)
+def read_streams(rows: Rows, count: int, nodes: dict[str, Node]) -> dict[str, Stream]:
+    """Return the streams of a block by their names; their rows have as many fields as the first."""
+    streams: dict[str, Stream] = {}
+    said: list[tuple[int, Stream, list[str]]] = []
+    width = 0
+    for _ in range(count):
+        fields = rows.take("stream")
+        width = width or len(fields)
+        ask(len(fields) == width and width in (13, 15), 2)
+        stream, steps = read_stream(fields, nodes, streams)
+        streams[stream.name] = stream
+        said.append((rows.number, stream, steps))
+    for number, stream, steps in said:  # they may name streams that come later
+        if any(step[1:] not in streams for step in steps):
+            raise Bad(5, number)
+        stream.parts = [(streams[step[1:]], 1 if step[0] == "+" else -1) for step in steps]
+    return streams
 
 
 def read_stream(
-    row: int, fields: list[str], places: dict[str, int], known: dict[str, int]
-) -> Stream:
-    """Return the stream of a `stream` row."""
+    fields: list[str], nodes: dict[str, Node], streams: Collection[str]
+) -> tuple[Stream, list[str]]:
+    """Return the stream of a `stream` row, and its parts as they are written."""
     if len(fields) == 13:
-        fields = [*fields[:10], "", "", *fields[10:]]
-    name, start, end = fields[1:4]
-    named(name, start, end)
-    value, variance = option(fields[4], -MOST_VALUE, MOST_VALUE), option(
-        fields[5], 1, MOST_VARIANCE
-    )
-    flow = number(fields[7], -MOST_FLOW, MOST_FLOW)
-    ends = [option(text, -MOST, MOST) for text in fields[8:12]]
+        fields[10:10] = ["", ""]
+    called, start, end, value, variance, kind, flow, *ends, shape, side, parts = values_of(fields)
     pair(value, variance)
     bounds, least = pair(*ends[:2]), pair(*ends[2:])
-    kind, shape, side, parts = fields[6], *fields[12:]
-    sides = side.split(" ") if side else []
-    ask(start in places and end in places, 5)
-    ask(not any(NAME.fullmatch(each) and each not in places for each in sides), 5)
-    ask(name not in known, 6)
+    names, steps = pieces(side), pieces(parts)
+    ask(start in nodes and end in nodes, 5)
+    ask(all(each in nodes or not NAME.fullmatch(each) for each in names), 5)
+    ask(called not in streams, 6)
     ask(kind in CLASSES and shape in ("cut", "cycle"), 7)
-    steps = parts.split(" ") if parts else []
     ask(all(each[:1] in ("+", "-") and NAME.fullmatch(each[1:]) for each in steps), 8)
-    ask(all(each in places for each in sides) and not (side and shape == "cycle"), 8)
-    nodes = tuple(places[each] for each in sides)
-    ask(all(one < other for one, other in zip(nodes, nodes[1:])), 8)
+    ask(all(each in nodes for each in names) and not (names and shape == "cycle"), 8)
+    places = [nodes[each].place for each in names]
+    ask(places == sorted(set(places)), 8)
     ask(start != end, 9)
-    said = [(each[1:], 1 if each[0] == "+" else -1) for each in steps]
-    first = (row, name, places[start], places[end], value, variance or 0)
-    return Stream(*first, kind, flow, bounds, least, shape, nodes, said)
+    measured = value is not None, value or 0, variance or 0
+    shown = shape, frozenset(nodes[each] for each in names)
+    stream = Stream(called, nodes[start], nodes[end], *measured, kind, flow, bounds, least, *shown)
+    return stream, steps
 
 
-def read_solved(block: Block, fields: list[str]) -> None:
-    """Read a `solved` row."""
-    block.k = number(fields[1], 0, MOST_SWEEPS)
-    block.g, block.h = number(fields[3], 0, 2**63), number(fields[4], 0, 32)
-    block.dof = number(fields[5], 0, MOST_FREEDOM)
-    block.low, block.high = number(fields[6], -MOST, MOST), option(fields[7], -MOST, MOST)
-    block.state = fields[2]
-    ask(block.state in ("converged", "unconverged"), 7)
+def pair(one: int | None, other: int | None) -> Ends | None:
+    """Return two ends that are there both or neither."""
+    ask((one is None) == (other is None), 4)
+    return None if one is None or other is None else (one, other)
 
 
-def read_tests(block: Block, rows: Rows, known: dict[str, int]) -> None:
-    """Read the rows behind `solved`, up to `end`."""
-    counts = {"global": 3, "nodal": 6, "measure": 6, "end": 3}
-    after = {
-        "solved": ["end", "global"],
-        "global": ["end", "nodal", "measure"],
-        "nodal": ["end", "nodal", "measure"],
-        "measure": ["end", "measure"],
-    }
+def pieces(text: str) -> list[str]:
+    """Return the names of a list with one space between them."""
+    return text.split(" ") if text else []
+
+
+def read_tests(block: Block, rows: Rows, names: dict[str, Collection[str]]) -> None:
+    """Read the rows after `solved`, up to `end`."""
+    block.tests = {kind: [] for kind in names}
     kind = "solved"
-    while kind != "end":
-        fields = rows.take_of(after[kind], counts)
-        kind = fields[0]
+    while True:
+        fields = rows.take(*AFTER[kind])
+        kind, values = fields[0], values_of(fields)
         if kind == "end":
-            named(fields[1])
-            turn = number(fields[2], 0, MOST_ROUND)
-            ask((fields[1], turn) == (block.period, block.round), 5)
-            continue
-        if kind == "global":
-            test = Test("", 0, None, option(fields[1], 0, MOST_CRITICAL), fields[2])
-            block.whole = test
-        else:
-            named(fields[1])
-            low, high = number(fields[2], -MOST, MOST), option(fields[3], -MOST, MOST)
-            ask(kind == "measure" or high is not None, 4)
-            test = Test(fields[1], low, high, option(fields[4], 0, MOST_CRITICAL), fields[5])
-            ask(fields[1] in (block.nodes if kind == "nodal" else known), 5)
-            (block.nodal if kind == "nodal" else block.measure).append(test)
+            ask(values == [block.period, block.round], 5)
+            return
+        test = Test("", 0, None, *values) if kind == "global" else Test(*values)
+        ask(test.name in names[kind], 5)
         ask(test.verdict in VERDICTS, 7)
+        block.tests[kind].append(test)
 
 
 # ---- a report
@@ -578,10 +548,9 @@ def read_tests(block: Block, rows: Rows, known: dict[str, int]) -> None:
 
 def judge(block: Block) -> tuple[str, ...]:
     """Return the row of what is found of a block."""
-    head = (block.period, str(block.round))
+    head = block.period, str(block.round)
     for code, (word, test) in enumerate(TESTS.items(), 1):
-        found = test(block)
-        if found:
+        if found := next(test(block), None):
             name, stated, rule = found
             return ("no", *head, str(code), word, name, str(stated), str(rule))
     return ("yes", *head)
@@ -591,7 +560,7 @@ def findings(data: bytes) -> Iterator[tuple[str, ...]]:
     """Give the row of each block of a report, and that of the first row that can't be read."""
     rows = Rows(data)
     try:
-        while (fields := rows.take()) is not None:
+        while (fields := rows.next()) is not None:
             if fields[0] not in PASSED_OVER:
                 ask(fields[0] == "report", 1)
                 yield judge(read_block(rows, fields))

@@ -1,4 +1,5 @@
-"""Runs, checks, solutions and conversions as subcommands: what a shell wants of the package's calls."""
+"""Runs, checks, solutions and conversions as subcommands: what a shell wants of the package's
+calls."""
 
 from __future__ import annotations
 
@@ -12,6 +13,7 @@ from types import SimpleNamespace
 
 from plantbal.faults import Fault, ProgramFault, decoded, read_bytes
 from plantbal.files import unwritten, write_text
+from plantbal.options import add_program, add_run, add_sweeps
 from plantbal.output import Output, parse_report, read_report
 from plantbal.program import STATUSES, check, run
 from plantbal.progress import Progress
@@ -19,14 +21,16 @@ from plantbal.records import read_records
 from plantbal.report import Block, refuse_other, refuse_parts
 
 OUTPUT_HELP = """
-The report goes to standard output, or to the file of --out by its ending: .csv, .sqlite or .xlsx. The
-file is written whole or not at all. Why a report isn't to be booked without a look (refused rows, no
-report, not converged, a global test that rejects) is said on standard error, and the status is 1.
+The report goes to standard output, or to the file of --out by its ending: .csv, .sqlite or .xlsx.
+The file is written whole or not at all. Why a report isn't to be booked without a look (refused
+rows, no report, not converged, a global test that rejects) is said on standard error, and the
+status is 1.
 """
 RUN_HELP = """
-On standard error: how many rows are refused and the first five with their lines, in sentences; of each
-period whether it has a report, whether this has converged, and what its global test says; where the
-output is. A long run shows on a terminal how far it is. The status is 2 to 6 if that is the program's.
+On standard error: how many rows are refused and the first five with their lines, in sentences; of
+each period whether it has a report, whether this has converged, and what its global test says;
+where the output is. A long run shows on a terminal how far it is. The status is 2 to 6 if that is
+the program's.
 """
 FIRST = 5
 
@@ -67,17 +71,11 @@ def writer_of(path: str) -> Callable[[Output], object]:
 def _add_session(parser: argparse.ArgumentParser) -> None:
     parser.add_argument("session", metavar="SESSION", nargs="?", default="-")
     parser.add_argument("--out", metavar="FILE", default="-", help="a .csv, .sqlite or .xlsx file")
-    parser.add_argument("--gap", metavar="N", type=int, default=10, help="10 without it")
-    parser.add_argument("--sweeps", metavar="N", type=int, default=5000, help="5,000 without it")
-    parser.add_argument("--program", metavar="PATH", help="the program")
 
 
 def _add_run(parser: argparse.ArgumentParser) -> None:
     _add_session(parser)
-    parser.add_argument("--no-tests", action="store_true", help="make no tests")
-    parser.add_argument(
-        "--eliminate", metavar="N", type=int, default=0, help="at most N rounds of elimination"
-    )
+    add_run(parser)
 
 
 def _run(options: argparse.Namespace) -> int:
@@ -176,6 +174,12 @@ def _say_reading(path: str) -> None:
         print("reading standard input, up to Ctrl-D", file=sys.stderr)
 
 
+def _add_solve(parser: argparse.ArgumentParser) -> None:
+    _add_session(parser)
+    add_program(parser)
+    add_sweeps(parser)
+
+
 def _solve(options: argparse.Namespace) -> int:
     from plantbal.solver import solve
 
@@ -191,7 +195,7 @@ def _solve(options: argparse.Namespace) -> int:
 
 def _add_check(parser: argparse.ArgumentParser) -> None:
     parser.add_argument("report", metavar="REPORT", nargs="?", default="-")
-    parser.add_argument("--program", metavar="PATH", help="the program")
+    add_program(parser)
 
 
 def _check(options: argparse.Namespace) -> int:
@@ -261,19 +265,19 @@ examples:
 SOLVE = SimpleNamespace(
     __doc__="Reconciles a session by scipy, and hands out what plantbal's check says yes to.",
     HELP=f"""
-It serves plants on which sweeps don't come near, such as long lines of units with equal meters. SESSION
-is a file; without it standard input is read.{OUTPUT_HELP}
+It serves plants on which sweeps don't come near, such as long lines of units with equal meters.
+SESSION is a file; without it standard input is read.{OUTPUT_HELP}
 examples:
   plantbal-desk solve line.csv --out line.csv
 """,
-    add_arguments=_add_session,
+    add_arguments=_add_solve,
     run=_solve,
 )
 CHECK = SimpleNamespace(
     __doc__="Checks a report, of CSV or of JSON lines, and says in a sentence what is wrong.",
     HELP="""
-REPORT is a file; without it standard input is read. The status is 0 where each block gets a yes, else 1;
-a file without a block is a fault.
+REPORT is a file; without it standard input is read. The status is 0 if each block gets a yes, else
+1; a file without a block is a fault.
 
 examples:
   plantbal-desk check report.jsonl
@@ -284,8 +288,8 @@ examples:
 REPORT = SimpleNamespace(
     __doc__="Turns a report into CSV, a database of SQLite, or a workbook with one table a sheet.",
     HELP="""
-REPORT is what plantbal wrote, as CSV or as JSON lines; without it standard input is read. JSON lines
-become CSV again, so that a check takes them.
+REPORT is what plantbal wrote, as CSV or as JSON lines; without it standard input is read. JSON
+lines become CSV again, so that a check takes them.
 
 examples:
   plantbal-desk report day.jsonl | plantbal check
@@ -295,7 +299,8 @@ examples:
     run=_report,
 )
 SCHEMA = SimpleNamespace(
-    __doc__="Writes the rows of sessions and outputs as data: kinds, columns, ranges, words, codes.",
+    __doc__="Writes the rows of sessions and outputs as data: kinds, columns, ranges, words, "
+    "codes.",
     HELP="""
 examples:
   plantbal-desk schema | jq '.session[] | .kind'

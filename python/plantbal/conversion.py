@@ -23,10 +23,10 @@ WORKBOOK is an xlsx file, or a folder of CSV files, of which each is a sheet by 
   units      name (without it, units are the ends of streams that are no tanks)
   tanks      tank, error, base, density
   straps     tank, level, volume, unit (m3 without it)
-  readings   the days down and a column a tag; or days across; or long: day, tag, value, unit
+  readings   the days down and a column for each tag; or days across; or long: day, tag, value, unit
   dips       tank, day, level, density, error
   tickets    id, stream, first, last, amount, unit, density, error
-  estimates  tag, day, amount, unit, density, error: a figure with a wide error for a day that lacks
+  estimates  tag, day, amount, unit, density, error: a figure with a wide error for a missing day
   critical   test, dof, value
   periods    name, first, last (without it, each calendar month with a reading is a period)
   rows       rows of a session as they are, such as amend, strike and close
@@ -112,7 +112,7 @@ def convert(
     Raises
     ------
     Fault
-        Where the workbook itself can't be read, or there is no such locale.
+        If the workbook itself can't be read, or there is no such locale.
     """
     words = MISSING | {word.casefold() for word in missing}
     reader = Reader(check_locale(locale), words, 2 if limits else 1)
@@ -141,9 +141,8 @@ def add_arguments(parser: argparse.ArgumentParser) -> None:
     """Add the words of the command."""
     parser.add_argument("workbook", metavar="WORKBOOK")
     parser.add_argument("--out", metavar="FILE", default="-", help="the session")
-    parser.add_argument(
-        "--locale", metavar="NAME", default="", help="whose numbers and days: de, en_GB, fr"
-    )
+    form = "how numbers and days are written: de, en_GB, fr"
+    parser.add_argument("--locale", metavar="NAME", default="", help=form)
     parser.add_argument(
         "--missing",
         metavar="TEXT",

@@ -36,7 +36,7 @@ class Converter(Readings):
         self.tickets: list[tuple[datetime.date, datetime.date, Cell]] = []
 
     def read_estimates(self) -> None:
-        """Read estimates, which stand for readings that lack."""
+        """Read estimates, which stand for missing readings."""
         for row in self.rows("estimates", facts=True):
             cell = row["stream"] if self.reader.is_missing(row["tag"]) else row["tag"]
             day = self._day(row["day"])
@@ -192,7 +192,7 @@ class Converter(Readings):
     # ---- what is said
 
     def check_days(self) -> None:
-        """Say which days lack, and which facts stand in no period."""
+        """Say which days are missing, and which facts stand in no period."""
         periods = {period.name: period_days(period) for period in self.session.periods}
         inside = {day for first, last in periods.values() for day in days_of(first, last)}
         for name, (first, last) in periods.items():

@@ -17,8 +17,8 @@ LEVEL is the chance that plants without a fault are rejected, such as 0.05.
   critical 0.05 --measure 9  the test of each of 9 measured streams, likewise
 
 A report's degrees of freedom stand in its row `solved`. For many tests at once each has the level
-1 - (1 - LEVEL)^(1/N): this is Sidak's correction, exact for independent tests and, for these, never too
-lenient.
+1 - (1 - LEVEL)^(1/N): this is Sidak's correction, exact for independent tests and, for these, never
+too lenient.
 """
 
 
@@ -73,7 +73,8 @@ def thousandths(of_level: float, dof: int) -> int:
 
 
 def of_each(of_all: float, count: int) -> float:
-    """Return the level of each of this many tests, so that any rejects no more often than `of_all`."""
+    """Return the level of each of this many tests, so that any rejects no more often than
+    `of_all`."""
     each: float = 1 - (1 - of_all) ** (1 / count)
     return each
 

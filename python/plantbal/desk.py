@@ -63,7 +63,7 @@ COMMANDS: tuple[Command, ...] = (
     Command("report", "commands:REPORT", "turn a report into CSV, SQLite or a workbook"),
     Command("solve", "commands:SOLVE", "reconcile by scipy what sweeps don't come near"),
     Command("convert", "conversion", "a session from a plant's workbook"),
-    Command("book", "book.command", "keep a plant's book, a session a year"),
+    Command("book", "book.command", "keep a plant's book, a session for each year"),
     Command("template", "template", "an empty workbook for convert"),
     Command("from-spreadsheet", "spreadsheet", "a session from daily readings and tags"),
     Command("tables", "tables", "tables of flows, classes, suspects, imbalances"),
@@ -78,8 +78,8 @@ COMMANDS: tuple[Command, ...] = (
 )
 
 EPILOG = """
-Statuses: 0 done, 1 the input or a tool is at fault, or a check found something; 2 the words are none
-of its own.
+Statuses: 0 done, 1 the input or a tool is at fault, or a check found something; 2 the words are
+none of its own.
 
 examples:
   plantbal-desk run day.csv --out day.xlsx
@@ -89,7 +89,7 @@ examples:
 
 
 class Version(argparse.Action):
-    """Writes the version, which is read only where it is asked for."""
+    """Writes the version, which is read only if it is asked for."""
 
     def __init__(self, option_strings: Sequence[str], dest: str, **_: object) -> None:
         super().__init__(option_strings, dest, nargs=0, help="write the version and end")

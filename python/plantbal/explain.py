@@ -1,5 +1,5 @@
-"""Says of each refused row of a session, in a sentence with its line, which field is wrong and what was
-probably meant."""
+"""Says of each refused row of a session, in a sentence with its line, which field is wrong and what
+was probably meant."""
 
 from __future__ import annotations
 
@@ -20,15 +20,15 @@ from plantbal.schema import Column, Row, schema
 from plantbal.session import Session, field_fits, kind_near, rows_of_kind
 
 HELP = """
-SESSION is a file as plantbal reads it; `-` is standard input. Each refused row is shown with its line, a
-mark under the field, what the field has to be, and what was probably meant. Rows that are refused only
-because an earlier one was stand under that one. What is wrong with the whole file (UTF-16, semicolons,
-an unclosed quote, no report row) is said once.
+SESSION is a file as plantbal reads it; `-` is standard input. Each refused row is shown with its
+line, a mark under the field, what the field has to be, and what was probably meant. Rows that are
+refused only because an earlier one was stand under that one. What is wrong with the whole file
+(UTF-16, semicolons, an unclosed quote, no report row) is said once.
 
 OUTPUT is what plantbal wrote for the session, as CSV or as JSON lines: then it is compared with it.
 
-If the first file is a report, the second is what a check said of it; without it the check is made here.
-Each `no` and each `unreadable` is shown with its row, and with what the test asks.
+If the first file is a report, the second is what a check said of it; without it the check is made
+here. Each `no` and each `unreadable` is shown with its row, and with what the test asks.
 
 The status is 1 if there was anything to explain, else 0.
 
@@ -114,7 +114,8 @@ class Text:
 
 
 def shown(text: str) -> str:
-    """Return a text of bytes as people read it: UTF-8, or else cp1252, without control characters."""
+    """Return a text of bytes as people read it: UTF-8, or else cp1252, without control
+    characters."""
     data = text.encode("latin-1", "replace")
     try:
         said = data.decode("utf-8")
@@ -194,7 +195,8 @@ class Told:
 
 
 def _follow(under: Sequence[Told], whole: bool) -> str:
-    """Return what is said of the rows that follow from another, or from a fault of the whole file."""
+    """Return what is said of the rows that follow from another, or from a fault of the whole
+    file."""
     numbers = [str(told.line) for told in under]
     why = "for this reason" if whole else "only because of this row"
     if len(under) == 1:
@@ -217,7 +219,8 @@ class Explanation:
     whole : list of Told
         What is wrong with the file as a whole.
     rows : list of Told
-        The rows, each with those that follow from it; rows that a whole-file fault covers aren't here.
+        The rows, each with those that follow from it; rows that a whole-file fault covers aren't
+        here.
     refused : int
         How many rows are refused in all.
     """
@@ -370,10 +373,10 @@ def _too_few(row: Row, fields: tuple[str, ...], lacks: int) -> _Count:
                 found.append(row.columns[place])
     if found:
         names = _labels(found)
-        which = "" if len(found) == 1 else " (which one can't be told)"
+        which = "" if len(found) == 1 else " (which one isn't clear)"
         return _Count(f"{names} is missing{which}; write {row.pattern}", names)
     few = "a field is missing" if lacks == 1 else f"{lacks} fields are missing"
-    return _Count(f"{few}, and it can't be told which; write {row.pattern}")
+    return _Count(f"{few}, and which isn't clear; write {row.pattern}")
 
 
 def count_of_fields(record: tuple[str, ...]) -> _Count:
@@ -471,7 +474,7 @@ def told_of(text: Text, record: Record, refusal: Refusal, instead: str = "") -> 
     else:
         whole = Field(fields[0].begin, fields[-1].end)
         number, line, mark = picture(text, whole)
-        if refusal.code == 2:  # what lacks comes at the end
+        if refusal.code == 2:  # what is missing comes at the end
             mark = (mark[0] + mark[1], 1)
     if number != record.line or text.line_at(fields[-1].end) != record.line:
         goes = text.line_at(fields[-1].end)
@@ -535,7 +538,8 @@ def _split_otherwise(record: tuple[str, ...]) -> str:
 
 
 def whole_file(text: Text, refused: dict[int, Refusal]) -> list[Told]:
-    """Return what is wrong with a file as a whole; each has the refused rows that it covers under it."""
+    """Return what is wrong with a file as a whole; each has the refused rows that it covers under
+    it."""
 
     def _told(sentence: str, line: int = 0) -> Told:
         return Told(text.source, line, 0, 0, "", sentence)
@@ -646,7 +650,8 @@ class _Roots:
 
 
 class _Names:
-    """The lines in which names are declared: those of accepted rows so far, and those of all rows."""
+    """The lines in which names are declared: those of accepted rows so far, and those of all
+    rows."""
 
     def __init__(self, text: Text) -> None:
         self._all: dict[tuple[str, str], list[int]] = {}
@@ -725,7 +730,7 @@ def explain_bytes(source: str, data: bytes, *, whole: bool = True) -> Explanatio
             cause.under.append(told)
         else:
             rows.append(told)
-        # 7: the name is there already, so that nothing lacks it
+        # 7: the name is there already, so that nothing misses it
         if refusal.code != 7:
             roots.add(refusal.row, cause or told)
     return Explanation(faults, rows, len(refused))

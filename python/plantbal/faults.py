@@ -23,7 +23,7 @@ class Place:
     Attributes
     ----------
     file : str
-        The file as it was named, or ``standard input``; empty where there is none.
+        The file as it was named, or ``standard input``; empty if there is none.
     sheet : str
         The sheet of a workbook.
     line : int or None
@@ -33,7 +33,7 @@ class Place:
     head : str
         The head of the column.
     record : int or None
-        The number of the record, counted from 1, where it isn't a line.
+        The number of the record, counted from 1, if it isn't a line.
     row : str
         The label of the row of a table in memory.
     cell : str
@@ -184,7 +184,7 @@ def read_bytes(path: str | Path) -> tuple[str, bytes]:
     Raises
     ------
     InputFault
-        Where it can't be read.
+        If it can't be read.
     """
     if str(path) == "-":
         return "standard input", sys.stdin.buffer.read()
@@ -209,7 +209,7 @@ def read_text(path: str | Path) -> tuple[str, str]:
     Raises
     ------
     InputFault
-        Where it can't be read, or is no UTF-8 text.
+        If it can't be read, or is no UTF-8 text.
     """
     source, data = read_bytes(path)
     return source, decoded(source, data)
@@ -221,7 +221,7 @@ def decoded(source: str, data: bytes) -> str:
     Raises
     ------
     InputFault
-        Where it is no UTF-8 text.
+        If it is no UTF-8 text.
     """
     try:
         return data.decode("utf-8-sig")

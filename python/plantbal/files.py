@@ -37,7 +37,7 @@ def unwritten(path: str | Path, error: OSError) -> InputFault:
 def replacing(path: str | Path) -> Iterator[Path]:
     """Give a path to write to, which takes the place of `path` once all is written.
 
-    Where the block ends with an exception, or the process is stopped, `path` stays as it was.
+    If the block ends with an exception, or the process is stopped, `path` stays as it was.
 
     Parameters
     ----------
@@ -73,7 +73,7 @@ def replacing(path: str | Path) -> Iterator[Path]:
 
 
 def write_bytes(path: str | Path, data: bytes) -> None:
-    """Write a file by rename, or standard output where the path is ``-``."""
+    """Write a file by rename, or standard output if the path is ``-``."""
     if str(path) == "-":
         sys.stdout.buffer.write(data)
         sys.stdout.buffer.flush()

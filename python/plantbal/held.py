@@ -238,7 +238,7 @@ def grams(number: int | None) -> str:
 
 
 def number_of(text: str) -> int | None:
-    """Return the whole number of a field, or nothing where it is empty or none."""
+    """Return the whole number of a field, or nothing if it is empty or none."""
     try:
         return int(text) if text else None
     except ValueError:

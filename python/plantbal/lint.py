@@ -38,7 +38,7 @@ def lint_session(
 
 
 def summary(findings: Sequence[Finding]) -> str:
-    """Return in one line how many findings there are; nothing where there are none."""
+    """Return in one line how many findings there are; nothing if there are none."""
     said = []
     for severity in SEVERITIES:
         some = [each.code for each in findings if each.severity == severity]
@@ -69,8 +69,8 @@ SESSION is a file; without it standard input is read. Each finding is a line on 
 
   FILE:LINE: SEVERITY: what is there: what to do [CODE]
 
-or, with --json, an object of a list. How many there are is said on standard error. The program isn't run.
-The status is 1 where there is an error, with --strict also where there is a warning, else 0.
+or, with --json, an object of a list. How many there are is said on standard error. The program
+isn't run. The status is 1 if there is an error, with --strict also if there is a warning, else 0.
 
 """
     + "\n".join(f"  {rule.severity:8}{rule.code:17}{rule.about}" for rule in RULES.values())

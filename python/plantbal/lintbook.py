@@ -1,4 +1,5 @@
-"""A session as lint sees it: what was accepted, with the line of each row, and what each report saw."""
+"""A session as lint sees it: what was accepted, with the line of each row, and what each report
+saw."""
 
 from __future__ import annotations
 
@@ -69,9 +70,9 @@ class Reported:
     refused : int
         How many rows were refused before it.
     missing : dict of str to list of int
-        The days without a reading of each meter that lacks one.
+        The days without a reading, of each meter that has such days.
     undipped : dict of str to list of int
-        The days without a dip of each tank that lacks one.
+        The days without a dip, of each tank that has such days.
     """
 
     period: Period

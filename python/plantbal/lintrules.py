@@ -42,8 +42,8 @@ class Rule:
     code : str
         Its code, such as ``missing-reading``.
     severity : str
-        ``error``: a report isn't of what stands in the session, or there is none. ``warning``: a report
-        is made, and is likely to be wrong. ``note``: it may be meant.
+        ``error``: a report isn't of what stands in the session, or there is none. ``warning``: a
+        report is made, and is likely to be wrong. ``note``: it may be meant.
     about : str
         What it says, in a few words.
     """
@@ -164,7 +164,7 @@ def _some(items: Sequence[str], most: int = 4) -> str:
 
 
 def _one_line(text: str, most: int = 160) -> str:
-    """Return a text without line ends, and not all of it where it is long."""
+    """Return a text without line ends, and not all of it if it is long."""
     line = text.replace("\r", " ").replace("\n", " ")
     return line if len(line) <= most else f"{line[: most // 2]} .. {line[-most // 2 :]}"
 
@@ -276,10 +276,9 @@ def _missing_dips(book: Book) -> Iterator[Finding]:
     for reported in book.reported.values():
         for name, days in reported.undipped.items():
             period = reported.period
+            which = {True: "the last day of", False: "the day before"}
             what = " and none ".join(
-                f"of {'the last day of' if day == period.last else 'the day before'} {period.name}, "
-                f"{day_text(day)}"
-                for day in days
+                f"of {which[day == period.last]} {period.name}, {day_text(day)}" for day in days
             )
             text = f"tank {name} has no value in {period.name}: it has no dip {what}"
             remedy = "book the dip; a tank that stood still has the same dip on both days"
@@ -441,9 +440,9 @@ _WORD = re.compile(r"[A-Za-z]+")
 def one_letter_apart(one: str, other: str) -> bool:
     """Say whether two names are likely to be one of which a letter was mistyped.
 
-    They differ in one letter of a word of four or more, in two that are exchanged, or in capitals and
-    signs alone. Names that are told apart by a digit or by a letter at the end in the order of the
-    alphabet, such as `PUMP_A` and `PUMP_B`, aren't meant.
+    They differ in one letter of a word of four or more, in two that are exchanged, or in capitals
+    and signs alone. Names that are told apart by a digit or by a letter at the end in the order of
+    the alphabet, such as `PUMP_A` and `PUMP_B`, aren't meant.
     """
     if _plain(one) == _plain(other):
         return one != other
@@ -477,7 +476,8 @@ def _in_word(name: str, place: int) -> bool:
 
 def near_pairs(names: Sequence[str]) -> list[tuple[str, str]]:
     """Return the pairs of names that are one letter apart, in order."""
-    # Two names that differ in one letter, or in two exchanged ones, share a name with one letter less.
+    # Two names that differ in one letter, or in two exchanged ones, share a name with one letter
+    # less.
     shared: dict[str, list[int]] = defaultdict(list)
     for number, name in enumerate(names):
         plain = _plain(name)
@@ -544,7 +544,7 @@ def _by_stream(book: Book) -> dict[str, list[Fact]]:
 
 
 def _median(facts: Sequence[Fact]) -> int:
-    """Return the median of the amounts, without signs; 0 where too few aren't 0."""
+    """Return the median of the amounts, without signs; 0 if too few aren't 0."""
     sizes = [abs(fact.grams) for fact in facts if fact.grams]
     return median_low(sizes) if len(sizes) >= FEWEST_OF_A_MEDIAN else 0
 
@@ -587,7 +587,8 @@ def _small(fact: Fact, value: int) -> str:
 
 
 def _squared(variance: int, value: int) -> str:
-    """Return what to write for a variance that may be a standard deviation, in grams or in tonnes."""
+    """Return what to write for a variance that may be a standard deviation, in grams or in
+    tonnes."""
     for unit, scale in (("g", 1), ("t", 1_000_000)):
         square = (variance * scale) ** 2
         if not _is_small(square, value) and 0 < square <= min(

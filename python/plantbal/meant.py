@@ -65,8 +65,8 @@ def number_meant(text: str, low: int, high: int, scales: Sequence[Scale] = ()) -
     low, high : int
         The range, both ends included.
     scales : sequence of tuple
-        Greater units, how many of the number's own each has, and what these are called: a number with
-        decimals is probably of the first one in which it is in the range.
+        Greater units, how many of the number's own each has, and what these are called: a number
+        with decimals is probably of the first one in which it is in the range.
     """
     found = whole_meant(text)
     if found is not None:

@@ -34,13 +34,13 @@ class NotOk(Fault):
 
     def __init__(self, output: Output) -> None:
         super().__init__(
-            "; ".join(output.why), remedy="look at it, and say anyway=True where that is meant"
+            "; ".join(output.why), remedy="look at it, and say anyway=True if that is meant"
         )
         self.output = output
 
 
 def whole_numbers(values: Sequence[int | None]) -> Any:
-    """Return whole numbers as a column: Int64 where all of them fit, else Python's own ints.
+    """Return whole numbers as a column: Int64 if all of them fit, else Python's own ints.
 
     Parameters
     ----------
@@ -102,8 +102,8 @@ class Output:
 
     Notes
     -----
-    Each table is made where it is first asked for. `block` is the number of the round in the output,
-    counted from 0; it tells two reports of one period apart.
+    Each table is made when it is first asked for. `block` is the number of the round in the output,
+    counted from 0; two reports of one period differ by it.
     """
 
     def __init__(
@@ -131,7 +131,7 @@ class Output:
 
     @cached_property
     def why(self) -> list[str]:
-        """Why it isn't ok, a sentence each; nothing where it is."""
+        """Why it isn't ok, a sentence each; nothing if it is."""
         said = []
         if self.status is not None and self.status not in (0, 1):
             said.append(f"the program ended with status {self.status}")
@@ -167,18 +167,18 @@ class Output:
     def ok(self) -> bool:
         """Whether it may be booked without a look.
 
-        It is false where a row was refused, no report came, a total is beyond the limits, a report is
+        It is false if a row was refused, no report came, a total is beyond the limits, a report is
         cut off or isn't converged, or a global test rejects.
         """
         return not self.why
 
     def require(self) -> Output:
-        """Return the output itself where it is ok.
+        """Return the output itself if it is ok.
 
         Raises
         ------
         NotOk
-            Where it isn't; the exception has the output.
+            If it isn't; the exception has the output.
         """
         if not self.ok:
             raise NotOk(self)
@@ -243,8 +243,9 @@ class Output:
     def tests(self) -> pandas.DataFrame:
         """All tests of each block.
 
-        `test` is ``global``, ``nodal`` or ``measure``, `name` the node or the stream. `low` and `high`
-        are the ends of the statistic in thousandths; a nodal test has `net` and `variance` instead.
+        `test` is ``global``, ``nodal`` or ``measure``, `name` the node or the stream. `low` and
+        `high` are the ends of the statistic in thousandths; a nodal test has `net` and `variance`
+        instead.
         """
         import pandas
 
@@ -355,7 +356,7 @@ class Output:
         Raises
         ------
         NotOk
-            Where the output isn't ok, and that isn't said to be meant.
+            If the output isn't ok, and that isn't said to be meant.
         """
         if not anyway:
             self.require()
@@ -383,7 +384,7 @@ class Output:
     # ---- files
 
     def to_csv(self, path: str | Path | None = None) -> str:
-        """Return the rows as the program writes them in CSV, and write them where a file is named.
+        """Return the rows as the program writes them in CSV, and write them if a file is named.
 
         So a report that came as JSON lines can be checked.
         """
@@ -426,10 +427,11 @@ class Output:
     def to_xlsx(self, path: str | Path) -> None:
         """Write a workbook with one table a sheet.
 
-        The first sheet, `tonnes`, has the flows to book, each with its standard deviation `sd` beside it.
+        The first sheet, `tonnes`, has the flows to book, each with its standard deviation `sd`
+        beside it.
 
-        A column with a number of more than fifteen digits is one of texts, since a spreadsheet would
-        round it.
+        A column with a number of more than fifteen digits is one of texts, since a spreadsheet
+        would round it.
 
         Parameters
         ----------
@@ -498,7 +500,8 @@ def _widen(sheet: Any, table: pandas.DataFrame) -> None:
 
 
 def verdict_frame(rows: Iterable[Values]) -> pandas.DataFrame:
-    """Return the rows of a check as a table: a row a block, and one for a row that can't be read."""
+    """Return the rows of a check as a table: a row a block, and one for a row that can't be
+    read."""
     import pandas
 
     names = ("period", "round", "at", "code", "word", "name", "stated", "found")
@@ -527,7 +530,7 @@ def read_report(path: str | Path) -> Output:
     Raises
     ------
     InputFault
-        Where it can't be read, or a row is none of the program's; the fault has file and line.
+        If it can't be read, or a row is none of the program's; the fault has file and line.
     """
     source, text = read_text(path)
     return Output(parse_rows(source, text), source=source)

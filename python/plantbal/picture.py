@@ -14,21 +14,21 @@ from plantbal.report import Block, Values, blocks_of, designs_of, read_rows
 
 HELP = """
 OUTPUT is what plantbal wrote, as CSV or as JSON lines; without it standard input is read. The last
-report is drawn, or, where there is none, the last design. The picture is SVG, and goes to standard
+report is drawn, or, if there is none, the last design. The picture is SVG, and goes to standard
 output, or to the file of --out.
 
-Units are boxes, tanks are cylinders with what they gained, `env` is left open. Arrows are as wide as
-their tonnes. Streams: redundant green, with a full dot; nonredundant brown and dashed, with a ring;
-observable blue and dashed, with a triangle; unobservable grey and dotted, with a question mark, and
-without a figure; red with a `!` is a suspect (its measurement test rejects, and so does the global
-test), or what was taken. With --mark the certificate of a stream is shown: the parts of its cut or
-cycle are drawn thick, and the units of the cut's side are filled. A plant of 300 streams takes a
-second or two, one of 2,000 some minutes.
+Units are boxes, tanks are cylinders with what they gained, `env` is left open. Arrows are as wide
+as their tonnes. Streams: redundant green, with a full dot; nonredundant brown and dashed, with a
+ring; observable blue and dashed, with a triangle; unobservable grey and dotted, with a question
+mark, and without a figure; red with a `!` is a suspect (its measurement test rejects, and so does
+the global test), or what was taken. With --mark the certificate of a stream is shown: the parts of
+its cut or cycle are drawn thick, and the units of the cut's side are filled. A plant of 300 streams
+takes a second or two, one of 2,000 some minutes.
 
 examples:
   plantbal run < day.csv | plantbal-desk draw --mark KEROSENE > day.svg
 """
-# Each has at least 4.5 to 1 on white, and a sign, so that none is told by its colour alone.
+# Each has at least 4.5 to 1 on white, and a sign, so that none is known by its colour alone.
 COLOURS = {
     "redundant": "#1b5e20",
     "nonredundant": "#7d4200",
@@ -107,7 +107,7 @@ class Picture:
         return f"{self.prefix}node-{name}"
 
     def id_of(self, name: str) -> str:
-        """Return the element of a stream: that of the tank where it is a tank's."""
+        """Return the element of a stream: that of the tank if it is a tank's."""
         return self.id_of_node(name) if name in self.tanks else f"{self.prefix}stream-{name}"
 
     def colour(self, stream: Values) -> str:
@@ -203,7 +203,7 @@ class Picture:
 def picture_of(block: Block, prefix: str = "") -> Picture:
     """Return the picture of a round."""
     nodes = [node["name"] for node in block.nodes]
-    # where the global test doesn't reject, that of one meter counts for nothing
+    # if the global test doesn't reject, that of one meter counts for nothing
     rejected = block.whole is not None and block.whole["verdict"] == "reject"
     suspects = block.suspects() if rejected else []
     return Picture(block.title, block.streams, nodes, suspects + block.taken, prefix)

@@ -37,13 +37,13 @@ def find_program(program: str | Path | None = None) -> Path:
     Parameters
     ----------
     program : str or Path, optional
-        The program. Without it, it is that of the environment's ``PLANTBAL``, else ``plantbal`` on the
-        path, else the one that is built in this checkout.
+        The program. Without it, it is that of the environment's ``PLANTBAL``, else ``plantbal`` on
+        the path, else the one that is built in this checkout.
 
     Raises
     ------
     ToolMissing
-        Where there is none.
+        If there is none.
     """
     named = program or os.environ.get("PLANTBAL")
     if named:
@@ -74,7 +74,7 @@ def call(
     Raises
     ------
     ProgramFault
-        Where it ends otherwise; the fault has the status and its name.
+        If it ends otherwise; the fault has the status and its name.
     """
     found = find_program(program)
     try:
@@ -170,7 +170,7 @@ def run(
     sweeps : int
         At most this many sweeps.
     program : str or Path, optional
-        The program, where it isn't the one that `find_program` finds.
+        The program, if it isn't the one that `find_program` finds.
     timeout : float, optional
         The most seconds that it may take.
     watch : callable, optional
@@ -179,13 +179,13 @@ def run(
     Returns
     -------
     Output
-        What the program wrote. Its `ok` is false where a row was refused, no report came, or a global
+        What the program wrote. Its `ok` is false if a row was refused, no report came, or a global
         test rejects: look at it before its flows are booked.
 
     Raises
     ------
     ProgramFault
-        Where the program ends with 2 to 6.
+        If the program ends with 2 to 6.
     """
     words = ["run", "--gap", str(gap), "--sweeps", str(sweeps)]
     if eliminate:
@@ -220,14 +220,14 @@ def check(
     Returns
     -------
     DataFrame
-        A row a block: `verdict` is ``yes`` or ``no``, and of a ``no`` the first test that it fails, at
-        which node or stream, what is stated there and what the rule gives. A row that can't be read is
-        ``unreadable``, and nothing after it is judged.
+        A row a block: `verdict` is ``yes`` or ``no``, and of a ``no`` the first test that it fails,
+        at which node or stream, what is stated there and what the rule gives. A row that can't be
+        read is ``unreadable``, and nothing after it is judged.
 
     Raises
     ------
     Fault
-        Where there is nothing to check.
+        If there is nothing to check.
     """
     if isinstance(report, Output):
         data = report.to_csv().encode("utf-8")

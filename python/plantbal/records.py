@@ -31,8 +31,8 @@ class Record:
 def read_records(data: bytes) -> Iterator[Record]:
     """Give the records of a text, by the rules of the program.
 
-    A byte order mark in front is taken off; records end with CR, LF or both; an empty line is none; a
-    field that begins with a double quote goes on to the next lone one.
+    A byte order mark in front is taken off; records end with CR, LF or both; an empty line is none;
+    a field that begins with a double quote goes on to the next lone one.
 
     Parameters
     ----------

@@ -7,7 +7,7 @@ import io
 import json
 import re
 import sys
-from collections.abc import Iterable
+from collections.abc import Collection, Iterable, Iterator, Mapping
 from dataclasses import dataclass, field
 from pathlib import Path
 
@@ -17,15 +17,15 @@ from plantbal.schema import Row, schema
 
 # A field with a power of ten; no name has a plus sign.
 _POWER = re.compile(r"(?<=,)-?[0-9]+(?:\.[0-9]+)?[eE]\+[0-9]+(?=[,\r\n])")
-# A row by its columns; `row` has its kind. A stream of an older report lacks its least bounds.
+# A row by its columns; `row` has its kind. A stream of an older report has no least bounds.
 Values = dict[str, str]
 _AS_WRITTEN = "give the file as plantbal wrote it: this one was cut off, or edited"
 _OF_CHECKS = ("yes", "no", "unreadable")
 
 
-def _row_of(source: str, line: int, fields: list[str]) -> Values:
-    """Return a row by its fields."""
-    kind, values = fields[0], fields[1:]
+def _names_of(source: str, line: int, fields: list[str]) -> tuple[str, ...]:
+    """Return the names of a row's fields; an older row of a stream has fewer of them."""
+    kind, count = fields[0], len(fields)
     row = schema().output.get(kind)
     if row is None:
         raise InputFault(
@@ -34,20 +34,15 @@ def _row_of(source: str, line: int, fields: list[str]) -> Values:
             text=kind,
             remedy=_instead(kind),
         )
-    names: tuple[str, ...] = row.names
-    if len(values) != len(names):
-        if row.without and len(values) == len(row.older):
-            names = row.older
-        else:
-            raise InputFault(
-                f"a {kind} row has {len(names) + 1} columns, this one has {len(values) + 1}",
-                place=Place(file=source, line=line),
-                text=",".join(fields)[:200],
-                remedy=_of_columns(values, len(names)),
-            )
-    made = dict(zip(names, values))
-    made["row"] = kind
-    return made
+    for names in (row.names, row.older):
+        if len(names) + 1 == count:
+            return ("row", *names)
+    raise InputFault(
+        f"a {kind} row has {len(row.names) + 1} columns, this one has {count}",
+        place=Place(file=source, line=line),
+        text=",".join(fields)[:200],
+        remedy=_of_columns(fields[1:], len(row.names)),
+    )
 
 
 def _instead(kind: str) -> str:
@@ -104,26 +99,52 @@ def _row_of_json(source: str, line: int, text: str) -> Values:
     return values
 
 
+def _lines_of(text: str, passed: Mapping[str, int]) -> Iterator[tuple[int, list[str]]]:
+    """Give the number and the fields of each line, but not of whole rows that are passed over.
+
+    Parameters
+    ----------
+    text : str
+        The lines. Only quotes and CR need the reader of CSV.
+    passed : mapping of str to int
+        The kinds that are passed over, and how many columns such a row has after its kind.
+    """
+    if '"' in text or "\r" in text:
+        csv.field_size_limit(sys.maxsize)
+        reader = csv.reader(io.StringIO(text, newline=""))
+        for fields in reader:
+            if fields and len(fields) - 1 != passed.get(fields[0]):
+                yield reader.line_num, fields
+        return
+    for number, line in enumerate(text.split("\n"), 1):
+        if line and line.count(",") != passed.get(line.partition(",")[0]):
+            yield number, line.split(",")
+
+
 @uncollected()
-def parse_rows(source: str, text: str) -> list[Values]:
-    """Return the rows of an output: CSV, or JSON lines where it begins with a brace.
+def parse_rows(source: str, text: str, kinds: Collection[str] | None = None) -> list[Values]:
+    """Return the rows of an output: CSV, or JSON lines if it begins with a brace.
 
     Parameters
     ----------
     source : str
-        What the output is called in what is said.
+        What the output is called in messages.
     text : str
         The output.
+    kinds : collection of str, optional
+        The kinds of rows to return; of other rows only the columns are counted. Without it, all.
 
     Raises
     ------
     InputFault
-        Where a row is none of the program's.
+        If a row is none of the program's.
     """
     if text.startswith("{"):
         lines = enumerate(text.splitlines(), 1)
-        return [_row_of_json(source, number, line) for number, line in lines if line]
-    powers = _POWER.search(text)
+        rows = [_row_of_json(source, number, line) for number, line in lines if line]
+        return [row for row in rows if kinds is None or row["row"] in kinds]
+    # Most outputs have no power of ten, and a search for one is slow.
+    powers = _POWER.search(text) if "e+" in text or "E+" in text else None
     if powers:
         raise InputFault(
             f"{powers.group()} stands here, as a spreadsheet writes long numbers",
@@ -132,17 +153,16 @@ def parse_rows(source: str, text: str) -> list[Values]:
             remedy="take the file as plantbal wrote it; plantbal-desk report FILE --out FILE.xlsx "
             "makes a workbook of it",
         )
-    csv.field_size_limit(sys.maxsize)
-    reader = csv.reader(io.StringIO(text, newline=""))
-    keys = {kind: ("row", *row.names) for kind, row in schema().output.items()}
+    output = schema().output
+    keys = {kind: ("row", *row.names) for kind, row in output.items()}
+    unwanted = [] if kinds is None else [kind for kind in output if kind not in kinds]
     found: list[Values] = []
-    for fields in reader:
-        if fields:
-            names = keys.get(fields[0], ())
-            if len(names) == len(fields):
-                found.append(dict(zip(names, fields)))
-            else:
-                found.append(_row_of(source, reader.line_num, fields))
+    for number, fields in _lines_of(text, {kind: len(output[kind].names) for kind in unwanted}):
+        names = keys.get(fields[0], ())
+        if len(names) != len(fields):
+            names = _names_of(source, number, fields)
+        if kinds is None or fields[0] in kinds:
+            found.append(dict(zip(names, fields)))
     return found
 
 
@@ -187,11 +207,11 @@ def refuse_other(source: str, text: str) -> None:
     elif first[0] in _OF_CHECKS:
         refuse_parts(source, [{"row": first[0]}])
     elif first[0] not in schema().output:
-        _row_of(source, 1, first)
+        _names_of(source, 1, first)
 
 
 def refuse_parts(source: str, rows: list[Values], *, checks: bool = False) -> None:
-    """Refuse an output that is empty or cut off, or is a check's where this isn't meant.
+    """Refuse an output that is empty or cut off, or is a check's although this isn't meant.
 
     Parameters
     ----------
@@ -285,7 +305,7 @@ class Block:
 
     @property
     def title(self) -> str:
-        """The period, and the round where it isn't the first."""
+        """The period, and the round if it isn't the first."""
         return f"{self.period}, round {self.round}" if self.round else self.period
 
     def suspects(self) -> list[str]:

@@ -22,8 +22,8 @@ class Column:
     name : str
         What it is called; in JSON lines its key.
     type : str
-        ``name``, ``reason``, ``number`` (whole), ``date``, ``word``, ``names`` (with a space between)
-        or ``parts`` (signs with names, with a space between).
+        ``name``, ``reason``, ``number`` (whole), ``date``, ``word``, ``names`` (with a space
+        between) or ``parts`` (signs with names, with a space between).
     label : str
         What the guide calls it, of a row of a session.
     low, high : int or None
@@ -59,7 +59,7 @@ class Row:
     tail : tuple of Column
         Columns that may come after these, over and over.
     variant : str
-        Which one of several rows of the kind it is, such as ``metered``; empty where there is one.
+        Which one of several rows of the kind it is, such as ``metered``; empty if there is one.
     by : str
         What writes it: ``run``, ``check`` or ``make``; empty for a row of a session.
     without : tuple of str
@@ -100,7 +100,8 @@ class Row:
 
 @dataclass(frozen=True, slots=True)
 class Code:
-    """A code with its word: why a row is refused, which test a block fails, why a row can't be read.
+    """A code with its word: why a row is refused, which test a block fails, why a row can't be
+    read.
 
     Attributes
     ----------
@@ -134,8 +135,8 @@ class Schema:
     output : mapping of str to Row
         The rows of an output, by their kind.
     refusals, tests, unreadable : mapping of int to Code
-        Why a row of a session is refused; which test of a check a block fails; why a row of a report
-        can't be read.
+        Why a row of a session is refused; which test of a check a block fails; why a row of a
+        report can't be read.
     """
 
     limits: Mapping[str, int]

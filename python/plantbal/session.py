@@ -86,7 +86,7 @@ def day_of_number(number: int) -> datetime.date:
 
 
 def whole_number(text: str, low: int | None, high: int | None) -> int | None:
-    """Return the number that a field writes, or None where it writes none of the range."""
+    """Return the number that a field writes, or None if it writes none of the range."""
     if len(text) > 60 or not _WHOLE.fullmatch(text):
         return None
     number = int(text)
@@ -269,7 +269,7 @@ class Session:
         return dict(self._nodes)
 
     def to_csv(self, path: str | Path | None = None) -> str:
-        """Return the session as the program reads it, and write it to a file where one is named.
+        """Return the session as the program reads it, and write it to a file if one is named.
 
         Parameters
         ----------
@@ -294,8 +294,8 @@ class Session:
         path : str or Path
             A file as the program reads it.
         strict : bool
-            Whether the first refused row raises `Refusal`. Otherwise refused rows are left out and kept
-            in `refused`, each with its file, line and record.
+            Whether the first refused row raises `Refusal`. Otherwise refused rows are left out and
+            kept in `refused`, each with its file, line and record.
         """
         source, data = read_bytes(path)
         session = cls(strict=strict)
@@ -322,7 +322,7 @@ class Session:
         Raises
         ------
         Refusal
-            Where the program would refuse it, and the session is strict.
+            If the program would refuse it, and the session is strict.
         """
         try:
             judged = self.judge(fields)
@@ -344,7 +344,7 @@ class Session:
         Raises
         ------
         Refusal
-            Where the program would refuse it: the lowest code that holds.
+            If the program would refuse it: the lowest code that holds.
         """
         record = without_empty_end(tuple(fields))
         if not record:
@@ -397,7 +397,8 @@ class Session:
         )
 
     def _judge_fields(self, row: Row, record: tuple[str, ...]) -> None:
-        """Refuse a record whose fields aren't of their forms: names first, then numbers, then dates."""
+        """Refuse a record whose fields aren't of their forms: names first, then numbers, then
+        dates."""
         worst = 0
         for column, text in zip(row.columns, record[1:]):
             code = _bad(column, text)
@@ -480,8 +481,8 @@ class Session:
                 10,
                 record,
                 f"period {self._closed[0][2]} is closed, and the plant can't change any more",
-                remedy="put it before the first close row, if no report that went out changes by it; "
-                "else begin a new session with the changed plant",
+                remedy="put it before the first close row, if no report that went out changes by "
+                "it; else begin a new session with the changed plant",
             )
 
     def _judge_room(self, record: tuple[str, ...], nodes: bool, arcs: bool) -> None:
@@ -597,7 +598,8 @@ class Session:
             remedy = "no day may be in two periods: end one before the other begins"
             self._refuse(9, record, what, "first", values["first"], remedy)
         if last - first >= LIMITS["most_days_of_period"]:
-            what = f"it has {last - first + 1} days, and at most {LIMITS['most_days_of_period']} may be"
+            most = LIMITS["most_days_of_period"]
+            what = f"it has {last - first + 1} days, and at most {most} may be"
             self._refuse(12, record, what, "last", values["last"], "split it")
         if len(self._periods) >= LIMITS["most_periods"]:
             what = f"{len(self._periods):,} periods are there, and no more may be"
@@ -808,7 +810,7 @@ class Session:
         Raises
         ------
         Refusal
-            Where the program would refuse the row. So it is of each method below.
+            If the program would refuse the row. So it is of each method below.
         """
         self.row("unit", name)
 
@@ -869,7 +871,8 @@ class Session:
         kind : {'metered', 'batch', 'plain'}
             Whether it has a meter that is read daily, flows in batches, or isn't measured.
         variance : int, optional
-            The variance that it has in every period beside those of its facts, in squared grams. Or:
+            The variance that it has in every period beside those of its facts, in squared grams.
+            Or:
         deviation_grams, deviation_tonnes : Decimal, int or str, optional
             The standard deviation of it. A plain stream has none of them.
         """
@@ -913,7 +916,7 @@ class Session:
             The value itself, with at most three decimals.
         """
         if (thousandths is None) == (value is None):
-            raise Fault("a critical value wants thousandths, or value, and not both")
+            raise Fault("a critical value needs thousandths, or value, and not both")
         if value is not None:
             exact = decimal_of(value, "VALUE") * 1000
             if exact != int(exact):
@@ -1062,7 +1065,7 @@ class Session:
             return
         if mm is None or density is None or grams is not None or tonnes is not None:
             raise Fault(
-                "an amendment of a dip wants mm and density, that of another fact an amount"
+                "an amendment of a dip needs mm and density, that of another fact an amount"
             )
         self.row("amend", id, whole_of(mm, "MM"), whole_of(density, "DENSITY"), var, reason)
 
@@ -1115,16 +1118,17 @@ class Session:
     ) -> Session:
         """Return the session of tables.
 
-        Each table has a row for a row of the session, and the columns that the method of the kind has
-        parameters: ``grams`` or ``tonnes``; ``variance``, ``deviation_grams`` or ``deviation_tonnes``;
-        ``from`` and ``to``; ``day`` or ``date``. A column ``id`` may lack: then facts are called
-        STREAM_DAY. Amounts are whole numbers, Decimals or texts; floats are refused.
+        Each table has a row for a row of the session, and the columns that the method of the kind
+        has parameters: ``grams`` or ``tonnes``; ``variance``, ``deviation_grams`` or
+        ``deviation_tonnes``; ``from`` and ``to``; ``day`` or ``date``. Without a column ``id``
+        facts are called STREAM_DAY. Amounts are whole numbers, Decimals or texts; floats are
+        refused.
 
         Parameters
         ----------
         units : iterable of str or DataFrame, optional
-            The units, or a table with a column ``name``. Without them they are the ends of the streams
-            that are neither tanks nor ``env``.
+            The units, or a table with a column ``name``. Without them they are the ends of the
+            streams that are neither tanks nor ``env``.
         tanks, straps, streams, periods, critical, readings, transfers, dips : DataFrame, optional
             The other rows.
         reports : bool or iterable of str
@@ -1137,9 +1141,9 @@ class Session:
         Raises
         ------
         Refusal
-            Where the program would refuse a row; `place` has the table and the row.
+            If the program would refuse a row; `place` has the table and the row.
         Fault
-            Where a table lacks a column, or an amount isn't exact.
+            If a table lacks a column, or an amount isn't exact.
         """
         from plantbal.frames import fill
 
@@ -1179,7 +1183,8 @@ class Session:
             self.row("reading", *fields, place=place(number))
 
     def _take_all(self, columns: Readings) -> bool:
-        """Take readings at once, if none of them would be refused, and say whether they were taken."""
+        """Take readings at once, if none of them would be refused, and say whether they were
+        taken."""
         ids, streams, days, grams, variances = columns
         numbers: dict[str, int] = {}
         for day in set(days):
@@ -1251,7 +1256,7 @@ def _variance(
 def _amount(grams: int | None, tonnes: Tonnes | None) -> str:
     """Return an amount in grams, of which exactly one is given."""
     if (grams is None) == (tonnes is None):
-        raise Fault("an amount wants grams, or tonnes, and not both")
+        raise Fault("an amount needs grams, or tonnes, and not both")
     if grams is not None:
         return whole_of(grams, "GRAMS")
     assert tonnes is not None

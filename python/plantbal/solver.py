@@ -1,9 +1,9 @@
 """Reconciles a session by scipy, certified by the program.
 
 The program gives the merged measurements, the classes and their certificates, after hardly a sweep.
-Flows and prices come from a sparse solution of the normal equations, which is refined in whole numbers
-until its prices are exact. Then the program's check judges each block, and what doesn't get its `yes`
-isn't handed out.
+Flows and prices come from a sparse solution of the normal equations, which is refined in whole
+numbers until its prices are exact. Then the program's check judges each block, and what doesn't get
+its `yes` isn't handed out.
 """
 
 from __future__ import annotations
@@ -106,8 +106,8 @@ class Plant:
     group : list of int
         The least node of each node's group: nodes that unmeasured streams join are one.
     forest : list of int
-        A spanning forest: unmeasured streams first, then measured ones, the greatest variance first,
-        so that what the others' rounding leaves over falls on streams that can bear it.
+        A spanning forest: unmeasured streams first, then measured ones, the greatest variance
+        first, so that what the others' rounding leaves over falls on streams that can bear it.
     """
 
     names: list[str]
@@ -153,8 +153,8 @@ def plant_of(block: Block) -> Plant:
 def free_groups(plant: Plant) -> dict[int, int]:
     """Return a number for each group whose price is free.
 
-    The group of ``env`` has the price 0, and so has one group of each part of the plant that measured
-    streams don't join to it.
+    The group of ``env`` has the price 0, and so has one group of each part of the plant that
+    measured streams don't join to it.
     """
     parts = Labels(len(plant.names))
     touched: set[int] = set()
@@ -169,12 +169,12 @@ def free_groups(plant: Plant) -> dict[int, int]:
 
 
 def prices_of(plant: Plant) -> list[int]:
-    """Return the multipliers of the balances as prices, exact to their unit where floats allow.
+    """Return the multipliers of the balances as prices, exact to their unit if floats allow it.
 
     Raises
     ------
     Fault
-        Where the multipliers at the ends of a stream are too far apart for prices.
+        If the multipliers at the ends of a stream are too far apart for prices.
     """
     try:
         import numpy
@@ -205,7 +205,8 @@ def prices_of(plant: Plant) -> list[int]:
                     columns.append(at[column])
                     weights.append(sign * weight)
         matrix = sparse.csc_matrix((weights, (rows, columns)), shape=(len(at), len(at)))
-        # The scale of each unknown is that of its own weights, which may differ by many powers of ten.
+        # The scale of each unknown is that of its own weights, which may differ by many powers of
+        # ten.
         scale = 1 / numpy.sqrt(matrix.diagonal())
         solver = linalg.splu((sparse.diags(scale) @ matrix @ sparse.diags(scale)).tocsc())
         for _ in range(MOST_REFINEMENTS):
@@ -230,7 +231,8 @@ def prices_of(plant: Plant) -> list[int]:
 def imbalances(
     plant: Plant, between: list[tuple[int, int, int]], at: dict[int, int], prices: list[int]
 ) -> list[int]:
-    """Return what the flows of the prices leave over in each free group, in units of 2^-56 grams."""
+    """Return what the flows of the prices leave over in each free group, in units of 2^-56
+    grams."""
     left = [0] * len(at)
     for j, one, other in between:
         low = prices[at[one]] if one in at else 0
@@ -281,7 +283,8 @@ def flows_of(plant: Plant, prices: list[int]) -> list[int]:
 
 
 def gap_of(plant: Plant, prices: list[int], flows: list[int]) -> tuple[int, int]:
-    """Return g and h: the flows are at most g * 2^h / 2^20 standard deviations from the exact ones."""
+    """Return g and h: the flows are at most g * 2^h / 2^20 standard deviations from the exact
+    ones."""
     parts = [
         up(
             abs(flows[j] * UNIT - dual_flow(plant, prices, j)),
@@ -298,7 +301,7 @@ def gap_of(plant: Plant, prices: list[int], flows: list[int]) -> tuple[int, int]
 def bounds_of(
     plant: Plant, prices: list[int], flows: list[int], stream: Values, g: int, h: int
 ) -> tuple[int, int, int, int] | None:
-    """Return the bounds and the least bounds of a stream, or None where nothing determines it.
+    """Return the bounds and the least bounds of a stream, or None if nothing determines it.
 
     They are those of its own dual flow, or of those of the other members of its cut.
     """
@@ -350,7 +353,7 @@ def verdict_of(low: int, high: int | None, dof: int, critical: str) -> str:
 
 @dataclass
 class Critical:
-    """The critical values that a report sees, as the digits of thousandths; empty where there is none.
+    """The critical values that a report sees, as the digits of thousandths; empty if there is none.
 
     Attributes
     ----------
@@ -436,8 +439,8 @@ def solved_rows(
     Parameters
     ----------
     block : Block
-        A round of a report: its plant, measurements, classes and certificates are taken. Nothing of its
-        solution is used.
+        A round of a report: its plant, measurements, classes and certificates are taken. Nothing of
+        its solution is used.
     least : bool
         Whether streams have least bounds.
     change : tuple of str and int, optional
@@ -524,7 +527,7 @@ def solve(
     Raises
     ------
     Uncertified
-        Where some block doesn't get the check's `yes`.
+        If some block doesn't get the check's `yes`.
     """
     if engine != "scipy":
         raise Fault(f"there is no engine {engine!r}", text=engine, remedy="say 'scipy'")

@@ -22,10 +22,10 @@ from plantbal.schema import schema
 from plantbal.session import rows_of_kind
 
 HELP = """
-READINGS is a CSV file with a row a day: the day in the first column, then a column for each tag, in
-tonnes. The heads of the columns are the tags. An empty field is a missing reading.
+READINGS is a CSV file with a row for each day: the day in the first column, then a column for each
+tag, in tonnes. The heads of the columns are the tags. An empty field is a missing reading.
 
-TAGS is a CSV file with the heads tag,stream,from,to,error and, where it is wanted, base:
+TAGS is a CSV file with the heads tag,stream,from,to,error and, if it is wanted, base:
   tag     the head of the column in READINGS; empty for a stream without a meter
   stream  the name of the stream in the session; from and to are its ends, `env` the world outside
   error   the standard deviation of a day's reading: `1.5 %` of the reading, `0.2 t`, or
@@ -33,10 +33,10 @@ TAGS is a CSV file with the heads tag,stream,from,to,error and, where it is want
   base    the standard deviation that the meter has in every period beside these, such as `0.5 t`
 
 Fields are parted by commas, semicolons or tabs, whichever the first line has. Tonnes become grams
-exactly; more than six decimals are refused. Each month of READINGS becomes a period from its first to
-its last row, and a report. What is missing is said on standard error, days at the ends of a month too, and
-how many warnings lint has. No session is written if a unit would have nothing coming in, or nothing going
-out: mostly its name is mistyped.
+exactly; more than six decimals are refused. Each month of READINGS becomes a period from its first
+to its last row, and a report. What is missing is said on standard error, days at the ends of a
+month too, and how many warnings lint has. No session is written if a unit would have nothing coming
+in, or nothing going out: mostly its name is mistyped.
 
 examples:
   plantbal-desk from-spreadsheet tags.csv readings.csv > session.csv
@@ -62,7 +62,7 @@ class Choices:
     date : str
         How days are written, for `datetime.datetime.strptime`; empty for 2024-06-30.
     divisor : int
-        What errors are divided by: 2 where they are limits that hold 95 times in 100.
+        What errors are divided by: 2 if they are limits that hold 95 times in 100.
     missing : tuple of str
         Texts that stand for a missing reading.
     skip : tuple of str
@@ -110,7 +110,7 @@ class Sheet:
 
 
 def cell_of(row: list[str], column: int) -> str:
-    """Return a field of a row, or nothing where the row is shorter."""
+    """Return a field of a row, or nothing if the row is shorter."""
     return row[column] if column < len(row) else ""
 
 
@@ -143,7 +143,7 @@ def why_not(text: str, mark: str) -> str:
 
 @dataclass(frozen=True, slots=True)
 class Tag:
-    """A row of the table of tags: a stream, and the errors of its meter, where it has one.
+    """A row of the table of tags: a stream, and the errors of its meter, if it has one.
 
     Attributes
     ----------
@@ -154,7 +154,8 @@ class Tag:
     ends : tuple of str
         The nodes that it leads from and to.
     share, least : Fraction
-        The standard deviation of a reading: this share of it, or this many grams, the greater of both.
+        The standard deviation of a reading: this share of it, or this many grams, the greater of
+        both.
     base : int
         The variance that the stream has in every period, in squared grams.
     """
@@ -230,7 +231,8 @@ class TagSheet:
         for part in re.split(r"\s+or\s+", text) if text else []:
             number = read_decimal(part[:-1].strip(), mark)
             if part[-1:] not in ("%", "t") or number is None or number <= 0:
-                what = f"{text!r} is no error: write `1{mark}5 %`, `0{mark}2 t`, or both with `or` between"
+                forms = f"`1{mark}5 %`, `0{mark}2 t`, or both with `or` between"
+                what = f"{text!r} is no error: write {forms}"
                 raise self.sheet.fault(line, self.places["error"], what)
             if part[-1] == "%":
                 share = number / 100 / divisor
@@ -254,7 +256,7 @@ class TagSheet:
         return variance
 
 
-# Each day's reading of each tag as grams, or None where it is missing.
+# Each day's reading of each tag as grams, or None if it is missing.
 Days = dict[datetime.date, dict[str, int | None]]
 
 
@@ -273,7 +275,8 @@ class ReadingSheet:
             if head in self.choices.skip:
                 continue
             if head not in self.tags:
-                what = f"the table of tags has no tag {head!r}; say --skip {head!r} to leave the column out"
+                remedy = f"say --skip {head!r} to leave the column out"
+                what = f"the table of tags has no tag {head!r}; {remedy}"
                 raise self.sheet.fault(1, column, what)
             if head in self.columns:
                 what = f"column {self.columns[head] + 1} has this tag too"
@@ -314,7 +317,7 @@ class ReadingSheet:
             raise self.sheet.fault(line, 0, what) from None
 
     def reading_of(self, line: int, column: int, tag: str, text: str) -> int | None:
-        """Return a reading in grams, or None where it is missing."""
+        """Return a reading in grams, or None if it is missing."""
         if not text or text in self.choices.missing:
             return None
         mark = self.choices.mark
@@ -409,7 +412,7 @@ def missing(tags: list[Tag], days: Days) -> list[str]:
 
 
 def short_months(days: Days) -> list[str]:
-    """Return which months lack their first or their last days: their periods are shorter."""
+    """Return which months have no first or last days: their periods are shorter."""
     said = []
     for (year, month), some in groupby(days, key=lambda day: (day.year, day.month)):
         rows = list(some)
@@ -419,7 +422,7 @@ def short_months(days: Days) -> list[str]:
         lacks += [f"its last {end - last.day}"] if last.day < end else []
         if lacks:
             what = f"the period {first:%Y-%m} goes from {first} to {last}"
-            said.append(f"{what}: days of the month lack, {' and '.join(lacks)}")
+            said.append(f"{what}: days of the month are missing, {' and '.join(lacks)}")
     return said
 
 

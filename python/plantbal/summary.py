@@ -94,6 +94,7 @@ def summary_text(manifest: Manifest, ledger: Ledger, output: Output) -> str:
         f"output   SHA-256 {manifest.files.get(OUTPUT, '')}",
         f"program  SHA-256 {program.get('sha256', '')}",
         f"         version {program.get('version', '')}, {program.get('commit', '')}",
+        *([f"         from {program['from']}"] if "from" in program else []),
         f"words    plantbal {manifest.words}",
         "",
     ]

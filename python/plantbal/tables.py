@@ -19,14 +19,15 @@ HELP = """
 OUTPUT is what plantbal wrote, as JSON lines or as CSV; without it standard input is read. The table
 goes to standard output, as CSV:
 
-  flows      a row a stream, two columns a period: the flow to book in tonnes, and beside it, in the
-             column ±, its standard deviation; empty if nothing determines it
-  classes    a row a stream, a column a period: the class
-  count      a row a class, a column a period: how many streams have it
+  flows      a row for each stream, two columns for each period: the flow to book in tonnes, and its
+             standard deviation in the column ±; empty if nothing determines it
+  classes    a row for each stream, a column for each period: the class
+  count      a row for each class, a column for each period: how many streams have it
 
 or as lines with tabs between:
 
-  suspects   of each round the streams whose measurement test rejects: period, round, stream, statistic
+  suspects   of each round the streams whose measurement test rejects: period, round, stream,
+             statistic
   imbalance  what the measurements leave over at each unit whose streams are all measured: period,
              unit, tonnes
 
@@ -74,7 +75,8 @@ def pivot(streams: pandas.DataFrame, what: str) -> pandas.DataFrame:
 
 
 def with_deviations(table: pandas.DataFrame, rows: list[Values]) -> pandas.DataFrame:
-    """Return a table of flows with a column ± beside each period: the standard deviation in tonnes."""
+    """Return a table of flows with a column ± beside each period: the standard deviation in
+    tonnes."""
     from plantbal.output import Output
     from plantbal.uncertainty import last_of_each_period
 

@@ -76,8 +76,8 @@ def classes_of(
 ) -> dict[str, str]:
     """Return the class of each stream.
 
-    A measured stream is redundant unless unmeasured streams join its ends. One that isn't measured is
-    observable exactly when it is a bridge among the unmeasured ones.
+    A measured stream is redundant unless unmeasured streams join its ends. One that isn't measured
+    is observable exactly when it is a bridge among the unmeasured ones.
 
     Parameters
     ----------

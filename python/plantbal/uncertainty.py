@@ -48,7 +48,7 @@ COLUMNS = (
 _TEXTS = ("period", "name", "class", *_RANKS)
 # A meter with a smaller share isn't named.
 _LEAST_SHARE = 1e-6
-# A stream whose variance is so many times the least one is strong.
+# A stream whose variance is this many times the least one is strong.
 _STRONG = 1e6
 # A standard deviation below this part of the meters' own is what rounding leaves of 0.
 _NOTHING = 1e-9
@@ -348,9 +348,8 @@ def text_of(table: pandas.DataFrame) -> str:
 def add_arguments(parser: argparse.ArgumentParser) -> None:
     """Add the words of the command."""
     parser.add_argument("output", metavar="OUTPUT", nargs="?", default="-")
-    parser.add_argument(
-        "--form", choices=["text", "csv", "json"], default="text", help="text without it"
-    )
+    form = "the form of the table (default: text)"
+    parser.add_argument("--form", choices=["text", "csv", "json"], default="text", help=form)
 
 
 def run(options: argparse.Namespace) -> int:

@@ -283,7 +283,7 @@ def _form_said(record: Record, row: Row, code: int) -> tuple[_At, str]:
             if bool(values.get(one)) != bool(values.get(other)):
                 return _At(record, one, other), "both are there or neither is"
     if not first:
-        return _At(record), "which field it is can't be told"
+        return _At(record), "which field it is isn't clear"
     column = row.column(first)
     asked_for = {
         "name": "1 to 32 letters, digits, `_`, `-` or `.`",

@@ -139,7 +139,7 @@ def read_workbook(path: str | Path) -> list[Sheet]:
     Raises
     ------
     InputFault
-        Where it can't be read.
+        If it can't be read.
     """
     place = Path(path)
     if place.is_dir():

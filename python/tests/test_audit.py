@@ -5,6 +5,7 @@ from __future__ import annotations
 import subprocess
 import zipfile
 from collections.abc import Callable
+from dataclasses import replace
 from pathlib import Path
 
 import pytest
@@ -12,6 +13,8 @@ from conftest import TOP, Desk, Said, example, words_of
 from hypothesis import HealthCheck, given, settings
 from hypothesis import strategies as st
 
+from plantbal.archive import bundle_files
+from plantbal.build import Build, build_of
 from plantbal.bundle import (
     DIGESTS,
     MANIFEST,
@@ -19,6 +22,7 @@ from plantbal.bundle import (
     OUTPUT,
     SESSION,
     SUMMARY,
+    Manifest,
     digest,
     digests_text,
     packed,
@@ -179,11 +183,12 @@ CHANGES = [
     (OUTPUT, b"refused,1,3,name", b"refused,1,4,number", "by the rules the code is 3"),
     (OUTPUT, b"refused,1,3,name", b"refused,2,3,name", "by the rules it isn't"),
     (OUTPUT, b"node,env,0\n", b"node,env,1\n", "fails test 4"),
-    (SUMMARY, b"2 rows refused", b"1 rows refused", "summary.txt: line 11, character 1: '1 rows"),
+    (SUMMARY, b"2 rows refused", b"1 rows refused", "summary.txt: line 12, character 1: '1 rows"),
     (SUMMARY, b"T06:00:00Z", b"T07:00:00Z", "summary.txt: line 2"),
-    (MANIFEST, b'"refused": 2', b'"refused": 1', "manifest.json: line 20"),
+    (MANIFEST, b'"refused": 2', b'"refused": 1', "manifest.json: line 21"),
     (MANIFEST, b"T06:00:00Z", b"T07:00:00Z", "manifest.json: its SHA-256"),
-    (MANIFEST, b'"archive": 1', b'"archive": 2', "it says that it is of version 2"),
+    (MANIFEST, b'"archive": 2', b'"archive": 3', "it says that it is of version 3"),
+    (MANIFEST, b'"archive": 2', b'"archive": 1', "its item 'program' isn't of its form"),
     (MANIFEST, b"--gap 10", b"--gap 11", "writes 'report,2024-04,0,"),
     (MANIFEST, b"run --gap", b"rum --gap", "aren't those of a run"),
     (MANIFEST, b'"period": "2024-06"', b'"period": "2024-07"', "the session has no period 2024-07"),
@@ -421,7 +426,7 @@ def test_totals_beyond_the_limits(say: Desk, tmp_path: Path) -> None:
 
 
 def test_another_program(say: Desk, tmp_path: Path, monkeypatch: pytest.MonkeyPatch) -> None:
-    other = {"sha256": "0" * 64, "version": "unknown", "commit": "commit unknown"}
+    other = {"sha256": "0" * 64, "version": "unknown", "commit": "unknown", "from": "nowhere"}
     monkeypatch.setattr("plantbal.archive.program_of", lambda path: other)
     bundle = tmp_path / "b.zip"
     assert say("archive", example("two_meters.csv"), "--out", bundle, *TIME).status == 0
@@ -454,7 +459,34 @@ def test_a_build_record_and_a_time(say: Desk, tmp_path: Path, program: Path) -> 
         assert "SOURCE_DATE_EPOCH is 'noon'" in say(*words, "--out", tmp_path / "c.zip").err
     manifest = files_of(tmp_path / "b.zip")[MANIFEST].decode()
     assert '"version": "9.8.7"' in manifest and '"commit": "commit abc of 2026' in manifest
+    assert '"from": "the build record installed with the program"' in manifest
     assert '"made": "1970-01-02T00:00:00Z"' in manifest
+
+
+def test_builds(tmp_path: Path) -> None:
+    """Who says the version of a program is said, also where nobody does."""
+    program = tmp_path / "crates" / "plantbal" / "out" / "plantbal"
+    program.parent.mkdir(parents=True)
+    program.write_bytes(b"x")
+    assert build_of(program) == Build(digest(b"x"))
+    (tmp_path / "VERSION").write_text("9.8.7\n")
+    found = build_of(program)
+    assert (found.version, found.commit) == ("9.8.7", "unknown") and "VERSION of" in found.source
+    assert build_of(tmp_path / "VERSION").source.startswith("nowhere: ")
+
+
+def test_a_bundle_of_the_first_form(say: Desk, month: Path, tmp_path: Path) -> None:
+    """A bundle whose manifest doesn't say yet where the version is from holds as it is."""
+    files = files_of(month)
+    now = Manifest.read(files[MANIFEST])
+    names = ("sha256", "version", "commit")
+    then = replace(now, archive=1, program={name: now.program[name] for name in names})
+    made = bundle_files(files[SESSION], files[OUTPUT], then)
+    assert b'"from"' not in made[MANIFEST] and b" from " not in made[SUMMARY].split(b"words")[0]
+    bundle = tmp_path / "b.zip"
+    bundle.write_bytes(packed(made))
+    said = say("audit", bundle)
+    assert said.status == 0 and "everything holds" in said.out, said.out
 
 
 def test_other_words(say: Desk) -> None:

@@ -54,13 +54,13 @@ CASES = [
     (2, "unit", "unit", "NAME", "NAME is missing; write unit,NAME"),
     (2, "unit", "unit,X,2", "field 3", "1 field too many"),
     (2, "tank", "tank,X", "BASEVAR", "BASEVAR is missing"),
-    (2, "strap", "strap,T,2000", "MM or ML", "MM or ML is missing (which one can't be told)"),
+    (2, "strap", "strap,T,2000", "MM or ML", "MM or ML is missing (which one isn't clear)"),
     (2, "stream", "stream,X,env,U,metered", "BASEVAR", "BASEVAR is missing"),
     (2, "period", "period,x,2024-05-01", "FIRST or LAST", "FIRST or LAST is missing"),
     (2, "critical", "critical", "global", "it has no other field"),
     (2, "critical", "critical,global,3841", "DOF", "DOF is missing"),
     (2, "critical", "critical,global,2", "DOF or VALUE", "DOF or VALUE is missing"),
-    (2, "reading", "reading,q,S,2024-01-06,5", "GRAMS or VARIANCE", "can't be told"),
+    (2, "reading", "reading,q,S,2024-01-06,5", "GRAMS or VARIANCE", "isn't clear"),
     (2, "reading", "reading,q,S,2024-01-06,2,741,000,5", "GRAMS", "write 2741000, without commas"),
     (
         2,
@@ -71,7 +71,7 @@ CASES = [
     ),
     (2, "reading", "reading,S,2024-01-06,5,5", "ID, STREAM or DATE", "is missing"),
     (2, "reading", "reading,q,S", "DATE, GRAMS, VARIANCE", "are missing at its end"),
-    (2, "reading", "reading,x y,2024-01-06,x", "", "it can't be told which"),
+    (2, "reading", "reading,x y,2024-01-06,x", "", "which isn't clear"),
     (2, "transfer", "transfer,q,B,2024-01-05,5,5", "FIRST or LAST", "is missing"),
     (2, "dip", "dip,q,T,2024-01-06,500,5", "MM, DENSITY or VARIANCE", "is missing"),
     (2, "late", "late", "reading", "it has no other field"),
@@ -321,7 +321,7 @@ def test_whatever_is_refused(program: Path, missing: set[str], records: list[lis
     assert told_rows == refused_by(program, data)
     for told in all_told:
         if told.record and told.row:
-            no_field = "no single field" in told.sentence or "can't be told" in told.sentence
+            no_field = "no single field" in told.sentence or "isn't clear" in told.sentence
             assert told.column or no_field, told.sentence
             assert told.mark is not None and told.mark[0] + told.mark[1] <= len(told.row) + 1
 

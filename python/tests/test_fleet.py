@@ -19,6 +19,8 @@ import pytest
 from conftest import TOP, Desk, example, text_of
 from mistakes import BASE, MISTAKES, Mistake
 
+from plantbal.faults import InputFault
+from plantbal.fleet.given import Given, days_of, has_critical, sha256_of
 from plantbal.fleet.keep import checksums
 from plantbal.fleet.rows import HEADS
 from plantbal.fleet.sites import sites
@@ -93,7 +95,7 @@ def test_engine(program: Path, plants: Path, tmp_path: Path, words: list[str]) -
     said = done.stderr.splitlines()
     assert said[0].startswith("fleet: site 07: 1 row is refused: ") and "'V W'" in said[0]
     assert "it asks for nothing; add a row report,PERIOD" in said[1]
-    assert said[2:] == [f"fleet: 20 plants, of which 2 want a person: {out / 'index.html'}"]
+    assert said[2:] == [f"fleet: 20 plants, of which 2 need a person: {out / 'index.html'}"]
     assert done.returncode == 1
     kept = {path.relative_to(out / "site 01").as_posix() for path in out.glob("site 01/**/*")}
     files = {f"{NIGHT}/{name}" for name in ("output.csv", "stderr.txt", "run.json")}
@@ -135,7 +137,7 @@ def test_what_is_kept(program: Path, tmp_path: Path, say: Desk) -> None:
         said = ("a b", "converged", 0.0, 1, None)
         assert plants.fetchall() == [("2026-11-28", *said), (NIGHT, *said)]
     page = text_of(out / "index.html")
-    assert "<h1>1 plant, of which none wants a person</h1>" in page
+    assert "<h1>1 plant, of which none needs a person</h1>" in page
     assert 'href="a%20b/2026-11-29/output.csv"' in page
     assert page.count('title="2026-11-') == 2
     # an older night changes no link
@@ -205,7 +207,24 @@ def test_outputs(tmp_path: Path, say: Desk, monkeypatch: pytest.MonkeyPatch, eng
     for name, (_, state, said) in OUTPUTS.items():
         row = row_of(found.out, name)
         assert (row["state"], said in row["look"]) == (state, True), row
-    assert f"{len(OUTPUTS) + 1} plants, of which {len(OUTPUTS)} want" in found.err
+    assert f"{len(OUTPUTS) + 1} plants, of which {len(OUTPUTS)} need" in found.err
+
+
+@pytest.mark.parametrize("engine", ["parallel", "dask"])
+def test_a_plant_that_cannot_begin(tmp_path: Path, say: Desk, engine: str) -> None:
+    """It has its row, and the one after it that the time limit stops is still known by its name."""
+    program, canned = tmp_path / "stub", example("refinery_day.out.csv")
+    program.write_text(f"#!/bin/sh\nread case\n[ $case != c ] || exec sleep 60\ncat {canned}\n")
+    program.chmod(0o755)
+    sessions = {f"{name}.csv": f"{name}\n".encode() for name in "abcd"}
+    folder, out = folder_of(tmp_path / "sessions", sessions), tmp_path / "out"
+    out.mkdir()
+    (out / "b").write_text("no folder")
+    words = ["fleet", "--engine", engine, "--program", program, "--timeout", 2, "--out", out]
+    found = say(*words, folder)
+    states = {row["site"]: row["state"] for row in rows_of(found.out)}
+    assert states == {"a": "converged", "b": "nooutput", "c": "timeout", "d": "converged"}
+    assert "b: " in found.err and "Not a directory" in found.err
 
 
 def test_tries_again(tmp_path: Path, say: Desk) -> None:
@@ -312,7 +331,7 @@ def test_stopped(
     done = {path.parent.parent.name for path in out.glob(f"*/{NIGHT}/output.csv")}
     assert 8 <= len(done) < 40
     if by != signal.SIGKILL:
-        assert fleet.returncode == 130
+        assert fleet.returncode == 130, said
         assert f"the same words with --date {NIGHT} run the others" in said
         assert "Traceback" not in said and not list(out.rglob("*.part"))
     assert not (out / "latest").exists()
@@ -358,6 +377,47 @@ def test_changed_meanwhile(tmp_path: Path, say: Desk) -> None:
     program.chmod(0o755)
     found = say("fleet", "--program", program, "--out", tmp_path / "out", folder)
     assert found.status == 1 and "its session was changed while it ran" in found.err
+
+
+def test_a_session_that_changed(tmp_path: Path, monkeypatch: pytest.MonkeyPatch) -> None:
+    """A change shows in the file's times; one that was written just before is read again."""
+    path = tmp_path / "a.csv"
+    path.write_text("unit,U\n")
+    given = Given.read(path)
+    assert not given.settled and not given.changed(path)
+    path.write_text("unit,V\n")
+    assert given.changed(path)
+    monkeypatch.setattr("plantbal.fleet.given._STEP", -(10**12))
+    given = Given.read(path)
+    monkeypatch.setattr("plantbal.fleet.given.sha256_of", lambda path: pytest.fail("read again"))
+    assert given.settled and not given.changed(path)
+    monkeypatch.setattr("plantbal.fleet.given.sha256_of", sha256_of)
+    os.utime(path, (1, 1))
+    assert not given.changed(path)
+    path.write_text("unit,W\n")
+    os.utime(path, (1, 1))
+    assert given.changed(path)
+    path.unlink()
+    with pytest.raises(InputFault, match="No such file"):
+        given.changed(path)
+
+
+PERIODS = {
+    "first": (b"period,may,2024-05-01,2024-05-31\nunit,U\n", set()),
+    "after a mark": (b"\xef\xbb\xbfperiod,may,2024-05-01,2024-05-31\n", set()),
+    "among others": (b"unit,U\nperiod,june,a,b\nperiod,may,2024-05-01,2024-05-31", set()),
+    "quoted": (b'unit,U\n"period",may,"2024-05-01",2024-05-31\n', set()),
+    "other ends": (b"unit,U\rperiod,may,2024-05-01,2024-05-31\r\n", set()),
+    "refused before": (b"period,may,2024-05-02,1\nperiod,may,2024-05-01,2024-05-31\n", {1}),
+}
+
+
+@pytest.mark.parametrize("data, refused", PERIODS.values(), ids=PERIODS)
+def test_days(data: bytes, refused: set[int]) -> None:
+    assert days_of(data, ["may"], refused) == {"may": "2024-05-01..2024-05-31"}
+    assert days_of(data, ["july"], refused) == {}
+    assert not has_critical(data, refused)
+    assert has_critical(data + b"\ncritical,global,1,3841\n", refused)
 
 
 def test_alone(forty: tuple[Path, Path, list[object]], say: Desk) -> None:
@@ -505,7 +565,7 @@ def test_wrong(
 
 
 def test_checksums_of_any_name() -> None:
-    text = checksums([("0" * 64, Path("a\nb\\c")), ("1" * 64, Path("plain"))])
+    text = checksums([("0" * 64, "a\nb\\c"), ("1" * 64, "plain")])
     assert text == f"\\{'0' * 64}  a\\nb\\\\c\n{'1' * 64}  plain\n"
 
 

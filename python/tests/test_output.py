@@ -18,7 +18,7 @@ from hypothesis import strategies as st
 from plantbal import InputFault, Output, read_report
 from plantbal.faults import Fault
 from plantbal.output import NotOk, parse_report, whole_numbers
-from plantbal.report import fields_of
+from plantbal.report import fields_of, parse_rows
 from plantbal.schema import schema
 
 TOP = Path(__file__).resolve().parents[2]
@@ -39,6 +39,22 @@ def test_json_to_csv() -> None:
     found = example("heat_exchanger_suspect.jsonl").to_csv()
     wanted = TOP / "examples/heat_exchanger_suspect.out.csv"
     assert found == wanted.read_text(encoding="utf-8")
+
+
+@pytest.mark.parametrize("path", OUTPUTS, ids=lambda path: path.name)
+def test_rows_of_some_kinds(path: Path) -> None:
+    """Some kinds of rows are those of all rows; the others are looked at all the same."""
+    text, kinds = path.read_text(encoding="utf-8"), {"report", "solved", "refused", "edit"}
+    wanted = [row for row in parse_rows("x", text) if row["row"] in kinds]
+    assert parse_rows("x", text, kinds) == wanted
+    assert parse_rows("x", text.replace("\n", "\r\n"), kinds) == wanted
+    with pytest.raises(InputFault, match="a node row has 3 columns, this one has 2"):
+        parse_rows("x", f"{text}node,env\n", kinds)
+
+
+def test_json_rows_of_some_kinds() -> None:
+    text = (TOP / "examples/heat_exchanger_suspect.jsonl").read_text(encoding="utf-8")
+    assert {row["row"] for row in parse_rows("x", text, {"taken", "stop"})} == {"taken", "stop"}
 
 
 def test_older_form_stays() -> None:

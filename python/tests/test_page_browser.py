@@ -1,23 +1,19 @@
-"""The month's statement in a browser: choices, widths, and how it looks. Without chromium these fail."""
+"""The month's statement in a browser: choices, widths, paper. Without chromium these fail."""
 
 from __future__ import annotations
 
-import os
 import re
 from collections.abc import Callable
 from pathlib import Path
 
 import pytest
-from conftest import TOP, Desk, example, text_of
-from pages import PAPER, Asked, ask, ask_all, difference, kept_form, on_paper, paper_shot, shot
-from PIL import Image
+from conftest import Desk, example, text_of
+from pages import PAPER, Asked, ask, ask_all, on_paper
 from test_page import page_of
 
 from plantbal.page.command import page
 from plantbal.report import Values, parse_rows
 
-PICTURES = TOP / "python/tests/pictures"
-SHOWN = TOP / "docs/pictures/concentrator_page.png"
 REFINERY = ("refinery_day.out.csv", "refinery_day.csv")
 CONCENTRATOR = ("concentrator/tested.out.csv", "concentrator/session.csv")
 
@@ -163,55 +159,7 @@ def test_fits(tmp_path: Path) -> None:
     assert dict(zip(cases, found)) == {case: [WIDTHS[case[1]][0], []] for case in cases}
 
 
-# ---- how it looks
-
-LOOKS: dict[str, tuple[tuple[str, str], int]] = {
-    "refinery_1280": (REFINERY, 1280),
-    "refinery_800": (REFINERY, 800),
-    "refinery_390": (REFINERY, 390),
-    "refinery_a4": (REFINERY, 0),
-    "concentrator_1280": (CONCENTRATOR, 1280),
-    "concentrator_a4": (CONCENTRATOR, 0),
-}
-# The part of a picture that may differ; a column that lacks is more than this.
-MOST_APART = 0.01
-
-
-@pytest.mark.parametrize("name", LOOKS)
-def test_looks(name: str, tmp_path: Path) -> None:
-    """The page looks as in the picture that is kept, of nearly the same size.
-
-    With PLANTBAL_PICTURES=write the pictures are made anew: look at them before they are kept.
-    """
-    files, width = LOOKS[name]
-    made = page_of(*files)
-    picture = shot(made, tmp_path, width, 5000) if width else paper_shot(made, tmp_path)
-    kept = PICTURES / f"{name}.png"
-    if os.environ.get("PLANTBAL_PICTURES") == "write":
-        PICTURES.mkdir(exist_ok=True)
-        small = kept_form(picture).quantize(96, Image.Quantize.FASTOCTREE)
-        small.save(kept, optimize=True)
-        if name == "concentrator_1280":
-            SHOWN.write_bytes(kept.read_bytes())
-    reference = Image.open(kept).convert("RGB")
-    small = kept_form(picture)
-    assert small.width == reference.width
-    assert abs(small.height - reference.height) <= 0.02 * reference.height
-    box = (0, 0, small.width, min(small.height, reference.height))
-    assert difference(small.crop(box), reference.crop(box)) < MOST_APART
-
-
-def test_picture_of_the_guide() -> None:
-    assert SHOWN.read_bytes() == (PICTURES / "concentrator_1280.png").read_bytes()
-
-
-def test_a_column_that_lacks_shows(tmp_path: Path) -> None:
-    """The pictures are compared closely enough to see that a column isn't there."""
-    hidden = "<style>td.booked { visibility: hidden }</style></head>"
-    made = page_of(*REFINERY).replace("</head>", hidden)
-    small = kept_form(shot(made, tmp_path, 1280, 5000))
-    reference = Image.open(PICTURES / "refinery_1280.png").convert("RGB")
-    assert small.size == reference.size and difference(small, reference) > MOST_APART
+# ---- on paper
 
 
 def test_pdf(say: Desk, tmp_path: Path) -> None:

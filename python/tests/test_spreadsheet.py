@@ -163,13 +163,13 @@ def test_a_mistyped_end_is_guessed(say: Desk, tmp_path: Path) -> None:
 
 
 SHORT = {
-    "2024-04-01 2024-04-29": ["2024-04 goes from 2024-04-01 to 2024-04-29", "lack, its last 1"],
-    "2024-04-02 2024-04-30": ["2024-04 goes from 2024-04-02 to 2024-04-30", "lack, its first 1"],
+    "2024-04-01 2024-04-29": ["2024-04 goes from 2024-04-01 to 2024-04-29", "are missing, its last 1"],
+    "2024-04-02 2024-04-30": ["2024-04 goes from 2024-04-02 to 2024-04-30", "are missing, its first 1"],
     "2024-04-01 2024-04-30": [],
     # days and months exchanged: three months of a day each
     "2024-01-04 2024-02-04 2024-03-04": [
-        "2024-01 goes from 2024-01-04 to 2024-01-04: days of the month lack, its first 3 and its "
-        "last 27",
+        "2024-01 goes from 2024-01-04 to 2024-01-04: days of the month are missing, its first 3 "
+        "and its last 27",
         "2024-02 goes from 2024-02-04 to 2024-02-04",
         "2024-03 goes from 2024-03-04 to 2024-03-04",
     ],

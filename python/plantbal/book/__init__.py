@@ -1,1 +1,1 @@
-"""A plant's book: a folder with a session a year, its reports, and a journal of what was done."""
+"""A plant's book: a folder with a session for each year, its reports, and a journal."""

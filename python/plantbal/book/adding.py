@@ -29,7 +29,7 @@ def add_arguments(parser: argparse.ArgumentParser) -> None:
         "--strike", action="store_true", help="strike facts that aren't in the workbook any more"
     )
     parser.add_argument("--anyway", action="store_true", help="strike also most of what is booked")
-    parser.add_argument("--year", metavar="YEAR", help="whose plant it is; the last without it")
+    parser.add_argument("--year", metavar="YEAR", help="the year of its plant (default: the last)")
     parser.add_argument("--dry-run", action="store_true", help="say it, and book nothing")
     add_reading(parser)
 

@@ -17,6 +17,7 @@ from plantbal.book.store import METERS, PLANT, Action, Book, is_year
 from plantbal.conversion import Conversion
 from plantbal.conversion_facts import Converter
 from plantbal.faults import Fault, InputFault, Place
+from plantbal.options import add_program
 from plantbal.program import call
 from plantbal.report import parse_rows
 
@@ -25,7 +26,7 @@ def add_arguments(parser: argparse.ArgumentParser) -> None:
     """Add the words of the command."""
     parser.add_argument("year", metavar="YEAR", help="the first year, such as 2024")
     parser.add_argument("workbook", metavar="WORKBOOK", help="it has the sheets of the plant")
-    parser.add_argument("--program", metavar="PATH", help="the program")
+    add_program(parser)
     add_reading(parser)
 
 

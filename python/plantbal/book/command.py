@@ -1,4 +1,4 @@
-"""Keeps a plant's book: a folder with a session a year, its reports, and a journal."""
+"""Keeps a plant's book: a folder with a session for each year, its reports, and a journal."""
 
 from __future__ import annotations
 
@@ -15,7 +15,7 @@ The book is the present folder, or that of --book. It has
   meters.csv    tags, units, densities and errors of meters and gauges
   2024.csv      the session of a year; rows are only added to it
   reports/      the last report of each period, with its history
-  journal.csv   a line an action: when, who, what, why, and which rows it added
+  journal.csv   a line for each action: when, who, what, why, and which rows it added
 
 A command is done as a whole or not at all, at whatever moment it is stopped; what was begun is
 finished by the next command. Two commands at a time wait for each other.
@@ -64,7 +64,7 @@ COMMANDS: Sequence[Inner] = (
     Inner("strike", "editing:STRIKE", "take a fact out, with a reason"),
     Inner("report", "reporting", "write the reports of periods"),
     Inner("close", "editing:CLOSE", "close a period with its report"),
-    Inner("status", "overview", "say what is open, what lacks, and how full the year is"),
+    Inner("status", "overview", "say what is open, what is missing, and how full the year is"),
     Inner("next", "following", "begin the next year"),
 )
 
@@ -78,7 +78,7 @@ def add_arguments(parser: argparse.ArgumentParser) -> None:
         handler.add_arguments(made)
         made.add_argument("--book", metavar="FOLDER", default=".", help="the book's folder")
         made.add_argument(
-            "--who", metavar="NAME", default="", help="who does it, for the journal: the login"
+            "--who", metavar="NAME", default="", help="who does it (default: the login)"
         )
         made.set_defaults(inner=handler.run)
 

@@ -10,12 +10,13 @@ from types import SimpleNamespace
 from plantbal.book.ledger import Fact, Ledger
 from plantbal.book.meters import Meter, read_meters, taken
 from plantbal.book.naming import Names, cell_of, day_of
-from plantbal.book.reporting import add_program, file_of, keep, report_of, state_of, suspects_of
+from plantbal.book.reporting import file_of, keep, report_of, state_of, suspects_of
 from plantbal.book.store import METERS, Action, Book
 from plantbal.book.years import Years
 from plantbal.cells import Reader, check_locale
 from plantbal.conversion_plant import Tank
 from plantbal.faults import Fault, Refusal
+from plantbal.options import add_run
 
 
 # ---- other values
@@ -85,7 +86,8 @@ def _add_amend(parser: argparse.ArgumentParser) -> None:
     parser.add_argument("--why", metavar="TEXT", required=True, help="the reason")
     parser.add_argument("--density", metavar="TEXT", default="", help="another density: 862")
     parser.add_argument("--error", metavar="TEXT", default="", help="another error: 0.2 t")
-    parser.add_argument("--locale", metavar="NAME", default="", help="whose numbers and days: de")
+    form = "how numbers and days are written, such as de"
+    parser.add_argument("--locale", metavar="NAME", default="", help=form)
 
 
 def _amend(options: argparse.Namespace) -> int:
@@ -142,7 +144,8 @@ def _say_stale(book: Book, places: list[tuple[Ledger, Fact]]) -> None:
 def _add_strike(parser: argparse.ArgumentParser) -> None:
     _add_fact(parser)
     parser.add_argument("--why", metavar="TEXT", required=True, help="the reason")
-    parser.add_argument("--locale", metavar="NAME", default="", help="whose days: de")
+    form = "how days are written, such as de"
+    parser.add_argument("--locale", metavar="NAME", default="", help=form)
 
 
 def _strike(options: argparse.Namespace) -> int:
@@ -171,9 +174,9 @@ def _strike(options: argparse.Namespace) -> int:
 def _add_close(parser: argparse.ArgumentParser) -> None:
     parser.add_argument("period", metavar="PERIOD", help="the period")
     parser.add_argument(
-        "--anyway", action="store_true", help="also if its report wants a look before it is booked"
+        "--anyway", action="store_true", help="also if its report needs a look before it is booked"
     )
-    add_program(parser)
+    add_run(parser)
 
 
 def _close(options: argparse.Namespace) -> int:
@@ -217,7 +220,7 @@ STRIKE = SimpleNamespace(
 )
 CLOSE = SimpleNamespace(
     __doc__="Closes a period with its report: what is added to it from then on comes late, and its "
-    "history says so. If the report wants a look before it is booked, only with --anyway.",
+    "history says so. If the report needs a look before it is booked, only with --anyway.",
     add_arguments=_add_close,
     run=_close,
 )

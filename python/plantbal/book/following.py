@@ -22,6 +22,7 @@ from plantbal.book.said import counted
 from plantbal.book.store import METERS, PLANT, Action, Book
 from plantbal.book.years import Years, calendar_year, periods_of
 from plantbal.faults import Fault, InputFault, Place, Refusal
+from plantbal.options import add_program
 from plantbal.records import read_records
 
 _DAY = datetime.timedelta(1)
@@ -30,9 +31,9 @@ _DAY = datetime.timedelta(1)
 def add_arguments(parser: argparse.ArgumentParser) -> None:
     """Add the words of the command."""
     parser.add_argument("year", metavar="YEAR", help="the next year, such as 2025")
-    parser.add_argument("--plant", metavar="WORKBOOK", help="another plant; plant.csv without it")
-    parser.add_argument("--first", metavar="DAY", help="its first day; January 1st without it")
-    parser.add_argument("--program", metavar="PATH", help="the program")
+    parser.add_argument("--plant", metavar="WORKBOOK", help="another plant (default: plant.csv)")
+    parser.add_argument("--first", metavar="DAY", help="its first day (default: January 1st)")
+    add_program(parser)
     add_reading(parser)
 
 

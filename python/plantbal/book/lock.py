@@ -1,4 +1,7 @@
-"""A lock that keeps two commands on one book apart; it goes with the process that holds it."""
+"""A lock that keeps two commands on one book apart; it goes with the process that holds it.
+
+What is there for Windows was never run.
+"""
 
 from __future__ import annotations
 

@@ -1,4 +1,4 @@
-"""Says how a book stands: what is open, what lacks, which report is old, how full it is."""
+"""Says how a book stands: what is open or missing, which report is old, how full it is."""
 
 from __future__ import annotations
 

@@ -1,4 +1,5 @@
-"""How a workbook that is added to a book is read; what it lacks of the plant is the book's."""
+"""How a workbook that is added to a book is read; what it doesn't have of the plant is the
+book's."""
 
 from __future__ import annotations
 
@@ -23,7 +24,8 @@ _FIRST = 12  # faults that are said; the others are counted
 
 def add_reading(parser: argparse.ArgumentParser) -> None:
     """Add the words that say how a workbook is read."""
-    parser.add_argument("--locale", metavar="NAME", default="", help="whose numbers and days: de")
+    form = "how numbers and days are written, such as de"
+    parser.add_argument("--locale", metavar="NAME", default="", help=form)
     parser.add_argument(
         "--missing",
         metavar="TEXT",
@@ -90,7 +92,7 @@ def _together(faults: Sequence[Fault], then: str) -> Fault:
 def converted(
     options: argparse.Namespace, plant: list[tuple[str, ...]], meters: dict[str, Meter]
 ) -> Converter:
-    """Return what a workbook holds; what it lacks of the plant is the book's.
+    """Return what a workbook holds; what it doesn't have of the plant is the book's.
 
     Raises
     ------

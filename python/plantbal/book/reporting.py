@@ -12,6 +12,7 @@ from plantbal.book.store import METERS, REPORTS, Action, Book
 from plantbal.book.years import Years
 from plantbal.faults import Fault
 from plantbal.files import write_text
+from plantbal.options import add_run
 from plantbal.output import Output, parse_report
 from plantbal.program import call
 
@@ -21,21 +22,12 @@ _MOST = 5  # suspects that are named
 def add_arguments(parser: argparse.ArgumentParser) -> None:
     """Add the words of the command."""
     parser.add_argument(
-        "periods", metavar="PERIOD", nargs="*", help="the periods; all open ones without it"
+        "periods", metavar="PERIOD", nargs="*", help="the periods (default: all open ones)"
     )
     parser.add_argument(
         "--session", metavar="FILE", help="write the session that asks for the reports too"
     )
-    add_program(parser)
-
-
-def add_program(parser: argparse.ArgumentParser) -> None:
-    """Add the words that say how the program is run."""
-    parser.add_argument("--no-tests", action="store_true", help="make no tests")
-    parser.add_argument("--eliminate", metavar="N", type=int, default=0, help="at most N rounds")
-    parser.add_argument("--gap", metavar="N", type=int, default=10, help="10 without it")
-    parser.add_argument("--sweeps", metavar="N", type=int, default=5000, help="5,000 without it")
-    parser.add_argument("--program", metavar="PATH", help="the program")
+    add_run(parser)
 
 
 def report_of(options: argparse.Namespace, text: str, period: str) -> tuple[str, Output]:

@@ -1,4 +1,4 @@
-"""What commands on a book say: what was added and changed, and which days lack."""
+"""What commands on a book say: what was added and changed, and which days are missing."""
 
 from __future__ import annotations
 
@@ -98,7 +98,7 @@ def _odd(session: bytes) -> list[str]:
 
 
 def lacking(ledger: Ledger, facts: Iterable[Fact], meters: dict[str, Meter]) -> list[str]:
-    """Return what lacks in the periods in which some facts are."""
+    """Return what is missing in the periods in which some facts are."""
     days = {fact.first.toordinal() for fact in facts}
     periods = ledger.periods.values()
     found = [each for each in periods if any(each.first <= day <= each.last for day in days)]
@@ -106,7 +106,7 @@ def lacking(ledger: Ledger, facts: Iterable[Fact], meters: dict[str, Meter]) -> 
 
 
 def lacks(ledger: Ledger, period: Period, meters: dict[str, Meter]) -> list[str]:
-    """Return which readings and dips a period lacks, those of the same days in a line."""
+    """Return which readings and dips of a period are missing, those of the same days in a line."""
     first, last = period_days(period)
     days = days_of(first, last)
     eve = first - datetime.timedelta(1)
@@ -131,7 +131,7 @@ def _group(
     meters: dict[str, Meter],
     days: list[datetime.date],
 ) -> None:
-    """Put a stream or a tank to those that lack a reading or a dip on the same days."""
+    """Put a stream or a tank to those without a reading or a dip on the same days."""
     missing = [day for day in days if ledger.on(name, day) is None]
     if missing:
         tag = meters[name].tag if name in meters else ""

@@ -18,7 +18,8 @@ def add_arguments(parser: argparse.ArgumentParser) -> None:
     parser.add_argument("name", metavar="NAME", help="a tag, stream or tank")
     parser.add_argument("first", metavar="FIRST", nargs="?", help="from this day on")
     parser.add_argument("last", metavar="LAST", nargs="?", help="up to this day")
-    parser.add_argument("--locale", metavar="NAME", default="", help="whose days: de")
+    form = "how days are written, such as de"
+    parser.add_argument("--locale", metavar="NAME", default="", help=form)
 
 
 def run(options: argparse.Namespace) -> int:

@@ -226,7 +226,7 @@ class Book:
 
 
 def _sync(folder: Path) -> None:
-    """Have a folder's renames written to the disk, if the system can be told to."""
+    """Have a folder's renames written to the disk; Windows, on which this was never run, can't."""
     if os.name == "nt" or not folder.is_dir():
         return
     handle = os.open(folder, os.O_RDONLY)

@@ -14,7 +14,7 @@ from plantbal.faults import Fault
 
 _DAY = datetime.timedelta(1)
 # Before the first period of a year may stand days of the year before it, such as the 26th of
-# December, but no others: so a year that is typed wrong is told.
+# December, but no others: so a year that is typed wrong is noticed.
 _BEFORE = datetime.timedelta(31)
 _TYPED = ("amend ", "strike ")
 

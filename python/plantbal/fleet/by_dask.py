@@ -13,13 +13,13 @@ from typing import Any
 
 from plantbal.faults import Fault, ToolMissing
 from plantbal.fleet import job as calls
-from plantbal.fleet.engines import Asked, Ended, Job
+from plantbal.fleet.engines import Asked, Begin, Ended, Job
 
 _ANSWERS = 20  # seconds that a scheduler has to answer in
 
 
 def run(
-    asked: Asked, jobs: Sequence[Job], done: Sequence[Job] = ()
+    asked: Asked, jobs: Sequence[Job], begin: Begin, done: Sequence[Job] = ()
 ) -> Generator[Ended, None, None]:
     """Run jobs, and give each as it ends: another one is handed in as a place gets free.
 
@@ -29,6 +29,8 @@ def run(
         How they are run. Without a scheduler they run on this machine, by threads of this process.
     jobs : sequence of Job
         What is to be run.
+    begin : callable
+        Makes a job ready, before it is handed in.
     done : sequence of Job
         What has its output already.
 
@@ -56,7 +58,7 @@ def run(
         client = open_things.enter_context(_client(dask, asked, open_things))
         bar = open_things.enter_context(_bar(len(jobs) + len(done), len(done)))
         try:
-            for ended in _Cluster(client, dask.as_completed(), asked, jobs).ended():
+            for ended in _Cluster(client, dask.as_completed(), asked, jobs, begin).ended():
                 bar.update()
                 yield ended
         except BaseException:
@@ -118,10 +120,14 @@ class _Cluster:
         How jobs are run.
     jobs : sequence of Job
         The jobs.
+    begin : callable
+        Makes a job ready.
     """
 
-    def __init__(self, client: Any, running: Any, asked: Asked, jobs: Sequence[Job]) -> None:
-        self._client, self._asked = client, asked
+    def __init__(
+        self, client: Any, running: Any, asked: Asked, jobs: Sequence[Job], begin: Begin
+    ) -> None:
+        self._client, self._asked, self._begin = client, asked, begin
         self._waiting, self._tries = deque(jobs), Counter[str]()
         self._job_of: dict[str, Job] = {}
         self._running = running
@@ -146,6 +152,8 @@ class _Cluster:
         """Hand in jobs while there are places; give those whose session has gone."""
         while self._waiting and len(self._job_of) < self._most:
             job = self._waiting.popleft()
+            if not self._tries[job.site] and not self._begin(job):
+                continue
             self._tries[job.site] += 1
             try:
                 future = self._submit(job)

@@ -9,18 +9,22 @@ import subprocess
 import sys
 import tempfile
 from collections.abc import Generator, Sequence
+from concurrent.futures import ThreadPoolExecutor
+from contextlib import suppress
 from pathlib import Path
+from typing import IO
 
 from plantbal.faults import Fault, ToolMissing
-from plantbal.fleet.engines import Asked, Ended, Job
+from plantbal.fleet.engines import Asked, Begin, Ended, Job
 from plantbal.fleet.job import JOB
 
 HEADS = "Seq Host Starttime JobRuntime Send Receive Exitval Signal Command".split()
+_AT_ONCE = 8  # how many jobs are made ready at once
 _TROUBLE = 255  # parallel's own; up to 101 it is how many jobs failed
 
 
 def run(
-    asked: Asked, jobs: Sequence[Job], done: Sequence[Job] = ()
+    asked: Asked, jobs: Sequence[Job], begin: Begin, done: Sequence[Job] = ()
 ) -> Generator[Ended, None, None]:
     """Run jobs, and give each as it ends; the failed ones come last.
 
@@ -34,6 +38,8 @@ def run(
         How they are run.
     jobs : sequence of Job
         What is to be run.
+    begin : callable
+        Makes a job ready: the first ones run while the next ones are made so.
     done : sequence of Job
         What has its output already.
 
@@ -46,17 +52,24 @@ def run(
     """
     if not jobs:
         return
-    every = [*done, *jobs]
-    number_of = {job.site: number for number, job in enumerate(every, 1)}
-    _write_log(asked.log, number_of, {job.site for job in done})
-    waiting = {job.site for job in jobs}
-    with tempfile.TemporaryFile() as said, _started(asked, every, said.fileno()) as process:
-        assert process.stdout is not None
+    handed = list(done)  # by their numbers
+    _write_log(asked.log, len(handed))
+    ended = set[str]()
+    with (
+        tempfile.TemporaryFile() as said,
+        ThreadPoolExecutor(1, "hand-out") as other,
+        _started(asked, said.fileno()) as process,
+    ):
+        # What hands the jobs out closes the pipe: if parallel is stopped, that may fail.
+        given, process.stdin = process.stdin, None
+        assert given is not None and process.stdout is not None
+        handing = other.submit(_hand_out, given, handed, jobs, begin)
         try:
             for line in process.stdout:
-                job = every[int(line) - 1]
-                waiting.discard(job.site)
+                job = handed[int(line) - 1]
+                ended.add(job.site)
                 yield Ended(job.site)
+            handing.result()
         except BaseException:
             _stop(process)
             raise
@@ -65,14 +78,36 @@ def run(
             text = said.read().decode("utf-8", "replace").strip()
             raise Fault(f"parallel ended with the status {_TROUBLE}: {text or 'it says no more'}")
     stopped = _stopped(asked.log)
-    for site in sorted(waiting):
-        late = number_of[site] in stopped and asked.timeout is not None
-        yield Ended(site, "timeout" if late else "")
+    for number, job in enumerate(handed[len(done) :], len(done) + 1):
+        if job.site not in ended:
+            late = number in stopped and asked.timeout is not None
+            yield Ended(job.site, "timeout" if late else "")
 
 
-def _started(asked: Asked, every: Sequence[Job], said: int) -> subprocess.Popen[bytes]:
-    """Start parallel; each job writes its number when the program was done."""
-    command = ["parallel", "--plain", "--will-cite", "--null", "--max-args", "3"]
+def _hand_out(given: IO[bytes], handed: list[Job], jobs: Sequence[Job], begin: Begin) -> None:
+    """Hand jobs to parallel: those that are done first, then each other one once it is ready."""
+    with suppress(BrokenPipeError), given, ThreadPoolExecutor(4, "begin") as pool:
+        for job in handed:
+            given.write(_arguments(job))
+        for place in range(0, len(jobs), _AT_ONCE):
+            some = jobs[place : place + _AT_ONCE]
+            for job, is_ready in zip(some, pool.map(begin, some)):
+                if is_ready:
+                    handed.append(job)
+                    given.write(_arguments(job))
+            given.flush()
+
+
+def _arguments(job: Job) -> bytes:
+    return f"{job.session}\0{job.part}\0".encode("utf-8", "surrogateescape")
+
+
+def _started(asked: Asked, said: int) -> subprocess.Popen[bytes]:
+    """Start parallel; each job writes its number if the program was done.
+
+    Its lines needn't be grouped: parallel then keeps no files for them, which takes it less time.
+    """
+    command = ["parallel", "--plain", "--will-cite", "--null", "--max-args", "2", "--ungroup"]
     command += ["--joblog", str(asked.log), "--resume-failed", "--retries", str(asked.retries)]
     if asked.jobs:
         command += ["--jobs", str(asked.jobs)]
@@ -81,25 +116,19 @@ def _started(asked: Asked, every: Sequence[Job], said: int) -> subprocess.Popen[
     shows = sys.stderr.isatty()
     if shows:
         command.append("--bar")
-    command.append('sh -c "$PLANTBAL_JOB" job {1} {2} {3}')
-    words = shlex.join(asked.command)
-    script = f'number=$1 session=$2 part=$3\nset -- "$session" "$part" {words}\n{JOB}\n'
-    script = script.rstrip() + ' && echo "$number"'
-    with tempfile.TemporaryFile() as given:
-        for number, job in enumerate(every, 1):
-            given.write(f"{number}\0{job.session}\0{job.part}\0".encode("utf-8", "surrogateescape"))
-        given.seek(0)
-        try:
-            return subprocess.Popen(
-                command,
-                stdin=given,
-                stdout=subprocess.PIPE,
-                stderr=None if shows else said,
-                env={**os.environ, "PARALLEL_SHELL": "/bin/sh", "PLANTBAL_JOB": script},
-                pass_fds=() if asked.lock is None else (asked.lock,),
-            )
-        except FileNotFoundError as error:
-            raise ToolMissing("`parallel`", "GNU parallel (parallel)") from error
+    command.append('set -- {1} {2}; eval "$PLANTBAL_JOB"')
+    script = f'set -- "$1" "$2" {shlex.join(asked.command)}\n{JOB.strip()} && echo "$PARALLEL_SEQ"'
+    try:
+        return subprocess.Popen(
+            command,
+            stdin=subprocess.PIPE,
+            stdout=subprocess.PIPE,
+            stderr=None if shows else said,
+            env={**os.environ, "PARALLEL_SHELL": "/bin/sh", "PLANTBAL_JOB": script},
+            pass_fds=() if asked.lock is None else (asked.lock,),
+        )
+    except FileNotFoundError as error:
+        raise ToolMissing("`parallel`", "GNU parallel (parallel)") from error
 
 
 def _stop(process: subprocess.Popen[bytes]) -> None:
@@ -133,11 +162,11 @@ def _stopped(log: Path) -> set[int]:
     return {number for number, stopped in last.items() if stopped}
 
 
-def _write_log(log: Path, number_of: dict[str, int], done: set[str]) -> None:
-    """Write a log in which the jobs that are done stand under their numbers of now."""
+def _write_log(log: Path, count: int) -> None:
+    """Write a log in which the first jobs are done."""
     log.parent.mkdir(parents=True, exist_ok=True)
     with log.open("w", encoding="utf-8", newline="") as file:
         rows = csv.writer(file, delimiter="\t", lineterminator="\n", quoting=csv.QUOTE_NONE)
         rows.writerow(HEADS)
-        for site in sorted(done, key=number_of.__getitem__):
-            rows.writerow([number_of[site], ":", "0.000", "0.000", 0, 0, 0, 0, "done before"])
+        for number in range(1, count + 1):
+            rows.writerow([number, ":", "0.000", "0.000", 0, 0, 0, 0, "done before"])

@@ -1,4 +1,4 @@
-"""Runs a folder of sessions, keeps each night, and says which plants want a person."""
+"""Runs a folder of sessions, keeps each night, and says which plants need a person."""
 
 from __future__ import annotations
 
@@ -8,7 +8,7 @@ import signal
 import sys
 import threading
 from collections.abc import Callable, Iterator
-from concurrent.futures import ThreadPoolExecutor
+from concurrent.futures import Future, ThreadPoolExecutor
 from contextlib import closing, contextmanager
 from dataclasses import dataclass, field, replace
 from pathlib import Path
@@ -17,13 +17,13 @@ from plantbal.faults import Fault, InputFault
 from plantbal.files import write_text
 from plantbal.fleet import by_dask, by_parallel
 from plantbal.fleet.engines import Asked, Engine, Job
-from plantbal.fleet.gather import failed, gather
-from plantbal.fleet.index import index, summary
+from plantbal.fleet.gather import WHY, failed, gather
+from plantbal.fleet.given import Given, sha256_of
+from plantbal.fleet.index import index, summary, template
 from plantbal.fleet.keep import Times, keep, table
-from plantbal.fleet.night import Night, Run, alone, sha256_of
+from plantbal.fleet.night import Kept, Night, Run, alone
 from plantbal.fleet.rows import Plant
 from plantbal.fleet.sites import NIGHT, Site, sites
-from plantbal.lint import brief, lint_session
 from plantbal.program import find_program
 
 HELP = """
@@ -36,9 +36,9 @@ Each FOLDER/SITE.csv is a session. What is kept of a night, which has the name o
   OUT/fleet.sqlite            the tables `nights` and `plants` of all nights
   OUT/index.html              the last night, for a browser
 
-An output gets its place when it is whole. A fleet that was stopped goes on where it was if the
-same words are given again: what has its output isn't run again, unless the session, the program or
-the words changed.
+An output gets its place when it is whole. A fleet that was stopped continues if the same words are
+given again: plants that have their output aren't run again, unless the session, the program or the
+words changed.
 
 The table goes to standard output too, with a row for each period's last report:
 
@@ -49,7 +49,7 @@ The table goes to standard output too, with a row for each period's last report:
 (the output is none of plantbal's), yes or no (of a check). Of a plant without an output it is the
 name of the program's status of 2 to 6, ended (another status), timeout, lost (by a machine of the
 cluster), nosession or nooutput (files that can't be read or written). `verdict` is that of the
-global test, which wants --tests or --eliminate N among WORDS; `suspects` are there only if it
+global test, which needs --tests or --eliminate N among WORDS; `suspects` are there only if it
 rejects and no row is refused, or if a stream was taken. `look` says why a person has to look: a
 row is refused, there is no report, it isn't converged, the global test rejects or can't be made.
 It is said on standard error too. The status is 1 if a person has to look at any plant, else 0.
@@ -72,17 +72,18 @@ def add_arguments(parser: argparse.ArgumentParser) -> None:
     add = parser.add_argument
     add("folder", metavar="FOLDER")
     add("--out", metavar="OUT", required=True, help="the folder of all nights")
-    add("--date", metavar="NIGHT", type=_night, help="the night's name; today's date without it")
+    add("--date", metavar="NIGHT", type=_night, help="the night's name (default: today's date)")
     add("--again", action="store_true", help="run what has its output too")
     add("--recursive", action="store_true", help="take the sessions in folders inside FOLDER too")
     add("--engine", choices=["parallel", "dask"], help="dask with --scheduler or --send")
-    processors = "N sessions at once; as many as there are processors without it"
+    processors = "N sessions at once (default: as many as there are processors)"
     add("--jobs", metavar="N", type=_count, help=processors)
-    add("--timeout", metavar="SECONDS", type=_seconds, help="stop a session after so long")
+    timeout = "stop a session after that many seconds"
+    add("--timeout", metavar="SECONDS", type=_seconds, help=timeout)
     add("--retries", metavar="N", type=_count, default=1, help="try a failing one N times in all")
     add("--scheduler", metavar="ADDRESS", help="the scheduler of a dask cluster")
     add("--send", action="store_true", help="send bytes to the cluster, not paths")
-    program = "the program; without it that of PLANTBAL, of the path, or of this checkout"
+    program = "the program (default: that of PLANTBAL, of the path, or of this checkout)"
     add("--program", metavar="PATH", help=program)
     add("--lint", action="store_true", help="say what lint warns of, too")
     parser.set_defaults(words=[])
@@ -120,83 +121,104 @@ class Fleet:
         The night.
     sites : list of Site
         The plants.
+    given : dict of Site to Given
+        The session of each, if it can be read.
     runs : dict of Site to Run
-        What is asked of each whose session can be read, and how it ended.
+        What is asked of each of these, and how it ended.
+    sums : dict of Site to dict of str to str
+        The digests of the files of each that is kept.
     plants : dict of str to Plant
         What came of each.
+    begun : set of Site
+        Those that may have a folder of a run that hasn't ended.
     """
 
     night: Night
     sites: list[Site]
+    given: dict[Site, Given] = field(default_factory=dict)
     runs: dict[Site, Run] = field(default_factory=dict)
+    sums: dict[Site, dict[str, str]] = field(default_factory=dict)
     plants: dict[str, Plant] = field(default_factory=dict)
     begun: set[Site] = field(default_factory=set)
+
+    def __post_init__(self) -> None:
+        self._site_of = {site.name: site for site in self.sites}
 
     def job(self, site: Site) -> Job:
         """Return the job of a plant."""
         return Job(site.name, site.path.absolute(), self.night.part_of(site).absolute())
 
-    def choose(self, again: bool) -> tuple[list[Site], list[Site]]:
-        """Return the plants that are to be run, the largest first, and those that aren't."""
-        todo, done = list[Site](), list[Site]()
-        for site in self.sites:
+    def ask(self, site: Site) -> bool:
+        """Read a plant's session, and say whether it can be read."""
+        if site not in self.runs:
             try:
-                asked = self.night.asked_of(site)
+                self.given[site] = Given.read(site.path)
             except InputFault as fault:
                 self.plants[site.name] = failed(site, "nosession", str(fault))
-                continue
-            found = None if again else self.night.done(site, asked)
-            self.runs[site] = found or asked
-            (todo if found is None else done).append(site)
-        return sorted(todo, key=_size_of, reverse=True), done
+                return False
+            self.runs[site] = self.night.asked_of(site, self.given[site])
+        return True
 
-    def begin(self, todo: list[Site]) -> list[Job]:
-        """Make the folders of plants, and return the jobs of those that have one."""
-        jobs = []
-        for site in todo:
-            try:
-                self.night.begin(site)
-            except InputFault as fault:
-                self.plants[site.name] = failed(site, "nooutput", str(fault))
-                continue
-            self.begun.add(site)
-            jobs.append(self.job(site))
-        return jobs
+    def is_done(self, site: Site) -> bool:
+        """Take in a plant if it has its output, and say whether it has."""
+        kept = self.night.kept(site, self.runs[site]) if self.ask(site) else None
+        if kept is not None:
+            self.take(site, kept)
+        return kept is not None
+
+    def begin(self, job: Job) -> bool:
+        """Make a plant ready to be run, and say whether it can be."""
+        site = self._site_of[job.site]
+        if not self.ask(site):
+            return False
+        try:
+            self.night.begin(site)
+        except InputFault as fault:
+            self.plants[site.name] = failed(site, "nooutput", str(fault))
+            return False
+        self.begun.add(site)
+        return True
 
     def came(self, site: Site, why: str) -> None:
         """Take in a plant whose job ended."""
         self.begun.discard(site)
         if why:
             self.night.drop(site)
-        else:
-            try:
-                self.runs[site] = self.night.publish(site, self.runs[site])
-            except (OSError, InputFault) as error:
-                self.plants[site.name] = failed(site, "nooutput", f"its output is lost: {error}")
-                return
-        self.plants[site.name] = gather(self.night, site, self.runs[site], why)
+            self.plants[site.name] = failed(site, why, WHY[why])
+            return
+        try:
+            kept = self.night.publish(site, self.runs[site])
+        except (OSError, InputFault) as error:
+            self.plants[site.name] = failed(site, "nooutput", f"its output is lost: {error}")
+            return
+        self.take(site, kept)
+
+    def take(self, site: Site, kept: Kept) -> None:
+        """Take in what is kept of a plant."""
+        self.runs[site], self.sums[site] = kept.run, kept.sums
+        self.plants[site.name] = gather(self.night, site, kept, self.given[site])
 
     def run(self, engine: Engine, asked: Asked, again: bool) -> None:
-        """Run what lacks."""
-        todo, done = self.choose(again)
-        site_of = {site.name: site for site in self.sites}
+        """Run what has no output yet; sessions are read, and outputs taken in, while others run."""
+        taken = list[Future[None]]()
         try:
-            jobs = self.begin(todo)
             # Mostly these wait for the disk.
-            with (
-                ThreadPoolExecutor(8, "fleet") as pool,
-                closing(engine(asked, jobs, [self.job(site) for site in done])) as every,
-            ):
-                taken = [
-                    pool.submit(self.came, site_of[ended.site], ended.why) for ended in every
-                ]
+            with ThreadPoolExecutor(8, "fleet") as pool:
+                known = [site for site in self.sites if not again and self.night.has_run(site)]
+                whole = zip(known, pool.map(self.is_done, known))
+                done = [site for site, is_done in whole if is_done]
+                todo = [site for site in self.sites if site.name not in self.plants]
+                jobs = [self.job(site) for site in sorted(todo, key=_size_of, reverse=True)]
+                every = engine(asked, jobs, self.begin, [self.job(site) for site in done])
+                pool.submit(template)  # it is wanted at the end
+                with closing(every):
+                    for ended in every:
+                        taken.append(pool.submit(self.came, self._site_of[ended.site], ended.why))
         finally:
             for site in self.begun:
                 self.night.drop(site)
         for each in taken:
             each.result()
-        for site in done:
-            self.plants[site.name] = gather(self.night, site, self.runs[site])
 
     def in_order(self) -> list[Plant]:
         """Return the plants by name, with the reasons in their rows."""
@@ -213,6 +235,8 @@ def _size_of(site: Site) -> int:
 
 def lint_plants(plants: list[Plant], chosen: list[Site]) -> None:
     """Add to plants what lint finds in their sessions; its errors are in their outputs, too."""
+    from plantbal.lint import brief, lint_session
+
     for plant, site in zip(plants, chosen):
         try:
             findings = lint_session(site.path)
@@ -284,7 +308,7 @@ def run(options: argparse.Namespace) -> int:
         for plant in plants:
             plant.tell()
         times = Times(begun, _now())
-        keep(fleet.night, plants, fleet.runs, times)
+        keep(fleet.night, plants, fleet.runs, fleet.sums, times)
         index(fleet.night, plants, times)
     write_text("-", table(plants))
     return _say_all(say, plants, out)
@@ -300,8 +324,8 @@ def _program(named: str | None, elsewhere: bool) -> Path:
 
 
 def _say_all(say: Callable[[str], None], plants: list[Plant], out: Path) -> int:
-    """Say which plants want a person and why, and return the status."""
-    wanting = [plant for plant in plants if plant.wants]
+    """Say which plants need a person and why, and return the status."""
+    wanting = [plant for plant in plants if plant.needs]
     for plant in wanting:
         for said in plant.says():
             say(said)

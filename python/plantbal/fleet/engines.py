@@ -2,7 +2,7 @@
 
 from __future__ import annotations
 
-from collections.abc import Generator, Sequence
+from collections.abc import Callable, Generator, Sequence
 from dataclasses import dataclass
 from pathlib import Path
 from typing import Protocol
@@ -19,7 +19,7 @@ class Job:
     session : Path
         The file of its session.
     part : Path
-        The empty folder that its files go to.
+        The folder that its files go to, once it is ready.
     """
 
     site: str
@@ -77,6 +77,10 @@ class Ended:
     why: str = ""
 
 
+# Makes a job ready right before it is handed out, and says whether it can be run.
+Begin = Callable[[Job], bool]
+
+
 class Engine(Protocol):
     """What runs jobs, and gives each as it ends.
 
@@ -84,6 +88,6 @@ class Engine(Protocol):
     """
 
     def __call__(
-        self, asked: Asked, jobs: Sequence[Job], done: Sequence[Job] = ()
+        self, asked: Asked, jobs: Sequence[Job], begin: Begin, done: Sequence[Job] = ()
     ) -> Generator[Ended, None, None]:
         """Run the jobs."""

@@ -2,19 +2,19 @@
 
 from __future__ import annotations
 
-from collections.abc import Iterator
+from collections.abc import Collection
+from contextlib import suppress
 from dataclasses import dataclass, replace
-from itertools import chain
+from functools import cached_property
 from pathlib import Path
 
-from plantbal.explain import Explanation, explain
-from plantbal.faults import InputFault, read_bytes, read_text
+from plantbal.faults import InputFault, decoded, read_bytes
+from plantbal.fleet.given import Given, days_of, has_critical
 from plantbal.fleet.job import SAID
-from plantbal.fleet.night import Night, Run, sha256_of
+from plantbal.fleet.night import Kept, Night, Run
 from plantbal.fleet.rows import Plant, Row
 from plantbal.fleet.sites import Site
 from plantbal.program import STATUSES
-from plantbal.records import read_records
 from plantbal.report import Block, Values, blocks_of, parse_rows
 from plantbal.schema import schema
 
@@ -29,49 +29,53 @@ _VERDICTS = {
     "reject": "the global test rejects",
     "undecided": "the global test is undecided; a smaller --gap among the words decides it",
 }
+# The bytes of a session in which its periods are looked for first.
+_HEAD = 1 << 16
+# The rows of an output that say something of the plant as a whole.
+_TOLD = frozenset(
+    "refused over report taken solved global measure end yes no unreadable".split()
+)
 
 
-@dataclass(frozen=True, slots=True)
-class About:
-    """What a session says of its periods and tests.
+@dataclass(frozen=True)
+class Told:
+    """What an output says, beside the session that it is of.
 
     Attributes
     ----------
-    days : dict of str to str
-        The first and the last day of each period.
-    has_critical : bool
-        Whether it has critical values of the global test.
+    site : Site
+        The plant.
+    rows : list of dict
+        The rows of the output that say something of the plant as a whole.
     """
 
-    days: dict[str, str]
-    has_critical: bool
+    site: Site
+    rows: list[Values]
 
+    @cached_property
+    def refused(self) -> set[int]:
+        """The numbers of the refused rows of the session."""
+        return {int(row["at"]) for row in self.rows if row["row"] == "refused"}
 
-def _lines(data: bytes, begin: bytes) -> Iterator[tuple[str, ...]]:
-    """Give the fields of the lines that begin so."""
-    text = b"\n" + data
-    place = text.find(b"\n" + begin)
-    while place >= 0:
-        end = text.find(b"\n", place + 1)
-        line = text[place + 1 : end if end >= 0 else len(text)]
-        yield tuple(line.decode("latin-1").split(","))
-        place = text.find(b"\n" + begin, end) if end >= 0 else -1
+    @cached_property
+    def session(self) -> bytes:
+        """The session."""
+        return read_bytes(self.site.path)[1] if self.site.path.exists() else b""
 
+    def days(self, periods: Collection[str]) -> dict[str, str]:
+        """Return the first and the last day of periods: mostly they stand in the first rows."""
+        if not self.refused:
+            with suppress(OSError), self.site.path.open("rb") as file:
+                head = file.read(_HEAD)
+                found = days_of(head[: head.rfind(b"\n") + 1], periods)
+                if len(found) == len(periods):
+                    return found
+        return days_of(self.session, periods, self.refused)
 
-def about(data: bytes, refused: set[int]) -> About:
-    """Return what a session says of its periods, without the refused rows."""
-    found: Iterator[tuple[str, ...]]
-    if refused or b'"' in data or b"\r" in data:
-        found = (r.fields for r in read_records(data) if r.number not in refused)
-    else:  # each line is a row, and no other rows need be split
-        found = chain(_lines(data, b"period,"), _lines(data, b"critical,"))
-    days, has_critical = dict[str, str](), False
-    for fields in found:
-        if fields[0] == "period" and len(fields) > 3:
-            days[fields[1]] = f"{fields[2]}..{fields[3]}"
-        elif fields[:2] == ("critical", "global"):
-            has_critical = True
-    return About(days, has_critical)
+    @cached_property
+    def has_critical(self) -> bool:
+        """Whether the session has critical values of the global test."""
+        return has_critical(self.session, self.refused)
 
 
 def failed(site: Site, state: str, said: str, run: Run | None = None) -> Plant:
@@ -82,7 +86,7 @@ def failed(site: Site, state: str, said: str, run: Run | None = None) -> Plant:
     return Plant(site.name, [row], [said])
 
 
-def gather(night: Night, site: Site, run: Run, why: str = "") -> Plant:
+def gather(night: Night, site: Site, kept: Kept, given: Given) -> Plant:
     """Return what came of a plant.
 
     Parameters
@@ -91,25 +95,27 @@ def gather(night: Night, site: Site, run: Run, why: str = "") -> Plant:
         The night.
     site : Site
         The plant.
-    run : Run
-        Its run, as it was published.
-    why : str
-        Why the program didn't end by itself; empty if it did.
+    kept : Kept
+        What is kept of it.
+    given : Given
+        Its session before the run.
     """
-    if why or run.status is None:
-        return failed(site, why or "stopped", WHY[why or "stopped"], run)
+    run = kept.run
+    if run.status is None:
+        return failed(site, "stopped", WHY["stopped"])
     if run.status not in (0, 1):
         return failed(site, *_of_status(night.folder_of(site) / SAID, run.status), run)
+    source = str(night.output_of(site))
     try:
-        rows = parse_rows(*read_text(night.output_of(site)))
+        rows = parse_rows(source, decoded(source, kept.output), _TOLD)
     except InputFault as fault:
         return failed(site, "unreadable", str(fault), run)
-    plant = _of_rows(site, rows)
+    plant = _of_rows(Told(site, rows))
     plant.rows = [
         replace(row, status=str(run.status), seconds=f"{run.seconds:.3f}") for row in plant.rows
     ]
     try:
-        if sha256_of(site.path) != run.session_sha256:
+        if given.changed(site.path):
             plant.why.append("its session was changed while it ran; run the fleet again")
     except InputFault as fault:
         plant.why.append(str(fault))
@@ -120,7 +126,7 @@ def _of_status(said: Path, status: int) -> tuple[str, str]:
     """Return the state of a plant by a status other than 0 and 1, and a sentence."""
     name, remedy = STATUSES.get(status, ("ended", ""))
     if status > 128:
-        remedy = f"signal {status - 128} stopped it; signal 9 is often a lack of memory"
+        remedy = f"signal {status - 128} stopped it; signal 9 often means that memory ran out"
     try:
         lines = said.read_text(encoding="utf-8", errors="replace").split("\n")
     except OSError:
@@ -131,35 +137,34 @@ def _of_status(said: Path, status: int) -> tuple[str, str]:
     return name, "; ".join(filter(None, (what, first, remedy)))
 
 
-def _of_rows(site: Site, rows: list[Values]) -> Plant:
+def _of_rows(told: Told) -> Plant:
     """Return what an output says of a plant."""
-    refused = {int(row["at"]) for row in rows if row["row"] == "refused"}
-    data = read_bytes(site.path)[1] if site.path.exists() else b""
-    session = about(data, refused)
+    site, rows = told.site, told.rows
     plant = Plant(site.name)
     blocks = {block.period: block for block in blocks_of(rows)}
     over = {row["period"]: row["stream"] for row in rows if row["row"] == "over"}
-    for period in dict.fromkeys([*blocks, *over]):
+    periods = dict.fromkeys([*blocks, *over])
+    days = told.days(periods)
+    for period in periods:
         if period in blocks:
-            row, said = _of_block(site, blocks[period], session, bool(refused))
+            row, said = _of_block(told, blocks[period])
         else:
             row = Row(site.name, period, state="over")
             said = [f"no report: the total of {over[period]} is beyond the limits"]
-        plant.rows.append(replace(row, days=session.days.get(period, ""), refused="0"))
+        plant.rows.append(replace(row, days=days.get(period, ""), refused="0"))
         plant.why_of[period] = said
     _of_check(plant, rows)
-    if refused or not plant.rows:
-        _of_refused(plant, site, len(refused))
+    if told.refused or not plant.rows:
+        _of_refused(plant, site, len(told.refused))
     return plant
 
 
-def _of_block(
-    site: Site, block: Block, session: About, refused: bool
-) -> tuple[Row, list[str]]:
+def _of_block(told: Told, block: Block) -> tuple[Row, list[str]]:
     """Return the row of a period's last round, and why a person has to look at it.
 
     If rows are refused, the report is that of another plant: its suspects aren't worth a look.
     """
+    site = told.site
     if block.solved is None or not block.ended:
         return Row(site.name, block.period, state="unreadable"), ["its report is cut off"]
     solved, said, verdict = block.solved, list[str](), ""
@@ -171,14 +176,14 @@ def _of_block(
         said.append(f"{', '.join(block.taken)} was taken out, so that the rest fits")
     if block.whole:
         verdict, critical = block.whole["verdict"], block.whole["critical"]
-        if verdict == "reject" and not refused:
+        if verdict == "reject" and not told.refused:
             suspects += [name for name in block.suspects() if name not in suspects]
         if verdict in _VERDICTS:
             said.append(_VERDICTS[verdict])
-        elif verdict == "nocritical" and session.has_critical:
+        elif verdict == "nocritical" and told.has_critical:
             said.append(
                 "the global test can't be made: there are critical values, and none for "
-                f"{solved['dof']} degrees of freedom; a meter lacks, or is one too many"
+                f"{solved['dof']} degrees of freedom; a meter is missing, or is one too many"
             )
     row = Row(
         site.name,
@@ -220,6 +225,8 @@ def _of_check(plant: Plant, rows: list[Values]) -> None:
 
 def _of_refused(plant: Plant, site: Site, count: int) -> None:
     """Say why the first row is refused, or why there is no report."""
+    from plantbal.explain import Explanation, explain
+
     try:
         found = explain(site.path)
     except InputFault:

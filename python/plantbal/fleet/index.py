@@ -1,4 +1,4 @@
-"""The page of a night: plants that want a person first, and each plant's nights before it."""
+"""The page of a night: plants that need a person first, and each plant's nights before it."""
 
 from __future__ import annotations
 
@@ -6,6 +6,8 @@ import sqlite3
 from collections import defaultdict
 from collections.abc import Sequence
 from dataclasses import dataclass
+from functools import cache
+from typing import TYPE_CHECKING
 from urllib.parse import quote
 
 from plantbal.faults import ToolMissing
@@ -13,6 +15,9 @@ from plantbal.files import write_text
 from plantbal.fleet.keep import Times, database
 from plantbal.fleet.night import Night
 from plantbal.fleet.rows import Plant, Row
+
+if TYPE_CHECKING:
+    from jinja2 import Template
 
 NIGHTS = 14
 
@@ -39,8 +44,9 @@ class Line:
     before: list[tuple[str, bool]]
 
 
-def index(night: Night, plants: Sequence[Plant], times: Times) -> None:
-    """Write the page of a night.
+@cache
+def template() -> Template:
+    """Return the page's template.
 
     Raises
     ------
@@ -51,12 +57,20 @@ def index(night: Night, plants: Sequence[Plant], times: Times) -> None:
         from jinja2 import Environment, PackageLoader
     except ImportError as error:
         raise ToolMissing("jinja2", "python3-jinja2") from error
+    environment = Environment(
+        loader=PackageLoader("plantbal"), autoescape=True, trim_blocks=True, lstrip_blocks=True
+    )
+    return environment.get_template("fleet.html.j2")
+
+
+def index(night: Night, plants: Sequence[Plant], times: Times) -> None:
+    """Write the page of a night."""
     with database(night.out / "fleet.sqlite") as base:
         before = _before(base, night)
         nights = base.execute(
             "SELECT night, plants, wanting FROM nights ORDER BY night DESC LIMIT 31"
         ).fetchall()
-    ordered = sorted(plants, key=lambda plant: (not plant.wants, plant.site))
+    ordered = sorted(plants, key=lambda plant: (not plant.needs, plant.site))
     lines = [
         Line(
             row,
@@ -67,10 +81,7 @@ def index(night: Night, plants: Sequence[Plant], times: Times) -> None:
         for plant in ordered
         for place, row in enumerate(plant.rows)
     ]
-    environment = Environment(
-        loader=PackageLoader("plantbal"), autoescape=True, trim_blocks=True, lstrip_blocks=True
-    )
-    text = environment.get_template("fleet.html.j2").render(
+    text = template().render(
         night=night,
         times=times,
         lines=lines,
@@ -82,17 +93,17 @@ def index(night: Night, plants: Sequence[Plant], times: Times) -> None:
 
 
 def summary(plants: Sequence[Plant]) -> str:
-    """Return how many plants there are, and how many want a person."""
-    wanting = sum(plant.wants for plant in plants)
+    """Return how many plants there are, and how many need a person."""
+    wanting = sum(plant.needs for plant in plants)
     count = "1 plant" if len(plants) == 1 else f"{len(plants)} plants"
-    some = f"{wanting} wants" if wanting == 1 else f"{wanting} want" if wanting else "none wants"
+    some = f"{wanting} needs" if wanting == 1 else f"{wanting} need" if wanting else "none needs"
     return f"{count}, of which {some} a person"
 
 
 def _link(night: Night, row: Row) -> str:
     """Return where a plant's output is, seen from the page."""
-    path = night.out / row.site / night.name / night.output_name
-    return quote(path.relative_to(night.out).as_posix()) if path.exists() else ""
+    name = f"{row.site}/{night.name}/{night.output_name}"
+    return quote(name) if (night.out / name).exists() else ""
 
 
 def _before(base: sqlite3.Connection, night: Night) -> dict[str, list[tuple[str, bool]]]:

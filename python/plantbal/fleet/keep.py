@@ -5,14 +5,15 @@ from __future__ import annotations
 import csv
 import io
 import sqlite3
-from collections.abc import Iterable, Iterator, Sequence
+from collections.abc import Iterable, Iterator, Mapping, Sequence
 from contextlib import closing, contextmanager
 from dataclasses import dataclass
 from pathlib import Path
 
 from plantbal.faults import InputFault, Place
 from plantbal.files import write_text
-from plantbal.fleet.night import Night, Run, link, sha256_of
+from plantbal.fleet.given import sha256_of
+from plantbal.fleet.night import Night, Run, link
 from plantbal.fleet.rows import HEADS, Plant
 from plantbal.fleet.sites import Site
 
@@ -52,7 +53,12 @@ def table(plants: Iterable[Plant]) -> str:
     return text.getvalue()
 
 
-def keep(night: Night, plants: Sequence[Plant], runs: dict[Site, Run], times: Times) -> None:
+Sums = Mapping[Site, Mapping[str, str]]
+
+
+def keep(
+    night: Night, plants: Sequence[Plant], runs: Mapping[Site, Run], sums: Sums, times: Times
+) -> None:
     """Write what is kept of a night, and make it the latest one.
 
     Parameters
@@ -61,16 +67,19 @@ def keep(night: Night, plants: Sequence[Plant], runs: dict[Site, Run], times: Ti
         The night.
     plants : sequence of Plant
         What came of each plant.
-    runs : dict of Site to Run
+    runs : mapping of Site to Run
         The runs of those whose session could be read.
+    sums : mapping of Site to mapping of str to str
+        The digests of the files that were kept of plants, by their names.
     times : Times
         When it began and ended.
     """
     night.folder.mkdir(parents=True, exist_ok=True)
     write_text(night.folder / "table.csv", table(plants))
-    sessions = ((run.session_sha256, Path(run.session)) for run in runs.values())
+    ordered = sorted(runs)
+    sessions = ((runs[site].session_sha256, runs[site].session) for site in ordered)
     write_text(night.folder / "sessions.sha256", checksums(sessions))
-    write_text(night.folder / "SHA256SUMS", checksums(_files(night, runs)))
+    write_text(night.folder / "SHA256SUMS", checksums(_files(night, ordered, sums)))
     with database(night.out / "fleet.sqlite") as base:
         _insert(base, night, plants, times)
     newest = night.out / "latest"
@@ -78,23 +87,25 @@ def keep(night: Night, plants: Sequence[Plant], runs: dict[Site, Run], times: Ti
         link(newest, f"nights/{night.name}")
 
 
-def _files(night: Night, runs: dict[Site, Run]) -> Iterator[tuple[str, Path]]:
+def _files(night: Night, ordered: Iterable[Site], sums: Sums) -> Iterator[tuple[str, str]]:
     """Give the digests of a night's files, by their paths in the folder of all nights."""
-    for site in runs:
-        folder = night.folder_of(site)
-        if folder.is_dir():
-            for path in sorted(folder.iterdir()):
-                yield sha256_of(path), path.relative_to(night.out)
+    for site in ordered:
+        found = sums.get(site) or _sums_before(night.folder_of(site))
+        for name in sorted(found):
+            yield found[name], f"{site.name}/{night.name}/{name}"
     for name in ("sessions.sha256", "table.csv"):
-        path = night.folder / name
-        yield sha256_of(path), path.relative_to(night.out)
+        yield sha256_of(night.folder / name), f"nights/{night.name}/{name}"
 
 
-def checksums(digests: Iterable[tuple[str, Path]]) -> str:
+def _sums_before(folder: Path) -> dict[str, str]:
+    """Return the digests of the files of a plant that a run before this one has left."""
+    return {path.name: sha256_of(path) for path in folder.iterdir()} if folder.is_dir() else {}
+
+
+def checksums(digests: Iterable[tuple[str, str]]) -> str:
     """Return digests and paths as `sha256sum` writes them, and reads them with ``--check``."""
     lines = []
-    for digest, path in digests:
-        name = str(path)
+    for digest, name in digests:
         escaped = name.replace("\\", "\\\\").replace("\n", "\\n").replace("\r", "\\r")
         lines.append(f"{'' if escaped == name else chr(92)}{digest}  {escaped}\n")
     return "".join(lines)
@@ -136,7 +147,7 @@ def _insert(base: sqlite3.Connection, night: Night, plants: Sequence[Plant], tim
             for row in plant.rows
         ),
     )
-    wanting = sum(plant.wants for plant in plants)
+    wanting = sum(plant.needs for plant in plants)
     words = " ".join(night.words)
     program = str(night.program), night.program_sha256, words
     base.execute(

@@ -23,11 +23,12 @@ import os
 import shutil
 from collections.abc import Iterator
 from contextlib import contextmanager, suppress
-from dataclasses import asdict, dataclass, replace
+from dataclasses import dataclass, fields, replace
 from pathlib import Path
 
 from plantbal.faults import Fault, InputFault, Place
-from plantbal.fleet.job import STATUS, WROTE, ended
+from plantbal.fleet.given import Given
+from plantbal.fleet.job import SAID, STATUS, WROTE, ended, make_ready
 from plantbal.fleet.sites import Site
 
 
@@ -65,10 +66,34 @@ class Run:
     begun: float = 0.0
     seconds: float = 0.0
 
+    def to_json(self) -> bytes:
+        """Return it as JSON, an item a line."""
+        items = {each.name: getattr(self, each.name) for each in fields(self)}
+        return (json.dumps(items, indent=1) + "\n").encode("utf-8")
+
     @property
     def asked(self) -> tuple[str, str, list[str]]:
         """What decides the output: the session, the program and the words."""
         return self.session_sha256, self.program_sha256, self.words
+
+
+@dataclass(frozen=True, slots=True)
+class Kept:
+    """What is kept of a plant, so that none of its files is read twice.
+
+    Attributes
+    ----------
+    run : Run
+        Its run.
+    output : bytes
+        What the program wrote; empty unless it ended with 0 or 1.
+    sums : dict of str to str
+        The digests of its files, by their names.
+    """
+
+    run: Run
+    output: bytes
+    sums: dict[str, str]
 
 
 @dataclass(frozen=True, slots=True)
@@ -118,45 +143,55 @@ class Night:
         """Return where a plant's output is."""
         return self.folder_of(site) / self.output_name
 
-    def asked_of(self, site: Site) -> Run:
-        """Return what is to be run for a plant.
-
-        Raises
-        ------
-        InputFault
-            If its session can't be read.
-        """
+    def asked_of(self, site: Site, given: Given) -> Run:
+        """Return what is to be run for a plant."""
         return Run(
             site=site.name,
             night=self.name,
             session=str(site.path.absolute()),
-            session_sha256=sha256_of(site.path),
+            session_sha256=given.sha256,
             program=str(self.program),
             program_sha256=self.program_sha256,
             words=self.words,
         )
 
-    def done(self, site: Site, asked: Run) -> Run | None:
-        """Return the run that a plant's output is of, if it is whole and of what is asked."""
-        try:
-            found = Run(**json.loads((self.folder_of(site) / STATUS).read_bytes()))
-            same = sha256_of(self.output_of(site)) == found.output_sha256
-        except (OSError, ValueError, TypeError, InputFault):
-            return None
-        return found if same and found.asked == asked.asked and found.status in (0, 1) else None
+    def has_run(self, site: Site) -> bool:
+        """Say whether a plant has been run this night."""
+        return (self.folder_of(site) / STATUS).exists()
 
-    def begin(self, site: Site) -> Path:
-        """Make the empty folder in which the program runs for a plant."""
-        part = self.part_of(site)
-        for stopped in part.parent.glob(".*.part"):  # also of a night before
-            shutil.rmtree(stopped, ignore_errors=True)
+    def kept(self, site: Site, asked: Run) -> Kept | None:
+        """Return what is kept of a plant, if it is whole and of what is asked."""
+        folder = self.folder_of(site)
         try:
-            part.mkdir(parents=True)
+            run = Run(**json.loads((folder / STATUS).read_bytes()))
+            if run.asked != asked.asked or run.status not in (0, 1):
+                return None
+            names = (self.output_name, SAID, STATUS)
+            files = {name: (folder / name).read_bytes() for name in names}
+        except (OSError, ValueError, TypeError):
+            return None
+        found = Kept(run, files[self.output_name], _sums(files))
+        return found if found.sums[self.output_name] == run.output_sha256 else None
+
+    def begin(self, site: Site) -> None:
+        """Make the folder in which the program runs for a plant.
+
+        Raises
+        ------
+        InputFault
+            If it can't be made.
+        """
+        part = self.part_of(site)
+        with suppress(OSError):
+            for stopped in os.scandir(part.parent):  # also of a night before
+                if stopped.name.startswith(".") and stopped.name.endswith(".part"):
+                    shutil.rmtree(stopped, ignore_errors=True)
+        try:
+            make_ready(str(part))
         except OSError as error:
             raise InputFault(
                 error.strerror or "it can't be written", place=Place(file=str(part))
             ) from error
-        return part
 
     def drop(self, site: Site) -> None:
         """Take away what a plant that was stopped has written."""
@@ -164,8 +199,8 @@ class Night:
         with suppress(OSError):  # there are other nights in it
             self.part_of(site).parent.rmdir()
 
-    def publish(self, site: Site, asked: Run) -> Run:
-        """Give the files of a plant their names, and return its run.
+    def publish(self, site: Site, asked: Run) -> Kept:
+        """Give the files of a plant their names, and return what is kept.
 
         An output is kept if the program ended with 0 or 1: otherwise it may be cut off.
         """
@@ -174,20 +209,41 @@ class Night:
         run = replace(asked, status=status, begun=begun, seconds=seconds)
         if status in (0, 1):
             (part / WROTE).rename(part / self.output_name)
-            run = replace(run, output_sha256=sha256_of(part / self.output_name))
         else:
             (part / WROTE).unlink(missing_ok=True)
-        (part / STATUS).write_text(json.dumps(asdict(run), indent=1) + "\n", encoding="utf-8")
-        for path in part.iterdir():
-            if path.stat().st_size:
-                with path.open("rb") as file:
-                    os.fsync(file.fileno())
+        files = {name: _on_disk(part / name) for name in os.listdir(part) if name != STATUS}
+        output, sums = files.get(self.output_name, b""), _sums(files)
+        run = replace(run, output_sha256=sums.get(self.output_name, ""))
+        sums |= _sums({STATUS: _to_disk(part / STATUS, run.to_json())})
         put(part, self.folder_of(site))
         if status in (0, 1):
             newest = self.out / site.name / "latest"
             if not newest.exists() or os.readlink(newest) <= self.name:
                 link(newest, self.name)
-        return run
+        return Kept(run, output, sums)
+
+
+def _sums(files: dict[str, bytes]) -> dict[str, str]:
+    """Return the digests of files."""
+    return {name: hashlib.sha256(data).hexdigest() for name, data in files.items()}
+
+
+def _to_disk(path: Path, data: bytes) -> bytes:
+    """Write a file, and return its bytes once the disk has them."""
+    with path.open("wb") as file:
+        file.write(data)
+        file.flush()
+        os.fsync(file.fileno())
+    return data
+
+
+def _on_disk(path: Path) -> bytes:
+    """Return the bytes of a file, once the disk has them."""
+    with path.open("rb") as file:
+        data = file.read()
+        if data:
+            os.fsync(file.fileno())
+    return data
 
 
 def status_of(part: Path) -> tuple[int | None, float, float]:
@@ -197,23 +253,6 @@ def status_of(part: Path) -> tuple[int | None, float, float]:
         return status, round(begun, 3), round(end - begun, 3)
     except (OSError, ValueError, IndexError):
         return None, 0.0, 0.0
-
-
-def sha256_of(path: Path) -> str:
-    """Return the SHA-256 of a file.
-
-    Raises
-    ------
-    InputFault
-        If it can't be read.
-    """
-    try:
-        with path.open("rb") as file:
-            return hashlib.file_digest(file, "sha256").hexdigest()
-    except OSError as error:
-        raise InputFault(
-            error.strerror or "it can't be read", place=Place(file=str(path))
-        ) from error
 
 
 def put(made: Path, folder: Path) -> None:

@@ -84,7 +84,7 @@ class Plant:
     why_of: dict[str, list[str]] = field(default_factory=dict)
 
     @property
-    def wants(self) -> bool:
+    def needs(self) -> bool:
         """Whether a person has to look."""
         return bool(self.why or any(self.why_of.values()))
 

@@ -55,7 +55,7 @@ def _walk(folder: Path, out: Path | None, recursive: bool, left: list[str]) -> I
     others = []
     for entry in sorted(os.scandir(folder), key=lambda each: each.name):
         path = folder / entry.name
-        if entry.name.startswith(".") or (out is not None and path.resolve() == out):
+        if entry.name.startswith(".") or (entry.is_dir() and path.resolve() == out):
             continue
         if entry.is_dir() and not _is_session(entry.name):
             if recursive:

@@ -101,7 +101,8 @@ def round_of(
         Why the elimination ended after it.
     """
     statistics = {row["stream"]: row["low"] for row in block.measure}
-    # A test of one meter counts under a global test that rejects, and if no row lacks in the plant.
+    # A test of one meter counts under a global test that rejects, and if no row of the plant is
+    # missing.
     rejected = block.whole is not None and block.whole["verdict"] == "reject"
     suspects = block.suspects() if rejected and not lost.lacking else []
     marks = {name: "suspect" for name in suspects} | {name: "taken" for name in block.taken}

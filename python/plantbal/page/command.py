@@ -37,7 +37,7 @@ what lies within two steps of the chosen stream is drawn. If Graphviz needs long
 the page comes without drawings and says so.
 
 --xlsx writes the tables as a workbook, --pdf the page on A4 by chromium. If one of them is named,
-the page itself is written only where --out says.
+the page itself is written only if --out names a file.
 
 examples:
   plantbal run --tests < may.csv | plantbal-desk page --title May --session may.csv > may.html
@@ -111,7 +111,7 @@ def prepare(source: Source) -> Prepared:
     Raises
     ------
     InputFault
-        Where a row can't be shown, or the output is that of another session.
+        If a row can't be shown, or the output is that of another session.
     """
     check_rows(source.rows, source.name)
     refused = refused_of(source.rows)
@@ -174,16 +174,14 @@ def add_arguments(parser: argparse.ArgumentParser) -> None:
     parser.add_argument("--plant", metavar="TEXT", default="", help="what the plant is called")
     parser.add_argument("--session", metavar="SESSION", help="the session of the output")
     parser.add_argument("--run", action="store_true", dest="runs", help="run the file, a session")
-    parser.add_argument(
-        "--eliminate", metavar="N", type=int, default=0, help="with --run, at most N rounds of it"
-    )
+    rounds = "with --run: take out at most N suspects"
+    parser.add_argument("--eliminate", metavar="N", type=int, default=0, help=rounds)
     parser.add_argument("--program", metavar="PATH", help="the program, with --run")
     parser.add_argument("--out", metavar="FILE", help="the page")
     parser.add_argument("--xlsx", metavar="FILE", help="a workbook")
     parser.add_argument("--pdf", metavar="FILE", help="a PDF on A4")
-    parser.add_argument(
-        "--seconds", metavar="N", type=float, default=10, help="for drawings, 10 without it"
-    )
+    seconds = "the most seconds for drawings (default: 10)"
+    parser.add_argument("--seconds", metavar="N", type=float, default=10, help=seconds)
 
 
 def _source(options: argparse.Namespace) -> tuple[Source, Output | None, Path | None]:

@@ -12,7 +12,7 @@ from plantbal.page.layout import Box, Layout, Plan, Point, Route, layout_of, nea
 from plantbal.page.statement import Line
 from plantbal.topology import Arc
 
-# Above so many streams the neighbourhood of one is drawn.
+# Above this many streams the neighbourhood of one is drawn.
 MOST = 60
 THINNEST, WIDEST = 1.2, 9.0
 MARGIN = 6.0
@@ -95,7 +95,7 @@ def arcs_of(lines: Iterable[Line]) -> list[Arc]:
 
 
 def to_look_at(lines: Sequence[Line]) -> str:
-    """Return which stream wants a look most: a suspect, or that of the greatest adjustment."""
+    """Return which stream most needs a look: a suspect, or that of the greatest adjustment."""
     for line in lines:
         if line.mark:
             return line.name

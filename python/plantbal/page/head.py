@@ -2,18 +2,13 @@
 
 from __future__ import annotations
 
-import hashlib
 from dataclasses import dataclass
 from pathlib import Path
 
 import plantbal
-from plantbal.faults import read_bytes
+from plantbal.build import UNKNOWN, build_of
 from plantbal.page.statement import Account
 from plantbal.page.verdict import count_of
-from plantbal.program import CHECKOUT
-
-# Where an installed program has its build record, seen from its own folder.
-RECORD = Path("..") / "share" / "plantbal" / "BUILD"
 
 
 @dataclass(frozen=True, slots=True)
@@ -35,23 +30,13 @@ class Origin:
     program: Path | None = None
 
 
-def version_of(program: Path, digest: str) -> str:
-    """Return the version of a program by its build record, or nothing."""
-    record = program.parent / RECORD
-    try:
-        lines = dict(line.split(": ", 1) for line in record.read_text("utf-8").splitlines())
-    except (OSError, ValueError):
-        return str(plantbal.__version__) if program == CHECKOUT else ""
-    return lines["version"] if digest in lines.values() and "version" in lines else ""
-
-
 def program_text(program: Path | None) -> str:
     """Return what is known of the program."""
     if program is None:
         return "not known: the page was made of a report that was there"
-    digest = hashlib.sha256(read_bytes(program)[1]).hexdigest()
-    version = version_of(program, digest)
-    return f"plantbal {version or '(version not known)'}, SHA-256 {digest}"
+    build = build_of(program)
+    version = build.version if build.version != UNKNOWN else "(version not known)"
+    return f"plantbal {version}, SHA-256 {build.sha256}"
 
 
 def days_text(days: tuple[str, str] | None) -> str:

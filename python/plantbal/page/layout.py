@@ -148,9 +148,9 @@ def layout_of(plan: Plan, seconds: float) -> Layout:
     Raises
     ------
     TooLong
-        Where it takes more than so many seconds.
+        If it takes more than that many seconds.
     ToolMissing
-        Where there is no `dot`.
+        If there is no `dot`.
     """
     try:
         done = subprocess.run(
@@ -202,7 +202,7 @@ def _route(name: str, edge: Mapping[str, str], height: float) -> Route:
 
 
 def near(arcs: Sequence[Arc], chosen: str, most: int, steps: int = 2) -> list[Arc]:
-    """Return the streams near a chosen one: within so many steps, fewer if these are too many.
+    """Return the streams near a chosen one: within some steps, fewer if these streams are too many.
 
     The streams at its ends are one step away, those at the other ends of these two. ``env`` leads
     nowhere. A tank's gain comes with its tank.

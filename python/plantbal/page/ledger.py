@@ -31,7 +31,7 @@ class Change:
     word : str
         ``late``, ``amend``, ``strike`` or ``close``.
     before, after : Fact or None
-        The fact before and after it; None where there was none, or there is none any more.
+        The fact before and after it; None if there was none, or there is none any more.
     reason : str
         Its reason.
     periods : tuple of str

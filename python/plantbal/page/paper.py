@@ -20,7 +20,7 @@ def browser() -> str:
     Raises
     ------
     ToolMissing
-        Where there is none.
+        If there is none.
     """
     for name in BROWSERS:
         found = shutil.which(name)

@@ -36,7 +36,7 @@ def check_rows(rows: Sequence[Values], source: str) -> None:
     Raises
     ------
     InputFault
-        Where the rows are a check's, a field isn't of its column, a stream stands twice in a report
+        If the rows are a check's, a field isn't of its column, a stream stands twice in a report
         or has a value without a variance, or a design is cut off.
     """
     if any(row["row"] in ("yes", "no", "unreadable") for row in rows):
@@ -73,7 +73,7 @@ def check_rows(rows: Sequence[Values], source: str) -> None:
 def _check_fields(row: Values, place: Place) -> None:
     """Raise a fault if a field of a row isn't of its column."""
     for column in schema().output[row["row"]].columns:
-        text = row.get(column.name)  # a stream of the older form lacks two
+        text = row.get(column.name)  # a stream of the older form has two fewer
         if text is None or (column.optional and not text) or field_fits(column, text):
             continue
         what = f"{column.name} of a {row['row']} row is {text[:60]!r}"

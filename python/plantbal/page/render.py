@@ -22,13 +22,13 @@ if TYPE_CHECKING:
 
     from plantbal.explain import Told
 
-# Of long lists so many are shown, and so many without a click.
+# How many items of a long list are shown, and how many without a click.
 MOST, FEW = 100, 5
-# Of a certificate so many letters are shown: in a large plant each may have thousands of members.
+# How many letters of a certificate are shown: in a large plant each may have thousands of members.
 MOST_LETTERS = 1_000
-# Grams: an amount of so many has nine digits of tonnes.
+# Grams: an amount from here on has nine digits of tonnes.
 HUGE = 10**14
-# A name isn't wider than so many letters.
+# How many letters wide a name may be.
 LONGEST = 14
 
 
@@ -44,7 +44,7 @@ def signed(grams: int | None) -> str:
 
 
 def decimal(number: float | None, places: int, plus: bool = False) -> str:
-    """Return a number with so many decimals."""
+    """Return a number with that many decimals."""
     if number is None:
         return ""
     text = f"{number:{'+' if plus else ''},.{places}f}"
@@ -109,7 +109,7 @@ def certificate(line: Line) -> Any:
 
 
 def is_huge(lines: Iterable[Line]) -> bool:
-    """Say whether some amount has so many digits that its column is wide."""
+    """Say whether some amount has enough digits to make its column wide."""
     amounts = [amount for line in lines for amount in (line.value, line.flow) if amount is not None]
     return any(abs(amount) >= HUGE for amount in amounts)
 

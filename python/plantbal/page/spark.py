@@ -8,7 +8,7 @@ if TYPE_CHECKING:
     from plantbal.page.statement import Statement
 
 WIDTH, HEIGHT = 150.0, 26.0
-# An adjustment of so many standard deviations reaches the edge.
+# An adjustment of this many standard deviations reaches the edge.
 MOST = 5.0
 FAR = 2.0
 MOST_BARS = 75

@@ -11,7 +11,7 @@ from plantbal.report import Block
 if TYPE_CHECKING:
     from plantbal.page.statement import Line
 
-# The sign that stands before each level, so that none is told by its colour alone.
+# The sign that stands before each level, so that none is known by its colour alone.
 SIGNS = {"good": "✓", "plain": "–", "look": "!", "bad": "✗"}
 STOPS = {
     "accepted": "the rest is accepted",
@@ -48,7 +48,7 @@ class Verdict:
         return SIGNS[self.level]
 
     def but(self, what: str, more: Sequence[str]) -> Verdict:
-        """Return it with something that wants a look: in a few words, and in sentences."""
+        """Return it with something that needs a look: in a few words, and in sentences."""
         if self.level not in ("good", "plain"):
             return replace(self, reasons=[*self.reasons, *more])
         joined = "but" if self.level == "good" else "and"
@@ -62,9 +62,10 @@ class Lost:
     Attributes
     ----------
     lacking : int
-        How many may lack in it.
+        How many may be missing in it.
     passed : int
-        How many are there already, or touch a closed period: nothing of the plant lacks by them.
+        How many are there already, or touch a closed period: nothing of the plant is missing
+        because of them.
     """
 
     lacking: int = 0
@@ -128,7 +129,7 @@ def verdict_of(
     """
     if not block.ended or block.solved is None:
         return Verdict(
-            "bad", "The report is cut off", ["Its last rows lack: run the session again."]
+            "bad", "The report is cut off", ["Its last rows are missing: run the session again."]
         )
     level, headline = _headline(block, lost.lacking, suspects)
     reasons = lost.reasons
@@ -203,8 +204,8 @@ def _tests(block: Block) -> str:
         f"freedom, and up to {critical} is accepted.",
         "undecided": f"The statistic is {between}, and {critical} lies between: ask for a smaller "
         "gap.",
-        "nocritical": f"There is no critical value for {degrees} of freedom, so nothing is accepted "
-        f"or rejected. The statistic is {between}.",
+        "nocritical": f"There is no critical value for {degrees} of freedom, so nothing is "
+        f"accepted or rejected. The statistic is {between}.",
         "notest": "No meter is checked by another: there is nothing to test.",
     }[block.whole["verdict"]]
 
@@ -212,9 +213,10 @@ def _tests(block: Block) -> str:
 def _suspects(block: Block, lacking: int, suspects: Sequence[str]) -> str:
     """Return which meters a test that rejects points at."""
     if lacking:
-        return "Which meter is off can't be said while rows of the plant lack."
+        return "Which meter is off can't be said while rows of the plant are missing."
     if not suspects:
-        return "No single meter explains it: several may be off, or a stream or a ticket may lack."
+        what = "several may be off, or a stream or a ticket may be missing"
+        return f"No single meter explains it: {what}."
     low = {row["stream"]: thousandths(row["low"]) for row in block.measure}
     critical = {row["stream"]: thousandths(row["critical"]) for row in block.measure}
     first = suspects[0]

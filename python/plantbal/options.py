@@ -1,0 +1,28 @@
+"""Words that several commands have: which program is run, and how."""
+
+from __future__ import annotations
+
+import argparse
+
+
+def add_program(parser: argparse.ArgumentParser) -> None:
+    """Add the word that names the program."""
+    where = "the program (default: that of PLANTBAL, of the path, or of this checkout)"
+    parser.add_argument("--program", metavar="PATH", help=where)
+
+
+def add_sweeps(parser: argparse.ArgumentParser) -> None:
+    """Add the words that say how far a solution goes."""
+    gap = "the greatest gap, in thousandths of a standard deviation (default: 10)"
+    parser.add_argument("--gap", metavar="N", type=int, default=10, help=gap)
+    sweeps = "at most N sweeps (default: 5,000)"
+    parser.add_argument("--sweeps", metavar="N", type=int, default=5000, help=sweeps)
+
+
+def add_run(parser: argparse.ArgumentParser) -> None:
+    """Add the words of a run: its program, how far it goes, and which tests it makes."""
+    add_program(parser)
+    add_sweeps(parser)
+    parser.add_argument("--no-tests", action="store_true", help="make no tests")
+    rounds = "take out at most N suspects, one in each round"
+    parser.add_argument("--eliminate", metavar="N", type=int, default=0, help=rounds)
