@@ -101,14 +101,14 @@ def paragraphs(t: dict[str, int]) -> list[str]:
         " them for the proof that comes before a crate's first edit. What `.ci/run` does after it"
         f" takes {t['checks_minutes']} minutes, `./build` {t['build_minutes_on_four']} on four"
         f" processors, and an answer before the build {t['first_answer_seconds']} seconds. The"
-        " numbers of `rt ci` are reckoned from a whole run in four lanes and from what was cut"
-        " since; docs/times.txt says how.",
+        " number on two processors is reckoned from the run on four; docs/times.txt says how.",
         "All of these are from nothing. Some releases of the kit keep what earlier runs of `rt ci`"
         " proved, and a run then takes the time of what changed and of the crates above it. With"
         " the others each run is one from nothing. `rt check` and `rt lib` keep their work in"
         " `out/` with all releases.",
-        f"**The budget is {t['budget_processor_minutes']} processor minutes in all**: an hour on"
-        " four processors, a hundred minutes on two. `.ci/run` ends with what took how long, by"
+        f"**The budget is an hour on four processors and a hundred minutes on two**: about"
+        f" {t['budget_processor_minutes']} minutes of a quiet processor, of which four busy ones make"
+        " a third more. `.ci/run` ends with what took how long, by"
         f" kind, task and crate, and fails if `rt ci` took more than {limit} minutes divided by its"
         f" lanes, plus {more}: {limit // 4 + more} minutes in four lanes, {limit // 2 + more} in"
         " two. It runs as many tasks side by side as there are processors, and 3.5 GB of free"
