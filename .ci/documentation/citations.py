@@ -197,15 +197,19 @@ def edits(sources: Sources) -> list[str]:
 
 
 def rows_of_examples(sources: Sources) -> list[str]:
-    """Return the rows that the guide quotes and that no example has."""
-    path, rows = "docs/GUIDE.md", set()
+    """Return the rows that the guide quotes and that no example has.
+
+    What a command writes isn't looked up: the tests type it again.
+    """
+    path, rows, typed = "docs/GUIDE.md", set(), False
     for example in sources.files(r"examples/.*\.csv"):
         rows |= set(sources.text(example).splitlines())
     kinds = "|".join(sorted({row.split(",")[0] for row in rows if "," in row}))
     found = []
     for number, line in enumerate(sources.text(path).splitlines(), 1):
         quoted = line[4:]
-        if not line.startswith("    ") or not re.match(rf"({kinds}),", quoted):
+        typed = line.startswith("    ") and (typed or quoted.startswith("$ "))
+        if typed or not line.startswith("    ") or not re.match(rf"({kinds}),", quoted):
             continue
         shape = re.search(r",[A-Z]+,[A-Z]+", quoted)
         if not shape and not any(row.startswith(quoted) for row in rows):

@@ -23,7 +23,7 @@ _plantbal() {
         ) ;;
     make)
         specifications=(
-            '--number=[The number that the session is made from, from 0 to 4294967295]:N:'
+            '--number=[The number from which the session is made, 0 to 4294967295]:N:'
             '--streams=[How many streams the made session has, from 3 to 2000]:N:'
             '--summary[Writes the summary row in place of the session]'
             '--gap=[The greatest gap of a stage that has converged, in thousandths of a standard deviation, from 1 to 1000000]:N:'
@@ -37,7 +37,7 @@ _plantbal() {
             '--tests[Makes the global, the nodal and the measurement tests of each stage]'
             '--eliminate=[The most rounds of elimination, from 1 to 20]:N:'
             '--format=[The form of the output\: csv or json, one object on a line for each row]:F:(csv json)'
-            '--number=[The number that the session is made from, from 0 to 4294967295]:N:'
+            '--number=[The number from which the session is made, 0 to 4294967295]:N:'
             '--streams=[How many streams the made session has, from 3 to 2000]:N:'
             '--summary[Writes the summary row in place of the session]'
             "1:word:((run\:'read a session and write its reports' check\:'judge reports by their own numbers' make\:'make a session from a number'))"

@@ -9,7 +9,10 @@ import pytest
 from conftest import TOP, text_of
 
 # Each page, the folder in a copy of which it is typed, and the other folders that it speaks of.
-PAGES = [("docs/MONTH_END.md", "examples/month_end", ["examples/refinery_workbook"])]
+PAGES = [
+    ("docs/GUIDE.md", "examples", []),
+    ("docs/MONTH_END.md", "examples/month_end", ["examples/refinery_workbook"]),
+]
 
 
 @pytest.mark.parametrize("page, folder, others", PAGES, ids=[page for page, *_ in PAGES])
