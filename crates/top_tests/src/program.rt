@@ -81,7 +81,10 @@ fn gives(
     let is_so = ended == ExitCode::from(number)
         && written.as_slice() == output.as_bytes()
         && said.as_slice() == line.as_bytes();
-    assert!(rt; is_so, "{case:?}, which ends with {number}, {output} and {line}");
+    assert!(rt;
+        is_so,
+        "{case:?}, which ends with {number}, {output} and {line}"
+    );
     Ok(())
 }
 

@@ -321,7 +321,10 @@ fn takes_the_words_after_the_name(rt: HostRuntime) -> Result<(), AllocError> {
         (&[], &[]),
         (&["run"], &[]),
         (&["plantbal", "run"], &["run"]),
-        (&["plantbal", "run", "", "--gap", "5"], &["run", "", "--gap", "5"]),
+        (
+            &["plantbal", "run", "", "--gap", "5"],
+            &["run", "", "--gap", "5"],
+        ),
     ];
     for (args, words) in lists {
         let found = given(rt.alloc(), args)?;
