@@ -2,6 +2,7 @@ mod CodeLemmas
 mod GraphLemmas
 mod JoinLemmas
 mod ListLemmas
+mod MeaningLemmas
 mod NameLemmas
 mod NumberLemmas
 mod PlaceLemmas

@@ -1,5 +1,5 @@
 -- Statement. What is proved of windows, law by law.
-use Rattle.std.specs.Prelude.{◌≡◌, ℕ, ◌+◌, ◌≤◌, List, length, Ok}
+use Rattle.std.specs.Prelude.{◌≡◌, ℕ, ◌+◌, ◌≤◌, List, length, All, Ok}
 use Rattle.pb_rows.specs.declared.name.Names.{Names}
 use Rattle.pb_window.specs.declared.plant.Plant.{Plant}
 use Rattle.pb_window.specs.declared.plant.Span.{Span}
@@ -8,6 +8,7 @@ use Rattle.pb_window.specs.Plant.{IsPlant}
 use Rattle.pb_window.specs.Window.{IsWindow, most_periods_of_window, window_of}
 use Rattle.pb_window.specs.Codes.{AreWindowNames}
 use Rattle.pb_window.specs.Places.{HaveNames}
+use Rattle.pb_window.specs.Meaning.{IsNodeOf, IsStreamOf}
 
 -- a window has the form of a graph
 abbrev pub WindowFormLaw : Type 0
@@ -22,3 +23,8 @@ WindowNamesLaw = (plant : Plant) (spans : List Span) (window : Window) → IsPla
 abbrev pub WindowPlacesLaw : Type 0
 WindowPlacesLaw = (plant : Plant) (spans : List Span) (window : Window) (names : Names) (periods : List (List ℕ)) → window_of plant spans ≡ Ok window
     → length names.nodes ≡ 1 + plant.nodes → length names.streams ≡ length plant.arcs → length periods ≡ length spans → HaveNames names periods window
+
+-- each node of a window is one of the plant in a period, and each stream is the flow of an arc in a period or what a tank holds between two
+abbrev pub WindowLaw : Type 0
+WindowLaw = (plant : Plant) (spans : List Span) (window : Window) → window_of plant spans ≡ Ok window
+    → All (IsNodeOf plant spans) window.nodes × All (IsStreamOf plant spans window.nodes) window.streams

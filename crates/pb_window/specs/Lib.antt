@@ -4,4 +4,5 @@ pub mod Window
 pub mod Graph
 pub mod Codes
 pub mod Places
+pub mod Meaning
 pub mod Laws

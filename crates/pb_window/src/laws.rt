@@ -1,6 +1,12 @@
 // What is proved of the definitions alone. The functions are empty: the contract of each is a law.
 
-ghost use Rattle.pb_window.specs.Laws.{WindowFormLaw, WindowNamesLaw, WindowPlacesLaw};
+ghost use Rattle.pb_window.specs.Laws.{WindowFormLaw, WindowLaw, WindowNamesLaw, WindowPlacesLaw};
+
+/// Each node of a window is one of the plant in a period, and each stream is the flow of an arc in a period or what a tank holds
+/// between two.
+pub fn window_law()
+    ensures { WindowLaw }
+{}
 
 /// A window has the form of a graph: each of its streams joins two of its nodes.
 pub fn window_form_law()

@@ -19,7 +19,7 @@ mod window;
 
 pub use codes::{node_code, stream_code};
 pub use graph::{WindowAssembly, window_graph};
-pub use laws::{window_form_law, window_names_law, window_places_law};
+pub use laws::{window_form_law, window_law, window_names_law, window_places_law};
 pub use names::{WindowPlace, window_names, window_places};
 pub use plant::{Plant, PlantArc, Service, Span, is_plant};
 pub use window::{Source, Window, WindowFault, WindowNode, WindowStream, window_of};
