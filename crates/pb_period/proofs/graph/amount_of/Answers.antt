@@ -16,12 +16,12 @@ table_at declared j arc at tank = ap (option_and_then (table_of_arc declared)) a
 pub returns-in_err-strap-in-Tank-clause-value : goal.returns-in_err-strap-in-Tank-clause-value
 returns-in_err-strap-in-Tank-clause-value c =
     let table = table_at (declared_of c.args.book.now) c.args.j c.args.arc.now c.requires.place c.in-Tank.is in
-    let none = rw c.site.ensures at c.in_err-strap-in-Tank.ensures in
+    let none = rw c.site.ensures.value at c.in_err-strap-in-Tank.ensures in
     absurd (cc (none, table))
 
 pub returns-in_ok-strap-in-Tank-clause-value : goal.returns-in_ok-strap-in-Tank-clause-value
 returns-in_ok-strap-in-Tank-clause-value c =
     let table = table_at (declared_of c.args.book.now) c.args.j c.args.arc.now c.requires.place c.in-Tank.is in
-    let some = rw c.site.ensures at c.in_ok-strap-in-Tank.ensures in
+    let some = rw c.site.ensures.value at c.in_ok-strap-in-Tank.ensures in
     let points : c.in_ok-strap-in-Tank.field-0.now ≡ points_of (declared_of c.args.book.now) c.args.arc.now.name = ap (λ (o : Option (List Point)). unwrap_or o c.in_ok-strap-in-Tank.field-0.now) (some ∙ table) in
     rw c.in-Tank.is (rw (c.facts-in-Tank.ensures.value, points) at c.change.ensures.value)

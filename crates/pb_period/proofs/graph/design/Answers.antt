@@ -12,7 +12,7 @@ loop-j-preserved c =
     let arcs = arcs_of (declared_of c.args.book.now) in
     let declared = stream_with base_of in
     let stream : Stream = c.declared_stream.result in
-    let here = rw c.site-site.ensures at c.arc.ensures.value in
+    let here = rw c.site-site.ensures.value at c.arc.ensures.value in
     let is : Some stream ≡ option_map declared (slice_get arcs c.loop-j.j) = ap (λ (s : Stream). Some s) c.declared_stream.ensures.value ∙ sym (ap (option_map declared) here) in
     rw c.in_ok-push.ensures.ok (record {
       nodes = c.loop-j.invariant.nodes;

@@ -45,6 +45,6 @@ returns-clause-answer c = λ _.
     let rows = c.args.book.now in
     let arcs = arcs_of (declared_of rows) in
     let measure = stream_with (measured (declared_of rows) (live_facts (facts_of rows)) c.args.days) in
-    let past : length arcs ≤ c.loop-j.j = rw (← c.site-site.ensures) (omega (arith, c.loop-j-test.false, c.arcs-j-end.ensures.value)) in
+    let past : length arcs ≤ c.loop-j.j = rw (← c.site-site.ensures.value) (omega (arith, c.loop-j-test.false, c.arcs-j-end.ensures.value)) in
     let all = nothing_left measure (streams_of rows c.args.days) c.loop-j.graph.streams arcs c.loop-j.j past c.loop-j.invariant.so_far in
     finished rows c.args.days c.loop-j.graph c.loop-j.invariant.nodes all c.loop-j.invariant.within

@@ -29,7 +29,7 @@ returns-clause-value c =
     let declared = declared_of c.args.book.now in
     let facts = live_facts (facts_of c.args.book.now) in
     let arc = c.arc-arc.result in
-    let at = rw c.site.ensures at c.arc-arc.ensures.value in
+    let at = rw c.site.ensures.value at c.arc-arc.ensures.value in
     stream_at declared facts c.args.days c.args.j arc c.match-amount_of.meas c.stream_of.result at c.stream_of.ensures
     (elim c.match-amount_of.branch [
       | in-Some w ↦

@@ -12,7 +12,7 @@ returns c =
     let state : SessionState = record { options = c.self.inside.options; form = c.self.inside.form; rows = c.self.inside.book } in
     let graph = c.args.graph.now in
     let critical : Critical = c.in_ok-critical.critical in
-    let same : critical ≡ critical_of state.rows = c.in_ok-critical.ensures.value ∙ ap declared_critical c.site.ensures in
+    let same : critical ≡ critical_of state.rows = c.in_ok-critical.ensures.value ∙ ap declared_critical c.site.ensures.value in
     let stage = c.in_ok-stage.stage in
     let is : IsStageOf graph state.options critical stage = c.in_ok-stage.ensures.stage in
     let at_state : IsFirstStage state graph stage = record {
