@@ -16,7 +16,9 @@ mod rows;
 mod texts;
 mod values;
 
-pub use beside::{has_bad_list, leads_to_itself, has_unknown_node, is_half_told, is_round, is_word};
+pub use beside::{
+    has_bad_list, has_unknown_node, is_half_told, is_round, is_word, leads_to_itself,
+};
 pub use fault::{RowFault, lowest};
 pub use heading::heading_in;
 pub use kinds::{is_passed_over, kind_among};

@@ -94,9 +94,13 @@ nodes_tell texts i draft (name ∷ names) (price ∷ prices) long fine ranges ro
     let values : List Value = Word 0 ∷ Name name ∷ Number price ∷ [] in
     let sound : IsSoundRow draft Node row values = record {
       told = told_node draft row (lt-ltb (length draft.nodes) draft.heading.nodes (omega (arith, room))) refl;
-      read = row_back (output_columns Node) row values
-          (refl, (name_back (codes "name") name fine.0,
-          (number_back texts (codes "price") (neg_ℤ (pos most_price)) (pos most_price) price (abs_between most_price price ranges.0), tt)));
+      read = row_back (output_columns Node) row values (
+        refl,
+        (
+          name_back (codes "name") name fine.0,
+          (number_back texts (codes "price") (neg_ℤ (pos most_price)) (pos most_price) price (abs_between most_price price ranges.0), tt),
+        ),
+      );
       beside = node_beside draft name (whole_text price) (record { new = fine.1; env = fine.2 });
     } in
     let leaves : with_row draft row ≡ next =

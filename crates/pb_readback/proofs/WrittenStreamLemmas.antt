@@ -301,19 +301,43 @@ stream_read texts names graph i stream result known joins limits within lt =
     let to : stream.to < length names.nodes = omega (arith, joins.to, known.each_node) in
     let least = least_within result within.least in
     let wide = λ (key : List ℕ) (o : Option ℤ) (h : IfSome o (IsBetween (neg_ℤ (pos (2 ^ 126))) (pos (2 ^ 126)))). optional_back texts key (neg_ℤ (pos (2 ^ 126))) (pos (2 ^ 126)) o h in
-    row_back (output_columns StreamKind) (stream_fields names i stream result) (stream_values names i stream result)
-    (refl, (name_back (codes "name") (name_at names.streams i) (named_at names.streams i known.of_streams.forms lt),
-    (name_back (codes "from") (name_at names.nodes stream.from) (named_at names.nodes stream.from known.form_nodes from),
-    (name_back (codes "to") (name_at names.nodes stream.to) (named_at names.nodes stream.to known.form_nodes to),
-    (optional_back texts (codes "value") (neg_ℤ (pos most_value)) (pos most_value) (value_of stream.meas) (value_range stream.meas limits),
-    (optional_back texts (codes "variance") (pos 1) (pos most_variance) (variance_of stream.meas) (variance_range stream.meas limits),
-    (class_said result.classified.class,
-    (number_back texts (codes "flow") (neg_ℤ (pos (2 ^ 68 - 1))) (pos (2 ^ 68 - 1)) result.flow (under_between (2 ^ 68) result.flow within.flow),
-    (wide (codes "lo") (lo_of result.bounds) (lo_range result.bounds within.bounds),
-    (wide (codes "hi") (hi_of result.bounds) (hi_range result.bounds within.bounds),
-    (wide (codes "least_lo") (lo_of (written_least result)) (lo_range (written_least result) least),
-    (wide (codes "least_hi") (hi_of (written_least result)) (hi_range (written_least result) least),
-    (shape_said result.classified.witness, (refl, (refl, tt)))))))))))))))
+    row_back (output_columns StreamKind) (stream_fields names i stream result) (stream_values names i stream result) (
+      refl,
+      (
+        name_back (codes "name") (name_at names.streams i) (named_at names.streams i known.of_streams.forms lt),
+        (
+          name_back (codes "from") (name_at names.nodes stream.from) (named_at names.nodes stream.from known.form_nodes from),
+          (
+            name_back (codes "to") (name_at names.nodes stream.to) (named_at names.nodes stream.to known.form_nodes to),
+            (
+              optional_back texts (codes "value") (neg_ℤ (pos most_value)) (pos most_value) (value_of stream.meas) (value_range stream.meas limits),
+              (
+                optional_back texts (codes "variance") (pos 1) (pos most_variance) (variance_of stream.meas) (variance_range stream.meas limits),
+                (
+                  class_said result.classified.class,
+                  (
+                    number_back texts (codes "flow") (neg_ℤ (pos (2 ^ 68 - 1))) (pos (2 ^ 68 - 1)) result.flow (under_between (2 ^ 68) result.flow within.flow),
+                    (
+                      wide (codes "lo") (lo_of result.bounds) (lo_range result.bounds within.bounds),
+                      (
+                        wide (codes "hi") (hi_of result.bounds) (hi_range result.bounds within.bounds),
+                        (
+                          wide (codes "least_lo") (lo_of (written_least result)) (lo_range (written_least result) least),
+                          (
+                            wide (codes "least_hi") (hi_of (written_least result)) (hi_range (written_least result) least),
+                            (shape_said result.classified.witness, (refl, (refl, tt))),
+                          ),
+                        ),
+                      ),
+                    ),
+                  ),
+                ),
+              ),
+            ),
+          ),
+        ),
+      ),
+    )
 
 pub stream_fine : HaveOneNumberText → (draft : Draft) (names : Names) (graph : ProcessGraph) (i : ℕ) (stream : Stream) (result : StreamResult) → AreKnownNames names graph
     → IsStream graph.nodes stream → IsWithinLimits stream → IsResultWithin graph result → i < length names.streams → IsAtStream draft names i

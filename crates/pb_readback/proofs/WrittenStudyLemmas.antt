@@ -97,14 +97,28 @@ heading_reads : HaveOneNumberText → (names : Names) (period : List ℕ) (optio
 heading_reads texts names period options round stage h =
     let nodes = stage.graph.nodes in
     let streams = length stage.graph.streams in
-    row_back (output_columns Report) (heading_fields period options round stage) (heading_values period options round stage)
-    (refl, (name_back (codes "period") period h.name,
-    (number_back texts (codes "round") (pos 0) (pos most_round) (pos round) (count_between 0 most_round round (omega arith) h.greatest_round),
-    (number_back texts (codes "nodes") (neg_ℤ (pos (2 ^ 126))) (pos (2 ^ 126)) (pos nodes) (wide_between most_nodes nodes (omega arith) h.graph.few_nodes),
-    (number_back texts (codes "streams") (neg_ℤ (pos (2 ^ 126))) (pos (2 ^ 126)) (pos streams) (wide_between most_streams streams (omega arith) h.graph.few_streams),
-    (number_back texts (codes "gap") (pos 1) (pos most_gap) (pos options.gap) (count_between 1 most_gap options.gap h.asked.some_gap h.asked.greatest_gap),
-    (number_back texts (codes "sweeps") (pos 0) (pos most_sweeps) (pos options.sweeps) (count_between 0 most_sweeps options.sweeps (omega arith) h.asked.greatest_sweeps),
-    tt)))))))
+    row_back (output_columns Report) (heading_fields period options round stage) (heading_values period options round stage) (
+      refl,
+      (
+        name_back (codes "period") period h.name,
+        (
+          number_back texts (codes "round") (pos 0) (pos most_round) (pos round) (count_between 0 most_round round (omega arith) h.greatest_round),
+          (
+            number_back texts (codes "nodes") (neg_ℤ (pos (2 ^ 126))) (pos (2 ^ 126)) (pos nodes) (wide_between most_nodes nodes (omega arith) h.graph.few_nodes),
+            (
+              number_back texts (codes "streams") (neg_ℤ (pos (2 ^ 126))) (pos (2 ^ 126)) (pos streams) (wide_between most_streams streams (omega arith) h.graph.few_streams),
+              (
+                number_back texts (codes "gap") (pos 1) (pos most_gap) (pos options.gap) (count_between 1 most_gap options.gap h.asked.some_gap h.asked.greatest_gap),
+                (
+                  number_back texts (codes "sweeps") (pos 0) (pos most_sweeps) (pos options.sweeps) (count_between 0 most_sweeps options.sweeps (omega arith) h.asked.greatest_sweeps),
+                  tt,
+                ),
+              ),
+            ),
+          ),
+        ),
+      ),
+    )
 
 heading_back : HaveOneNumberText → (names : Names) (period : List ℕ) (options : Options) (round : ℕ) (stage : Stage) → IsStageToWrite names period options round stage
     → heading_in (heading_fields period options round stage) ≡ stage_heading period options round stage

@@ -108,14 +108,28 @@ solved_tells texts names draft stage at order formed =
     let sound : IsSoundRow draft Solved row values = record {
       told = told_behind draft Solved row (at.all_nodes, at.all_streams) (solved_after draft.last (whole_text (pos (sweeps_of stage.solved))) (state_word stage.solved)
           (whole_text (pos stage.g)) (whole_text (pos stage.h)) (whole_text (pos stage.dof)) (whole_text stage.low) (optional_text stage.high) order);
-      read = row_back (output_columns Solved) row values
-          (refl, (number_back texts (codes "k") (pos 0) (pos most_sweeps) (pos (sweeps_of stage.solved)) (count_between 0 most_sweeps (sweeps_of stage.solved) (omega arith) formed.sweeps),
-          (state_said stage.solved,
-          (number_back texts (codes "g") (pos 0) (pos (2 ^ 63)) (pos stage.g) (count_between 0 (2 ^ 63) stage.g (omega arith) formed.g),
-          (number_back texts (codes "h") (pos 0) (pos 32) (pos stage.h) (count_between 0 32 stage.h (omega arith) formed.h),
-          (number_back texts (codes "dof") (pos 0) (pos most_freedom) (pos stage.dof) (count_between 0 most_freedom stage.dof (omega arith) formed.dof),
-          (number_back texts (codes "low") (neg_ℤ (pos (2 ^ 126))) (pos (2 ^ 126)) stage.low (abs_between (2 ^ 126) stage.low formed.low),
-          (optional_back texts (codes "high") (neg_ℤ (pos (2 ^ 126))) (pos (2 ^ 126)) stage.high (wide_range stage.high formed.high), tt))))))));
+      read = row_back (output_columns Solved) row values (
+        refl,
+        (
+          number_back texts (codes "k") (pos 0) (pos most_sweeps) (pos (sweeps_of stage.solved)) (count_between 0 most_sweeps (sweeps_of stage.solved) (omega arith) formed.sweeps),
+          (
+            state_said stage.solved,
+            (
+              number_back texts (codes "g") (pos 0) (pos (2 ^ 63)) (pos stage.g) (count_between 0 (2 ^ 63) stage.g (omega arith) formed.g),
+              (
+                number_back texts (codes "h") (pos 0) (pos 32) (pos stage.h) (count_between 0 32 stage.h (omega arith) formed.h),
+                (
+                  number_back texts (codes "dof") (pos 0) (pos most_freedom) (pos stage.dof) (count_between 0 most_freedom stage.dof (omega arith) formed.dof),
+                  (
+                    number_back texts (codes "low") (neg_ℤ (pos (2 ^ 126))) (pos (2 ^ 126)) stage.low (abs_between (2 ^ 126) stage.low formed.low),
+                    (optional_back texts (codes "high") (neg_ℤ (pos (2 ^ 126))) (pos (2 ^ 126)) stage.high (wide_range stage.high formed.high), tt),
+                  ),
+                ),
+              ),
+            ),
+          ),
+        ),
+      );
       beside = refl;
     } in
     let read : said_solution values ≡ solution_in stage = rw (solved_back stage.solved, said_back stage.high) refl in
@@ -201,12 +215,22 @@ nodals_tell texts names graph known draft kind tests (test ∷ todo) at order wi
     let sound : IsSoundRow told Nodal row values = record {
       told = told_behind told Nodal row (at.all_nodes, at.all_streams)
           (nodal_after kind (name_at names.nodes test.node) (whole_text test.net) (whole_text test.variance) (optional_text test.critical) (verdict_word test.verdict) order);
-      read = row_back (output_columns Nodal) row values
-          (refl, (name_back (codes "node") (name_at names.nodes test.node) (named_at names.nodes test.node known.form_nodes below),
-          (number_back texts (codes "net") (neg_ℤ (pos (2 ^ 126))) (pos (2 ^ 126)) test.net (abs_between (2 ^ 126) test.net within.0.net),
-          (number_back texts (codes "variance") (neg_ℤ (pos (2 ^ 126))) (pos (2 ^ 126)) test.variance (abs_between (2 ^ 126) test.variance within.0.variance),
-          (optional_back texts (codes "critical") (pos 0) (pos most_critical) test.critical (critical_range test.critical within.0.critical),
-          (verdict_said test.verdict, tt))))));
+      read = row_back (output_columns Nodal) row values (
+        refl,
+        (
+          name_back (codes "node") (name_at names.nodes test.node) (named_at names.nodes test.node known.form_nodes below),
+          (
+            number_back texts (codes "net") (neg_ℤ (pos (2 ^ 126))) (pos (2 ^ 126)) test.net (abs_between (2 ^ 126) test.net within.0.net),
+            (
+              number_back texts (codes "variance") (neg_ℤ (pos (2 ^ 126))) (pos (2 ^ 126)) test.variance (abs_between (2 ^ 126) test.variance within.0.variance),
+              (
+                optional_back texts (codes "critical") (pos 0) (pos most_critical) test.critical (critical_range test.critical within.0.critical),
+                (verdict_said test.verdict, tt),
+              ),
+            ),
+          ),
+        ),
+      );
       beside = rw there refl;
     } in
     let read : said_nodal draft.nodes row values ≡ test = rw (place, said_back test.critical, verdict_back test.verdict) refl in
@@ -249,12 +273,22 @@ measures_tell texts names graph known draft kind tests (test ∷ todo) at order 
     let sound : IsSoundRow told Measure row values = record {
       told = told_behind told Measure row (at.all_nodes, at.all_streams)
           (measure_after kind (name_at names.streams test.stream) (whole_text test.low) (optional_text test.high) (optional_text test.critical) (verdict_word test.verdict) order);
-      read = row_back (output_columns Measure) row values
-          (refl, (name_back (codes "stream") (name_at names.streams test.stream) (named_at names.streams test.stream known.of_streams.forms below),
-          (number_back texts (codes "low") (neg_ℤ (pos (2 ^ 126))) (pos (2 ^ 126)) test.low (abs_between (2 ^ 126) test.low within.0.low),
-          (optional_back texts (codes "high") (neg_ℤ (pos (2 ^ 126))) (pos (2 ^ 126)) test.high (wide_range test.high within.0.high),
-          (optional_back texts (codes "critical") (pos 0) (pos most_critical) test.critical (critical_range test.critical within.0.critical),
-          (verdict_said test.verdict, tt))))));
+      read = row_back (output_columns Measure) row values (
+        refl,
+        (
+          name_back (codes "stream") (name_at names.streams test.stream) (named_at names.streams test.stream known.of_streams.forms below),
+          (
+            number_back texts (codes "low") (neg_ℤ (pos (2 ^ 126))) (pos (2 ^ 126)) test.low (abs_between (2 ^ 126) test.low within.0.low),
+            (
+              optional_back texts (codes "high") (neg_ℤ (pos (2 ^ 126))) (pos (2 ^ 126)) test.high (wide_range test.high within.0.high),
+              (
+                optional_back texts (codes "critical") (pos 0) (pos most_critical) test.critical (critical_range test.critical within.0.critical),
+                (verdict_said test.verdict, tt),
+              ),
+            ),
+          ),
+        ),
+      );
       beside = rw there refl;
     } in
     let read : said_measure draft.streams row values ≡ test = rw (place, said_back test.high, said_back test.critical, verdict_back test.verdict) refl in

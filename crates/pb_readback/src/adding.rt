@@ -19,8 +19,8 @@ ghost use Rattle.pb_readback.specs.Reading.{IsUnderWay, MayCome};
 
 use crate::draft::Draft;
 use pb_blocks::{
-    Heading, Known, RowFault, Solution, said_arc, said_global, kind_among, lowest, said_measure,
-    name_field, said_nodal, said_price, said_solution, said_stream,
+    Heading, Known, RowFault, Solution, kind_among, lowest, name_field, said_arc, said_global,
+    said_measure, said_nodal, said_price, said_solution, said_stream,
 };
 use pb_form::{Fields, OutputKind, Values, output_schema, read};
 use pb_graph::{Graph, List, MeasureTest, NodalTest, Solved, Tests};
@@ -153,7 +153,8 @@ impl Draft {
         ensures { OnOk result (self.new ≡ with_stream kind fields.now self.old) }
     {
         let row = said_stream(alloc, &self.nodes, kind, fields, values)?;
-        self.graph.push(said_arc(&self.nodes, kind, fields, values))?;
+        self.graph
+            .push(said_arc(&self.nodes, kind, fields, values))?;
         self.streams.add(name_field(fields))?;
         self.rows.push(row)
     }

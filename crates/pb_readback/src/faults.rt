@@ -5,7 +5,7 @@ ghost use Rattle.pb_readback.specs.Faults.{fault_beside, is_duplicate, is_loop, 
 
 use crate::draft::Draft;
 use pb_blocks::{
-    RowFault, has_bad_list, leads_to_itself, has_unknown_node, is_half_told, is_round, is_word,
+    RowFault, has_bad_list, has_unknown_node, is_half_told, is_round, is_word, leads_to_itself,
     name_field,
 };
 use pb_form::{Fields, OutputKind};
