@@ -95,7 +95,8 @@ def session_grammar() -> str:
     for row in schema().session:
         name = f"{row.kind}-{row.variant}" if row.variant else row.kind
         names[name] = None
-        lines += line_of(name, map(session_rule, row.columns), row.kind, map(session_rule, row.tail))
+        columns, more = map(session_rule, row.columns), map(session_rule, row.tail)
+        lines += line_of(name, columns, row.kind, more)
         for column in (*row.columns, *row.tail):
             if column.type == "number" and rule_of(column) != '"0"':
                 numbers.setdefault(rule_of(column), column)
@@ -159,8 +160,8 @@ def output_grammar() -> str:
     """Return the grammar of an output's rows."""
     lines = []
     for row in schema().output.values():
-        columns, tail = map(output_rule, row.columns), map(output_rule, row.tail)
-        lines += line_of(f"{row.kind}-row", columns, row.kind, tail)
+        columns, more = map(output_rule, row.columns), map(output_rule, row.tail)
+        lines += line_of(f"{row.kind}-row", columns, row.kind, more)
         if row.without:
             older = [column for column in row.columns if column.name not in row.without]
             rules = (output_rule(column) for column in older)

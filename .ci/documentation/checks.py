@@ -2,17 +2,18 @@
 
 from __future__ import annotations
 
-from . import citations, forms, guide, numbers, rows, statement
+from . import answers, citations, forms, guide, numbers, rows, statement
 from .sources import TOP, Sources
 
 
 def made(sources: Sources) -> dict[str, str]:
     """Return the text of each file that is made, or has a part that is."""
-    table = numbers.table(sources)
-    assurance = sources.text(numbers.ASSURANCE)
+    path = numbers.ASSURANCE
+    assurance = guide.between(sources.text(path), numbers.NUMBERS, numbers.table(sources), path)
+    assurance = guide.between(assurance, answers.ANSWERS, answers.table(sources), path)
     return {
         statement.STATEMENT: statement.document(sources),
-        numbers.ASSURANCE: guide.between(assurance, numbers.NUMBERS, table, numbers.ASSURANCE),
+        path: assurance,
         guide.GUIDE: guide.document(sources),
         rows.SCHEMA: rows.text_of(guide.schema(sources)[0]),
         **numbers.times(sources),
@@ -35,7 +36,7 @@ def stale(sources: Sources) -> list[str]:
 
 
 def heads(sources: Sources) -> list[str]:
-    """Return the files of definitions that say neither Statement nor Inside, or the wrong one of these."""
+    """Return the files of definitions that don't say, or say wrongly, what they are."""
     found = [
         f"{spec.path}: its first line says neither Statement nor Inside"
         for spec in sources.specs.values()

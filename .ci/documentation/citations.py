@@ -1,4 +1,7 @@
-"""Whether what documents cite is there: names of the sources, files, edits, rows of examples, lemma files."""
+"""Whether what documents cite is there.
+
+Names of the sources, files, edits, rows of examples and lemma files.
+"""
 
 from __future__ import annotations
 
@@ -6,30 +9,42 @@ import re
 from collections.abc import Iterator
 from functools import cached_property
 
-from .rust import TYPE
 from .sources import Sources, Unknown
 
 # Documents of those who change the sources, and those of users.
-INNER = ("README.md", *(f"docs/{name}.md" for name in ("ARCHITECTURE", "ASSURANCE", "DECISIONS", "DEFINITIONS")))
+INNER = (
+    "README.md",
+    "docs/ARCHITECTURE.md",
+    "docs/ASSURANCE.md",
+    "docs/DECISIONS.md",
+    "docs/DEFINITIONS.md",
+    ".ci/documentation/clauses.md",
+)
 OUTER = (
     "CHANGELOG.md",
-    *(f"docs/{name}.md" for name in ("FORMAT", "GUIDE", "MONTH_END", "OPERATIONS", "PYTHON")),
+    "docs/FORMAT.md",
+    "docs/GUIDE.md",
+    "docs/MONTH_END.md",
+    "docs/OPERATIONS.md",
+    "docs/PYTHON.md",
 )
 # Folders of the repository: a path that begins with one of these is one of its files.
 FOLDERS = ("bench", "crates", "docs", "examples", "packaging", "python", ".ci")
-# Endings of files; the documents of users name files of theirs.
-ENDINGS = ("rt", "antt", "py", "edit", "csv", "md", "txt", "jsonl")
+# Folders of a crate.
+PARTS = ("src", "specs", "proofs")
+# A file by its ending; the documents of users name files of theirs.
+FILE = re.compile(r"\w\.(?:rt|antt|py|edit|csv|md|txt|jsonl)$")
 QUOTED = re.compile(r"`([^`\n]+)`")
 PATH = re.compile(r"[A-Za-z0-9_.*-]+(?:/[A-Za-z0-9_.*-]+)*/?")
-# A word in place of which a name is to be put.
-PLACEHOLDER = re.compile(r"(?:^|[/.])(?:[A-Z]+|\.\.)(?:[/.]|$)")
+# A word in the place of which a name is to be put, and a folder of what tools make.
+OPEN = re.compile(r"(?:^|[/.])(?:[A-Z]+|\.\.|out)(?:[/.]|$)")
 NAME = re.compile(r"[A-Za-z_][A-Za-z0-9_']*(?:(?:::|\.)[A-Za-z_][A-Za-z0-9_']*)*")
-# The crates of the kit that documents speak of, and words of its logic and of Rust.
-KIT = set("csv jiff jiff_core clap serde_json indexmap thiserror std specs proofs src".split())
+# The crates of the kit that documents speak of: what is theirs isn't looked up.
+KIT = {"csv", "jiff", "jiff_core", "clap", "serde_json", "indexmap", "thiserror", "std"}
 
 
 def quotes(sources: Sources, path: str) -> Iterator[tuple[int, str]]:
-    """Return what stands between backticks in a document, with its line; blocks of code are left out."""
+    """Return what stands between backticks in a document, outside of code, with its line."""
     block = False
     for number, line in enumerate(sources.text(path).splitlines(), 1):
         if line.startswith("```"):
@@ -47,8 +62,8 @@ class Known:
 
     @cached_property
     def defined(self) -> set[str]:
-        """Crates, definitions, and what the code has of functions, types, constants and variants."""
-        found = {*self.sources.crates, *KIT}
+        """Crates and definitions; functions, types, constants and variants of the code."""
+        found = {*self.sources.crates, *KIT, *PARTS}
         for spec in self.sources.specs.values():
             found |= set(spec.names)
         for path in self.sources.code:
@@ -59,29 +74,31 @@ class Known:
 
     @cached_property
     def names(self) -> set[str]:
-        """These, members of definitions, fields, labels of clauses, modules, lemmas, edits and names of scripts."""
-        found = set(self.defined)
+        """These; members, fields, clauses, lemmas, tests, modules, edits, scripts, what is used."""
+        found = {*self.defined, *self.scripts}
         for spec in self.sources.specs.values():
             found |= {*spec.module.split("."), *(name for _, name in spec.imports.names.values())}
             for definition in spec.definitions:
                 found |= set(definition.members)
         for path in self.sources.files(r"crates/[^/]+/(?:src|proofs)/.*"):
-            found |= {*path.partition(".")[0].split("/")}
             text = self.sources.text(path)
+            found |= {*path.partition(".")[0].split("/")}
             found |= set(re.findall(r"^(?:pub )?([A-Za-z_][\w']*) :", text, re.M))
-            found |= set(re.findall(r"\bensures (\w+)", text))
+            found |= set(re.findall(r"\b(?:ensures|fn) (\w+)", text))
+            for used in re.findall(r"^ *(?:pub )?use ([^;]*);", text, re.M):
+                found |= set(re.findall(r"\w+", used))
             found |= set(re.findall(r"^ +(?:pub(?:\([a-z]+\))? )?(\w+): ", text, re.M))
         for path in self.sources.files(r"crates/.*\.edit"):
             found.add(path.rpartition("/")[2].partition(".")[0])
-        return found | self.scripts
+        return found
 
     @cached_property
     def scripts(self) -> set[str]:
         """The names of scripts: modules, functions, classes, and what is assigned or annotated."""
         found = {"plantbal"}
-        for path in self.sources.files(r".*\.py|\.ci/[^/.]+|(?:examples|packaging|bench)/[^/.]+"):
-            found.add(path.rpartition("/")[2].partition(".")[0])
+        for path in self.sources.files(r".*\.py|(?:\.ci|examples|packaging|bench)/[^/.]+"):
             text = self.sources.text(path)
+            found.add(path.rpartition("/")[2].partition(".")[0])
             found |= set(re.findall(r"\b(?:def|class) (\w+)", text))
             found |= set(re.findall(r"^ *(?:self\.)?(\w+)(?::| =)", text, re.M))
         return found
@@ -110,24 +127,20 @@ class Known:
 
 def is_path(quoted: str, inner: bool) -> bool:
     """Return whether a quoted text is a path into the sources."""
-    if not PATH.fullmatch(quoted) or PLACEHOLDER.search(quoted) or quoted.startswith("/"):
-        return False
-    if "/out/" in f"{quoted}/":
+    if not PATH.fullmatch(quoted) or OPEN.search(quoted) or quoted.startswith("/"):
         return False
     first, slash, _ = quoted.partition("/")
     if slash and first in FOLDERS:
         return True
-    return inner and bool(
-        re.search(rf"\w\.({'|'.join(ENDINGS)})$", quoted)
-        or slash and (first in {"src", "specs", "proofs"} or first.startswith("pb_"))
-    )
+    in_crate = bool(slash) and (first in PARTS or first.startswith("pb_"))
+    return inner and (in_crate or FILE.search(quoted) is not None)
 
 
 def is_name(quoted: str) -> bool:
-    """Return whether a quoted text is a name of the sources, which no word of a format or a command is."""
+    """Return whether a quoted text is a name of the sources, and no word of a format."""
     if not NAME.fullmatch(quoted) or quoted.isupper():
         return False
-    return "::" in quoted or re.search(r"[a-z0-9]_[a-z]|[a-z][A-Z]", quoted) is not None
+    return re.search(r"::|[a-z0-9]_[a-z]|[a-z][A-Z]", quoted) is not None
 
 
 def missing(sources: Sources) -> list[str]:
@@ -140,7 +153,8 @@ def missing(sources: Sources) -> list[str]:
                 if not known.has_path(quoted):
                     found.append(f"{path}:{line}: there is no `{quoted}`")
             elif inner and is_name(quoted):
-                if any(word not in known.names for word in re.split(r"::|\.", quoted)):
+                words = re.split(r"::|\.", quoted)
+                if words[0] not in KIT and not known.names.issuperset(words):
                     found.append(f"{path}:{line}: `{quoted}` is no name of the sources")
     return found + not_defined(sources, known) + conformance(sources)
 
@@ -149,23 +163,24 @@ def not_defined(sources: Sources, known: Known) -> list[str]:
     """Return the words of docs/DEFINITIONS.md that are no definition, crate, type or call."""
     path = "docs/DEFINITIONS.md"
     return [
-        f"{path}:{line}: `{quoted}` is no name of the sources"
+        f"{path}:{line}: `{quoted}` is defined nowhere"
         for line, quoted in quotes(sources, path)
         if re.fullmatch(r"[A-Za-z_0-9:]+", quoted)
-        and any(word not in known.defined for word in quoted.split("::"))
+        and not known.defined.issuperset(quoted.split("::"))
     ]
 
 
 def conformance(sources: Sources) -> list[str]:
     """Return the conformance files that docs/FORMAT.md names and that aren't there."""
     path = "docs/FORMAT.md"
-    _, heading, table = sources.text(path).partition("\n## Conformance files\n")
-    names = [name for row in re.findall(r"^\| (`.*?`) \|", table, re.M) for name in QUOTED.findall(row)]
-    if not heading or not names:
+    _, _, table = sources.text(path).partition("\n## Conformance files\n")
+    cells = re.findall(r"^\| (`.*?`) \|", table, re.M)
+    if not cells:
         raise Unknown(f"{path} has no table of conformance files")
     return [
         f"{path}: there is no examples/conformance/{name}.in"
-        for name in names
+        for cell in cells
+        for name in QUOTED.findall(cell)
         if not sources.has(f"examples/conformance/{name}.in")
     ]
 
@@ -173,24 +188,28 @@ def conformance(sources: Sources) -> list[str]:
 def edits(sources: Sources) -> list[str]:
     """Return the edits that docs/ASSURANCE.md names and that aren't there."""
     path = "docs/ASSURANCE.md"
+    cited = re.findall(r"^\| `(\w+)`, `(\w+)` \|", sources.text(path), re.M)
     return [
         f"{path}: there is no edit {name} of {crate}"
-        for crate, name in re.findall(r"^\| `(\w+)`, `(\w+)` \|", sources.text(path), re.M)
-        if not any(sources.has(f"crates/{crate}/{part}/{name}.edit") for part in ("must-fail", "planted"))
+        for crate, name in cited
+        if not sources.files(rf"crates/{crate}/(?:must-fail|planted)/{name}\.edit")
     ]
 
 
 def rows_of_examples(sources: Sources) -> list[str]:
     """Return the rows that the guide quotes and that no example has."""
-    path = "docs/GUIDE.md"
-    rows = {row for one in sources.files(r"examples/.*\.csv") for row in sources.text(one).splitlines()}
+    path, rows = "docs/GUIDE.md", set()
+    for example in sources.files(r"examples/.*\.csv"):
+        rows |= set(sources.text(example).splitlines())
     kinds = "|".join(sorted({row.split(",")[0] for row in rows if "," in row}))
     found = []
     for number, line in enumerate(sources.text(path).splitlines(), 1):
         quoted = line[4:]
-        if line.startswith("    ") and re.match(rf"({kinds}),", quoted):
-            if not re.search(r",[A-Z]+,[A-Z]+", quoted) and not any(one.startswith(quoted) for one in rows):
-                found.append(f"{path}:{number}: no example has the row {quoted}")
+        if not line.startswith("    ") or not re.match(rf"({kinds}),", quoted):
+            continue
+        shape = re.search(r",[A-Z]+,[A-Z]+", quoted)
+        if not shape and not any(row.startswith(quoted) for row in rows):
+            found.append(f"{path}:{number}: no example has the row {quoted}")
     return found
 
 

@@ -21,9 +21,16 @@ LEVELS: list[dict[str, Callable[[Any, Any], Any]]] = [
     {"*": lambda one, other: one * other},
     {"^": lambda base, power: base**power},
 ]
+# What the library calls texts and signed numbers.
+LIBRARY: dict[str, Callable[[Any], Any]] = {
+    "codes": lambda text: text,
+    "pos": lambda number: number,
+    "neg_ℤ": lambda number: -number,
+}
 # An expression: its form, and what belongs to it.
 Expression = tuple[Any, ...]
-# A number, a text, a list, the fields of a record, a constructor, or a definition that lacks arguments.
+# A number, a text, a list, the fields of a record, a constructor, or a definition that lacks
+# arguments.
 Value = Any
 
 
@@ -193,10 +200,9 @@ class Values:
             return operator(self.value(left, spec, names), self.value(right, spec, names))
         first, parts = inside
         arguments = [self.value(part, spec, names) for part in parts]
-        library = {"codes": lambda text: text, "pos": lambda n: n, "neg_ℤ": lambda n: -n}
         if first[0] == "word" and first[1] not in names:
-            if first[1] in library and len(arguments) == 1:
-                return library[first[1]](arguments[0])
+            if first[1] in LIBRARY and len(arguments) == 1:
+                return LIBRARY[first[1]](arguments[0])
             if first[1] == "map" and len(arguments) == 2:
                 return [self.applied(arguments[0], [item], spec) for item in arguments[1]]
         return self.applied(self.value(first, spec, names), arguments, spec)

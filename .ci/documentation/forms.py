@@ -1,7 +1,7 @@
 """Forms of the sources that are to become fewer: what there is of each, and how many there may be.
 
-.ci/at_most.txt has a number for each. `.ci/documents write` lowers a number to what there is and never raises it;
-`.ci/documents check` refuses more.
+.ci/at_most.txt has a number for each. `.ci/documents write` lowers a number to what there is and
+never raises it; `.ci/documents check` refuses more.
 """
 
 from __future__ import annotations
@@ -10,30 +10,30 @@ import re
 from collections.abc import Callable
 from functools import cache
 
-from .rust import Function, functions
+from .answers import unreached
+from .rust import Function, of_libraries
 from .sources import Sources, Unknown
 from .statement import page_of, repeated, short
 
 AT_MOST = ".ci/at_most.txt"
 # One operator over two operands, or before one.
-OPERAND = r"(?:\*|&)?(?:(?P<{0}>[a-z_][a-z_0-9]*)|[0-9][0-9_]*|[A-Z][A-Z_0-9]*)"
-ONE_OPERATOR = re.compile(
-    rf"(?:{OPERAND.format('left')} (?:[-+*/%&|^]|&&|\|\||[=!]=|[<>]=?|<<|>>) |[-!]){OPERAND.format('right')}"
-)
+OPERAND = r"[*&]?(?:([a-z_][a-z_0-9]*)|[0-9][0-9_]*|[A-Z][A-Z_0-9]*)"
+OPERATOR = r"[-+*/%&|^]|&&|\|\||[=!]=|[<>]=?|<<|>>"
+ONE_OPERATOR = re.compile(rf"(?:{OPERAND} (?:{OPERATOR}) |[-!]){OPERAND}")
 LAWS = re.compile(r"\s*(?:(?:\w+(?:\.|::))*\w+_laws?\([^;]*\);?\s*)*")
 
 
 @cache
 def working(sources: Sources) -> list[Function]:
-    """Return the functions that do something: none of tests, and no law, which cites other laws at the most."""
-    found = functions(sources, sources.code)
+    """Return the functions that do something: none of tests, and none that only cites laws."""
+    found = of_libraries(sources)
     return [one for one in found if one.body and not LAWS.fullmatch(one.body)]
 
 
 def places(found: list[Function], pattern: str) -> list[str]:
     """Return each place of a pattern in bodies."""
     return [
-        f"{short(one.path)}: {one.called}: {text}"
+        f"{short(one.path)}:{one.line}: {one.called}: {text}"
         for one in found
         for text in re.findall(pattern, one.body or "")
     ]
@@ -52,7 +52,7 @@ def calls_for_clauses(sources: Sources) -> list[str]:
 def unused_parameters(sources: Sources) -> list[str]:
     """Return the parameters that a body doesn't use, but for those that a trait asks for."""
     return [
-        f"{short(one.path)}: {one.called}: {name}"
+        f"{short(one.path)}:{one.line}: {one.called}: {name}"
         for one in working(sources)
         for name, _ in one.parameters
         if name.startswith("_") and not one.trait
@@ -60,7 +60,7 @@ def unused_parameters(sources: Sources) -> list[str]:
 
 
 def unreachable(sources: Sources) -> list[str]:
-    """Return the places that are never come to."""
+    """Return the places that say that nothing reaches them."""
     return places(working(sources), r"unreachable!\(")
 
 
@@ -71,7 +71,7 @@ def one_operator(sources: Sources) -> list[str]:
         formed = ONE_OPERATOR.fullmatch((one.body or "").strip())
         names = {name for name, _ in one.parameters}
         if formed and not one.trait and {x for x in formed.groups() if x} <= names:
-            found.append(f"{short(one.path)}: {one.called}: {(one.body or '').strip()}")
+            found.append(f"{short(one.path)}:{one.line}: {one.called}: {(one.body or '').strip()}")
     return found
 
 
@@ -94,6 +94,7 @@ FORMS: dict[str, Callable[[Sources], list[str]]] = {
     "unused_parameters": unused_parameters,
     "unreachable_places": unreachable,
     "functions_of_one_operator": one_operator,
+    "answers_that_nothing_reaches": unreached,
 }
 
 

@@ -1,4 +1,4 @@
-"""What docs/GUIDE.md says of rows and codes, held against the tables, and the parts of it that are made."""
+"""What docs/GUIDE.md says of rows and codes, and the parts of it that are made."""
 
 from __future__ import annotations
 
@@ -143,7 +143,7 @@ class Guide:
             names = [column["name"] for column in columns_of(row)]
             if sorted(seen[kind]) != sorted(names):
                 self.say(
-                    f"a {kind} row has the columns {', '.join(names)}, and all rows of the output"
+                    f"`{kind}` rows have the columns {', '.join(names)}, and all rows of the output"
                     f" say {', '.join(seen[kind])}"
                 )
 
@@ -163,7 +163,7 @@ class Guide:
         by_kind: dict[str, Data],
         seen: dict[str, list[str]],
     ) -> None:
-        """Give columns what a row of a table says of them: their kinds, if it has several; names; words."""
+        """Give columns what a row of a table says: kinds if there are several, names, words."""
         wide = len(cells) == 3
         kinds = re.findall(r"`([a-z]+)`", cells[0]) if wide else own[:1]
         if wide and cells[0] == "all three":
@@ -233,13 +233,15 @@ def schema(sources: Sources) -> tuple[Data, list[str]]:
     return data, guide.complaints
 
 
-def contents_of(text: str, least: int = 2) -> list[str]:
-    """Return the headings of a text as a list of links, from those of this depth on, two deep."""
-    lines = []
-    for marks, heading in re.findall(rf"^({'#' * least}#?) (.*)$", text, re.M):
-        anchor = re.sub(r"[^a-z0-9 _-]", "", heading.lower()).replace(" ", "-")
-        lines.append(f"{'  ' * (len(marks) - least)}- [{heading}](#{anchor})")
-    return lines
+def anchor_of(heading: str) -> str:
+    """Return what a link calls a heading."""
+    return "#" + re.sub(r"[^a-z0-9 _-]", "", heading.lower()).replace(" ", "-")
+
+
+def contents_of(text: str) -> list[str]:
+    """Return the headings of a text as a list of links."""
+    headings = re.findall(r"^##(#?) (.*)$", text, re.M)
+    return [f"{'  ' * len(deep)}- [{title}]({anchor_of(title)})" for deep, title in headings]
 
 
 def keys(sources: Sources) -> list[str]:

@@ -1,4 +1,4 @@
-"""The numbers of docs/ASSURANCE.md, counted in the sources, and the times of docs/times.txt in words."""
+"""The numbers of docs/ASSURANCE.md, counted in the sources, and the times of docs/times.txt."""
 
 from __future__ import annotations
 
@@ -91,31 +91,31 @@ def front(t: dict[str, int]) -> list[str]:
 
 def paragraphs(t: dict[str, int]) -> list[str]:
     """Return the section on times of docs/ARCHITECTURE.md."""
-    in_lanes = {lanes: t["limit_processor_minutes"] // lanes + t["limit_more_minutes"] for lanes in (4, 2)}
+    limit, more = t["limit_processor_minutes"], t["limit_more_minutes"]
     found = (
         f"`rt ci` takes about {t['gate_minutes_on_four']} minutes on four processors and"
-        f" {t['gate_minutes_on_two']} on two. These are some {t['gate_processor_minutes']} processor"
-        f" minutes: {t['proofs_processor_minutes']} for the proofs, {t['tests_processor_minutes']}"
+        f" {t['gate_minutes_on_two']} on two. These are some {t['gate_processor_minutes']}"
+        f" processor minutes: {t['proofs_processor_minutes']} for the proofs,"
+        f" {t['tests_processor_minutes']}"
         f" for the tests, and {t['edits_processor_minutes']} for the edits, more than a third of"
         " them for the proof that comes before a crate's first edit. What `.ci/run` does after it"
         f" takes {t['checks_minutes']} minutes, `./build` {t['build_minutes_on_four']} on four"
         f" processors, and an answer before the build {t['first_answer_seconds']} seconds. The"
-        " numbers of `rt ci` are reckoned from a whole run in four lanes and from what was cut"
-        " since; docs/times.txt says how.",
+        " number on two processors is reckoned from the run on four; docs/times.txt says how.",
         "All of these are from nothing. Some releases of the kit keep what earlier runs of `rt ci`"
         " proved, and a run then takes the time of what changed and of the crates above it. With"
         " the others each run is one from nothing. `rt check` and `rt lib` keep their work in"
         " `out/` with all releases.",
-        f"**The budget is {t['budget_processor_minutes']} processor minutes in all**: an hour on"
-        " four processors, a hundred minutes on two. `.ci/run` ends with what took how long, by"
-        " kind, task and crate, and fails if `rt ci` took more than"
-        f" {t['limit_processor_minutes']} minutes divided by its lanes, plus"
-        f" {t['limit_more_minutes']}: {in_lanes[4]} minutes in four lanes, {in_lanes[2]} in two. It"
-        " runs as many tasks side by side as there are processors, and 3.5 GB of free memory for"
-        " each (`RT_JOBS`).",
+        f"**The budget is an hour on four processors and a hundred minutes on two**: about"
+        f" {t['budget_processor_minutes']} minutes of a quiet processor, of which four busy ones make"
+        " a third more. `.ci/run` ends with what took how long, by"
+        f" kind, task and crate, and fails if `rt ci` took more than {limit} minutes divided by its"
+        f" lanes, plus {more}: {limit // 4 + more} minutes in four lanes, {limit // 2 + more} in"
+        " two. It runs as many tasks side by side as there are processors, and 3.5 GB of free"
+        " memory for each (`RT_JOBS`).",
     )
-    filled = [textwrap.fill(one, 135, break_long_words=False, break_on_hyphens=False) for one in found]
-    return "\n\n".join(filled).split("\n")
+    wide = textwrap.TextWrapper(135, break_long_words=False, break_on_hyphens=False)
+    return "\n\n".join(map(wide.fill, found)).split("\n")
 
 
 def times(sources: Sources) -> dict[str, str]:

@@ -1,7 +1,8 @@
 """The rows of a session and of an output as data: python/plantbal/schema.json.
 
-Kinds, columns, keys, ranges and words stand in the two tables of `pb_form` alone, the limits in `pb_limits`, and what they mean in
-words in docs/GUIDE.md. A form of a table that isn't known here ends with a sentence that names it.
+Kinds, columns, keys, ranges and words stand in the two tables of `pb_form` alone, the limits in
+`pb_limits`, and what they mean in words in docs/GUIDE.md. A form of a table that isn't known here
+ends with a sentence that names it.
 """
 
 from __future__ import annotations
@@ -103,7 +104,7 @@ def session(sources: Sources) -> list[Data]:
 
 
 def output(sources: Sources) -> list[Data]:
-    """Return the rows of an output; a second kind of a word is an older form, without some columns."""
+    """Return the rows of an output; a second kind of a word is an older form with fewer columns."""
     found: dict[str, Data] = {}
     for kind in kinds_of(sources, "pb_form.specs.OutputRows", "output"):
         row = found.get(kind.word)
@@ -166,11 +167,10 @@ def flat(item: object) -> str:
     return json.dumps(item, ensure_ascii=False)
 
 
-def block(name: str, items: list[str], ends: str) -> str:
+def member(name: str, items: list[str], begin: str = "[", end: str = "]") -> str:
     """Return a member of the file with a line for each of its items."""
-    opens, closes = ends
     lines = ",\n".join(f"    {item}" for item in items)
-    return f"  {flat(name)}: {opens}\n{lines}\n  {closes}"
+    return f"  {flat(name)}: {begin}\n{lines}\n  {end}"
 
 
 def row_text(row: Data) -> str:
@@ -183,9 +183,9 @@ def row_text(row: Data) -> str:
 def text_of(data: Data) -> str:
     """Return the text of the file."""
     parts = [f'  "about": {flat(data["about"])}']
-    parts.append(block("limits", [f"{flat(k)}: {n}" for k, n in data["limits"].items()], "{}"))
-    for name in ("session", "output"):
-        parts.append(block(name, [row_text(row) for row in data[name]], "[]"))
+    limited = [f"{flat(name)}: {number}" for name, number in data["limits"].items()]
+    parts.append(member("limits", limited, "{", "}"))
+    parts += [member(name, list(map(row_text, data[name]))) for name in ("session", "output")]
     for name in ("refusals", "tests", "unreadable"):
-        parts.append(block(name, [flat(item) for item in data[name]], "[]"))
+        parts.append(member(name, list(map(flat, data[name]))))
     return "{\n" + ",\n".join(parts) + "\n}\n"

@@ -5,13 +5,25 @@ from __future__ import annotations
 import re
 from collections.abc import Iterator
 from dataclasses import dataclass
+from functools import cache, cached_property
 
 from .sources import Sources
 
-FUNCTION = re.compile(r"( *)(pub(?:\([a-z]+\))? )?(?:const )?fn ([A-Za-z_0-9]+)")
-BLOCK = re.compile(r"(?:pub )?(?:impl|trait)\b(?:<[^>]*>)? *(?:([A-Za-z_0-9]+)(?:<.*>)? for )?([A-Za-z_0-9]+)")
-TYPE = re.compile(r"(?:pub(?:\([a-z]+\))? )?(struct|enum|trait|const|static|type) ([A-Za-z_0-9]+)", re.M)
+FUNCTION = re.compile(r"( *)(pub(?:\([a-z]+\))? )?(?:const )?fn (\w+)")
+BLOCK = re.compile(r"(?:pub )?(?:impl|trait)\b(?:<[^>]*>)? *(?:(\w+)(?:<.*>)? for )?(\w+)")
 STRINGS = re.compile(r'"(?:\\.|[^"\\])*"|b?\'(?:\\.|[^\'\\])\'')
+CLAUSE = re.compile(r" *(//|requires|ensures)")
+USED = re.compile(r"^use (\w+)::(?:(\w+)|\{([^}]*)\}|(\*));", re.M)
+EXPORTED = re.compile(r"^pub use (\w+)(?:::\w+)*::(?:\{([^}]*)\}|(\w+));", re.M)
+ENUM = re.compile(r"^pub enum (\w+)[^{]*\{\n(.*?)^\}", re.M | re.S)
+# A variant, and what it holds in round or curly brackets, on its line or on lines of their own.
+VARIANT = re.compile(
+    r"^    ([A-Z]\w*)(?:\(([^()]*)\)| \{ ([^{}\n]*) \}| \{\n((?:        .*\n)*))?", re.M
+)
+FIELD = re.compile(r"^ +(?:pub(?:\([a-z]+\))? )?(\w+): (.*?),?$", re.M)
+LET = re.compile(r"let (?:mut )?(\w+)(?:: [^=;]+)? = ([^;]*);")
+# A call by a name alone, or of a method.
+CALLED = re.compile(r"(?<![:\w])([a-z_]\w*)\(")
 
 
 @dataclass(frozen=True)
@@ -52,10 +64,15 @@ class Function:
 
     @property
     def parameters(self) -> list[tuple[str, str]]:
-        """Its parameters with their types; `self` has none."""
+        """Its parameters with their types, without `self`."""
         inside = within(self.head[self.head.index("fn ") :])
-        pairs = [one.strip().partition(":") for one in split(inside)]
+        pairs = [one.partition(":") for one in split(inside)]
         return [(name.strip(), kind.strip()) for name, colon, kind in pairs if colon]
+
+    @property
+    def takes_self(self) -> bool:
+        """Whether it is called on a value."""
+        return re.search(r"\((?:&(?:'\w+ )?)?(?:mut )?self\b", self.head) is not None
 
     @property
     def gives(self) -> str:
@@ -66,8 +83,7 @@ class Function:
 
 def within(text: str) -> str:
     """Return what stands in the first round brackets of a text."""
-    begin = text.index("(")
-    depth = 0
+    begin, depth = text.index("("), 0
     for at in range(begin, len(text)):
         depth += {"(": 1, ")": -1}.get(text[at], 0)
         if depth == 0:
@@ -100,11 +116,13 @@ def ends_of(lines: list[str], at: int, indent: str) -> tuple[int, int | None, in
     while True:
         line = lines[head]
         own = head == at or line.startswith(indent) and line[len(indent) :][:1] not in ("", " ")
-        if own and line.endswith("{") or line == indent + "{":
+        alone = line in (indent + "{", indent + "{}")
+        if alone or own and line.endswith(("{", "{}")):
+            over = head + (not alone)
+            if line.endswith("{}"):
+                return over, head, head
             end = next(i for i in range(head, len(lines)) if lines[i] == indent + "}")
-            return head + (line != indent + "{"), head + 1, end
-        if line == indent + "{}" or own and line.endswith("{}"):
-            return head + (line != indent + "{}"), head, head
+            return over, head + 1, end
         following = lines[head + 1] if head + 1 < len(lines) else ""
         if line.endswith(";") and not following.startswith(indent + "    "):
             return head + 1, None, head + 1
@@ -116,22 +134,29 @@ def functions_in(path: str, text: str) -> Iterator[Function]:
     lines = text.splitlines()
     owner = trait = ""
     for at, line in enumerate(lines):
+        block = BLOCK.match(line)
         if line == "}":
             owner = trait = ""
-        block = BLOCK.match(line)
-        if block and line.endswith("{"):
+        elif block and line.endswith("{"):
             trait, owner = block[1] or "", block[2]
         found = FUNCTION.match(line)
         if not found:
             continue
         over, begin, end = ends_of(lines, at, found[1])
         signature = lines[at:over]
-        clauses = next((i for i, one in enumerate(signature) if re.match(r" *(//|requires|ensures)", one)), len(signature))
-        head = re.sub(r" *(\{\}|\{|;)$", "", "\n".join(signature[:clauses]))
-        body = None if begin is None else bare(lines[begin:end])
-        public = (found[2] or "") == "pub "
-        contract = "\n".join(signature[clauses:])
-        yield Function(path, at + 1, found[3], owner, trait, public, head, contract, body)
+        first = next((i for i, one in enumerate(signature) if CLAUSE.match(one)), len(signature))
+        head = re.sub(r" *(\{\}|\{|;)$", "", "\n".join(signature[:first]))
+        yield Function(
+            path=path,
+            line=at + 1,
+            name=found[3],
+            owner=owner,
+            trait=trait,
+            public=found[2] == "pub ",
+            head=head,
+            contract="\n".join(signature[first:]),
+            body=None if begin is None else bare(lines[begin:end]),
+        )
 
 
 def functions(sources: Sources, paths: list[str]) -> list[Function]:
@@ -139,17 +164,177 @@ def functions(sources: Sources, paths: list[str]) -> list[Function]:
     return [one for path in paths for one in functions_in(path, sources.text(path))]
 
 
+@cache
+def of_libraries(sources: Sources) -> list[Function]:
+    """Return the functions of the crates, but for those of tests."""
+    return functions(sources, sources.code)
+
+
 def item_of(text: str, form: str, name: str) -> str | None:
-    """Return a type, a trait, a constant or a block with the lines of comment before it."""
+    """Return a type, a trait or a constant with the lines of comment before it."""
     lines = text.splitlines()
     for at, line in enumerate(lines):
         if not re.match(rf"(?:pub )?(?:{form}) {re.escape(name)}\b", line):
             continue
         end = at
-        while not lines[end].startswith("}") and not lines[end].endswith(";") or lines[end][:1] == " ":
+        while lines[end][:1] == " " or not re.search(r"^\}|;$", lines[end]):
             end += 1
         begin = at
         while begin > 0 and re.match(r"///|#\[", lines[begin - 1]):
             begin -= 1
         return "\n".join(one for one in lines[begin : end + 1] if not one.startswith("#["))
     return None
+
+
+class Types:
+    """The enums of the libraries, and what each library gives away."""
+
+    def __init__(self, sources: Sources) -> None:
+        self.sources = sources
+
+    @cached_property
+    def enums(self) -> dict[str, dict[str, str]]:
+        """The variants of each enum, with the types that each holds."""
+        found: dict[str, dict[str, str]] = {}
+        for path in self.sources.code:
+            for name, body in ENUM.findall(self.sources.text(path)):
+                for variant, *holds in VARIANT.findall(body):
+                    found.setdefault(name, {})[variant] = " ".join(holds)
+        return found
+
+    @cached_property
+    def exported(self) -> dict[tuple[str, str], str]:
+        """Each name that a library gives away, with where it has it from."""
+        found = {}
+        for path in self.sources.files(r"crates/[^/]+/src/lib\.rt"):
+            for place, many, one in EXPORTED.findall(self.sources.text(path)):
+                for name in (many or one).split(","):
+                    found[path.split("/")[1], name.strip()] = place
+        return found
+
+    def is_public(self, function: Function) -> bool:
+        """Return whether a library gives a function, or the type whose method it is, away."""
+        name = function.owner or function.name
+        return function.public and (function.crate, name) in self.exported
+
+    def givers(self, crate: str, name: str) -> set[str]:
+        """Return a library with those that give a name of it away once more."""
+        wanted = (crate, name)
+        again = {one for (one, given), place in self.exported.items() if (place, given) == wanted}
+        return {crate, *again}
+
+    @cached_property
+    def gives(self) -> dict[str, set[str]]:
+        """The types that the public functions of each name give."""
+        found: dict[str, set[str]] = {}
+        for one in of_libraries(self.sources):
+            if one.public:
+                names = re.findall(r"\w+", one.gives.replace("Self", one.owner))
+                found.setdefault(one.name, set()).update(names)
+        return found
+
+
+class Texts:
+    """The code of a crate of tests or of a program of cases."""
+
+    def __init__(self, sources: Sources, crate: str, types: Types) -> None:
+        paths = sources.files(rf"crates/{crate}/src/.*\.rt")
+        self.crate, self.types = crate, types
+        self.functions = functions(sources, paths)
+        self.raw = {path: sources.text(path) for path in paths}
+
+    @cached_property
+    def whole(self) -> str:
+        """All of it."""
+        return "\n".join(self.raw.values())
+
+    @cached_property
+    def fields(self) -> dict[str, str]:
+        """The fields of its types."""
+        return dict(FIELD.findall(self.whole))
+
+    @cached_property
+    def by_name(self) -> dict[str, list[Function]]:
+        """The functions of each name."""
+        found: dict[str, list[Function]] = {}
+        for one in self.functions:
+            found.setdefault(one.name, []).append(one)
+        return found
+
+    @cached_property
+    def tests(self) -> dict[Function, list[Function]]:
+        """The tests, each with itself and all helpers that it calls."""
+        lines = {path: text.splitlines() for path, text in self.raw.items()}
+        return {
+            one: self.reached(one)
+            for one in self.functions
+            if any("#[test]" in line for line in lines[one.path][max(0, one.line - 3) : one.line])
+        }
+
+    @cached_property
+    def used(self) -> dict[str, set[str]]:
+        """What each file takes from libraries, as `LIBRARY::NAME`; `*` for all names of one."""
+        found: dict[str, set[str]] = {}
+        for path, text in self.raw.items():
+            for library, one, many, star in USED.findall(text):
+                names = (one or many or star).split(",")
+                found.setdefault(path, set()).update(f"{library}::{name.strip()}" for name in names)
+        return found
+
+    def reached(self, function: Function) -> list[Function]:
+        """Return a function with all helpers that it calls, of its own file if it has them."""
+        found, todo = [function], [function]
+        while todo:
+            one = todo.pop()
+            for name in set(CALLED.findall(one.body or "")):
+                helpers = self.by_name.get(name, [])
+                for other in [it for it in helpers if it.path == one.path] or helpers:
+                    if other not in found:
+                        found.append(other)
+                        todo.append(other)
+        return found
+
+    def give(self, text: str, owner: str) -> bool:
+        """Return whether a text names a type, or makes a call that gives one."""
+        called = CALLED.findall(text)
+        helpers = [one for name in called for one in self.by_name.get(name, [])]
+        return (
+            re.search(rf"\b{owner}\b", text) is not None
+            or any(owner in self.types.gives.get(name, ()) for name in called)
+            or any(re.search(rf"\b{owner}\b", one.gives) for one in helpers)
+        )
+
+    def values_of(self, function: Function, owner: str) -> set[str]:
+        """Return the names in a function that are values of a type."""
+        typed = re.compile(rf"\b{owner}\b")
+        pairs = [*function.parameters, *self.fields.items()]
+        found = {name.removeprefix("mut ") for name, kind in pairs if typed.search(kind)}
+        lets = LET.findall(function.body or "")
+        return found | {name for name, right in lets if self.give(right, owner)}
+
+    def uses(self, path: str, call: Function) -> bool:
+        """Return whether a file takes a call from a library."""
+        libraries = self.types.givers(call.crate, call.name)
+        taken = {f"{library}::{name}" for library in libraries for name in (call.name, "*")}
+        named = any(f"{library}::{call.name}(" in self.raw[path] for library in libraries)
+        return named or not taken.isdisjoint(self.used.get(path, set()))
+
+    def sites(self, function: Function, call: Function) -> list[str]:
+        """Return what stands after each place where a function makes a call."""
+        body = function.body or ""
+        if f"{call.name}(" not in body or not call.owner and not self.uses(function.path, call):
+            return []
+        if call.takes_self:
+            values = self.values_of(function, call.owner)
+            found = [
+                site
+                for site in re.finditer(rf"(\w+)?(\))?\??\s*\.{call.name}\(", body)
+                if site[1] in values
+                or site[2] and self.give(re.split(r"[;{}]", body[: site.end(2)])[-1], call.owner)
+            ]
+        elif call.owner:
+            found = list(re.finditer(rf"\b{call.owner}(?:::<[^>]*>)?::{call.name}\(", body))
+        else:
+            found = list(re.finditer(rf"(?<![\w.]){call.name}\(", body))
+        ends = [site.end() + len(within(body[site.end() - 1 :])) + 1 for site in found]
+        return [body[end:].lstrip()[:20] for end in ends]

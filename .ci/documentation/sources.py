@@ -236,4 +236,5 @@ class Sources:
     @cached_property
     def code(self) -> list[str]:
         """The source files of the crates, but for those of tests."""
-        return [path for path in self.files(r"crates/[^/]+/src/.*\.rt") if not self.is_of_tests(path)]
+        found = self.files(r"crates/[^/]+/src/.*\.rt")
+        return [path for path in found if not self.is_of_tests(path)]
