@@ -161,7 +161,7 @@ def block_of(text: str, head: str) -> str | None:
 
 
 def ends(sources: Sources, run: Function) -> Iterator[Part]:
-    """Return what a contract sees of what `run` takes.
+    """Return what a contract sees of what the call takes.
 
     The traits of its types, how what `main` hands over has them, and the views of other types.
     """
