@@ -13,6 +13,7 @@ use crate::fields::Fields;
 use crate::value::{Kept, ROOM, Values};
 
 /// The value of each column of a schema in the fields of a record, or their first fault.
+#[inline(always)]
 pub fn read<'a>(schema: &Schema, fields: &Fields<'a>) -> Result<Values<'a>, FormFault>
     requires { length schema.now.columns.now ≤ ROOM }
     ensures value { result ≡ row_read (schema_seen schema.now) fields.now }
@@ -21,10 +22,9 @@ pub fn read<'a>(schema: &Schema, fields: &Fields<'a>) -> Result<Values<'a>, Form
     if !has_count(schema, fields.len()) {
         return Err(FormFault::Fields);
     }
-    let values = read_columns(schema.columns, fields);
     match tail_fault(schema.tail, fields, schema.columns.len()) {
-        None => values,
-        Some(fault) => Err(soonest(values.err(), fault)),
+        None => read_columns(schema.columns, fields),
+        Some(fault) => Err(soonest(read_columns(schema.columns, fields).err(), fault)),
     }
 }
 

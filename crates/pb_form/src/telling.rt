@@ -1,6 +1,6 @@
 // Which of several schemas a row is of.
 
-ghost use Rattle.std.specs.Prelude.{◌≡◌, length, map, position, IfOk, ◌<◌};
+ghost use Rattle.std.specs.Prelude.{◌≡◌, ◌<◌, ◌≤◌, [], length, map, position, slice_index_or, true, IfOk};
 ghost use Rattle.std.specs.List.{list_any};
 ghost use Rattle.pb_form.specs.Seen.{column_seen, holds_seen, schema_seen};
 ghost use Rattle.pb_form.specs.Telling.{agrees, has_word, has_words, is_of, schema_told, untold};
@@ -62,19 +62,21 @@ fn agrees(columns: &[Column], fields: &Fields) -> bool
     ensures { result ≡ agrees (map column_seen columns.now) fields.now }
 {
     for (i, column) in columns.iter().enumerate() {
-        if i < fields.len() && !has_word(column, fields.at(i)) {
+        if !has_word(column, fields, i) {
             return false;
         }
     }
     true
 }
 
-// Whether a field has the word of a column that takes one word alone.
-fn has_word(column: &Column, field: &[u8]) -> bool
-    ensures { result ≡ has_word (holds_seen column.now.holds) field.now }
+// Whether the field at a place, if a record goes so far, has the word of a column that takes one word alone.
+fn has_word(column: &Column, fields: &Fields, i: usize) -> bool
+    ensures there { i < length fields.now
+        → result ≡ has_word (holds_seen column.now.holds) (slice_index_or fields.now i []) }
+    ensures past { length fields.now ≤ i → result ≡ true }
 {
     match column.holds {
-        Holds::Word([word]) => is_word(field, word),
+        Holds::Word([word]) => fields.len() <= i || is_word(fields.at(i), word),
         _ => true,
     }
 }

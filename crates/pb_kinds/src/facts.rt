@@ -10,6 +10,7 @@ use pb_facts::Fact;
 use pb_form::Values;
 
 // `ID,STREAM,DATE,GRAMS,VARIANCE` from a place on.
+#[inline(always)]
 pub(crate) fn reading_from(values: &Values, at: usize) -> Fact
     requires near { at ≤ 2 }
     requires fit { FitEach reading_columns (drop at values.now) }

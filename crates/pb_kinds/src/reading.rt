@@ -26,11 +26,14 @@ pub fn read_request(row: &Row) -> Result<Request, FormFault>
         return Ok(Request::Blank);
     }
     let kind = session_kind(&fields)?;
-    let values = read(session_schema(kind), &fields)?;
-    Ok(request_of(kind, &values))
+    match &read(session_schema(kind), &fields) {
+        Ok(values) => Ok(request_of(kind, values)),
+        Err(fault) => Err(*fault),
+    }
 }
 
 // What a record of a kind asks, by its values.
+#[inline(always)]
 fn request_of(kind: SessionKind, values: &Values) -> Request
     requires { FitEach (session_columns kind) values.now }
     ensures { result ≡ request_of kind values.now }

@@ -9,6 +9,7 @@ use pb_form::Values;
 use pb_rows::{Name, Reason};
 
 // A name.
+#[inline(always)]
 pub(crate) fn name_there(values: &Values, place: usize) -> Name
     requires { IsNameThere values.now place }
     ensures { result ≡ name_there values.now place }
@@ -25,6 +26,7 @@ pub(crate) fn reason_there(values: &Values, place: usize) -> Reason
 }
 
 // A day, counted from 1970-01-01.
+#[inline(always)]
 pub(crate) fn day_there(values: &Values, place: usize) -> i32
     ensures { result ≡ day_there values.now place }
 {
@@ -32,6 +34,7 @@ pub(crate) fn day_there(values: &Values, place: usize) -> i32
 }
 
 // A whole number.
+#[inline(always)]
 pub(crate) fn number_there(values: &Values, place: usize) -> i128
     ensures { result ≡ number_there values.now place }
 {
@@ -39,6 +42,7 @@ pub(crate) fn number_there(values: &Values, place: usize) -> i128
 }
 
 // A whole number of 64 bits.
+#[inline(always)]
 pub(crate) fn long_there(values: &Values, place: usize) -> i64
     requires { IsLongThere values.now place }
     ensures { result ≡ number_there values.now place }

@@ -34,27 +34,26 @@ returns-in_err-kind-clause-value c =
     ap session_told (sym c.filled-fields.ensures) ∙ sym c.session_kind.ensures ∙ c.in_err-kind.was in
     rw (p.1, p.2) (sym (told_asks c.args.row.now _ some told))
 
-pub returns-in_err-values-clause-value : goal.returns-in_err-values-clause-value
-returns-in_err-values-clause-value c =
-    let p = err_from_is_err_and c.from_residual-in_err-values.result c.from_residual-in_err-values.ensures.1 in
+pub returns-in-Err-clause-value : goal.returns-in-Err-clause-value
+returns-in-Err-clause-value c =
     let some : 1 ≤ length (without_trailing_empty c.args.row.now) = omega (arith, c.len.ensures, ap length c.filled-fields.ensures, c.if-len-eq0.false) in
     let told : session_told (without_trailing_empty c.args.row.now) ≡ told_as (Ok c.in_ok-kind.kind) =
     ap session_told (sym c.filled-fields.ensures) ∙ sym c.session_kind.ensures ∙ c.in_ok-kind.was in
-    let reads : row_read (session_schema c.in_ok-kind.kind) (without_trailing_empty c.args.row.now) ≡ read_as (Err c.in_err-values.field-0.0) =
-    ap₂ row_read (sym c.session_schema.ensures.value) (sym c.filled-fields.ensures) ∙ sym c.read.ensures.value ∙ c.in_err-values.was in
-    rw (p.1, p.2) (sym (told_asks c.args.row.now _ some told ∙ ap (request_by c.in_ok-kind.kind) reads))
+    let reads : row_read (session_schema c.in_ok-kind.kind) (without_trailing_empty c.args.row.now) ≡ read_as (Err c.in-Err.fault) =
+    ap₂ row_read (sym c.session_schema.ensures.value) (sym c.filled-fields.ensures) ∙ sym c.read.ensures.value ∙ c.in-Err.is in
+    sym (told_asks c.args.row.now _ some told ∙ ap (request_by c.in_ok-kind.kind) reads)
 
-pub returns-clause-value : goal.returns-clause-value
-returns-clause-value c =
+pub returns-in-Ok-clause-value : goal.returns-in-Ok-clause-value
+returns-in-Ok-clause-value c =
     let some : 1 ≤ length (without_trailing_empty c.args.row.now) = omega (arith, c.len.ensures, ap length c.filled-fields.ensures, c.if-len-eq0.false) in
     let told : session_told (without_trailing_empty c.args.row.now) ≡ told_as (Ok c.in_ok-kind.kind) =
     ap session_told (sym c.filled-fields.ensures) ∙ sym c.session_kind.ensures ∙ c.in_ok-kind.was in
-    let reads : row_read (session_schema c.in_ok-kind.kind) (without_trailing_empty c.args.row.now) ≡ read_as (Ok c.in_ok-values.values) =
-    ap₂ row_read (sym c.session_schema.ensures.value) (sym c.filled-fields.ensures) ∙ sym c.read.ensures.value ∙ c.in_ok-values.was in
+    let reads : row_read (session_schema c.in_ok-kind.kind) (without_trailing_empty c.args.row.now) ≡ read_as (Ok c.in-Ok.values) =
+    ap₂ row_read (sym c.session_schema.ensures.value) (sym c.filled-fields.ensures) ∙ sym c.read.ensures.value ∙ c.in-Ok.is in
     let ok : Request → Result Request FormFault = λ request. Ok request in
     ap ok c.request_of.ensures ∙ sym (told_asks c.args.row.now _ some told ∙ ap (request_by c.in_ok-kind.kind) reads)
 
-pub returns-clause-in_range : goal.returns-clause-in_range
-returns-clause-in_range c =
-    let fit = subst (λ (s : Schema). FitEach s.columns c.in_ok-values.values) c.session_schema.ensures.value c.in_ok-values.ensures.fit in
-    subst IsRequestInRange (sym c.request_of.ensures) (asked_in_range c.in_ok-kind.kind c.in_ok-values.values fit)
+pub returns-in-Ok-clause-in_range : goal.returns-in-Ok-clause-in_range
+returns-in-Ok-clause-in_range c =
+    let fit = subst (λ (s : Schema). FitEach s.columns c.in-Ok.values) c.session_schema.ensures.value (rw c.in-Ok.is at c.read.ensures.fit) in
+    subst IsRequestInRange (sym c.request_of.ensures) (asked_in_range c.in_ok-kind.kind c.in-Ok.values fit)
