@@ -2,7 +2,7 @@
 use Rattle.std.specs.Prelude.{IsSome}
 use Rattle.std.proofs.lemmas.Option.{slice_get_past}
 use Rattle.std.specs.Option.{option_map_or}
-use Rattle.std.proofs.Common.{◌≡◌, ◌∙◌, ◌<◌, ◌≤◌, ℕ, zero, suc, List, [], ◌∷◌, length, slice_get, Bool, true, false, Option, Some, None, refl, sym, ap, ap₂, arith, inl, inr}
+use Rattle.std.proofs.Common.{◌≡◌, ◌∙◌, ◌<◌, ◌≤◌, ℕ, zero, suc, List, [], ◌∷◌, length, slice_get, Bool, false, Option, Some, None, refl, sym, ap, ap₂, arith}
 use Rattle.pb_facts.specs.declared.facts.KeptFact.{KeptFact}
 use Rattle.pb_site.specs.declared.declared.Declared.{Declared}
 use Rattle.pb_book.specs.declared.rows.Period.{Period}

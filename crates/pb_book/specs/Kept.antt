@@ -1,5 +1,5 @@
 -- Inside. What a book keeps beside its rows, so that no look-up walks them.
-use Rattle.std.specs.Prelude.{◌≡◌, ℕ, ◌<◌, ◌≤◌, nat_eq, ℤ, ◌≤ℤ◌, Bool, true, false, List, [], length, map, filter_map, slice_get, slice_index_or, All, Option, Some, None, if◌then◌else◌, IsSome}
+use Rattle.std.specs.Prelude.{◌≡◌, ℕ, ◌<◌, ◌≤◌, nat_eq, ℤ, ◌≤ℤ◌, Bool, true, List, length, map, filter_map, slice_get, slice_index_or, All, Option, Some, None, if◌then◌else◌, IsSome}
 use Rattle.std.specs.Ordering.{int_cmp, int_eq}
 use Rattle.std.specs.BTreeMap.{BTreeMap, get}
 use Rattle.std.specs.HashMap.{HashMap, get as get_hashed}

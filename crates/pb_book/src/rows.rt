@@ -32,10 +32,7 @@ pub struct Place {
 pub enum Part {
     Declared(usize),
     Opened(u32),
-    Booked {
-        place: u32,
-        late: bool,
-    },
+    Booked { place: u32, late: bool },
     Edited(usize),
     Closed(u32),
 }

@@ -31,57 +31,47 @@ pub fn told_edits(alloc: Global, book: &Book, i: u32) -> Result<List<HistoryRow>
     let mut edits = List::new(alloc);
     for e in 0..book.edits() {
         if book.touches(e, i) {
-            push_told(book, e, &mut edits)?;
+            push_at(book, e, &mut edits)?;
         }
     }
     Ok(edits)
 }
 
 // Appends how the edit at a place is told.
-fn push_told(book: &Book, e: usize, edits: &mut List<HistoryRow>) -> Result<(), AllocError>
+fn push_at(book: &Book, e: usize, edits: &mut List<HistoryRow>) -> Result<(), AllocError>
     ensures { OnOk result (edits.new ≡ edits.old
         ++ cons_option (option_and_then told (slice_get (edits_of book.now) e)) []) }
 {
-    match told_at(book, e) {
-        Some(row) => edits.push(row),
+    match book.edit(e) {
+        Some(row) => push_told(edits, &row),
         None => Ok(()),
     }
 }
 
-// How the edit at a place is told; `None` where there is none.
-fn told_at(book: &Book, e: usize) -> Option<HistoryRow>
-    ensures { result ≡ option_and_then told (slice_get (edits_of book.now) e) }
-{
-    match book.edit(e) {
-        Some(row) => told(&row),
-        None => None,
-    }
-}
-
-// How a row is told: what it did, the id of its fact and the reason; `None` where it edits nothing.
-fn told(row: &StoredRow) -> Option<HistoryRow>
-    ensures { result ≡ told row.now }
+// Appends how a row is told: what it did, the id of its fact and the reason. A row that edits nothing isn't told.
+fn push_told(edits: &mut List<HistoryRow>, row: &StoredRow) -> Result<(), AllocError>
+    ensures { OnOk result (edits.new ≡ edits.old ++ cons_option (told row.now) []) }
 {
     match &row.effect {
-        Effect::Closes(_) => Some(HistoryRow {
+        Effect::Closes(_) => edits.push(HistoryRow {
             at: row.at,
             word: HistoryWord::Close,
             id: None,
             reason: None,
         }),
-        Effect::Books { fact, .. } => Some(HistoryRow {
+        Effect::Books { fact, .. } => edits.push(HistoryRow {
             at: row.at,
             word: HistoryWord::Late,
             id: Some(fact.id()),
             reason: None,
         }),
-        Effect::Edits { id, edit, reason } => Some(HistoryRow {
+        Effect::Edits { id, edit, reason } => edits.push(HistoryRow {
             at: row.at,
             word: word_of(edit),
             id: Some(*id),
             reason: Some(*reason),
         }),
-        Effect::Declares(_) | Effect::Opens { .. } => None,
+        Effect::Declares(_) | Effect::Opens { .. } => Ok(()),
     }
 }
 
