@@ -262,7 +262,7 @@ unfolding session_told
 told it values fields reads =
     let at = place_in it in
     let schema_there : slice_get session_schemas at.0 ≡ Some (session_schema it) =
-        slice_get-map session_schema session_kinds at.0 ∙ ap (λ (o : Option SessionKind). option_map session_schema o) at.1 in
+    slice_get-map session_schema session_kinds at.0 ∙ ap (λ (o : Option SessionKind). option_map session_schema o) at.1 in
     let place = place_told session_schemas at.0 (session_schema it) values fields session_differ session_plain schema_there reads in
     ap (λ (o : Option ℕ). kind_in (told_at session_schemas fields o)) place ∙ ap kind_at at.1
 

@@ -236,11 +236,7 @@ pub fn session_kind(fields: &Fields) -> Result<SessionKind, FormFault>
 
 /// The record of a kind that writes values, one a column: it reads back as them, it is of this kind, and no empty field stands at its
 /// end.
-pub fn session_record(
-    alloc: Global,
-    kind: SessionKind,
-    values: &[Value],
-) -> Result<Row, AllocError>
+pub fn session_record(alloc: Global, kind: SessionKind, values: &[Value]) -> Result<Row, AllocError>
     requires each { length values.now ≡ length (session_columns kind) }
     requires fit { FitEach (session_columns kind) (values_as (session_columns kind) values.now) }
     ensures value { IfOk result (Writes (session_schema kind)
