@@ -1,11 +1,9 @@
 -- What each node and stream of a window is.
-use Rattle.std.specs.Prelude.{filter, All, IfSome, map, option_map, slice_get}
+use Rattle.std.specs.Prelude.{All, IfSome, map, option_map, slice_get}
 use Rattle.std.specs.List.{AllByRecursion, enumerate_from, range_with_len}
-use Rattle.std.proofs.Common.{◌≡◌, ◌∙◌, ◌⊎◌, ℕ, zero, suc, ◌+◌, ◌-◌, ◌<◌, ◌≤◌, ℤ, Bool, true, false, List, [], ◌∷◌, length, Option, None, Some, Ok, inl, inr, refl, sym, ap, subst, arith}
-use Rattle.std.specs.Prelude.{◌==◌}
+use Rattle.std.proofs.Common.{◌≡◌, ℕ, zero, suc, ◌+◌, ◌-◌, ◌≤◌, ℤ, true, List, [], ◌∷◌, length, Option, None, Some, inl, inr, refl, subst, arith}
 use Rattle.std.proofs.lemmas.Bool.{cases_Bool, ne_eqb}
 use Rattle.std.proofs.lemmas.List.Elements.{All-from_recursion}
-use Rattle.pb_window.specs.declared.plant.Plant.{Plant}
 use Rattle.pb_window.specs.declared.plant.PlantArc.{PlantArc}
 use Rattle.pb_window.specs.declared.plant.Span.{Span}
 use Rattle.pb_window.specs.declared.window.Source.TheVariants.{Content}
@@ -14,7 +12,7 @@ use Rattle.pb_window.specs.declared.window.WindowNode.{WindowNode}
 use Rattle.pb_window.specs.declared.window.WindowStream.{WindowStream}
 use Rattle.pb_window.specs.Plant.{NumberedArc, arcs_in, is_node_in, is_served, nodes_in}
 use Rattle.pb_window.specs.Window.{NumberedSpan, content_day, content_end, content_of, contents_of_arc, flow_of, flows_of_period, nodes_of_period, numbered_spans, span_of, stay_of, window_contents, window_flows, window_node, window_nodes, window_shape, window_streams}
-use Rattle.pb_window.specs.Meaning.{IsContentOf, IsFlowOf, IsNodeOf, IsStreamOf}
+use Rattle.pb_window.specs.Meaning.{IsNodeOf, IsStreamOf}
 use Rattle.pb_window.specs.Laws.{WindowLaw}
 use Rattle.pb_window.proofs.ListLemmas.{all_flat, all_join, all_kept, all_mapped, all_numbered, all_range}
 use Rattle.pb_window.proofs.NameLemmas.{shape_in}
@@ -44,7 +42,7 @@ all_spans : (whole : List Span) (n : ℕ) (spans : List Span) → ((k : ℕ) (sp
 all_spans whole n [] are = tt
 all_spans whole n (span ∷ spans) are = (
   (let e : n + 0 ≡ n + 1 - 1 = omega arith in
-  rw (ne_eqb (n + 1) 0 (λ same. absurd (omega (arith, same)))) (subst (λ (k : ℕ). slice_get whole k ≡ Some span) e (are 0 span refl))),
+      rw (ne_eqb (n + 1) 0 (λ same. absurd (omega (arith, same)))) (subst (λ (k : ℕ). slice_get whole k ≡ Some span) e (are 0 span refl))),
   all_spans whole (n + 1) spans (λ k one at.
       let e : n + suc k ≡ n + 1 + k = omega arith in
       subst (λ (i : ℕ). slice_get whole i ≡ Some one) e (are (suc k) one at)),
@@ -61,8 +59,8 @@ pub window_is : WindowLaw
 window_is plant spans window answer = subst (λ (w : Window). All (IsNodeOf plant spans) w.nodes × All (IsStreamOf plant spans w.nodes) w.streams) (shape_in (window_shape plant spans) window answer) (
   All-from_recursion (IsNodeOf plant spans) nodes (all_flat (IsSpanAt spans) (IsNodeOf plant spans) (nodes_of_period plant) nodes_of_one (numbered_spans spans) spans_are),
   All-from_recursion IsOne (window_streams plant spans) (all_join IsOne (window_flows plant.arcs nodes spans) (window_contents plant.arcs nodes spans)
-  (all_flat (IsSpanAt spans) IsOne (flows_of_period plant.arcs nodes) flows_of_one (numbered_spans spans) spans_are)
-  (all_flat (IsAt plant.arcs) IsOne (contents_of_arc nodes spans) contents_of_one (enumerate_from 0 plant.arcs) arcs_are)),
+      (all_flat (IsSpanAt spans) IsOne (flows_of_period plant.arcs nodes) flows_of_one (numbered_spans spans) spans_are)
+      (all_flat (IsAt plant.arcs) IsOne (contents_of_arc nodes spans) contents_of_one (enumerate_from 0 plant.arcs) arcs_are)),
 )
   where
     nodes : List WindowNode
