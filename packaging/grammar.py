@@ -29,8 +29,6 @@ NAMES = """\
 names           = name *( " " name )
 parts           = part *( " " part )
 part            = ( "+" / "-" ) name"""
-# The numbers that the schema has no range of and that may be negative.
-SIGNED = {"low", "high", "stated", "found"}
 
 
 def bounds(column: Column) -> str:
@@ -70,12 +68,17 @@ def rule_of(column: Column) -> str:
     return {"name": "name", "reason": "reason", "date": "day"}[column.type]
 
 
-def line_of(name: str, parts: Iterable[str], kind: str) -> list[str]:
-    """Return a rule of the grammar, on more lines if it is long."""
+def session_rule(column: Column) -> str:
+    """Return what a session's column may hold."""
+    return f"[{rule_of(column)}]" if column.optional else rule_of(column)
+
+
+def line_of(name: str, parts: Iterable[str], kind: str, tail: Iterable[str] = ()) -> list[str]:
+    """Return a rule of the grammar, on more lines if it is long; what is in the tail repeats."""
     text = f"{name:<15} = {literal(kind)}"
     lines = []
-    for part in parts:
-        piece = f' "," {part}'
+    repeated = "".join(f' "," {part}' for part in tail)
+    for piece in [*(f' "," {part}' for part in parts), *([f" *({repeated} )"] if repeated else [])]:
         if len(text) + len(piece) > 96:
             lines.append(text)
             text = " " * 18 + piece.lstrip()
@@ -92,8 +95,9 @@ def session_grammar() -> str:
     for row in schema().session:
         name = f"{row.kind}-{row.variant}" if row.variant else row.kind
         names[name] = None
-        lines += line_of(name, (rule_of(column) for column in row.columns), row.kind)
-        for column in row.columns:
+        columns, more = map(session_rule, row.columns), map(session_rule, row.tail)
+        lines += line_of(name, columns, row.kind, more)
+        for column in (*row.columns, *row.tail):
             if column.type == "number" and rule_of(column) != '"0"':
                 numbers.setdefault(rule_of(column), column)
     kinds = list(names)
@@ -132,8 +136,7 @@ def output_rule(column: Column) -> str:
     if column.type == "word":
         text = word_rules().get(column.words) or literal(column.words[0])
     elif column.type == "number":
-        signed = column.low < 0 if column.low is not None else column.name in SIGNED
-        text = "whole" if signed else "natural"
+        text = "whole" if (column.low or 0) < 0 else "natural"
     else:
         text = {"date": "day"}.get(column.type, column.type)
     return f"[{text}]" if column.optional else text
@@ -157,9 +160,8 @@ def output_grammar() -> str:
     """Return the grammar of an output's rows."""
     lines = []
     for row in schema().output.values():
-        lines += line_of(
-            f"{row.kind}-row", (output_rule(column) for column in row.columns), row.kind
-        )
+        columns, more = map(output_rule, row.columns), map(output_rule, row.tail)
+        lines += line_of(f"{row.kind}-row", columns, row.kind, more)
         if row.without:
             older = [column for column in row.columns if column.name not in row.without]
             rules = (output_rule(column) for column in older)
@@ -171,9 +173,11 @@ def output_grammar() -> str:
 
 
 def ranges() -> str:
-    """Return a table of the ranges of an output's numbers, as a check reads them."""
+    """Return a table of the ranges of the numbers of a block, which a check reads."""
     lines = ["| row | column | from | to |", "|---|---|---|---|"]
-    for row in schema().output.values():
+    kinds = list(schema().output)
+    for kind in kinds[kinds.index("report") : kinds.index("end") + 1]:
+        row = schema().output[kind]
         for column in row.columns:
             if column.low is not None and column.high is not None:
                 lines.append(

@@ -166,7 +166,7 @@ def number_fields(rows: Iterable[Row]) -> list[Column]:
     """Return the columns of numbers, each range once."""
     found: dict[tuple[str, int | None, int | None], Column] = {}
     for row in rows:
-        for column in row.columns:
+        for column in (*row.columns, *row.tail):
             if column.type == "number" and column.about:
                 found.setdefault((column.label, column.low, column.high), column)
     return list(found.values())
@@ -276,7 +276,7 @@ reads CSV alone.
 def column_items(row: Row) -> list[str]:
     """Return the columns of a row, neighbours with the same description together."""
     lines: list[str] = []
-    for about, columns in groupby(row.columns, key=lambda column: column.about):
+    for about, columns in groupby((*row.columns, *row.tail), key=lambda column: column.about):
         group = list(columns)
         text = marked(sentence(about)) if about else ""
         for column in group:
@@ -311,10 +311,9 @@ def report_page() -> str:
         lines.append(f".SH {title}")
         for row in rows.output.values():
             if row.by == by:
-                shape = ",".join([row.kind, *(column.name for column in row.columns)])
                 lines += [
                     f".SS {row.kind}",
-                    f".B {breakable(shape)}",
+                    f".B {breakable(row.pattern)}",
                     ".PP",
                     marked(sentence(row.about)),
                 ]

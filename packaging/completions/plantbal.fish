@@ -7,7 +7,7 @@ complete -c plantbal -n 'not __fish_seen_subcommand_from run check make' -a make
 complete -c plantbal -n '__fish_seen_subcommand_from run' -l gap -x -d 'The greatest gap of a stage that has converged, in thousandths of a standard deviation, from 1 to 1000000'
 complete -c plantbal -n '__fish_seen_subcommand_from run' -l sweeps -x -d 'The greatest number of sweeps of a stage, from 0 to 100000'
 complete -c plantbal -n '__fish_seen_subcommand_from run' -l tests -d 'Makes the global, the nodal and the measurement tests of each stage'
-complete -c plantbal -n '__fish_seen_subcommand_from run' -l eliminate -x -d 'At most so many rounds of elimination, from 1 to 20'
+complete -c plantbal -n '__fish_seen_subcommand_from run' -l eliminate -x -d 'The most rounds of elimination, from 1 to 20'
 complete -c plantbal -n '__fish_seen_subcommand_from run' -l format -x -a 'csv json' -d 'The form of the output: csv or json, one object on a line for each row'
 complete -c plantbal -n '__fish_seen_subcommand_from make' -l number -x -d 'The number that the session is made from, from 0 to 4294967295'
 complete -c plantbal -n '__fish_seen_subcommand_from make' -l streams -x -d 'How many streams the made session has, from 3 to 2000'

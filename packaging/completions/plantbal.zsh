@@ -13,7 +13,7 @@ _plantbal() {
             '--gap=[The greatest gap of a stage that has converged, in thousandths of a standard deviation, from 1 to 1000000]:N:'
             '--sweeps=[The greatest number of sweeps of a stage, from 0 to 100000]:N:'
             '--tests[Makes the global, the nodal and the measurement tests of each stage]'
-            '--eliminate=[At most so many rounds of elimination, from 1 to 20]:N:'
+            '--eliminate=[The most rounds of elimination, from 1 to 20]:N:'
             '--format=[The form of the output\: csv or json, one object on a line for each row]:F:(csv json)'
             '1:word:(run)'
         ) ;;
@@ -35,7 +35,7 @@ _plantbal() {
             '--gap=[The greatest gap of a stage that has converged, in thousandths of a standard deviation, from 1 to 1000000]:N:'
             '--sweeps=[The greatest number of sweeps of a stage, from 0 to 100000]:N:'
             '--tests[Makes the global, the nodal and the measurement tests of each stage]'
-            '--eliminate=[At most so many rounds of elimination, from 1 to 20]:N:'
+            '--eliminate=[The most rounds of elimination, from 1 to 20]:N:'
             '--format=[The form of the output\: csv or json, one object on a line for each row]:F:(csv json)'
             '--number=[The number that the session is made from, from 0 to 4294967295]:N:'
             '--streams=[How many streams the made session has, from 3 to 2000]:N:'

@@ -56,6 +56,8 @@ class Row:
         Its first field; in JSON lines the value of ``row``.
     columns : tuple of Column
         The columns after the kind, in order.
+    tail : tuple of Column
+        Columns that may come after these, over and over.
     variant : str
         Which one of several rows of the kind it is, such as ``metered``; empty where there is one.
     by : str
@@ -68,6 +70,7 @@ class Row:
 
     kind: str
     columns: tuple[Column, ...]
+    tail: tuple[Column, ...] = ()
     variant: str = ""
     by: str = ""
     without: tuple[str, ...] = ()
@@ -86,7 +89,9 @@ class Row:
     @property
     def pattern(self) -> str:
         """The row as the guide writes it, such as ``unit,NAME``."""
-        return ",".join([self.kind, *(column.label or column.name for column in self.columns)])
+        labels = [[it.label or it.name for it in part] for part in (self.columns, self.tail)]
+        tail = "".join(f",{label}" for label in labels[1])
+        return ",".join([self.kind, *labels[0]]) + (f"[{tail}]..." if tail else "")
 
     def column(self, name: str) -> Column:
         """Return the column of a name."""
@@ -165,6 +170,7 @@ def _row(data: dict[str, Any]) -> Row:
     return Row(
         kind=data["kind"],
         columns=tuple(_column(column) for column in data["columns"]),
+        tail=tuple(_column(column) for column in data.get("tail", ())),
         variant=data.get("variant", ""),
         by=data.get("by", ""),
         without=tuple(data.get("without", ())),

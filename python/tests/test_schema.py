@@ -1,40 +1,37 @@
-"""The schema: it follows from the sources, the guide says the same, and each shipped row fits it."""
+"""The schema follows from the sources, the guide says the same, and each shipped row fits it."""
 
 from __future__ import annotations
 
 import csv
-import importlib.machinery
-import importlib.util
 import re
-import subprocess
-import sys
 from pathlib import Path
-from types import ModuleType
+from typing import Any
 
 import pytest
 
-from plantbal.schema import Column, schema
+from documentation import guide, rows
+from documentation.sources import Sources
+from plantbal.schema import Column, Row, schema
 
 TOP = Path(__file__).resolve().parents[2]
+SESSION = "crates/pb_form/specs/SessionRows.antt"
+OUTPUT = "crates/pb_form/specs/OutputRows.antt"
+GUIDE = "docs/GUIDE.md"
 
 
-@pytest.fixture(name="documents", scope="module")
-def fixture_documents() -> ModuleType:
-    """The script `.ci/documents` as a module."""
-    sys.path.insert(0, str(TOP / ".ci"))
-    loader = importlib.machinery.SourceFileLoader("documents", str(TOP / ".ci" / "documents"))
-    spec = importlib.util.spec_from_loader("documents", loader)
-    assert spec is not None
-    module = importlib.util.module_from_spec(spec)
-    loader.exec_module(module)
-    return module
+def otherwise(path: str, *changes: tuple[str, str]) -> Sources:
+    """Sources in which a file has other texts."""
+    text = Sources().text(path)
+    for old, new in changes:
+        assert old in text
+        text = text.replace(old, new)
+    return Sources({path: text})
 
 
-def test_schema_is_fresh(documents: ModuleType) -> None:
-    data, complaints = documents.schema()
+def test_schema_is_fresh() -> None:
+    data, complaints = guide.schema(Sources())
     assert complaints == []
-    path = TOP / documents.row_definitions.SCHEMA
-    assert path.read_text(encoding="utf-8") == documents.row_definitions.text_of(data)
+    assert (TOP / rows.SCHEMA).read_text(encoding="utf-8") == rows.text_of(data)
 
 
 # Something else in a source or in the guide, and what is said of it.
@@ -45,55 +42,96 @@ OTHERWISE = [
         "most_level = 100001",
         "MM is from 0",
     ),
-    ("crates/pb_report/specs/Block.antt", '(codes "dof")', '(codes "free")', "a solved row has"),
+    (OUTPUT, '(codes "dof") dof_range', '(codes "free") dof_range', "`solved` rows have"),
+    (SESSION, '(codes "row") (codes "dip")', '(codes "row") (codes "dips")', "no dips,ID"),
     (
-        "crates/pb_book/specs/Kinds.antt",
-        '(codes "dip") then Ok (Fact Dip)',
-        '(codes "dips") then Ok (Fact Dip)',
-        "no dips,ID",
+        SESSION,
+        '(codes "unit") ∷ column (codes "name") Name ∷ []',
+        '(codes "unit") ∷ column (codes "name") Name ∷ column (codes "to") Name ∷ []',
+        "no unit,NAME,TO",
+    ),
+    (SESSION, "kind.StreamBatch", "kind.RiverBatch", "RiverBatch isn't named"),
+    (SESSION, "session_columns kind.StreamBatch =", "session_columns kind.Strap =", "no equation"),
+    (SESSION, 'column (codes "last") Date', 'column (codes "last") Time', "what is Time"),
+    (SESSION, 'column (codes "last") Date', 'column (codes "last") λ', "what is this"),
+    ("crates/pb_form/specs/Words.antt", 'codes "sealed"', 'codes "shut"', "10 shut"),
+    (
+        OUTPUT,
+        '(codes "end") ∷ column (codes "period") Name ∷ column (codes "round") round_range ∷ []',
+        '(codes "end") ∷ column (codes "period") Name ∷ column (codes "price") round_range ∷ []',
+        "`end` rows have",
     ),
     (
-        "crates/pb_book/specs/Columns.antt",
-        "columns_of UnitRow = Name ∷ []",
-        "columns_of UnitRow = Name ∷ Name ∷ []",
-        "the columns of unit",
-    ),
-    ("crates/pb_report/specs/Refusal.antt", 'codes "sealed"', 'codes "shut"', "10 shut"),
-    (
-        "crates/pb_readback/specs/Columns.antt",
-        "columns_of End = Name ∷ round_column ∷ []",
-        "columns_of End = Name ∷ []",
-        "an end row|a end row",
+        OUTPUT,
+        '∷ optional (codes "hi") wide_range ∷ column (codes "shape")',
+        '∷ optional (codes "hi") flow_range ∷ column (codes "shape")',
+        "StreamBefore isn't a stream row",
     ),
     (
-        "docs/GUIDE.md",
+        GUIDE,
         "| DOF | degrees of freedom | 1 | 2,000 |",
         "| DOF | degrees of freedom | 1 | 3,000 |",
         "DOF is from",
     ),
-    ("docs/GUIDE.md", "| k | sweeps done", "| sweeps | sweeps done", "a solved row has"),
-    ("docs/GUIDE.md", "`strike,ID,REASON`", "`strike,ID`", "no strike,ID,REASON"),
+    (GUIDE, "| k | sweeps done", "| sweeps | sweeps done", "`solved` rows have"),
+    (GUIDE, "`strike,ID,REASON`", "`strike,ID`", "no strike,ID,REASON"),
 ]
 
 
 @pytest.mark.parametrize("path, old, new, said", OTHERWISE, ids=[case[3] for case in OTHERWISE])
-def test_sources_and_guide_disagree(
-    documents: ModuleType, monkeypatch: pytest.MonkeyPatch, path: str, old: str, new: str, said: str
-) -> None:
+def test_sources_and_guide_disagree(path: str, old: str, new: str, said: str) -> None:
     """Whatever is otherwise in one place alone is told."""
-    read = documents.read
-    assert read(path).count(old) >= 1
-
-    def otherwise(asked: str) -> str:
-        text: str = read(asked)
-        return text.replace(old, new) if asked == path else text
-
-    monkeypatch.setattr(documents, "read", otherwise)
     try:
-        _, complaints = documents.schema()
+        _, complaints = guide.schema(otherwise(path, (old, new)))
     except SystemExit as error:
         complaints = [str(error)]
     assert re.search(said, "\n".join(complaints)), complaints
+
+
+def sessions(*changes: tuple[str, str]) -> list[dict[str, Any]]:
+    """The rows of a session of another table."""
+    return rows.session(otherwise(SESSION, *changes))
+
+
+def row(found: list[dict[str, Any]], kind: str, variant: str = "") -> dict[str, Any]:
+    """The row of a kind."""
+    wanted = [it for it in found if (it["kind"], it.get("variant", "")) == (kind, variant)]
+    assert len(wanted) == 1, found
+    return wanted[0]
+
+
+def test_columns_that_repeat() -> None:
+    whole = "session_schema kind = record"
+    tail = 'tail = column (codes "stream") Name ∷ column (codes "cost") level_range ∷ []'
+    close = f"session_schema kind.Close = record {{ columns = session_columns kind.Close; {tail} }}"
+    found = row(sessions((whole, f"{close}\n{whole}")), "close")
+    assert guide.pattern_of(found) == "close,PERIOD[,STREAM,COST]..."
+    assert [column["type"] for column in found["tail"]] == ["name", "number"]
+    assert '"tail": [{' in rows.row_text(found)
+    columns = tuple(Column(it["name"], it["type"], it["label"]) for it in found["columns"])
+    tail_columns = tuple(Column(it["name"], it["type"], it["label"]) for it in found["tail"])
+    assert Row("close", columns, tail_columns).pattern == "close,PERIOD[,STREAM,COST]..."
+
+
+def test_columns_that_may_be_missing_at_the_end() -> None:
+    since = 'session_columns kind.Tank ++ column (codes "since") Date ∷ []'
+    strap = "session_columns kind.Strap ="
+    found = sessions(
+        (strap, f"session_columns kind.TankSince = {since}\n{strap}"),
+        ("kind.Tank ∷ kind.Strap", "kind.Tank ∷ kind.TankSince ∷ kind.Strap"),
+    )
+    assert guide.pattern_of(row(found, "tank")) == "tank,NAME,BASEVAR"
+    assert guide.pattern_of(row(found, "tank", "since")) == "tank,NAME,BASEVAR,SINCE"
+
+
+def test_columns_that_may_be_empty() -> None:
+    found = sessions(
+        (
+            '(codes "close") ∷ column (codes "period") Name',
+            '(codes "close") ∷ record { key = codes "period"; holds = Name; optional = true }',
+        ),
+    )
+    assert row(found, "close")["columns"][0]["optional"] is True
 
 
 def fits(column: Column, text: str) -> bool:
@@ -147,10 +185,3 @@ def test_keys_of_json() -> None:
         found = json.loads(line)
         row = schema().output[found.pop("row")]
         assert sorted(found) == sorted(row.names)
-
-
-def test_documents_check_runs() -> None:
-    said = subprocess.run(
-        [TOP / ".ci" / "documents", "check"], capture_output=True, text=True, check=False
-    )
-    assert "schema.json" not in said.stdout and "GUIDE" not in said.stdout

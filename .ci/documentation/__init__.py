@@ -1,0 +1,1 @@
+"""What `.ci/documents` makes from the sources, and what it checks in the documents."""

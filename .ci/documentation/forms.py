@@ -1,0 +1,131 @@
+"""Forms of the sources that are to become fewer: what there is of each, and how many there may be.
+
+.ci/at_most.txt has a number for each. `.ci/documents write` lowers a number to what there is and
+never raises it; `.ci/documents check` refuses more.
+"""
+
+from __future__ import annotations
+
+import re
+from collections.abc import Callable
+from functools import cache
+
+from .answers import unreached
+from .rust import Function, of_libraries
+from .sources import Sources, Unknown
+from .statement import page_of, repeated, short
+
+AT_MOST = ".ci/at_most.txt"
+# One operator over two operands, or before one.
+OPERAND = r"[*&]?(?:([a-z_][a-z_0-9]*)|[0-9][0-9_]*|[A-Z][A-Z_0-9]*)"
+OPERATOR = r"[-+*/%&|^]|&&|\|\||[=!]=|[<>]=?|<<|>>"
+ONE_OPERATOR = re.compile(rf"(?:{OPERAND} (?:{OPERATOR}) |[-!]){OPERAND}")
+LAWS = re.compile(r"\s*(?:(?:\w+(?:\.|::))*\w+_laws?\([^;]*\);?\s*)*")
+
+
+@cache
+def working(sources: Sources) -> list[Function]:
+    """Return the functions that do something: none of tests, and none that only cites laws."""
+    found = of_libraries(sources)
+    return [one for one in found if one.body and not LAWS.fullmatch(one.body)]
+
+
+def places(found: list[Function], pattern: str) -> list[str]:
+    """Return each place of a pattern in bodies."""
+    return [
+        f"{short(one.path)}:{one.line}: {one.called}: {text}"
+        for one in found
+        for text in re.findall(pattern, one.body or "")
+    ]
+
+
+def laws_called(sources: Sources) -> list[str]:
+    """Return the calls of laws in working bodies."""
+    return places(working(sources), r"\b\w+_laws?\(")
+
+
+def calls_for_clauses(sources: Sources) -> list[str]:
+    """Return the values that are made and not used, but for what they make known."""
+    return places(working(sources), r"let _\w+ = [^;]*;")
+
+
+def unused_parameters(sources: Sources) -> list[str]:
+    """Return the parameters that a body doesn't use, but for those that a trait asks for."""
+    return [
+        f"{short(one.path)}:{one.line}: {one.called}: {name}"
+        for one in working(sources)
+        for name, _ in one.parameters
+        if name.startswith("_") and not one.trait
+    ]
+
+
+def unreachable(sources: Sources) -> list[str]:
+    """Return the places that say that nothing reaches them."""
+    return places(working(sources), r"unreachable!\(")
+
+
+def one_operator(sources: Sources) -> list[str]:
+    """Return the functions whose body is one operator over their parameters and constants."""
+    found = []
+    for one in working(sources):
+        formed = ONE_OPERATOR.fullmatch((one.body or "").strip())
+        names = {name for name, _ in one.parameters}
+        if formed and not one.trait and {x for x in formed.groups() if x} <= names:
+            found.append(f"{short(one.path)}:{one.line}: {one.called}: {(one.body or '').strip()}")
+    return found
+
+
+def repeated_names(sources: Sources) -> list[str]:
+    """Return the names that two or more files of statements define."""
+    return [f"{name}: {', '.join(map(short, paths))}" for name, paths in repeated(sources).items()]
+
+
+def names_not_defined(sources: Sources) -> list[str]:
+    """Return the names of the page of what must be believed that are defined nowhere on it."""
+    found = page_of(sources).renamed()
+    return [f"{name}: {', '.join(map(short, found[name]))}" for name in sorted(found)]
+
+
+FORMS: dict[str, Callable[[Sources], list[str]]] = {
+    "names_in_two_statement_files": repeated_names,
+    "names_defined_nowhere_on_the_page": names_not_defined,
+    "laws_called_in_bodies": laws_called,
+    "calls_for_their_clause": calls_for_clauses,
+    "unused_parameters": unused_parameters,
+    "unreachable_places": unreachable,
+    "functions_of_one_operator": one_operator,
+    "answers_that_nothing_reaches": unreached,
+}
+
+
+def at_most(sources: Sources) -> dict[str, int]:
+    """Return how many of each form there may be."""
+    pairs = [
+        line.split()
+        for line in sources.text(AT_MOST).splitlines()
+        if line.strip() and not line.startswith("#")
+    ]
+    found = {name: int(number) for name, number in pairs}
+    if list(found) != list(FORMS):
+        raise Unknown(f"{AT_MOST} has numbers of {list(found)}, and should have {list(FORMS)}")
+    return found
+
+
+def document(sources: Sources) -> str:
+    """Return the file of the numbers, each no greater than what there is."""
+    text = sources.text(AT_MOST)
+    for name, most in at_most(sources).items():
+        there = len(FORMS[name](sources))
+        text = re.sub(rf"(?m)^{name} \d+$", f"{name} {min(there, most)}", text)
+    return text
+
+
+def complaints(sources: Sources) -> list[str]:
+    """Return what there is more of than there may be."""
+    found = []
+    for name, most in at_most(sources).items():
+        there = FORMS[name](sources)
+        if len(there) > most:
+            found.append(f"{name}: {len(there)}, and {AT_MOST} says at most {most}:")
+            found += [f"    {one}" for one in there]
+    return found

@@ -1,0 +1,398 @@
+"""docs/STATEMENT.md: what must be believed, from the contract of `run` down."""
+
+from __future__ import annotations
+
+import re
+import textwrap
+from collections.abc import Iterator
+from dataclasses import dataclass, field
+from functools import cache
+
+from .guide import anchor_of, contents_of
+from .rust import Function, functions_in, item_of, of_libraries
+from .sources import Definition, Imports, Sources, Spec, Unknown, imports
+
+STATEMENT = "docs/STATEMENT.md"
+# The clauses of the contract of `run` in words, which stand in front.
+IN_WORDS = ".ci/documentation/clauses.md"
+# What README.md promises beside the contract of `run`: laws over the same words.
+LAWS = ("run_text_law", "check_text_law", "own_reports_law", "edited_file_law", "decided_law")
+WORD = re.compile(r"[A-Za-z_][A-Za-z0-9_']*(?:\.[A-Za-z_][A-Za-z0-9_']*)*")
+# A function with a body in a block, with its comment.
+BODY = re.compile(r"\n(?:    //[^\n]*\n)*    (?:pub )?fn [^\n]*\{\n.*?\n    \}", re.S)
+# A file with what is reached of it.
+Reached = tuple[Spec, list[Definition]]
+
+
+def words_in(text: str) -> list[str]:
+    """Return the words of definitions or of code, without comments and texts."""
+    return WORD.findall(re.sub(r'codes "[^"]*"', "", re.sub(r"(--|//).*", "", text)))
+
+
+def short(path: str) -> str:
+    """Return a path from the crates on."""
+    return path.removeprefix("crates/")
+
+
+@dataclass
+class Part:
+    """A part of the page: a file, what is shown of it, and where its words come from."""
+
+    path: str
+    text: str
+    imports: Imports
+
+
+def part_of(reached: Reached) -> Part:
+    """Return what is reached of a file as a part, without comments."""
+    spec, definitions = reached
+    return Part(spec.path, "\n".join(it.code for it in definitions), spec.imports)
+
+
+@dataclass
+class Reach:
+    """What texts reach, in the order in which a reader meets it.
+
+    Attributes
+    ----------
+    definitions : list
+        The definitions, each with its file.
+    types : dict
+        The files and texts of types and constants of the code.
+    libraries : set of str
+        The libraries of the toolchain whose words come.
+    unknown : dict
+        The words that stand nowhere, each with its module.
+    """
+
+    sources: Sources
+    definitions: list[tuple[Spec, Definition]] = field(default_factory=list)
+    types: dict[tuple[str, str], None] = field(default_factory=dict)
+    libraries: set[str] = field(default_factory=set)
+    unknown: dict[str, str] = field(default_factory=dict)
+    seen: set[tuple[str, str]] = field(default_factory=set)
+
+    def words(self, text: str, known: Imports, own: Spec | None = None) -> None:
+        """Visit what the words of a text mean."""
+        for word in words_in(text):
+            front = word.partition(".")[0]
+            if own and front in own.names:
+                self.visit(own.module, front)
+            elif home := known.home(word):
+                self.visit(*home)
+
+    def visit(self, module: str, name: str) -> None:
+        """Visit a word of a module."""
+        library = module.split(".")[1]
+        if not library.startswith("pb_"):
+            self.libraries.add(library)
+        elif (module, name) not in self.seen:
+            self.seen.add((module, name))
+            if ".specs.declared." in module:
+                self.visit_code(module, name)
+            elif module in self.sources.specs:
+                self.visit_definition(self.sources.specs[module], name)
+            else:
+                self.unknown[name] = module
+
+    def visit_code(self, module: str, name: str) -> None:
+        """Visit a type or a constant of the code that a definition names."""
+        found = declared(self.sources, module, name)
+        if found:
+            self.types.setdefault(found)
+        else:
+            self.unknown[name] = module
+
+    def visit_definition(self, spec: Spec, name: str) -> None:
+        """Visit a definition, that of a constructor, or what a file hands on."""
+        definition = spec.names.get(name) or spec.homes.get(name)
+        if definition is None and name in spec.imports.names:
+            self.visit(*spec.imports.names[name])
+        elif definition is None:
+            self.unknown[name] = spec.module
+        elif definition.name != name:
+            self.visit(spec.module, definition.name)
+        else:
+            self.definitions.append((spec, definition))
+            self.words(definition.code, spec.imports, spec)
+
+    def files(self) -> list[Reached]:
+        """Return each file with what is reached of it, in the file's order."""
+        met: dict[str, tuple[Spec, set[Definition]]] = {}
+        for spec, definition in self.definitions:
+            met.setdefault(spec.module, (spec, set()))[1].add(definition)
+        return [(spec, [d for d in spec.definitions if d in some]) for spec, some in met.values()]
+
+
+def declared(sources: Sources, module: str, name: str) -> tuple[str, str] | None:
+    """Return the file and the text of a type or a constant that a definition names."""
+    _, crate, _, _, *place = module.split(".")
+    for depth in range(len(place), -1, -1):
+        path = f"crates/{crate}/src/{'/'.join(place[:depth]) or 'lib'}.rt"
+        if not sources.has(path):
+            continue
+        for wanted in [name, *place[depth:]]:
+            text = item_of(sources.text(path), "struct|enum|const", wanted)
+            if text:
+                return path, text
+    return None
+
+
+def contract(sources: Sources) -> tuple[Function, Part]:
+    """Return the call that `main` makes, with its contract as a part of the page."""
+    for path in sources.files(r"crates/pb_cli/src/[^/]*\.rt"):
+        text = sources.text(path)
+        for function in functions_in(path, text):
+            if function.called == "run" and function.public:
+                shown = f"{function.head}\n{function.contract}".rstrip()
+                return function, Part(path, shown, imports(text))
+    raise Unknown("pb_cli has no call `run`")
+
+
+def block_of(text: str, head: str) -> str | None:
+    """Return a block of code by the pattern of its head, without imports and functions."""
+    found = re.search(rf"^{head}\b.*?^}}", text, re.M | re.S)
+    if not found:
+        return None
+    block = BODY.sub("", re.sub(r"\n    ghost use [^\n]*(?=\n)", "", found[0]))
+    return re.sub(r"\n{2,}\}$", "\n}", block).replace("{\n\n", "{\n", 1)
+
+
+def ends(sources: Sources, run: Function) -> Iterator[Part]:
+    """Return what a contract sees of what `run` takes.
+
+    The traits of its types, how what `main` hands over has them, and the views of other types.
+    """
+    traits = re.findall(r"\b[A-Z]\w*: ([A-Z]\w+)", run.head.partition("(")[0])
+    main = sources.text("crates/plantbal/src/main.rt")
+    code = {path: sources.text(path) for path in sources.code}
+    for trait in traits:
+        for path, text in code.items():
+            if shown := item_of(text, "trait", trait):
+                yield Part(path, shown, imports(text))
+    for trait in traits:
+        for path, text in code.items():
+            for kind in re.findall(rf"^impl<.*> {trait} for (\w+)", text, re.M):
+                if f"{kind}::" in main:
+                    heads = (rf"impl<[^\n]*> {it} for {kind}" for it in ("Model", trait))
+                    blocks = filter(None, (block_of(text, head) for head in heads))
+                    yield Part(path, "\n\n".join(blocks), imports(text))
+    for _, kind in run.parameters:
+        name = kind.lstrip("&").removeprefix("mut ")
+        for path, text in code.items():
+            block = block_of(text, f"impl Model for {re.escape(name)}")
+            if block and item_of(text, "struct", name):
+                yield Part(path, block, imports(text))
+
+
+def laws(sources: Sources) -> Iterator[Part]:
+    """Return the laws that stand beside the contract of `run`."""
+    for name in LAWS:
+        found = [one for one in of_libraries(sources) if one.called == name and one.public]
+        if len(found) != 1:
+            raise Unknown(f"{len(found)} laws have the name {name}")
+        text = sources.text(found[0].path)
+        above = text.splitlines()[: found[0].line - 1]
+        begin = len(above)
+        while above[begin - 1].startswith("///"):
+            begin -= 1
+        shown = [*above[begin:], found[0].head, found[0].contract]
+        yield Part(found[0].path, "\n".join(shown), imports(text))
+
+
+@dataclass
+class Page:
+    """What the page shows.
+
+    Attributes
+    ----------
+    run, ends, laws : Part, list of Part, list of Part
+        The contract of `run`, what it takes, and the laws beside it.
+    reach : Reach
+        What these reach.
+    files : list
+        The files of definitions that are reached.
+    repeated : dict
+        The names that several files of statements define, with the files.
+    """
+
+    run: Part
+    ends: list[Part]
+    laws: list[Part]
+    reach: Reach
+    files: list[Reached]
+    repeated: dict[str, list[str]]
+
+    def renamed(self) -> dict[str, list[str]]:
+        """Return the names of the page that are defined nowhere on it, with where they come."""
+        found: dict[str, list[str]] = {name: [at] for name, at in self.reach.unknown.items()}
+        for part in [self.run, *self.ends, *self.laws, *map(part_of, self.files)]:
+            for word in dict.fromkeys(it.partition(".")[0] for it in words_in(part.text)):
+                module, name = part.imports.names.get(word, ("", word))
+                if name != word and ".pb_" in module:
+                    found.setdefault(word, []).append(part.path)
+        return found
+
+    def meant(self, part: Part) -> list[str]:
+        """Return what the words of a part mean that have other names, or several meanings."""
+        found: dict[str, str] = {}
+        for word in words_in(part.text):
+            front, dot, _ = word.partition(".")
+            whole = part.imports.modules.get(front, "")
+            module, name = part.imports.names.get(front, ("", ""))
+            if dot and ".pb_" in whole:
+                found[f"{front}."] = f"`{front}.` stands before {place_of(whole)}"
+            elif ".pb_" in module and name != front:
+                found[front] = f"`{front}` is {named_in(module, name)}"
+            elif ".pb_" in module and front in self.repeated:
+                found[front] = f"`{front}` is that of {place_of(module)}"
+        return list(found.values())
+
+    def here(self, part: Part) -> list[str]:
+        """Return a paragraph on the words of a part, if it takes one."""
+        said = self.meant(part)
+        return [f"Here {'; '.join(said)}.", ""] if said else []
+
+
+@cache
+def page_of(sources: Sources) -> Page:
+    """Return the page."""
+    function, run = contract(sources)
+    taken, beside = list(ends(sources, function)), list(laws(sources))
+    reach = Reach(sources)
+    for part in [run, *taken, *beside]:
+        reach.words(part.text, part.imports)
+    return Page(run, taken, beside, reach, reach.files(), repeated(sources))
+
+
+@cache
+def repeated(sources: Sources) -> dict[str, list[str]]:
+    """Return the names that two or more files of statements define, each with the files."""
+    found: dict[str, list[str]] = {}
+    for spec in sources.specs.values():
+        for name in spec.names if spec.kind == "Statement" else ():
+            found.setdefault(name, []).append(spec.path)
+    return {name: paths for name, paths in sorted(found.items()) if len(paths) > 1}
+
+
+def named_in(module: str, name: str) -> str:
+    """Return how a reader finds a name of a module."""
+    *front, last = module.split(".")
+    return f"`{front[-1]}::{name}`" if last == "TheVariants" else f"`{name}` of {place_of(module)}"
+
+
+def place_of(module: str) -> str:
+    """Return how a reader finds a module: by its file, or the type whose variants it has."""
+    *front, last = module.split(".")
+    _, crate, part, *place = module.split(".")
+    if last == "TheVariants":
+        return f"the variants of `{front[-1]}`"
+    if place[0] == "declared":
+        return f"the code of `{crate}`"
+    return f"`{crate}/{part}/{'/'.join(place)}.antt`"
+
+
+def chapters(sources: Sources, page: Page) -> list[tuple[str, list[Reached]]]:
+    """Return the files by the layers of their crates, the highest first."""
+    found = []
+    for layer, crates in reversed(sources.layers.items()):
+        files = [reached for reached in page.files if reached[0].crate in crates]
+        if files:
+            found.append((layer[0].upper() + layer[1:], files))
+    return found
+
+
+def in_words(sources: Sources, crates: set[str]) -> list[str]:
+    """Return a line on where docs/DEFINITIONS.md has crates in words, if it has them."""
+    headings = re.findall(r"^## (.*)$", sources.text("docs/DEFINITIONS.md"), re.M)
+    links = [
+        f"[{re.sub(r' [(]`.*?`[)]', '', heading)}](DEFINITIONS.md{anchor_of(heading)})"
+        for heading in headings
+        if crates & set(re.findall(r"`(\w+)`", heading))
+    ]
+    return ["", f"In words: {', '.join(links)}."] if links else []
+
+
+def code_block(language: str, text: str) -> list[str]:
+    """Return a text as a block of code."""
+    return [f"```{language}", text.rstrip(), "```"]
+
+
+def paragraph(text: str) -> list[str]:
+    """Return a paragraph in lines of a width."""
+    return textwrap.wrap(text, 120, break_long_words=False, break_on_hyphens=False)
+
+
+def shown(page: Page, parts: list[Part]) -> list[str]:
+    """Return parts of code, each with its file."""
+    lines = []
+    for part in parts:
+        lines += ["", f"In `{short(part.path)}`:", "", *page.here(part)]
+        lines += code_block("rust", part.text)
+    return lines
+
+
+def body_of(sources: Sources, page: Page) -> list[str]:
+    """Return the page without its head."""
+    lines = [*sources.text(IN_WORDS).rstrip().split("\n"), ""]
+    lines += ["## The contract of `run`", "", f"In `{short(page.run.path)}`:", ""]
+    lines += [*page.here(page.run), *code_block("rust", page.run.text), "", "## What it takes", ""]
+    lines += paragraph(
+        "The contract speaks of what the source and the sink have been seen to do, and of the value"
+        " of the words. The traits say what every source and every sink keeps to; the blocks after"
+        " them, what a contract sees of those that `main` hands over, and of words."
+    )
+    lines += shown(page, page.ends)
+    lines += ["", "## Laws beside it", ""]
+    lines += paragraph(
+        "These functions do nothing. What their contracts say is proved of the words above and"
+        " below: that each input has one text, that one's own reports pass a check, that a report"
+        " after edits is that of the edited file, and that the decided tests of measurements are"
+        " right."
+    )
+    lines += shown(page, page.laws)
+    for layer, files in chapters(sources, page):
+        lines += ["", f"## {layer}", *in_words(sources, {spec.crate for spec, _ in files})]
+        for reached in files:
+            spec, definitions = reached
+            head = re.sub(r"^-- (?:Statement\. |Inside\. )?", "", spec.head)
+            lines += ["", f"### `{short(spec.path)}`", "", *([head, ""] if head else [])]
+            lines += page.here(part_of(reached))
+            lines += code_block("antt", "\n\n".join(it.text for it in definitions))
+    lines += ["", "## Types of the code"]
+    for path, text in page.reach.types:
+        lines += ["", f"In `{short(path)}`:", "", *code_block("rust", text)]
+    return lines
+
+
+def document(sources: Sources) -> str:
+    """Return the text of the page."""
+    page = page_of(sources)
+    body = body_of(sources, page)
+    count = sum(len(definitions) for _, definitions in page.files)
+    libraries = ", ".join(f"`{name}`" for name in sorted(page.reach.libraries))
+    head = [
+        "# What must be believed",
+        "",
+        *paragraph(
+            "Made by `.ci/documents write` from the sources; `.ci/documents check` fails if it is"
+            " stale."
+        ),
+        "",
+        *paragraph(
+            "The program is proved to meet the contract of `pb_cli::run`, and beside it stand a few"
+            " laws. Whoever reads these must believe that their words mean what they should. These"
+            f" are all of them: {count} definitions in {len(page.files)} files, by the layers of"
+            f" their crates from the program down, and after them the {len(page.reach.types)} types"
+            " and constants of the code that they speak of. Words that aren't here are those of the"
+            f" toolchain's libraries: {libraries}. Nothing else of the repository has to be read to"
+            " know what is claimed: bodies, invariants, lemmas and the other contracts only serve"
+            " to prove it."
+        ),
+        "",
+        "## Contents",
+        "",
+        *contents_of("\n".join(body)),
+        "",
+    ]
+    return "\n".join([*head, *body]) + "\n"
