@@ -1,10 +1,10 @@
 // The call that main makes.
-ghost use Rattle.std.specs.Prelude.{◌≡◌, ◌⊎◌, ◌<◌, ◌≤◌, ◌++◌, ◌∷◌, [], OnOk, OnErr};
+ghost use Rattle.std.specs.Prelude.{◌≡◌, ◌<◌, ◌≤◌, ◌++◌, ◌∷◌, [], OnOk, OnErr};
 ghost use Rattle.std.specs.Process.{exit_status};
 ghost use Rattle.pb_io.specs.Counts.{Rose};
 ghost use Rattle.pb_io.specs.Sink.{Puts, PutsPrefix};
 ghost use Rattle.pb_words.specs.Args.{words_given};
-ghost use Rattle.pb_cli.specs.Status.{name_of, number_of};
+ghost use Rattle.pb_cli.specs.Status.{number_of};
 ghost use Rattle.pb_cli.specs.declared.status.Status.{Status};
 ghost use Rattle.pb_cli.specs.Program.{PutsUnlessFault, RunsGiven, error_line, line_feed};
 
