@@ -33,7 +33,7 @@ abbrev pub row_takes_out : List KeptFact → Period → Option StoredRow → Boo
 row_takes_out kept period row =
     option_map_or (λ (stored : StoredRow). takes_out kept stored.effect period) row false
 
--- The row that was stored last takes out the period at a place; where no row is stored, none is taken out.
+-- The row that was stored last takes out the period at a place; if no row is stored, none is taken out.
 abbrev pub touched_at : List StoredRow → ℕ → Bool
 touched_at rows i =
     option_map_or (λ (period : Period). row_takes_out (facts_of rows) period (last_row rows))

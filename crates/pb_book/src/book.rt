@@ -129,7 +129,7 @@ impl Book {
         self.periods.at(i)
     }
 
-    /// The place of the period of a name; `None` exactly where there is none.
+    /// The place of the period of a name; `None` exactly if there is none.
     pub fn period_of(&self, name: &Name) -> Option<u32>
         ensures { result ≡ period_place self.now name.now }
     {
@@ -143,7 +143,7 @@ impl Book {
         self.edits.len()
     }
 
-    /// The edit at a place, counted from 0 in the order of the records; `None` exactly where there is none.
+    /// The edit at a place, counted from 0 in the order of the records; `None` exactly if there is none.
     pub fn edit(&self, i: usize) -> Option<StoredRow>
         ensures { result ≡ slice_get (edits_of self.now) i }
     {
@@ -174,7 +174,7 @@ impl Book {
     }
 
     /// Whether the row that was stored last takes the period at a place out of those whose studies are kept: a fact, a
-    /// change and a strike each that they touch, a declaration and a critical value every one. False where no row is
+    /// change and a strike each that they touch, a declaration and a critical value every one. False if no row is
     /// stored.
     pub fn touched(&self, i: u32) -> bool
         requires { i < length (periods_of self.now) }
@@ -187,7 +187,7 @@ impl Book {
     }
 
     /// The plain rows as records: the declarations, periods and critical values in order, and then the live facts with
-    /// their last values. None of them is refused, and a report behind them is the one behind the book's rows. Refused
+    /// their last values. None of them is refused, and a report after them is the one after the book's rows. Refused
     /// alone when out of memory.
     pub fn plain(&self, alloc: Global) -> Result<Rows, AllocError>
         ensures { IfOk result (λ records. WriteRows records (plain_rows self.now)) }

@@ -18,7 +18,7 @@ use pb_limits::{MOST_DAYS_OF_PERIOD, MOST_PERIODS};
 use pb_rows::Name;
 use pb_site::{ArcKind, Declared, Site, SiteFault};
 
-/// The first cause to refuse a row, behind what is declared, the facts and the periods; `None` exactly where
+/// The first cause to refuse a row, after what is declared, the facts and the periods; `None` exactly if
 /// there is none.
 pub fn judge(site: &Site, facts: &Facts, periods: &Periods, effect: &Effect) -> Option<Refused>
     requires { IsEffectInRange effect.now }

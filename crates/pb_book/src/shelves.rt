@@ -13,7 +13,7 @@ use pb_kinds::Effect;
 use pb_site::Declared;
 use std::collections::HashMap;
 
-// The stored row at a place; `None` exactly where there is none.
+// The stored row at a place; `None` exactly if there is none.
 pub(crate) fn row_at(
     declared: &[Declared],
     facts: &Facts,
@@ -36,7 +36,7 @@ pub(crate) fn row_at(
     }
 }
 
-// What the row at a place of a part does; `None` exactly where there is none.
+// What the row at a place of a part does; `None` exactly if there is none.
 fn effect_in(
     declared: &[Declared],
     facts: &Facts,
@@ -69,7 +69,7 @@ fn effect_in(
     }
 }
 
-// The same where the row declares something, or a period; `None` where it does something else.
+// The same if the row declares something, or a period; `None` if it does something else.
 pub(crate) fn settled_in(declared: &[Declared], periods: &Periods, part: Part) -> Option<Effect>
     requires { All IsDeclaredInRange declared.now }
     ensures value { result ≡ settled_in declared.now periods.now part }
