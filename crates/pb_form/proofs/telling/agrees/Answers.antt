@@ -1,7 +1,5 @@
-use Rattle.std.specs.Prelude.{map}
-use Rattle.std.proofs.Common.{◌≡◌, ◌∙◌, ◌<◌, ◌≤◌, ◌+◌, length, arith, sym, inl, inr}
+use Rattle.std.proofs.Common.{◌∙◌, ◌≤◌, ◌+◌, length, arith, sym, inl, inr}
 use Rattle.std.proofs.lemmas.Bool.{cases_lt}
-use Rattle.pb_form.specs.Seen.{column_seen}
 use Rattle.pb_form.proofs.TellingLemmas.{no_more, word_on}
 use Rattle.pb_form.proofs.telling.agrees.Goals as goal
 
