@@ -4,7 +4,6 @@
 #[cfg(test)]
 mod audit;
 #[cfg(test)]
-mod blocks;
 #[cfg(test)]
 mod readback;
 #[cfg(test)]
