@@ -4,7 +4,6 @@
 #[cfg(test)]
 mod audit;
 #[cfg(test)]
-#[cfg(test)]
 mod readback;
 #[cfg(test)]
 mod report;
