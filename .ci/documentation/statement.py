@@ -15,6 +15,8 @@ from .sources import Definition, Imports, Sources, Spec, Unknown, imports
 STATEMENT = "docs/STATEMENT.md"
 # The call that `main` makes.
 TOP_CALL = "run_program"
+# What it makes of the arguments, of which its contract speaks.
+MADE_OF_ARGUMENTS = ("Words",)
 # The clauses of the contract of the call in words, which stand in front.
 IN_WORDS = ".ci/documentation/clauses.md"
 # What README.md promises beside the contract of the call: laws over the same words.
@@ -179,8 +181,8 @@ def ends(sources: Sources, run: Function) -> Iterator[Part]:
                     heads = (rf"impl<[^\n]*> {it} for {kind}" for it in ("Model", trait))
                     blocks = filter(None, (block_of(text, head) for head in heads))
                     yield Part(path, "\n\n".join(blocks), imports(text))
-    for _, kind in run.parameters:
-        name = kind.lstrip("&").removeprefix("mut ")
+    taken = [kind.lstrip("&").removeprefix("mut ") for _, kind in run.parameters]
+    for name in [*taken, *MADE_OF_ARGUMENTS]:
         for path, text in code.items():
             block = block_of(text, f"impl Model for {re.escape(name)}")
             if block and item_of(text, "struct", name):
