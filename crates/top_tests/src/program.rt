@@ -127,25 +127,6 @@ fn ends_with_a_number_and_a_line(rt: HostRuntime) -> Result<(), AllocError> {
 
 /// Words that give no command, among them some that are refused before any memory is asked for.
 #[test]
-fn says_usage(rt: HostRuntime) -> Result<(), AllocError> {
-    let lists: [&[&str]; 7] = [
-        &[],
-        &["plantbal", "run"],
-        &["runs"],
-        &["-"],
-        &["--help"],
-        &["run", "-gap", "5"],
-        &["run", "--gap", "0"],
-    ];
-    for words in lists {
-        let case = Case { words, ..TWICE };
-        gives(&rt, rt.alloc(), case, 2, "", "Usage\n")?;
-    }
-    Ok(())
-}
-
-/// A third end with too little room holds what goes into it, and the number is the same.
-#[test]
 fn keeps_its_number_where_the_third_end_fails(rt: HostRuntime) -> Result<(), AllocError> {
     for (room, line) in [(0, ""), (3, "Usa"), (5, "Usage"), (6, "Usage\n")] {
         let case = Case {
