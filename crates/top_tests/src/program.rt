@@ -125,7 +125,6 @@ fn ends_with_a_number_and_a_line(rt: HostRuntime) -> Result<(), AllocError> {
     Ok(())
 }
 
-/// Words that give no command, among them some that are refused before any memory is asked for.
 #[test]
 fn keeps_its_number_where_the_third_end_fails(rt: HostRuntime) -> Result<(), AllocError> {
     for (room, line) in [(0, ""), (3, "Usa"), (5, "Usage"), (6, "Usage\n")] {
