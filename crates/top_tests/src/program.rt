@@ -125,6 +125,7 @@ fn ends_with_a_number_and_a_line(rt: HostRuntime) -> Result<(), AllocError> {
     Ok(())
 }
 
+/// A third end with too little room holds what goes into it, and the number is the same.
 #[test]
 fn keeps_its_number_where_the_third_end_fails(rt: HostRuntime) -> Result<(), AllocError> {
     for (room, line) in [(0, ""), (3, "Usa"), (5, "Usage"), (6, "Usage\n")] {
