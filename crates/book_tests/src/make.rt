@@ -1,7 +1,7 @@
 // What no clause says: that a session is made where memory is ample, and rows from another program's output.
 
 ghost use Rattle.std.specs.Prelude.{◌≤◌};
-ghost use Rattle.pb_limits.specs.Limits.{most_streams};
+ghost use Rattle.pb_limits.specs.Limits.{most_made_streams};
 
 use pb_make::make;
 use pb_rows::Rows;
@@ -17,7 +17,7 @@ fn has_rows(
     wanted: &[(usize, &[u8])],
 ) -> Result<bool, Fail>
     requires least { 3 ≤ streams }
-    requires most { streams ≤ most_streams }
+    requires most { streams ≤ most_made_streams }
 {
     let rows = Rows::of(alloc, make(alloc, number, streams)?.as_slice())?;
     let mut same = rows.len() == count;

@@ -1,17 +1,9 @@
 -- Statement. Grades of a component, as assays give them, and what a flow carries of the component by its grade.
 use Rattle.std.specs.Prelude.{ℕ, ◌^◌, ℤ, pos, ◌+ℤ◌, ◌-ℤ◌, ◌*ℤ◌, ◌≤ℤ◌, int_lt, nat_lt, unsigned_abs, Bool, ◌||◌}
-use Rattle.pb_limits.specs.Limits.{most_value, most_variance}
+use Rattle.pb_limits.specs.Limits.{most_grade, most_grade_variance, most_value, most_variance}
 use Rattle.pb_fixed.specs.Quotients.{IsFloor, IsCeiling, floor_div, ceil_div}
 use Rattle.pb_graph.specs.declared.records.Meas.{Meas}
 use Rattle.pb_assay.specs.declared.grade.Grade.{Grade}
-
--- the greatest grade, in parts per million: the stream is the component alone
-abbrev pub most_grade : ℕ
-most_grade = 10 ^ 6
-
--- the greatest variance of a grade, in squares of parts per million
-abbrev pub most_grade_variance : ℕ
-most_grade_variance = 10 ^ 8
 
 -- a grade within its limits
 pub record IsGrade (grade : Grade) : Type 0 where

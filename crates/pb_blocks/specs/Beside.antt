@@ -2,7 +2,7 @@
 use Rattle.std.specs.Prelude.{ℕ, ℤ, pos, Bool, false, ◌||◌, ◌&&◌, not, int_lt, List, [], ◌∷◌, Option, Some, None, Result, Ok, Err, if◌then◌else◌, bytes_eq, codes}
 use Rattle.std.specs.List.{list_all, list_any}
 use Rattle.std.specs.Ordering.{int_eq}
-use Rattle.pb_limits.specs.Limits.{most_nodes, most_streams}
+use Rattle.pb_limits.specs.Limits.{most_nodes, most_rounds, most_streams}
 use Rattle.pb_rows.specs.Name.{same_name}
 use Rattle.pb_rows.specs.Number.{number, within}
 use Rattle.pb_form.specs.OutputRows.{output_schema}
@@ -17,7 +17,7 @@ use Rattle.pb_blocks.specs.Codes.{fault_by}
 use Rattle.pb_blocks.specs.Kinds.{kind_among}
 use Rattle.pb_blocks.specs.Lists.{is_among, is_part, is_side, is_unknown_item, items}
 use Rattle.pb_blocks.specs.Texts.{field, from_field, hi_place, is_blank, least_hi_place, least_lo_place, lo_place, parts_field, shape_field, side_field, to_field, value_place, variance_place}
-use Rattle.pb_blocks.specs.Values.{said_heading, most_round, number_at, values_in}
+use Rattle.pb_blocks.specs.Values.{said_heading, number_at, values_in}
 use Rattle.pb_blocks.specs.declared.rows.Heading.{Heading}
 
 -- the fault of a row's form
@@ -65,7 +65,7 @@ equals_round None round = false
 
 -- the end of a block has this round
 abbrev pub is_round : List (List ℕ) → ℕ → Bool
-is_round row round = equals_round (within (pos 0) (pos most_round) (number (field row 2))) round
+is_round row round = equals_round (within (pos 0) (pos most_rounds) (number (field row 2))) round
 
 -- fewer than one node, more nodes or more streams than a graph has at the most, or fewer streams than none
 abbrev pub are_miscounted : ℤ → ℤ → Bool

@@ -77,10 +77,6 @@ abbrev pub both_bounds : Option ℤ → Option ℤ → Option Bounds
 both_bounds (Some lo) (Some hi) = Some (record { lo = lo; hi = hi })
 both_bounds lo hi = None
 
--- the greatest round of a block
-abbrev pub most_round : ℕ
-most_round = 20
-
 -- `report,PERIOD,ROUND,NODES,STREAMS,GAP,SWEEPS`
 abbrev pub said_heading : List (List ℕ) → List Value → Heading
 said_heading row values = record {

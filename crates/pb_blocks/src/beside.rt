@@ -10,10 +10,8 @@ use crate::texts::{
     side_field, to_field,
 };
 use pb_form::{Fields, OutputKind};
+use pb_limits::MOST_ROUNDS;
 use pb_rows::read_whole;
-
-// The greatest round of a block.
-const MOST_ROUND: i128 = 20;
 
 /// Whether a stream's value stands without a variance, or one bound or least bound without the other.
 pub fn is_half_told(kind: OutputKind, fields: &Fields) -> bool
@@ -86,7 +84,7 @@ pub fn is_word(text: &[u8], word: &[u8]) -> bool
 pub fn is_round(fields: &Fields, round: u32) -> bool
     ensures { result ≡ is_round fields.now round }
 {
-    match read_whole(field(fields, 2), 0, MOST_ROUND) {
+    match read_whole(field(fields, 2), 0, i128::from(MOST_ROUNDS)) {
         Some(number) => number == i128::from(round),
         None => false,
     }

@@ -97,7 +97,7 @@ pub result_at : (stage : Stage) (results : List StreamResult) (j : ℕ) (r : Str
 result_at stage results j r same is lt = ap (λ (rs : List StreamResult). slice_get rs j) (sym same) ∙ slice_get-get_or results j r lt ∙ ap Some (sym is)
 
 -- its place is a number of 32 bits
-pub place_small : (stage : Stage) (results : List StreamResult) (j : ℕ) → results ≡ stage.streams → IsProcessGraph stage.graph → IsWellFormed stage → j < length results → j < 2000
+pub place_small : (stage : Stage) (results : List StreamResult) (j : ℕ) → results ≡ stage.streams → IsProcessGraph stage.graph → IsWellFormed stage → j < length results → j < 4000
 place_small stage results j same limits formed lt = omega (arith, ap length same, limits.few_streams, formed.each_stream, lt)
 
 -- the first stream that has other bounds than the rule gives

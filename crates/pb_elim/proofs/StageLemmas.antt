@@ -9,6 +9,7 @@ use Rattle.std.proofs.lemmas.Option.{get_or_from_slice_get, slice_get_within, sl
 use Rattle.pb_integers.specs.Sums.{item}
 use Rattle.pb_limits.specs.Limits.{most_sweeps}
 use Rattle.pb_limits.specs.Ranges.{IsCriticalValue}
+use Rattle.pb_forest.proofs.ForestLaws.{few_held_law}
 use Rattle.pb_graph.specs.declared.records.Classified.{Classified}
 use Rattle.pb_graph.specs.declared.records.Witness.{Witness}
 use Rattle.pb_graph.specs.declared.records.Witness.TheVariants.{Cut, Cycle}
@@ -182,7 +183,7 @@ stage_formed options s classes stage limits parts narrow = record {
   sweeps = sweeps_within s.graph options.gap options.sweeps stage.solved (price_in s) s.flows parts.solution limits.greatest_sweeps;
   g = narrow.g;
   h = narrow.h;
-  dof = omega (arith, narrow.dof, ap (λ (g : ProcessGraph). length g.streams) parts.graph, parts.state.limits.few_streams);
+  dof = omega (arith, parts.dof parts.state.rounded.held parts.state.rounded.forest, few_held_law s.graph parts.state.rounded.held parts.state.limits parts.state.rounded.forest, parts.state.limits.few_nodes);
   low = narrow.low;
   high = narrow.high;
   tests = subst (λ (o : Option Tests). IfSome o (AreTestsWithin stage.graph)) (sym narrow.untested) tt;

@@ -8,6 +8,7 @@ use Rattle.std.proofs.lemmas.List.Elements.{All-nil, All-cons, All-append}
 use Rattle.std.proofs.lemmas.Option.{slice_get-get_or, slice_get_within}
 use Rattle.pb_limits.specs.Ranges.{IsCriticalValue}
 use Rattle.pb_integers.proofs.Lists.{all_each}
+use Rattle.pb_forest.proofs.ForestLaws.{few_held_law}
 use Rattle.pb_graph.specs.declared.records.Stream.{Stream}
 use Rattle.pb_graph.specs.declared.records.Member.{Member}
 use Rattle.pb_graph.specs.declared.results.Bounds.{Bounds}
@@ -218,7 +219,7 @@ stage_within laws h options critical stage limits asked values whole =
     let each : length stage.streams ≡ length g.streams = sym (length-map stage.streams (λ (r : StreamResult). r.classified)) ∙ is.classes.each in
     let low : IsEnd stage.low = subst IsEnd (sym (is.low ∙ ap (low_of g.streams (printed_flows stage)) is.gap)) within.low in
     let high : IfSome stage.high IsEnd = subst (λ (o : Option ℤ). IfSome o IsEnd) (sym is.high) within.high in
-    let most = freedom_most g.streams is.freedom.held in
+    let most = few_held_law g is.freedom.held here is.freedom.forest in
     let tests = tests_within laws h options critical stage stage.tests limits values (record { low_end = low; high_end = high })
     (each ∙ ap (λ (g : ProcessGraph). length g.streams) graph_is) whole.tests in
     record {
@@ -229,7 +230,7 @@ stage_within laws h options critical stage limits asked values whole =
       sweeps = sweeps_within g options.gap options.sweeps stage.solved (printed_price stage) (printed_flows stage) is.solution asked.greatest_sweeps;
       g = omega (arith, within.gap.most_g, ap (λ (gap : Gap). gap.g) is.gap);
       h = omega (arith, within.gap.most_h, ap (λ (gap : Gap). gap.h) is.gap);
-      dof = omega (arith, is.freedom.count, most, here.few_streams);
+      dof = omega (arith, is.freedom.count, most, here.few_nodes);
       low = low.wide;
       high = high_wide stage.high high;
       tests = subst (λ (g : ProcessGraph). IfSome stage.tests (AreTestsWithin g)) (sym graph_is) tests;

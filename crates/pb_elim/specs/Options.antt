@@ -1,13 +1,9 @@
 -- Statement. What is asked of a study.
-use Rattle.std.specs.Prelude.{◌≡◌, ◌≢◌, ◌≤◌, ℕ, true}
-use Rattle.pb_limits.specs.Limits.{most_gap, most_sweeps}
+use Rattle.std.specs.Prelude.{◌≡◌, ◌≢◌, ◌≤◌, true}
+use Rattle.pb_limits.specs.Limits.{most_gap, most_rounds, most_sweeps}
 use Rattle.pb_graph.specs.declared.results.Options.{Options}
 
--- how many rounds of elimination may be asked at the most
-abbrev pub most_rounds : ℕ
-most_rounds = 20
-
--- options within their limits: a gap in thousandths of a standard deviation, so many sweeps, and so many rounds of elimination, for
+-- options within their limits: a gap in thousandths of a standard deviation, a limit of its sweeps, and rounds of elimination, for
 -- which tests are made
 pub record AreOptions (options : Options) : Type 0 where
   pub some_gap : 1 ≤ options.gap

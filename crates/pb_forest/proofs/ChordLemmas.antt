@@ -9,6 +9,7 @@ use Rattle.pb_integers.proofs.Lists.{All-from_recursion, some_same}
 use Rattle.pb_graph.specs.declared.records.Stream.{Stream}
 use Rattle.pb_graph.specs.ProcessGraph.{some_stream}
 use Rattle.pb_graph.specs.Groups.{entering}
+use Rattle.pb_forest.specs.Flows.{most_given_flow}
 use Rattle.pb_forest.specs.Trees.{RootedTrees, AreWhole, node_at, up_of, end_from}
 use Rattle.pb_forest.specs.Balancing.{Chord, Branch, IsChordWithin, IsBranchWithin, AreNets, added_at, branch_from, branches_of, brought, chord_at, chord_flow, chords_of, gathered, settled, settled_by}
 use Rattle.pb_forest.proofs.FlowLemmas.{chord_held, chord_other}
@@ -58,12 +59,12 @@ gathered-append (c ∷ cs) ds off out = gathered-append cs ds off (brought c (it
 pub length_brought : (c : Chord) (x : ℤ) (out : List ℤ) → length (brought c x out) ≡ length out
 length_brought c x out = length_added c.to x (added_at c.from (neg_ℤ x) out) ∙ length_added c.from (neg_ℤ x) out
 
-pub brought_small : (c : Chord) (x : ℤ) (out : List ℤ) (b : ℕ) → ((k : ℕ) → unsigned_abs (item out k) ≤ b) → unsigned_abs x ≤ 2 ^ 57
-    → (k : ℕ) → unsigned_abs (item (brought c x out) k) ≤ b + 2 * 2 ^ 57
+pub brought_small : (c : Chord) (x : ℤ) (out : List ℤ) (b : ℕ) → ((k : ℕ) → unsigned_abs (item out k) ≤ b) → unsigned_abs x ≤ most_given_flow
+    → (k : ℕ) → unsigned_abs (item (brought c x out) k) ≤ b + 2 * most_given_flow
 brought_small c x out b small le k =
-    let turned : unsigned_abs (neg_ℤ x) ≤ 2 ^ 57 = omega (arith, ints, le) in
-    let first = added_small c.from (neg_ℤ x) out b (2 ^ 57) small turned in
-    let second = added_small c.to x (added_at c.from (neg_ℤ x) out) (b + 2 ^ 57) (2 ^ 57) first le k in
+    let turned : unsigned_abs (neg_ℤ x) ≤ most_given_flow = omega (arith, ints, le) in
+    let first = added_small c.from (neg_ℤ x) out b most_given_flow small turned in
+    let second = added_small c.to x (added_at c.from (neg_ℤ x) out) (b + most_given_flow) most_given_flow first le k in
     omega (arith, second)
 
 -- a held stream brings nothing

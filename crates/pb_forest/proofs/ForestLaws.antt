@@ -8,3 +8,4 @@ pub use Rattle.pb_forest.proofs.SomeForestLemmas.{some_forest_law}
 pub use Rattle.pb_forest.proofs.SomeBalancedLemmas.{some_balanced_law}
 pub use Rattle.pb_forest.proofs.SideLemmas.{one_balanced_law}
 pub use Rattle.pb_forest.proofs.TreeLemmas.{end_cases, other_touches, other_back, two_ends, end_within, touching_place, list_touches}
+pub use Rattle.pb_forest.proofs.FewHeldLemmas.{few_held_law}

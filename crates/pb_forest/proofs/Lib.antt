@@ -12,6 +12,7 @@ mod ClimbLemmas
 mod NetLemmas
 mod ChordLemmas
 mod SomeForestLemmas
+mod FewHeldLemmas
 mod SomeBalancedLemmas
 mod SomePathLemmas
 pub mod ForestLaws

@@ -20,7 +20,7 @@ use Rattle.pb_balance.proofs.BalanceLaws.{unit_price}
 use Rattle.pb_forest.specs.Forest.{IsForest}
 use Rattle.pb_forest.specs.Trees.{RootedTrees, node_at, root_of, up_of, end_from, IsBranch, AreTrees, AreWhole}
 use Rattle.pb_limits.specs.Limits.{most_streams}
-use Rattle.pb_forest.specs.Flows.{IsGivenFlow}
+use Rattle.pb_forest.specs.Flows.{IsGivenFlow, most_given_flow}
 use Rattle.pb_forest.specs.Balancing.{entering_of, chord_flow, crossing, net_by, added_at, balancing, settled, AreNets, AreBalancedFrom}
 use Rattle.pb_forest.proofs.FlowLemmas.{sum_first, sum_below-less, enters_is, chord_held, chord_other, priced_level, level_all}
 use Rattle.pb_forest.proofs.TreeLemmas.{end_cases, two_ends, one_place}
@@ -171,7 +171,7 @@ crossing_small inside ss held xs b (suc n) small =
 
 crossing_bound : (inside : ℕ → Bool) (ss : List Stream) (held : List Bool) (xs : List ℤ) (n : ℕ) → All IsGivenFlow xs → n ≤ most_streams
     → unsigned_abs (crossing inside ss held xs n) < 2 ^ 68
-crossing_bound inside ss held xs n small few = let le = crossing_small inside ss held xs (2 ^ 57) n small in omega (arith, le, few)
+crossing_bound inside ss held xs n small few = let le = crossing_small inside ss held xs most_given_flow n small in omega (arith, le, few)
 
 -- ---- the net flows of the streams not held
 -- all that the code asks of the net flows so far
@@ -186,7 +186,7 @@ nets_small nodes ss held off t j out whole small few nets k = elim (cases_lt k (
         omega (arith, ints, e, le)
     | inr none ↦
         let e = nets.rest k lt (no_up nodes ss held t k whole none) in
-        let le = chord_small held off (2 ^ 57) small k in
+        let le = chord_small held off most_given_flow small k in
         omega (arith, ints, e, le)
   ]
 ]

@@ -1,6 +1,6 @@
 -- Statement. The one balanced flow vector that has given flows off the forest: its flows at the held streams follow from the
 -- balances (Narasimhan and Jordache, chapter 3).
-use Rattle.std.specs.Prelude.{◌≡◌, ℕ, ◌^◌, ◌<◌, ◌≤◌, ℤ, Bool, false, List, length, get_or, unsigned_abs}
+use Rattle.std.specs.Prelude.{◌≡◌, ℕ, ◌+◌, ◌^◌, ◌<◌, ◌≤◌, ℤ, Bool, false, List, length, get_or, unsigned_abs}
 use Rattle.pb_integers.specs.Sums.{item}
 use Rattle.pb_graph.specs.ProcessGraph.{ProcessGraph, IsProcessGraph}
 use Rattle.pb_graph.specs.Balance.{IsBalanced}
@@ -10,9 +10,13 @@ use Rattle.pb_forest.specs.Forest.{IsForest}
 abbrev pub AgreeOffForest : List Bool → List ℤ → List ℤ → Type 0
 AgreeOffForest held flows others = (k : ℕ) → k < length held → get_or held k false ≡ false → item flows k ≡ item others k
 
+-- the greatest flow that a stream not held is given, in grams: a dual flow to the nearest gram is within 2^56 + 10^15
+abbrev pub most_given_flow : ℕ
+most_given_flow = 2 ^ 56 + 2 ^ 50
+
 -- a flow that a stream not held is given, in grams
 abbrev pub IsGivenFlow : ℤ → Type 0
-IsGivenFlow flow = unsigned_abs flow ≤ 2 ^ 57
+IsGivenFlow flow = unsigned_abs flow ≤ most_given_flow
 
 -- there is a balanced flow vector with given flows off the forest
 abbrev pub SomeBalancedLaw : Type 0

@@ -1,11 +1,11 @@
 -- Statement. What is proved of the spanning forest, law by law.
-use Rattle.std.specs.Prelude.{◌≡◌, ℕ, Bool, true, false, not, ◌&&◌, ◌==◌, List, Some, slice_get, get_or}
+use Rattle.std.specs.Prelude.{◌≡◌, ◌<◌, ℕ, Bool, true, false, not, ◌&&◌, ◌==◌, List, Some, slice_get, get_or}
 use Rattle.pb_graph.specs.declared.records.Stream.{Stream}
 use Rattle.pb_graph.specs.declared.records.Step.{Step}
-use Rattle.pb_graph.specs.ProcessGraph.{is_measured}
+use Rattle.pb_graph.specs.ProcessGraph.{IsProcessGraph, ProcessGraph, is_measured}
 use Rattle.pb_graph.specs.Walk.{ends_of, any_stream, unmeasured, Reaches}
 use Rattle.pb_graph.specs.Path.{IsPath, is_open}
-use Rattle.pb_forest.specs.Forest.{is_before, IsForest}
+use Rattle.pb_forest.specs.Forest.{is_before, IsForest, degrees_of_freedom}
 
 -- tests of streams that may be taken: held ones before a place; held ones without measurement; those that may be, but one
 abbrev pub held_before : List Bool → Bool → ℕ → ℕ → Stream → Bool
@@ -67,3 +67,8 @@ SomeForestLaw = (streams : List Stream) → (held : List Bool) × IsForest strea
 -- a list of streams has one spanning forest
 abbrev pub OneForestLaw : Type 0
 OneForestLaw = (streams : List Stream) (held other : List Bool) → IsForest streams held → IsForest streams other → held ≡ other
+
+-- there are fewer degrees of freedom than nodes
+abbrev pub FewHeldLaw : Type 0
+FewHeldLaw = (graph : ProcessGraph) (held : List Bool) → IsProcessGraph graph → IsForest graph.streams held
+    → degrees_of_freedom graph.streams held < graph.nodes

@@ -6,7 +6,7 @@ ghost use Rattle.pb_integers.specs.Sums.{item};
 ghost use Rattle.pb_graph.specs.ProcessGraph.{IsProcessGraph};
 ghost use Rattle.pb_graph.specs.Balance.{IsBalanced};
 ghost use Rattle.pb_graph.specs.WellFormed.{IsFlow};
-ghost use Rattle.pb_forest.specs.Flows.{AgreeOffForest, IsGivenFlow};
+ghost use Rattle.pb_forest.specs.Flows.{AgreeOffForest, IsGivenFlow, most_given_flow};
 ghost use Rattle.pb_forest.specs.Trees.{AreWhole};
 ghost use Rattle.pb_forest.specs.Balancing.{IsKept, AreNets, AreBalancedFrom, IsChordWithin, IsBranchWithin, branches_of, chord_flow, added_at, brought, gathered, settled_by};
 
@@ -67,7 +67,7 @@ fn gather(chords: &[Chord], off: &[i128], out: &mut [i128])
     requires there { All (IsChordWithin (length out.old)) chords.now }
     requires each { length off.now ≡ length out.old }
     requires given { All IsGivenFlow off.now }
-    requires start { (k : ℕ) → unsigned_abs (item out.old k) ≤ 2 ^ 57 }
+    requires start { (k : ℕ) → unsigned_abs (item out.old k) ≤ most_given_flow }
     ensures { out.new ≡ gathered chords.now off.now out.old }
 {
     for chord in chords {

@@ -1,6 +1,6 @@
 // What is proved of the definitions alone. The functions are empty: the contract of each is a law.
 
-ghost use Rattle.pb_forest.specs.Laws.{SpansLaw, AcyclicLaw, SomePathLaw, UniqueLaw, PartLaw, ChordLaw, SomeForestLaw, OneForestLaw};
+ghost use Rattle.pb_forest.specs.Laws.{SpansLaw, AcyclicLaw, SomePathLaw, UniqueLaw, PartLaw, ChordLaw, SomeForestLaw, OneForestLaw, FewHeldLaw};
 ghost use Rattle.pb_forest.specs.Flows.{SomeBalancedLaw, OneBalancedLaw};
 
 /// What any streams join, the forest joins.
@@ -51,4 +51,9 @@ pub fn some_balanced_law()
 /// There is at most one balanced flow vector with given flows off the forest.
 pub fn one_balanced_law()
     ensures { OneBalancedLaw }
+{}
+
+/// There are fewer degrees of freedom than nodes.
+pub fn few_held_law()
+    ensures { FewHeldLaw }
 {}

@@ -1,6 +1,6 @@
 -- Statement. The rows of an output: the columns of each kind.
 use Rattle.std.specs.Prelude.{◌-◌, ◌^◌, pos, neg_ℤ, List, [], ◌∷◌, codes, map}
-use Rattle.pb_limits.specs.Limits.{most_freedom, most_gap, most_sweeps, most_value, most_variance}
+use Rattle.pb_limits.specs.Limits.{most_freedom, most_gap, most_price, most_rounds, most_sweeps, most_value, most_variance, most_wide}
 use Rattle.pb_form.specs.Columns.{Column, Schema, column, optional, word_column}
 use Rattle.pb_form.specs.Holds.{Holds, Word, Name, Reason, Number, Items}
 use Rattle.pb_form.specs.SessionRows.{critical_range}
@@ -14,11 +14,11 @@ natural_range = Number (pos 0) (pos (2 ^ 64 - 1))
 
 -- a number that no limit of a plant bounds: a bound of a flow, a net flow with its variance, an end of a statistic
 abbrev pub wide_range : Holds
-wide_range = Number (neg_ℤ (pos (2 ^ 126))) (pos (2 ^ 126))
+wide_range = Number (neg_ℤ (pos most_wide)) (pos most_wide)
 
 -- a round
 abbrev pub round_range : Holds
-round_range = Number (pos 0) (pos 20)
+round_range = Number (pos 0) (pos most_rounds)
 
 -- a gap, in thousandths of a standard deviation
 abbrev pub gap_range : Holds
@@ -30,7 +30,7 @@ sweeps_range = Number (pos 0) (pos most_sweeps)
 
 -- a node's price, in units of 2^-56
 abbrev pub price_range : Holds
-price_range = Number (neg_ℤ (pos (2 ^ 120))) (pos (2 ^ 120))
+price_range = Number (neg_ℤ (pos most_price)) (pos most_price)
 
 -- a measured value, in grams
 abbrev pub value_range : Holds

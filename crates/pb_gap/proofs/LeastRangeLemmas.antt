@@ -38,7 +38,7 @@ half_once streams gap m ms =
 
 -- ---- the range
 -- half of a sum that bounds within the range stand about is within it
-half_within : (f half low high : ℤ) → unsigned_abs f ≤ 2 ^ 79 → unsigned_abs (low -ℤ half) ≤ 2 ^ 126 → unsigned_abs (high +ℤ half) ≤ 2 ^ 126
+half_within : (f half low high : ℤ) → unsigned_abs f ≤ 2 ^ 80 → unsigned_abs (low -ℤ half) ≤ 2 ^ 126 → unsigned_abs (high +ℤ half) ≤ 2 ^ 126
     → AreBoundsWithin (record { lo = floor_div (f +ℤ low) (pos 2) -ℤ ceil_div half (pos 2); hi = ceil_div (f +ℤ high) (pos 2) +ℤ ceil_div half (pos 2) })
 half_within f half low high flows lo hi =
     let down = floor_is (f +ℤ low) (pos 2) (omega (arith, ints)) in

@@ -23,7 +23,7 @@ use Rattle.pb_graph.specs.Prices.{IsInBox, rise_of}
 use Rattle.pb_graph.specs.WellFormed.{AreBoundsWithin, IsFlow}
 use Rattle.pb_merge.specs.Variance.{variance_of}
 use Rattle.pb_dual.specs.DualValue.{scale, dual_flow, flow_at, most_dual_flow}
-use Rattle.pb_forest.specs.Flows.{IsGivenFlow}
+use Rattle.pb_forest.specs.Flows.{IsGivenFlow, most_given_flow}
 use Rattle.pb_gap.specs.Gap.{Gap, deviation_at, deviations_of, gap_from, gap_of, gap_size}
 use Rattle.pb_gap.specs.GapRange.{IsGapInRange}
 use Rattle.pb_gap.specs.Bounds.{AreSigned, IsSigned, bounds_of, dual_flow_in, dual_flow_sum, half_width_in, variance_in, variance_sum}
@@ -54,10 +54,10 @@ duals_within price [] limits box = tt
 duals_within price (s ∷ ss) limits box = (dual_within s.meas (rise_of price s) limits.0 box.0, duals_within price ss limits.1 box.1)
 
 -- to the nearest gram
-gram_small : (u : ℤ) → unsigned_abs u ≤ most_dual_flow → unsigned_abs (nearest_div u scale) ≤ 2 ^ 57
+gram_small : (u : ℤ) → unsigned_abs u ≤ most_dual_flow → unsigned_abs (nearest_div u scale) ≤ most_given_flow
 gram_small u small =
-    let to = nearest_to (pos (2 ^ 57)) u scale (omega (arith, ints)) (omega (arith, ints, small)) in
-    let from = nearest_from (neg_ℤ (pos (2 ^ 57))) u scale (omega (arith, ints)) (omega (arith, ints, small)) in
+    let to = nearest_to (pos most_given_flow) u scale (omega (arith, ints)) (omega (arith, ints, small)) in
+    let from = nearest_from (neg_ℤ (pos most_given_flow)) u scale (omega (arith, ints)) (omega (arith, ints, small)) in
     omega (arith, ints, to, from)
 
 grams_small : (price : ℕ → ℤ) (ss : List Stream) → AllByRecursion (λ s. unsigned_abs (dual_flow price s) ≤ most_dual_flow) ss → AllByRecursion IsGivenFlow (nearest_flows price ss)

@@ -22,7 +22,7 @@ use Rattle.pb_graph.specs.WellFormed.{IsFlow}
 use Rattle.pb_graph.proofs.ReachLemmas.{some_reach}
 use Rattle.pb_balance.proofs.BalanceLaws.{reach_decides}
 use Rattle.pb_forest.specs.Forest.{IsForest}
-use Rattle.pb_forest.specs.Flows.{AgreeOffForest, IsGivenFlow}
+use Rattle.pb_forest.specs.Flows.{AgreeOffForest, IsGivenFlow, most_given_flow}
 use Rattle.pb_forest.proofs.ForestLaws.{one_balanced_law}
 use Rattle.pb_gap.specs.Bounds.{IsSigned}
 use Rattle.pb_gap.specs.StreamBounds.{others_times}
@@ -147,19 +147,19 @@ turned sign x b is small = elim is [
 
 -- each item of a sum of a branch is a flow off the forest
 part_small : (g : ProcessGraph) (held : List Bool) (flows off : List ℤ) (m : Member) → AgreeOffForest held flows off → ((k : ℕ) → IsGivenFlow (item off k))
-    → IsSigned (marked_graph g held) m → unsigned_abs (m.sign *ℤ item flows m.stream) ≤ 2 ^ 57
+    → IsSigned (marked_graph g held) m → unsigned_abs (m.sign *ℤ item flows m.stream) ≤ most_given_flow
 part_small g held flows off m agree given is =
     let (lt, meas) = at_marked held g.streams m.stream is.stream is.is in
     let out = off_forest (get_or held m.stream false) is.stream meas (subst IsSome (sym is.measured) refl) in
-    turned m.sign (item flows m.stream) (2 ^ 57) is.sign (subst (λ (x : ℤ). unsigned_abs x ≤ 2 ^ 57) (sym (agree m.stream lt out)) (given m.stream))
+    turned m.sign (item flows m.stream) most_given_flow is.sign (subst (λ (x : ℤ). unsigned_abs x ≤ most_given_flow) (sym (agree m.stream lt out)) (given m.stream))
 
 branch_small : (g : ProcessGraph) (held : List Bool) (flows off : List ℤ) (j : ℕ) → IsProcessGraph g → IsForest g.streams held → IsBalanced g flows → AgreeOffForest held flows off
     → ((k : ℕ) → IsGivenFlow (item off k)) → j < length held → get_or held j false ≡ true → IsFlow (item flows j)
 branch_small g held flows off j limits forest even agree given lt on =
     let h = marked_graph g held in
     let (members, sums) = branch_sum g held j limits forest lt on in
-    let each = AllByRecursion-map (IsSigned h) (λ (m : Member). unsigned_abs (m.sign *ℤ item flows m.stream) ≤ 2 ^ 57) members (λ m is. part_small g held flows off m agree given is) sums.signed.each in
-    let bound = sum_over-bound (λ (m : Member). m.sign *ℤ item flows m.stream) (2 ^ 57) members each in
+    let each = AllByRecursion-map (IsSigned h) (λ (m : Member). unsigned_abs (m.sign *ℤ item flows m.stream) ≤ most_given_flow) members (λ m is. part_small g held flows off m agree given is) sums.signed.each in
+    let bound = sum_over-bound (λ (m : Member). m.sign *ℤ item flows m.stream) most_given_flow members each in
     let few = members_few h members sums.signed in
     let most = (marked_is_graph g held limits forest).few_streams in
     let is = sums.sum flows (to_marked g held flows forest even) in

@@ -2,6 +2,7 @@
 
 ghost use Rattle.std.specs.Prelude.{◌≡◌, ◌⊎◌, ◌+◌, ◌*◌, ◌^◌, ◌<◌, ◌≤◌, pos, negsuc, ◌+ℤ◌, ◌-ℤ◌, ◌*ℤ◌, ◌≤ℤ◌, ◌<ℤ◌, unsigned_abs};
 ghost use Rattle.std.specs.Int.{int_max, int_min};
+ghost use Rattle.pb_forest.specs.Flows.{most_given_flow};
 ghost use Rattle.pb_fixed.specs.Quotients.{floor_div, ceil_div, nearest_div};
 ghost use Rattle.pb_fixed.specs.Blocks.{IsBlockItem};
 ghost use Rattle.pb_limits.specs.Limits.{most_streams, most_value};
@@ -18,7 +19,7 @@ pub const MOST_ADJUSTMENT: i128 = 1 << 52;
 pub fn nearest_gram(dual_flow: i128) -> i128
     requires { unsigned_abs dual_flow ≤ most_dual_flow }
     ensures value { result ≡ nearest_div dual_flow scale }
-    ensures within { unsigned_abs result ≤ 2 ^ 57 }
+    ensures within { unsigned_abs result ≤ most_given_flow }
 {
     shift_nearest(dual_flow, 56)
 }

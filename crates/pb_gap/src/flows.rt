@@ -1,6 +1,7 @@
 // The flows that belong to prices.
 
 ghost use Rattle.std.specs.Prelude.{◌≡◌, ◌≤◌, ◌^◌, length, unsigned_abs, All};
+ghost use Rattle.pb_forest.specs.Flows.{most_given_flow};
 ghost use Rattle.pb_limits.specs.Limits.{most_streams};
 ghost use Rattle.pb_dual.specs.DualValue.{most_dual_flow};
 ghost use Rattle.pb_gap.specs.State.{nearest_grams};
@@ -15,7 +16,7 @@ fn write_nearest(dual_flows: &[i128], out: &mut [i128])
     requires within { All (λ u. unsigned_abs u ≤ most_dual_flow) dual_flows.now }
     requires room { length out.old ≡ length dual_flows.now }
     ensures value { out.new ≡ nearest_grams dual_flows.now }
-    ensures within { All (λ v. unsigned_abs v ≤ 2 ^ 57) out.new }
+    ensures within { All (λ v. unsigned_abs v ≤ most_given_flow) out.new }
 {
     for (j, dual_flow) in dual_flows.iter().enumerate() {
         out[j] = nearest_gram(*dual_flow);

@@ -53,7 +53,7 @@ fn variance_sum(streams: &[Stream], members: &[Member]) -> i128
     requires members { AreMembers streams.now members.now }
     ensures value { result ≡ variance_sum streams.now members.now }
     ensures nonneg { pos 0 ≤ℤ result }
-    ensures within { result <ℤ pos (2 ^ 85) }
+    ensures within { result <ℤ pos (2 ^ 86) }
 {
     let mut total = 0;
     for member in members {

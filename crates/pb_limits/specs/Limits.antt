@@ -11,7 +11,19 @@ most_nodes = 1001
 
 -- how many streams a process graph has at the most: declared streams and inventories of tanks
 abbrev pub most_streams : ℕ
-most_streams = 2000
+most_streams = 4000
+
+-- how many streams a process graph of a session of version 1 has at the most
+abbrev pub most_streams_of_version_1 : ℕ
+most_streams_of_version_1 = 2000
+
+-- how many streams a made session has at the most
+abbrev pub most_made_streams : ℕ
+most_made_streams = 2000
+
+-- how many boundaries a plant has at the most, beside the environment
+abbrev pub most_boundaries : ℕ
+most_boundaries = 100
 
 -- how many points the strapping table of a tank has at the most
 abbrev pub most_points : ℕ
@@ -20,6 +32,10 @@ most_points = 2000
 -- how many periods a book has at the most
 abbrev pub most_periods : ℕ
 most_periods = 1000
+
+-- how many periods a window has at the most
+abbrev pub most_periods_of_window : ℕ
+most_periods_of_window = 31
 
 -- how many facts (readings, transfers and dips) a book has at the most
 abbrev pub most_facts : ℕ
@@ -57,6 +73,14 @@ most_grams = 10 ^ 13
 abbrev pub most_row_variance : ℕ
 most_row_variance = 10 ^ 19
 
+-- the greatest grade of a component, in parts per million: the stream is the component alone
+abbrev pub most_grade : ℕ
+most_grade = 10 ^ 6
+
+-- the greatest variance of a grade, in squares of parts per million
+abbrev pub most_grade_variance : ℕ
+most_grade_variance = 10 ^ 8
+
 -- the greatest critical value, in thousandths
 abbrev pub most_critical : ℕ
 most_critical = 10 ^ 12
@@ -80,3 +104,15 @@ most_gap = 1000000
 -- the most sweeps that may be allowed to a study
 abbrev pub most_sweeps : ℕ
 most_sweeps = 100000
+
+-- the most rounds of elimination that may be asked of a study
+abbrev pub most_rounds : ℕ
+most_rounds = 20
+
+-- the greatest price of a node, in units of 2^-56, either way
+abbrev pub most_price : ℕ
+most_price = 2 ^ 120
+
+-- the greatest of the numbers that no limit of a plant bounds: a bound of a flow, a net flow with its variance, an end of a statistic
+abbrev pub most_wide : ℕ
+most_wide = 2 ^ 126

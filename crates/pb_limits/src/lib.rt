@@ -11,13 +11,25 @@ pub const MOST_UNITS_AND_TANKS: usize = 1_000;
 pub const MOST_NODES: u32 = 1_001;
 
 /// The most streams of a process graph: declared streams and inventories of tanks.
-pub const MOST_STREAMS: usize = 2_000;
+pub const MOST_STREAMS: usize = 4_000;
+
+/// The most streams of a process graph of a session of version 1.
+pub const MOST_STREAMS_OF_VERSION_1: usize = 2_000;
+
+/// The most streams of a made session.
+pub const MOST_MADE_STREAMS: u32 = 2_000;
+
+/// The most boundaries of a plant, beside the environment.
+pub const MOST_BOUNDARIES: usize = 100;
 
 /// The most points of the strapping table of a tank.
 pub const MOST_POINTS: usize = 2_000;
 
 /// The most periods of a book.
 pub const MOST_PERIODS: usize = 1_000;
+
+/// The most periods of a window.
+pub const MOST_PERIODS_OF_WINDOW: usize = 31;
 
 /// The most facts of a book: readings, transfers and dips.
 pub const MOST_FACTS: usize = 200_000;
@@ -46,6 +58,12 @@ pub const MOST_GRAMS: i64 = 10_000_000_000_000;
 /// The greatest variance of a row, in squared grams.
 pub const MOST_ROW_VARIANCE: i128 = 10_000_000_000_000_000_000;
 
+/// The greatest grade of a component, in parts per million: the stream is the component alone.
+pub const MOST_GRADE: i64 = 1_000_000;
+
+/// The greatest variance of a grade, in squares of parts per million.
+pub const MOST_GRADE_VARIANCE: i64 = 100_000_000;
+
 /// The greatest critical value, in thousandths.
 pub const MOST_CRITICAL: i64 = 1_000_000_000_000;
 
@@ -63,6 +81,9 @@ pub const MOST_GAP: u32 = 1_000_000;
 
 /// The most sweeps that may be allowed to a study.
 pub const MOST_SWEEPS: u32 = 100_000;
+
+/// The most rounds of elimination that may be asked of a study.
+pub const MOST_ROUNDS: u32 = 20;
 
 /// Each constant is the number of its definition.
 pub fn limits_law()

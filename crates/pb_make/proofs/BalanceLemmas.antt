@@ -7,7 +7,7 @@ use Rattle.std.proofs.lemmas.Int.{ints}
 use Rattle.std.proofs.lemmas.List.Elements.{recursion_from_All}
 use Rattle.pb_integers.specs.Sums.{sum_over}
 use Rattle.pb_integers.proofs.Sums.{sum_over-append}
-use Rattle.pb_limits.specs.Limits.{most_streams}
+use Rattle.pb_limits.specs.Limits.{most_made_streams}
 use Rattle.pb_make.specs.declared.plant.MadeStream.{MadeStream}
 use Rattle.pb_make.specs.Bounds.{IsSide}
 use Rattle.pb_make.specs.Laws.{brought_to}
@@ -168,7 +168,7 @@ line_even units u from (suc count) sides before some within fits = elim (cases_B
 
 -- ---- the plant
 
-pub balanced : (number streams unit : ℕ) → least_streams ≤ streams → streams ≤ most_streams → 1 ≤ unit → unit ≤ units_of streams → sum_over (brought_to unit) (made_streams number streams) ≡ pos 0
+pub balanced : (number streams unit : ℕ) → least_streams ≤ streams → streams ≤ most_made_streams → 1 ≤ unit → unit ≤ units_of streams → sum_over (brought_to unit) (made_streams number streams) ≡ pos 0
 balanced number streams unit least most_are some within =
     let n = units_of streams in
     let sides = side_streams number streams in

@@ -4,7 +4,7 @@ use Rattle.std.specs.Prelude.{◌&&◌, ◌||◌, not, map, filter_map, codes, i
 use Rattle.std.specs.List.{AllByRecursion, range_with_len}
 use Rattle.std.proofs.lemmas.List.FromFn.{length-map-range_with_len, map-range_with_len_more}
 use Rattle.jiff_core.specs.Calendar.{day_count, days_from_civil, days_of_months, days_of_years}
-use Rattle.pb_limits.specs.Limits.{most_streams, most_units_and_tanks}
+use Rattle.pb_limits.specs.Limits.{most_made_streams, most_units_and_tanks}
 use Rattle.pb_rows.specs.Name.{same_name}
 use Rattle.pb_rows.specs.Texts.{HaveOneDateText}
 use Rattle.pb_site.specs.declared.declared.Arc.{Arc}
@@ -81,7 +81,7 @@ none_other : AreOther []
 none_other = record { no_node = refl; no_arc = λ nodes. refl }
 
 -- no cause to refuse the next stream
-stream_fine : (n i : ℕ) (streams : List MadeStream) (stream : MadeStream) → n ≤ 1000 → length streams < most_streams → i ≡ length streams + 1 → IsMade n stream
+stream_fine : (n i : ℕ) (streams : List MadeStream) (stream : MadeStream) → n ≤ 1000 → length streams < most_made_streams → i ≡ length streams + 1 → IsMade n stream
     → HasNoCause (plant_of n streams []) [] [] (Declares (declared_stream i stream))
 stream_fine n i streams stream few less is made =
     let declared = plant_of n streams [] in
@@ -103,11 +103,11 @@ stream_fine n i streams stream few less is made =
       unsealed = refl;
       still_open = refl;
       in_range = refl;
-      room = fewer most_streams (length (arcs_of declared)) (omega (arith, many, less));
+      room = fewer most_made_streams (length (arcs_of declared)) (omega (arith, many, less));
     }
 
 -- the streams that are left, behind those before them
-pub streams_taken : AskingLaw → (Holds : List StoredRow → Type 0) (n i : ℕ) (before streams : List MadeStream) (records : List (List (List ℕ))) → n ≤ 1000 → length before + length streams ≤ most_streams → i ≡ length before + 1
+pub streams_taken : AskingLaw → (Holds : List StoredRow → Type 0) (n i : ℕ) (before streams : List MadeStream) (records : List (List (List ℕ))) → n ≤ 1000 → length before + length streams ≤ most_made_streams → i ≡ length before + 1
     → AllByRecursion (IsMade n) streams → Rest Holds (plant_of n (before ++ streams) []) [] [] records → Rest Holds (plant_of n before []) [] [] (stream_rows i streams ++ records)
 streams_taken law Holds n i before [] records few less is made rest rows at here =
     rest rows at (subst (λ (l : List MadeStream). IsAt rows (plant_of n l []) [] []) (sym (append-nil before)) here)

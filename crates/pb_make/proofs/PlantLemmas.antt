@@ -6,7 +6,7 @@ use Rattle.std.proofs.lemmas.Bool.{cases_Bool, eqb-true, eqb-false}
 use Rattle.std.proofs.lemmas.Int.{ints}
 use Rattle.std.proofs.lemmas.List.Elements.{All-append, All-from_recursion, All-same, All-weaker, recursion_from_All}
 use Rattle.std.proofs.lemmas.List.FromFn.{length-map-range_with_len}
-use Rattle.pb_limits.specs.Limits.{most_streams}
+use Rattle.pb_limits.specs.Limits.{most_made_streams}
 use Rattle.pb_integers.specs.Sums.{sum_over}
 use Rattle.pb_integers.proofs.Sums.{sum_over-bound, sum_over-take_more}
 use Rattle.pb_make.specs.declared.plant.MadeStream.{MadeStream}
@@ -161,12 +161,12 @@ truth_more i sides k truth part here so_far value =
 -- the side streams of a plant
 pub record AreSides (number streams : ℕ) (sides : List MadeStream) : Type 0 where
   pub are : sides ≡ side_streams number streams
-  pub few : length sides ≤ most_streams
-  pub each : All (IsSide most_streams) sides
+  pub few : length sides ≤ most_made_streams
+  pub each : All (IsSide most_made_streams) sides
   pub fit : All (IsSide (units_of streams)) sides
   pub many : length sides ≡ sides_of streams
 
-pub plant_sides : (number streams units count : ℕ) (sides : List MadeStream) → least_streams ≤ streams → streams ≤ most_streams → units ≡ units_of streams → count ≡ streams - (units + 1)
+pub plant_sides : (number streams units count : ℕ) (sides : List MadeStream) → least_streams ≤ streams → streams ≤ most_made_streams → units ≡ units_of streams → count ≡ streams - (units + 1)
     → sides ≡ map (side_at number units) (range_with_len 0 count) → AreSides number streams sides
 plant_sides number streams units count sides least most units_is count_is is =
     let n = units_of streams in
@@ -178,7 +178,7 @@ plant_sides number streams units count sides least most units_is count_is is =
     record {
       are = are;
       few = omega (arith, many, most);
-      each = All-same (IsSide most_streams) sides (side_streams number streams) are (sides_fit number n most_streams k (omega arith) (omega (arith, most)));
+      each = All-same (IsSide most_made_streams) sides (side_streams number streams) are (sides_fit number n most_made_streams k (omega arith) (omega (arith, most)));
       fit = All-same (IsSide n) sides (side_streams number streams) are (sides_fit number n n k (omega arith) (omega arith));
       many = many;
     }
@@ -188,9 +188,9 @@ pub record IsPlant (number streams : ℕ) (plant : List MadeStream) : Type 0 whe
   pub value : plant ≡ made_streams number streams
   pub count : length plant ≡ streams
   pub fits : All (IsMade (units_of streams)) plant
-  pub made : All (IsMade most_streams) plant
+  pub made : All (IsMade most_made_streams) plant
 
-pub plant_whole : (number streams units : ℕ) (sides plant : List MadeStream) → least_streams ≤ streams → streams ≤ most_streams → units ≡ units_of streams → AreSides number streams sides
+pub plant_whole : (number streams units : ℕ) (sides plant : List MadeStream) → least_streams ≤ streams → streams ≤ most_made_streams → units ≡ units_of streams → AreSides number streams sides
     → plant ≡ line_streams units sides ++ sides → IsPlant number streams plant
 plant_whole number streams units sides plant least most units_is are is =
     let n = units_of streams in
@@ -203,5 +203,5 @@ plant_whole number streams units sides plant least most units_is are is =
       value = value;
       count = ap (λ (l : List MadeStream). length l) (is ∙ ap (λ (u : ℕ). line_streams u sides ++ sides) units_is) ∙ long ∙ omega (arith, are.many, least);
       fits = fits;
-      made = All-weaker (IsMade n) (IsMade most_streams) (λ stream fit. made_wider n most_streams stream (omega (arith, most)) fit) plant fits;
+      made = All-weaker (IsMade n) (IsMade most_made_streams) (λ stream fit. made_wider n most_made_streams stream (omega (arith, most)) fit) plant fits;
     }

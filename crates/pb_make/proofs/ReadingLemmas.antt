@@ -10,7 +10,7 @@ use Rattle.std.proofs.lemmas.Bool.Decides.{Decides-int_eq}
 use Rattle.std.proofs.lemmas.Int.{ints}
 use Rattle.std.proofs.lemmas.List.FromFn.{length-map-range_with_len, map-range_with_len_more}
 use Rattle.pb_integers.proofs.Order.{le_trans, mul_mono_left, square_mono, square_pos}
-use Rattle.pb_limits.specs.Limits.{most_facts, most_grams, most_row_variance, most_streams}
+use Rattle.pb_limits.specs.Limits.{most_facts, most_grams, most_row_variance, most_made_streams}
 use Rattle.pb_rows.specs.Name.{same_name}
 use Rattle.pb_rows.specs.Texts.{HaveOneDateText, HaveOneNumberText}
 use Rattle.pb_site.specs.declared.declared.Arc.{Arc}
@@ -146,7 +146,7 @@ criticals : AreOther (nodal ∷ measure ∷ [])
 criticals = record { no_node = refl; no_arc = λ nodes. refl }
 
 -- the stream of a reading is metered
-kind_is : (n place : ℕ) (streams : List MadeStream) → length streams ≤ most_streams → place < readings_of (length streams)
+kind_is : (n place : ℕ) (streams : List MadeStream) → length streams ≤ most_made_streams → place < readings_of (length streams)
     → kind_of (plant_of n streams (nodal ∷ measure ∷ [])) (stream_name (stream_read place)) ≡ Some MeteredArc
 kind_is n place streams few within =
     let declared = plant_of n streams (nodal ∷ measure ∷ []) in
@@ -160,7 +160,7 @@ kind_is n place streams few within =
     kind_by : Bool → ArcKind
     kind_by plain = arc_kind (if plain then Plain else Metered)
 
-reading_fine : HaveOneDateText → (number sides n place : ℕ) (streams : List MadeStream) → length streams ≤ most_streams → place < readings_of (length streams)
+reading_fine : HaveOneDateText → (number sides n place : ℕ) (streams : List MadeStream) → length streams ≤ most_made_streams → place < readings_of (length streams)
     → HasNoCause (plant_of n streams (nodal ∷ measure ∷ [])) (kept_to number sides streams place) (the_period ∷ []) (Books (fact_at number sides streams place) false)
 reading_fine dates number sides n place streams few within =
     let fact = fact_at number sides streams place in
@@ -189,7 +189,7 @@ error_fits draw =
     (omega (arith, ints, small), omega (arith, ints, small))
 
 -- the readings that are left, behind those before them
-pub readings_taken : AskingLaw → (Holds : List StoredRow → Type 0) → HaveOneNumberText → HaveOneDateText → (number sides n place left : ℕ) (streams : List MadeStream) (records : List (List (List ℕ))) → length streams ≤ most_streams
+pub readings_taken : AskingLaw → (Holds : List StoredRow → Type 0) → HaveOneNumberText → HaveOneDateText → (number sides n place left : ℕ) (streams : List MadeStream) (records : List (List (List ℕ))) → length streams ≤ most_made_streams
     → All (IsMade n) streams → place + left ≤ readings_of (length streams)
     → Rest Holds (plant_of n streams (nodal ∷ measure ∷ [])) (kept_to number sides streams (place + left)) (the_period ∷ []) records
     → Rest Holds (plant_of n streams (nodal ∷ measure ∷ [])) (kept_to number sides streams place) (the_period ∷ []) (map (reading_row_at number sides streams) (range_with_len place left) ++ records)

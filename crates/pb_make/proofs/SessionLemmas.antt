@@ -5,7 +5,7 @@ use Rattle.std.specs.List.{list_all, range_with_len}
 use Rattle.std.proofs.lemmas.Bool.{and_parts}
 use Rattle.std.proofs.lemmas.List.Elements.{recursion_from_All}
 use Rattle.std.proofs.lemmas.List.FromFn.{length-map-range_with_len}
-use Rattle.pb_limits.specs.Limits.{most_streams}
+use Rattle.pb_limits.specs.Limits.{most_made_streams}
 use Rattle.pb_rows.specs.Texts.{HaveOneDateText, HaveOneNumberText}
 use Rattle.pb_rows.specs.Written.{begins_with_word}
 use Rattle.pb_site.specs.declared.declared.Declared.{Declared}
@@ -54,7 +54,7 @@ session_words number streams =
 -- ---- each row is taken
 
 -- the plant of a session
-plant_is : (number streams : ℕ) → least_streams ≤ streams → streams ≤ most_streams → IsPlant number streams (made_streams number streams)
+plant_is : (number streams : ℕ) → least_streams ≤ streams → streams ≤ most_made_streams → IsPlant number streams (made_streams number streams)
 plant_is number streams least most =
     let sides : AreSides number streams (side_streams number streams) = plant_sides number streams (units_of streams) (sides_of streams) (side_streams number streams) least most refl refl refl in
     plant_whole number streams (units_of streams) (side_streams number streams) (made_streams number streams) least most refl sides refl
@@ -66,7 +66,7 @@ IsMadeOf number streams rows =
     (kept_to number (sides_of streams) (made_streams number streams) (0 + readings_of streams)) (the_period ∷ [])
 
 -- the readings
-readings_are : AskingLaw → HaveOneNumberText → HaveOneDateText → (number streams : ℕ) → least_streams ≤ streams → streams ≤ most_streams
+readings_are : AskingLaw → HaveOneNumberText → HaveOneDateText → (number streams : ℕ) → least_streams ≤ streams → streams ≤ most_made_streams
     → Rest (IsMadeOf number streams) (plant_of (units_of streams) (made_streams number streams) (nodal ∷ measure ∷ [])) [] (the_period ∷ []) (reading_rows number streams)
 readings_are law numbers dates number streams least most =
     let n = units_of streams in
@@ -78,7 +78,7 @@ readings_are law numbers dates number streams least most =
     (readings_taken law (IsMadeOf number streams) numbers dates number (sides_of streams) n 0 (readings_of streams) plant [] (omega (arith, is.count, most)) is.fits count (λ rows at here. here))
 
 -- the rows that are stored
-pub stored_taken : AskingLaw → HaveOneNumberText → HaveOneDateText → (number streams : ℕ) → least_streams ≤ streams → streams ≤ most_streams
+pub stored_taken : AskingLaw → HaveOneNumberText → HaveOneDateText → (number streams : ℕ) → least_streams ≤ streams → streams ≤ most_made_streams
     → AreTaken (IsMadeOf number streams) [] 1 (stored_rows number streams)
 stored_taken law numbers dates number streams least most =
     let Holds = IsMadeOf number streams in
@@ -103,14 +103,14 @@ taken_then Before After rows at [] rest taken more = more rows at taken
 taken_then Before After rows at (fields ∷ first) rest taken more = (taken.0, taken_then Before After (after rows at fields) (at + 1) first rest taken.1 more)
 
 -- the whole session
-pub session_taken : AskingLaw → HaveOneNumberText → HaveOneDateText → (number streams : ℕ) → least_streams ≤ streams → streams ≤ most_streams
+pub session_taken : AskingLaw → HaveOneNumberText → HaveOneDateText → (number streams : ℕ) → least_streams ≤ streams → streams ≤ most_made_streams
     → AreTaken Anything [] 1 (session_rows number streams)
 session_taken law numbers dates number streams least most =
     taken_then (IsMadeOf number streams) Anything [] 1 (stored_rows number streams) (report_row ∷ []) (stored_taken law numbers dates number streams least most)
     (report_taken law (plant_of (units_of streams) (made_streams number streams) (nodal ∷ measure ∷ [])) (kept_to number (sides_of streams) (made_streams number streams) (0 + readings_of streams)))
 
 -- its period
-pub period_stored : AskingLaw → HaveOneNumberText → HaveOneDateText → (number streams : ℕ) → least_streams ≤ streams → streams ≤ most_streams
+pub period_stored : AskingLaw → HaveOneNumberText → HaveOneDateText → (number streams : ℕ) → least_streams ≤ streams → streams ≤ most_made_streams
     → AreTaken HasMadePeriod [] 1 (stored_rows number streams)
 period_stored law numbers dates number streams least most =
     subst (λ (records : List (List (List ℕ))). AreTaken HasMadePeriod [] 1 records) (append-nil (stored_rows number streams))
@@ -122,7 +122,7 @@ stream_count : (i : ℕ) (streams : List MadeStream) → length (stream_rows i s
 stream_count i [] = refl
 stream_count i (stream ∷ streams) = ap suc (stream_count (i + 1) streams)
 
-pub row_count : (number streams : ℕ) → least_streams ≤ streams → streams ≤ most_streams → length (session_rows number streams) ≡ units_of streams + streams + readings_of streams + 4
+pub row_count : (number streams : ℕ) → least_streams ≤ streams → streams ≤ most_made_streams → length (session_rows number streams) ≡ units_of streams + streams + readings_of streams + 4
 row_count number streams least most =
     let n = units_of streams in
     let plant = made_streams number streams in

@@ -1,7 +1,7 @@
 -- Statement. Each row of a made session is accepted, and its text reads back as its rows.
 use Rattle.std.specs.Prelude.{◌≡◌, ℕ, ◌+◌, ◌≤◌, ◌<◌, ◌==◌, ℤ, pos, ◌-ℤ◌, if◌then◌else◌, false, List, [], ◌∷◌, length}
 use Rattle.jiff_core.specs.Calendar.{days_from_civil}
-use Rattle.pb_limits.specs.Limits.{most_streams}
+use Rattle.pb_limits.specs.Limits.{most_made_streams}
 use Rattle.pb_integers.specs.Sums.{sum_over}
 use Rattle.pb_rows.specs.Records.{records_of}
 use Rattle.pb_book.specs.Answer.{after, answer_of, is_refused}
@@ -44,19 +44,19 @@ ReadsBackLaw =
 -- The session that is made from a number: none of its records is refused.
 abbrev pub AcceptedLaw : Type 0
 AcceptedLaw =
-    (number streams : ℕ) → least_streams ≤ streams → streams ≤ most_streams
+    (number streams : ℕ) → least_streams ≤ streams → streams ≤ most_made_streams
     → AreTaken Anything [] 1 (records_of (session_text number streams))
 
 -- before its last record, which asks for the report, it has stored its one period
 abbrev pub PeriodLaw : Type 0
 PeriodLaw =
-    (number streams : ℕ) → least_streams ≤ streams → streams ≤ most_streams
+    (number streams : ℕ) → least_streams ≤ streams → streams ≤ most_made_streams
     → AreTaken HasMadePeriod [] 1 (stored_rows number streams)
 
 -- how many rows the session has: one for each unit, stream and reading, and those of the period, its critical values and the report
 abbrev pub CountLaw : Type 0
 CountLaw =
-    (number streams : ℕ) → least_streams ≤ streams → streams ≤ most_streams
+    (number streams : ℕ) → least_streams ≤ streams → streams ≤ most_made_streams
     → length (session_rows number streams) ≡ units_of streams + streams + readings_of streams + 4
 
 -- what a stream brings to a node: its true flow where it ends there, less its true flow where it begins there
@@ -68,7 +68,7 @@ brought_to node stream =
 -- the true flows balance at each unit of the plant
 abbrev pub BalanceLaw : Type 0
 BalanceLaw =
-    (number streams unit : ℕ) → least_streams ≤ streams → streams ≤ most_streams → 1 ≤ unit
+    (number streams unit : ℕ) → least_streams ≤ streams → streams ≤ most_made_streams → 1 ≤ unit
     → unit ≤ units_of streams → sum_over (brought_to unit) (made_streams number streams) ≡ pos 0
 
 -- the metered streams in order: each of the first ones is metered, they rise, and each metered one is there

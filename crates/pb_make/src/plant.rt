@@ -2,7 +2,7 @@
 
 ghost use Rattle.std.specs.Prelude.{◌≡◌, ◌≤◌, ◌+◌, ◌*◌, ◌++◌, ℕ, length, unsigned_abs, All, IfOk, OnOk, map};
 ghost use Rattle.std.specs.List.{range_with_len};
-ghost use Rattle.pb_limits.specs.Limits.{most_streams};
+ghost use Rattle.pb_limits.specs.Limits.{most_made_streams};
 ghost use Rattle.pb_make.specs.Draws.{state_after};
 ghost use Rattle.pb_make.specs.Plant.{change_of, leads_back, least_streams, line_stream, line_streams, line_truth, made_streams, passes_by, side_at, side_by, sides_of, units_of};
 ghost use Rattle.pb_make.specs.Bounds.{IsMade, IsSide, most_side_grams};
@@ -24,7 +24,7 @@ const LINE_GRAMS: i128 = 50_000_000_000;
 
 /// How many units there are, of so many streams: one for three, and one more.
 pub fn units_of(streams: u32) -> u32
-    requires { streams ≤ most_streams }
+    requires { streams ≤ most_made_streams }
     ensures value { result ≡ units_of streams }
 {
     streams / 3 + 1
@@ -33,7 +33,7 @@ pub fn units_of(streams: u32) -> u32
 // The side stream of three draws.
 fn side_by(units: u32, first: u32, second: u32, third: u32) -> MadeStream
     requires some { 1 ≤ units }
-    requires few { units ≤ most_streams }
+    requires few { units ≤ most_made_streams }
     ensures value { result ≡ side_by units first second third }
 {
     let from = first % units + 1;
@@ -48,7 +48,7 @@ fn side_by(units: u32, first: u32, second: u32, third: u32) -> MadeStream
 // The next side stream.
 fn next_side(draws: &mut Draws, units: u32) -> MadeStream
     requires some { 1 ≤ units }
-    requires few { units ≤ most_streams }
+    requires few { units ≤ most_made_streams }
     ensures value { (number place : ℕ) → draws.old.state ≡ state_after number (3 * place)
         → result ≡ side_at number units place }
     ensures state { (number place : ℕ) → draws.old.state ≡ state_after number (3 * place)
@@ -68,7 +68,7 @@ fn side_streams(
     count: u32,
 ) -> Result<Vec<MadeStream>, AllocError>
     requires some { 1 ≤ units }
-    requires few { units ≤ most_streams }
+    requires few { units ≤ most_made_streams }
     ensures value { IfOk result (λ sides. sides.items
         ≡ map (side_at draws.old.state units) (range_with_len 0 count)) }
     ensures state { OnOk result (draws.new.state ≡ state_after draws.old.state (3 * count)) }
@@ -96,7 +96,7 @@ fn leads_back(side: &MadeStream, i: u32) -> bool
 
 // What a side stream adds to the true flow of a stream of the line.
 fn change_of(side: &MadeStream, i: u32) -> i128
-    requires { IsSide most_streams side.now }
+    requires { IsSide most_made_streams side.now }
     ensures value { result ≡ change_of i side.now }
     ensures within { unsigned_abs result ≤ most_side_grams }
 {
@@ -111,8 +111,8 @@ fn change_of(side: &MadeStream, i: u32) -> i128
 
 // The true flow of a stream of the line.
 fn line_truth(sides: &[MadeStream], i: u32) -> i128
-    requires few { length sides.now ≤ most_streams }
-    requires each { All (IsSide most_streams) sides.now }
+    requires few { length sides.now ≤ most_made_streams }
+    requires each { All (IsSide most_made_streams) sides.now }
     ensures value { result ≡ line_truth sides.now i }
 {
     let mut truth = LINE_GRAMS;
@@ -124,10 +124,10 @@ fn line_truth(sides: &[MadeStream], i: u32) -> i128
 
 // The stream of the line with this number.
 fn line_stream(units: u32, sides: &[MadeStream], i: u32) -> MadeStream
-    requires few { length sides.now ≤ most_streams }
-    requires each { All (IsSide most_streams) sides.now }
+    requires few { length sides.now ≤ most_made_streams }
+    requires each { All (IsSide most_made_streams) sides.now }
     requires from { 1 ≤ i }
-    requires units { units ≤ most_streams }
+    requires units { units ≤ most_made_streams }
     ensures { result ≡ line_stream units sides.now i }
 {
     MadeStream {
@@ -143,9 +143,9 @@ fn made_streams(
     units: u32,
     sides: &[MadeStream],
 ) -> Result<Vec<MadeStream>, AllocError>
-    requires few { length sides.now ≤ most_streams }
-    requires each { All (IsSide most_streams) sides.now }
-    requires units { units ≤ most_streams }
+    requires few { length sides.now ≤ most_made_streams }
+    requires each { All (IsSide most_made_streams) sides.now }
+    requires units { units ≤ most_made_streams }
     ensures { IfOk result (λ streams. streams.items ≡ line_streams units sides.now ++ sides.now) }
 {
     let mut streams = Vec::new(alloc);
@@ -163,12 +163,12 @@ pub fn made_plant(
     streams: u32,
 ) -> Result<Vec<MadeStream>, AllocError>
     requires least { least_streams ≤ streams }
-    requires most { streams ≤ most_streams }
+    requires most { streams ≤ most_made_streams }
     ensures value { IfOk result (λ plant. plant.items ≡ made_streams draws.old.state streams) }
     ensures state { OnOk result
         (draws.new.state ≡ state_after draws.old.state (3 * sides_of streams)) }
     ensures count { IfOk result (λ plant. length plant.items ≡ streams) }
-    ensures made { IfOk result (λ plant. All (IsMade most_streams) plant.items) }
+    ensures made { IfOk result (λ plant. All (IsMade most_made_streams) plant.items) }
 {
     let units = units_of(streams);
     let sides = side_streams(alloc, draws, units, streams - (units + 1))?;

@@ -1,7 +1,7 @@
 // The readings of a made session, as numbers.
 
 ghost use Rattle.std.specs.Prelude.{◌≡◌, ◌<◌, ◌≤◌, ◌≤ℤ◌, ◌*◌, pos};
-ghost use Rattle.pb_limits.specs.Limits.{most_streams};
+ghost use Rattle.pb_limits.specs.Limits.{most_made_streams};
 ghost use Rattle.pb_make.specs.Readings.{day_read, error_of, is_plain, made_days, metered_at, readings_of, shown_grams, stream_read, variance_of};
 
 /// How many days there are.
@@ -16,7 +16,7 @@ pub fn is_plain(i: u32) -> bool
 
 /// How many readings there are, of so many streams.
 pub fn readings_of(streams: u32) -> u32
-    requires { streams ≤ most_streams }
+    requires { streams ≤ most_made_streams }
     ensures value { result ≡ readings_of streams }
 {
     MADE_DAYS * (streams - streams / 7)
@@ -24,7 +24,7 @@ pub fn readings_of(streams: u32) -> u32
 
 /// The number of the stream that the reading at a place is of.
 pub fn stream_read(place: u32) -> u32
-    requires { place ≤ made_days * most_streams }
+    requires { place ≤ made_days * most_made_streams }
     ensures value { result ≡ stream_read place }
 {
     metered_at(place / MADE_DAYS)
@@ -32,7 +32,7 @@ pub fn stream_read(place: u32) -> u32
 
 // The number of the metered stream at a place.
 fn metered_at(place: u32) -> u32
-    requires { place ≤ most_streams }
+    requires { place ≤ most_made_streams }
     ensures { result ≡ metered_at place }
 {
     place + place / 6 + 1

@@ -1,7 +1,7 @@
 // The rows of a made session.
 
 ghost use Rattle.std.specs.Prelude.{◌≡◌, ◌<◌, ◌≤◌, ◌≤ℤ◌, ◌*◌, ◌+◌, ◌++◌, ◌∷◌, [], pos, codes, length, IfOk, OnOk};
-ghost use Rattle.pb_limits.specs.Limits.{most_streams};
+ghost use Rattle.pb_limits.specs.Limits.{most_made_streams};
 ghost use Rattle.pb_rows.specs.Number.{decimal_text, whole_text};
 ghost use Rattle.pb_rows.specs.Written.{AddsLine};
 ghost use Rattle.pb_make.specs.Readings.{day_read, error_of, made_days, shown_grams, stream_read, variance_of};
@@ -115,7 +115,7 @@ pub fn write_critical(text: &mut Vec<u8>, kind: &[u8]) -> Result<(), AllocError>
 
 // Appends what tells the reading at a place to its row: its id, its stream and its day.
 fn push_place(row: &mut Row, alloc: Global, place: u32) -> Result<(), AllocError>
-    requires { place < made_days * most_streams }
+    requires { place < made_days * most_made_streams }
     ensures { OnOk result (row.new ≡ row.old ++ reading_id place ∷ stream_name (stream_read place)
         ∷ day_text (day_read place) ∷ []) }
 {
@@ -142,7 +142,7 @@ pub fn write_reading(
     truth: i128,
     draw: u32,
 ) -> Result<(), AllocError>
-    requires place { place < made_days * most_streams }
+    requires place { place < made_days * most_made_streams }
     requires least { pos 1 ≤ℤ truth }
     requires most { truth ≤ℤ pos 100000000000 }
     ensures ok { OnOk result (AddsLine text.old.items text.new.items

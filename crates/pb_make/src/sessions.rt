@@ -2,7 +2,7 @@
 
 ghost use Rattle.std.specs.Prelude.{◌≡◌, ◌≤◌, ◌≤ℤ◌, ◌*◌, ◌++◌, ℕ, pos, length, All, map, IfOk, OnOk};
 ghost use Rattle.std.specs.List.{range_with_len};
-ghost use Rattle.pb_limits.specs.Limits.{most_streams};
+ghost use Rattle.pb_limits.specs.Limits.{most_made_streams};
 ghost use Rattle.pb_rows.specs.Written.{text_of_rows};
 ghost use Rattle.pb_make.specs.Bounds.{IsMade};
 ghost use Rattle.pb_make.specs.Draws.{state_after};
@@ -22,7 +22,7 @@ use std::alloc::{AllocError, Global};
 /// `report` row. The same at each run. Refused alone for want of memory.
 pub fn make(alloc: Global, number: u32, streams: u32) -> Result<Vec<u8>, AllocError>
     requires least { least_streams ≤ streams }
-    requires most { streams ≤ most_streams }
+    requires most { streams ≤ most_made_streams }
     ensures value { IfOk result (λ text. text.items ≡ session_text number streams) }
 {
     let mut draws = Draws {
@@ -40,7 +40,7 @@ pub fn make(alloc: Global, number: u32, streams: u32) -> Result<Vec<u8>, AllocEr
 
 // Appends the rows of the units.
 fn write_units(text: &mut Vec<u8>, units: u32) -> Result<(), AllocError>
-    requires { units ≤ most_streams }
+    requires { units ≤ most_made_streams }
     ensures { OnOk result (text.new.items ≡ text.old.items ++ text_of_rows (unit_rows units)) }
 {
     for k in 0..units {
@@ -51,7 +51,7 @@ fn write_units(text: &mut Vec<u8>, units: u32) -> Result<(), AllocError>
 
 // Appends the rows of the streams.
 fn write_streams(text: &mut Vec<u8>, plant: &[MadeStream]) -> Result<(), AllocError>
-    requires { length plant.now ≤ most_streams }
+    requires { length plant.now ≤ most_made_streams }
     ensures { OnOk result
         (text.new.items ≡ text.old.items ++ text_of_rows (stream_rows 1 plant.now)) }
 {
@@ -77,9 +77,9 @@ fn write_readings(
     draws: Draws,
     count: u32,
 ) -> Result<(), AllocError>
-    requires few { length plant.now ≤ most_streams }
+    requires few { length plant.now ≤ most_made_streams }
     requires count { count ≡ readings_of (length plant.now) }
-    requires made { All (IsMade most_streams) plant.now }
+    requires made { All (IsMade most_made_streams) plant.now }
     ensures { (number sides : ℕ) → draws.state ≡ state_after number (3 * sides) → OnOk result
         (text.new.items ≡ text.old.items ++ text_of_rows
         (map (reading_row_at number sides plant.now) (range_with_len 0 count))) }
@@ -100,7 +100,7 @@ fn write_readings(
 fn truth_at(plant: &[MadeStream], i: u32) -> i128
     requires from { 1 ≤ i }
     requires to { i ≤ length plant.now }
-    requires made { All (IsMade most_streams) plant.now }
+    requires made { All (IsMade most_made_streams) plant.now }
     ensures value { result ≡ truth_at plant.now i }
     ensures least { pos 1 ≤ℤ result }
     ensures most { result ≤ℤ pos 100000000000 }

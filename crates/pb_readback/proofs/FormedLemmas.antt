@@ -7,7 +7,7 @@ use Rattle.std.proofs.lemmas.Bool.{cases_Bool, or_parts}
 use Rattle.std.proofs.lemmas.Int.{ints}
 use Rattle.std.proofs.lemmas.List.{length-map}
 use Rattle.std.proofs.lemmas.List.Elements.{All-cons, All-head, All-map, All-nil, All-push, All-tail, All-weaker}
-use Rattle.pb_limits.specs.Limits.{most_critical, most_freedom, most_gap, most_nodes, most_streams, most_sweeps, most_value, most_variance}
+use Rattle.pb_limits.specs.Limits.{most_critical, most_freedom, most_gap, most_nodes, most_rounds, most_streams, most_sweeps, most_value, most_variance}
 use Rattle.pb_limits.specs.Ranges.{IsCriticalValue}
 use Rattle.pb_rows.specs.Name.{is_name}
 use Rattle.pb_graph.specs.declared.results.NodalTest.{NodalTest}
@@ -38,7 +38,7 @@ use Rattle.pb_blocks.specs.Laws.{LiesWithin}
 use Rattle.pb_blocks.specs.Lists.{is_among, is_plus, items, member_of, names_no_stream, part_name, side_of, step_of}
 use Rattle.pb_blocks.specs.Results.{has_unknown_part, result_of, witness_by}
 use Rattle.pb_blocks.specs.Texts.{name_field, side_field}
-use Rattle.pb_blocks.specs.Values.{said_arc, both_bounds, choice_at, said_least, both_meas, said_measure, most_round, natural_at, said_nodal, number_at, optional_at, said_price, said_stream, values_in, values_or_none}
+use Rattle.pb_blocks.specs.Values.{said_arc, both_bounds, choice_at, said_least, both_meas, said_measure, natural_at, said_nodal, number_at, optional_at, said_price, said_stream, values_in, values_or_none}
 use Rattle.pb_blocks.proofs.NameLemmas.{some_found}
 use Rattle.pb_blocks.proofs.RowLaws.{name_read, number_read, optional_read}
 use Rattle.pb_readback.specs.declared.draft.Draft.{Draft}
@@ -131,7 +131,7 @@ fine kind draft row none =
 
 record IsFormedHeading (heading : Heading) : Type 0 where
   name : is_name heading.period ≡ true
-  greatest_round : heading.round ≤ most_round
+  greatest_round : heading.round ≤ most_rounds
   some_gap : 1 ≤ heading.gap
   greatest_gap : heading.gap ≤ most_gap
   greatest_sweeps : heading.sweeps ≤ most_sweeps
@@ -463,7 +463,7 @@ opened_formed row opens =
       way = begins_under_way (heading_in row) (heading_counts row fine.counts);
       heading = record {
         name = name_read Report row values 1 (codes "period") fine.read refl;
-        greatest_round = (natural_within 0 most_round (number_at values 2) (number_read Report row values 2 (codes "round") (pos 0) (pos most_round) fine.read refl)).1;
+        greatest_round = (natural_within 0 most_rounds (number_at values 2) (number_read Report row values 2 (codes "round") (pos 0) (pos most_rounds) fine.read refl)).1;
         some_gap = gap.0;
         greatest_gap = gap.1;
         greatest_sweeps = (natural_within 0 most_sweeps (number_at values 6) (number_read Report row values 6 (codes "sweeps") (pos 0) (pos most_sweeps) fine.read refl)).1;

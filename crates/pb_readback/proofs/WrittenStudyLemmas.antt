@@ -6,7 +6,7 @@ use Rattle.std.proofs.lemmas.Bool.{le-ltb}
 use Rattle.std.proofs.lemmas.List.{map-append}
 use Rattle.std.proofs.lemmas.List.Elements.{All-from_recursion, recursion_from_All}
 use Rattle.std.proofs.lemmas.List.Sums.{position_or_len_is}
-use Rattle.pb_limits.specs.Limits.{most_gap, most_nodes, most_streams, most_sweeps}
+use Rattle.pb_limits.specs.Limits.{most_gap, most_nodes, most_rounds, most_streams, most_sweeps}
 use Rattle.pb_rows.specs.Name.{is_name}
 use Rattle.pb_rows.specs.Number.{whole_text}
 use Rattle.pb_rows.specs.Texts.{HaveOneNumberText}
@@ -32,7 +32,7 @@ use Rattle.pb_blocks.specs.declared.rows.Heading.{Heading}
 use Rattle.pb_blocks.specs.declared.rows.StreamRow.{StreamRow}
 use Rattle.pb_blocks.specs.Beside.{heading_in, opening_fault}
 use Rattle.pb_blocks.specs.Results.{has_unknown_part, result_of}
-use Rattle.pb_blocks.specs.Values.{said_heading, most_round}
+use Rattle.pb_blocks.specs.Values.{said_heading}
 use Rattle.pb_readback.specs.declared.draft.Draft.{Draft}
 use Rattle.pb_readback.specs.Blocks.{block_of}
 use Rattle.pb_readback.specs.Drafts.{draft_of}
@@ -54,7 +54,7 @@ pub record IsStageToWrite (names : Names) (period : List ℕ) (options : Options
   pub all_names : AreBlockNames names
   pub name : is_name period ≡ true
   pub asked : AreOptionsWithin options
-  pub greatest_round : round ≤ most_round
+  pub greatest_round : round ≤ most_rounds
   pub least : All HasBoundsForLeast stage.streams
 
 known_names : (names : Names) (graph : ProcessGraph) → AreBlockNames names → IsNamed names graph → AreKnownNames names graph
@@ -102,7 +102,7 @@ heading_reads texts names period options round stage h =
       (
         name_back (codes "period") period h.name,
         (
-          number_back texts (codes "round") (pos 0) (pos most_round) (pos round) (count_between 0 most_round round (omega arith) h.greatest_round),
+          number_back texts (codes "round") (pos 0) (pos most_rounds) (pos round) (count_between 0 most_rounds round (omega arith) h.greatest_round),
           (
             number_back texts (codes "nodes") (neg_ℤ (pos (2 ^ 126))) (pos (2 ^ 126)) (pos nodes) (wide_between most_nodes nodes (omega arith) h.graph.few_nodes),
             (
@@ -317,7 +317,7 @@ pub record IsGoodStage (names : Names) (stage : Stage) : Type 0 where
   pub named : IsNamed names stage.graph
   pub least : All HasBoundsForLeast stage.streams
 
-to_write : (names : Names) (period : List ℕ) (options : Options) (round : ℕ) (stage : Stage) → AreStagesToWrite names period options → IsGoodStage names stage → round ≤ most_round
+to_write : (names : Names) (period : List ℕ) (options : Options) (round : ℕ) (stage : Stage) → AreStagesToWrite names period options → IsGoodStage names stage → round ≤ most_rounds
     → IsStageToWrite names period options round stage
 to_write names period options round stage all good most = record {
   graph = good.graph;
@@ -331,7 +331,7 @@ to_write names period options round stage all good most = record {
 }
 
 rounds_back : HaveOneNumberText → (names : Names) (period : List ℕ) (options : Options) → AreStagesToWrite names period options → (round : ℕ) (taken : List Taken) (stages : List Stage)
-    (rest : List OutputRow) → ArePassedOver (records_in rest) → length stages ≡ length taken → round + length stages ≤ most_round + 1 → AllByRecursion (IsGoodStage names) stages
+    (rest : List OutputRow) → ArePassedOver (records_in rest) → length stages ≡ length taken → round + length stages ≤ most_rounds + 1 → AllByRecursion (IsGoodStage names) stages
     → AreBlocks (records_in (round_rows names period options round taken stages ++ rest)) (blocks_from names period options round stages)
 rounds_back texts names period options all round [] [] rest over long few good = over
 rounds_back texts names period options all round [] (stage ∷ stages) rest over long few good = absurd (omega (arith, long))
@@ -354,7 +354,7 @@ stops_passed period rounds None = refl
 stops_passed period rounds (Some reason) = refl
 
 stages_back : HaveOneNumberText → (names : Names) (period : List ℕ) (options : Options) → AreStagesToWrite names period options → (taken : List Taken) (stages : List Stage)
-    (rest : List OutputRow) → ArePassedOver (records_in rest) → length stages ≡ length taken + 1 → length stages ≤ most_round + 1 → AllByRecursion (IsGoodStage names) stages
+    (rest : List OutputRow) → ArePassedOver (records_in rest) → length stages ≡ length taken + 1 → length stages ≤ most_rounds + 1 → AllByRecursion (IsGoodStage names) stages
     → AreBlocks (records_in (stage_rows names period options taken stages ++ rest)) (blocks_from names period options 0 stages)
 stages_back texts names period options all taken [] rest over long few good = absurd (omega (arith, long))
 stages_back texts names period options all taken (stage ∷ stages) rest over long few good =

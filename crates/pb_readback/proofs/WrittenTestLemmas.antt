@@ -6,7 +6,7 @@ use Rattle.std.proofs.Common.{◌≡◌, ◌∙◌, ℕ, ℤ, pos, ◌<◌, ◌�
 use Rattle.std.proofs.lemmas.Bool.Decides.{Decides-int_eq}
 use Rattle.std.proofs.lemmas.List.{append-nil, map-append}
 use Rattle.std.proofs.lemmas.List.Elements.{recursion_from_All}
-use Rattle.pb_limits.specs.Limits.{most_critical, most_freedom, most_sweeps}
+use Rattle.pb_limits.specs.Limits.{most_critical, most_freedom, most_rounds, most_sweeps}
 use Rattle.pb_limits.specs.Ranges.{IsCriticalValue}
 use Rattle.pb_rows.specs.Name.{is_name, same_name}
 use Rattle.pb_rows.specs.Number.{whole_text}
@@ -41,7 +41,7 @@ use Rattle.pb_form.specs.declared.output.OutputKind.TheVariants.{Solved, Global,
 use Rattle.pb_blocks.specs.declared.rows.Solution.{Solution}
 use Rattle.pb_blocks.specs.Beside.{is_round}
 use Rattle.pb_blocks.specs.Lists.{is_among, place_of}
-use Rattle.pb_blocks.specs.Values.{said_global, said_measure, most_round, said_nodal, said_solution, chosen_state, chosen_verdict}
+use Rattle.pb_blocks.specs.Values.{said_global, said_measure, said_nodal, said_solution, chosen_state, chosen_verdict}
 use Rattle.pb_readback.specs.declared.draft.Draft.{Draft}
 use Rattle.pb_readback.specs.Drafts.{tests_begun, with_row}
 use Rattle.pb_readback.specs.Faults.{first_unknown}
@@ -358,19 +358,19 @@ same_number : (n : ℕ) → int_eq (pos n) (pos n) ≡ true
 same_number n = (Decides-int_eq (pos n) (pos n)).1 refl
 
 pub end_tells : HaveOneNumberText → (names : Names) (draft : Draft) (period : List ℕ) (round : ℕ) → IsBehindAll names draft → may_follow draft.last End ≡ true
-    → is_name period ≡ true → round ≤ most_round → draft.heading.period ≡ period → draft.heading.round ≡ round
+    → is_name period ≡ true → round ≤ most_rounds → draft.heading.period ≡ period → draft.heading.round ≡ round
     → Tells draft (records_in (end_row period round ∷ [])) (record draft { last = End })
 end_tells texts names draft period round at order form most same_period same_round =
     let next : Draft = record draft { last = End } in
     let row = codes "end" ∷ period ∷ whole_text (pos round) ∷ [] in
     let values : List Value = Word 0 ∷ Name period ∷ Number (pos round) ∷ [] in
-    let between = count_between 0 most_round round (omega arith) most in
+    let between = count_between 0 most_rounds round (omega arith) most in
     let own : same_name period draft.heading.period ≡ true = subst (λ (name : List ℕ). same_name period name ≡ true) (sym same_period) (same_self period) in
-    let this : is_round row draft.heading.round ≡ true = rw (same_round, texts.read (pos round), within_back (pos 0) (pos most_round) (pos round) between) (same_number round) in
+    let this : is_round row draft.heading.round ≡ true = rw (same_round, texts.read (pos round), within_back (pos 0) (pos most_rounds) (pos round) between) (same_number round) in
     let sound : IsSoundRow draft End row values = record {
       told = told_behind draft End row (at.all_nodes, at.all_streams) (end_after draft.last period (whole_text (pos round)) order);
       read = row_back (output_columns End) row values
-          (refl, (name_back (codes "period") period form, (number_back texts (codes "round") (pos 0) (pos most_round) (pos round) between, tt)));
+          (refl, (name_back (codes "period") period form, (number_back texts (codes "round") (pos 0) (pos most_rounds) (pos round) between, tt)));
       beside = rw (own, this) refl;
     } in
     tells_more draft next row [] next at.known (row_sound draft End row values sound) (row_leaves draft End row values sound) (tells_none next)

@@ -1,7 +1,7 @@
 -- Statement. That the rows of a study read back as its stages, and that the other rows of a session are passed over.
 use Rattle.std.specs.Prelude.{◌≡◌, ℕ, ◌+◌, ◌≤◌, List, [], ◌∷◌, map, length, All, AllPairs, None, slice_index_or, true, false, codes}
 use Rattle.std.specs.List.{list_all}
-use Rattle.pb_limits.specs.Limits.{most_gap, most_sweeps}
+use Rattle.pb_limits.specs.Limits.{most_gap, most_rounds, most_sweeps}
 use Rattle.pb_rows.specs.declared.name.Names.{Names}
 use Rattle.pb_rows.specs.Name.{is_name, same_name}
 use Rattle.pb_rows.specs.Records.{records_of}
@@ -23,7 +23,6 @@ use Rattle.pb_report.specs.Over.{over_row}
 use Rattle.pb_report.specs.Refusal.{refused_row}
 use Rattle.pb_report.specs.Row.{OutputRow, fields_of}
 use Rattle.pb_report.specs.Study.{study_rows}
-use Rattle.pb_blocks.specs.Values.{most_round}
 use Rattle.pb_readback.specs.declared.block.Block.{Block}
 use Rattle.pb_readback.specs.Next.{AreBlocks}
 
@@ -61,7 +60,7 @@ pub record IsReportable (names : Names) (period : List ℕ) (options : Options) 
   pub all_names : AreBlockNames names
   pub name : is_name period ≡ true
   pub asked : AreOptionsWithin options
-  pub greatest_round : length study.stages ≤ most_round + 1
+  pub greatest_round : length study.stages ≤ most_rounds + 1
 
 -- a stage as a block of a report
 abbrev pub block_with : Names → List ℕ → Options → ℕ → Stage → Block

@@ -4,7 +4,7 @@ use Rattle.std.specs.Cmp.Lexicographic.{bytes_decides}
 use Rattle.std.proofs.Common.{◌≡◌, ◌∙◌, ℕ, ◌+◌, ◌<◌, ◌≤◌, List, [], ◌∷◌, length, Bool, true, false, None, codes, refl, sym, ap, arith, inl, inr}
 use Rattle.std.proofs.lemmas.Bool.{cases_Bool, leb-false, or_parts}
 use Rattle.std.proofs.lemmas.List.{length-map}
-use Rattle.pb_limits.specs.Limits.{most_nodes, most_points, most_streams, most_units_and_tanks}
+use Rattle.pb_limits.specs.Limits.{most_nodes, most_points, most_streams, most_streams_of_version_1, most_units_and_tanks}
 use Rattle.pb_rows.specs.Name.{same_name}
 use Rattle.pb_site.specs.declared.declared.Arc.{Arc}
 use Rattle.pb_site.specs.declared.declared.Declared.{Declared}
@@ -148,7 +148,7 @@ pub room_arcs : (declared : List Declared) (row : Declared) (nodes : List (List 
     → length (arcs_of declared) + length (filter_map (arc_in nodes) (row ∷ [])) ≤ most_streams
 room_arcs declared (Tank name base) nodes good few =
     let parts = or_parts (has_most_nodes declared) (has_most_arcs declared) good.room in
-    let less = below most_streams (length (arcs_of declared)) parts.1 in
+    let less = below most_streams_of_version_1 (length (arcs_of declared)) parts.1 in
     omega (arith, less)
-room_arcs declared (Stream name from to kind base) nodes good few = let less = below most_streams (length (arcs_of declared)) good.room in omega (arith, less)
+room_arcs declared (Stream name from to kind base) nodes good few = let less = below most_streams_of_version_1 (length (arcs_of declared)) good.room in omega (arith, less)
 room_arcs declared row nodes good few = omega (arith, few)

@@ -1,7 +1,7 @@
 -- Statement. The first fault of a new declaration, behind the declarations before it.
 use Rattle.std.specs.Prelude.{ℕ, ◌==◌, Bool, false, ◌&&◌, ◌||◌, not, nat_le, List, length, filter_map, Option, Some, None, if◌then◌else◌, is_some}
 use Rattle.std.specs.List.{list_any}
-use Rattle.pb_limits.specs.Limits.{most_streams, most_units_and_tanks}
+use Rattle.pb_limits.specs.Limits.{most_streams_of_version_1, most_units_and_tanks}
 use Rattle.pb_rows.specs.Name.{same_name}
 use Rattle.pb_strap.specs.Table.{is_full as is_full_table, rises}
 use Rattle.pb_site.specs.declared.declared.Declared.{Declared}
@@ -62,7 +62,7 @@ has_most_nodes declared = nat_le most_units_and_tanks (length (filter_map node_n
 
 -- as many streams and tanks are declared as there may be
 abbrev pub has_most_arcs : List Declared → Bool
-has_most_arcs declared = nat_le most_streams (length (arcs_of declared))
+has_most_arcs declared = nat_le most_streams_of_version_1 (length (arcs_of declared))
 
 -- as many units and tanks, streams and tanks, or points of the table are declared as there may be
 abbrev pub is_full : List Declared → Declared → Bool

@@ -11,7 +11,7 @@ ghost use Rattle.pb_site.specs.Faults.{fault_of, has_most_arcs, has_most_nodes, 
 use crate::declared::{Arc, ArcKind, Declared, SiteFault};
 use crate::index::{Index, env, is_env};
 use indexmap::IndexSet;
-use pb_limits::{MOST_STREAMS, MOST_UNITS_AND_TANKS};
+use pb_limits::{MOST_STREAMS_OF_VERSION_1, MOST_UNITS_AND_TANKS};
 use pb_rows::{Name, NameList, Names};
 use pb_strap::Strap;
 use std::alloc::{AllocError, Global};
@@ -305,7 +305,7 @@ impl Site {
     fn has_most_arcs(&self) -> bool
         ensures { result ≡ has_most_arcs self.now }
     {
-        self.index.arcs.len() >= MOST_STREAMS
+        self.index.arcs.len() >= MOST_STREAMS_OF_VERSION_1
     }
 
     // Whether a name is the environment's, or that of a declared unit or tank.

@@ -1,7 +1,7 @@
 // The text of a summary.
 
 ghost use Rattle.std.specs.Prelude.{◌≡◌, ◌<◌, ◌≤◌, ◌-◌, ◌^◌, length, slice_get, take, ◌∷◌, [], IfOk, IfSome, OnOk};
-ghost use Rattle.pb_limits.specs.Limits.{most_gap, most_streams, most_sweeps};
+ghost use Rattle.pb_limits.specs.Limits.{most_gap, most_made_streams, most_sweeps};
 ghost use Rattle.pb_elim.specs.Options.{AreOptions};
 ghost use Rattle.pb_book.specs.Rows.{periods_of};
 ghost use Rattle.pb_period.specs.Days.{days_of};
@@ -33,7 +33,7 @@ pub fn summary(
     sweeps: u32,
 ) -> Result<Vec<u8>, AllocError>
     requires least { least_streams ≤ streams }
-    requires most { streams ≤ most_streams }
+    requires most { streams ≤ most_made_streams }
     requires some_gap { 1 ≤ gap }
     requires greatest_gap { gap ≤ most_gap }
     requires greatest_sweeps { sweeps ≤ most_sweeps }

@@ -74,7 +74,7 @@ fn group_net(numbers: &[u32], group: u32, streams: &[Stream]) -> i128
 fn square(net: u128) -> u128
     requires { net ≤ most_streams * most_value }
     ensures value { result ≡ net * net }
-    ensures within { result < 2 ^ 122 }
+    ensures within { result < 2 ^ 124 }
 {
     net * net
 }

@@ -6,8 +6,8 @@ use Rattle.pb_rows.specs.Number.{number, within}
 use Rattle.pb_graph.specs.declared.results.Options.{Options}
 use Rattle.pb_report.specs.declared.form.Form.{Form}
 use Rattle.pb_words.specs.Given.{Given}
-use Rattle.pb_limits.specs.Limits.{most_gap, most_streams, most_sweeps}
-use Rattle.pb_elim.specs.Options.{AreOptions, most_rounds}
+use Rattle.pb_limits.specs.Limits.{most_gap, most_made_streams, most_rounds, most_sweeps}
+use Rattle.pb_elim.specs.Options.{AreOptions}
 use Rattle.pb_make.specs.Plant.{least_streams}
 use Rattle.pb_words.specs.Command.{Asks, AsksCheck, AsksMake, AsksRun, IsCommandOf, IsFormOf, IsInRange, greatest_number, natural, number_or}
 use Rattle.pb_words.specs.Line.{IsGivenByClap}
@@ -166,8 +166,8 @@ in_range given (Run options form) a = run_range given options form a
 in_range given Check a = tt
 in_range given (Make from count summed gap sweeps) a = record {
   number = (number_range 0 greatest_number 1 given.number from (omega arith) (omega arith) a.number).1;
-  least = (number_range least_streams most_streams 300 given.streams count (omega arith) (omega arith) a.streams).0;
-  most = (number_range least_streams most_streams 300 given.streams count (omega arith) (omega arith) a.streams).1;
+  least = (number_range least_streams most_made_streams 300 given.streams count (omega arith) (omega arith) a.streams).0;
+  most = (number_range least_streams most_made_streams 300 given.streams count (omega arith) (omega arith) a.streams).1;
   some_gap = (number_range 1 most_gap 10 given.gap gap (omega arith) (omega arith) a.gap).0;
   greatest_gap = (number_range 1 most_gap 10 given.gap gap (omega arith) (omega arith) a.gap).1;
   greatest_sweeps = (number_range 0 most_sweeps 5000 given.sweeps sweeps (omega arith) (omega arith) a.sweeps).1;

@@ -1,9 +1,9 @@
 -- Statement. The commands, and the words that give each.
 use Rattle.std.specs.Prelude.{◌≡◌, ◌≤◌, ◌⊎◌, ℕ, ℤ, pos, negsuc, Bool, false, ◌||◌, List, Option, Some, None, is_some, codes, ⊤}
 use Rattle.pb_rows.specs.Number.{number, within}
-use Rattle.pb_limits.specs.Limits.{most_gap, most_streams, most_sweeps}
+use Rattle.pb_limits.specs.Limits.{most_gap, most_made_streams, most_rounds, most_sweeps}
 use Rattle.pb_graph.specs.declared.results.Options.{Options}
-use Rattle.pb_elim.specs.Options.{AreOptions, most_rounds}
+use Rattle.pb_elim.specs.Options.{AreOptions}
 use Rattle.pb_report.specs.declared.form.Form.{Form}
 use Rattle.pb_report.specs.declared.form.Form.TheVariants.{Csv, Json}
 use Rattle.pb_make.specs.Plant.{least_streams}
@@ -61,7 +61,7 @@ pub record AsksCheck (given : Given) : Type 0 where
 pub record AsksMake (given : Given) (from count : ℕ) (summed : Bool) (within_gap within_sweeps : ℕ) : Type 0 where
   pub mode : given.mode ≡ Some (codes "make")
   pub number : number_or 0 greatest_number 1 given.number ≡ Some from
-  pub streams : number_or least_streams most_streams 300 given.streams ≡ Some count
+  pub streams : number_or least_streams most_made_streams 300 given.streams ≡ Some count
   pub summary : summed ≡ given.summary
   pub gap : number_or 1 most_gap 10 given.gap ≡ Some within_gap
   pub sweeps : number_or 0 most_sweeps 5000 given.sweeps ≡ Some within_sweeps
@@ -85,7 +85,7 @@ pub record IsCommandOf (words : List (List ℕ)) (command : Command) : Type 0 wh
 pub record IsMakeInRange (from count within_gap within_sweeps : ℕ) : Type 0 where
   pub number : from ≤ greatest_number
   pub least : least_streams ≤ count
-  pub most : count ≤ most_streams
+  pub most : count ≤ most_made_streams
   pub some_gap : 1 ≤ within_gap
   pub greatest_gap : within_gap ≤ most_gap
   pub greatest_sweeps : within_sweeps ≤ most_sweeps

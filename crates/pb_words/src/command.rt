@@ -12,7 +12,7 @@ use crate::line::taken_apart;
 use crate::words::Words;
 use clap::ArgMatches;
 use pb_graph::Options;
-use pb_limits::{MOST_GAP, MOST_STREAMS, MOST_SWEEPS};
+use pb_limits::{MOST_GAP, MOST_MADE_STREAMS, MOST_ROUNDS, MOST_SWEEPS};
 use pb_report::Form;
 use pb_rows::read_whole;
 use std::alloc::Global;
@@ -49,9 +49,6 @@ pub enum WordsRefused {
     #[error("no memory was found")]
     NoMemory,
 }
-
-// The greatest number of rounds of elimination.
-const MOST_ROUNDS: u32 = 20;
 
 // A made session has at least so many streams.
 const LEAST_STREAMS: u32 = 3;
@@ -168,7 +165,7 @@ fn make_asked(matches: &ArgMatches) -> Option<Command>
     }
     Some(Command::Make {
         number: number_or(matches, "number", 0, u32::MAX, 1)?,
-        streams: number_or(matches, "streams", LEAST_STREAMS, MOST_STREAMS as u32, 300)?,
+        streams: number_or(matches, "streams", LEAST_STREAMS, MOST_MADE_STREAMS, 300)?,
         summary: is_set(matches, "summary"),
         gap: number_or(matches, "gap", 1, MOST_GAP, 10)?,
         sweeps: number_or(matches, "sweeps", 0, MOST_SWEEPS, 5_000)?,

@@ -2,7 +2,8 @@
 
 ghost use Rattle.std.specs.Prelude.{◌≡◌, ◌≤◌, ◌<◌, false, true, length, IfSome};
 ghost use Rattle.pb_limits.specs.Limits.{most_gap};
-ghost use Rattle.pb_elim.specs.Options.{AreOptions, most_rounds};
+ghost use Rattle.pb_limits.specs.Limits.{most_rounds};
+ghost use Rattle.pb_elim.specs.Options.{AreOptions};
 
 use crate::inputs::joined;
 use pb_graph::Options;

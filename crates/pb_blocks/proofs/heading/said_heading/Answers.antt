@@ -1,13 +1,13 @@
 use Rattle.std.proofs.Common.{codes, false, refl, arith}
-use Rattle.pb_limits.specs.Limits.{most_gap, most_nodes, most_streams, most_sweeps}
+use Rattle.pb_limits.specs.Limits.{most_gap, most_nodes, most_rounds, most_streams, most_sweeps}
 use Rattle.pb_form.specs.OutputRows.{output_columns}
 use Rattle.pb_form.specs.declared.output.OutputKind.TheVariants.{Report}
-use Rattle.pb_blocks.specs.Values.{most_round, optional_at}
+use Rattle.pb_blocks.specs.Values.{optional_at}
 use Rattle.pb_blocks.proofs.FitLemmas.{count_at, counted}
 use Rattle.pb_blocks.proofs.heading.said_heading.Goals as goal
 
 pub natural-requires : goal.natural-requires
-natural-requires c = count_at (output_columns Report) c.args.values.now 2 (codes "round") 0 most_round 4294967295 false c.requires.fit refl (omega arith)
+natural-requires c = count_at (output_columns Report) c.args.values.now 2 (codes "round") 0 most_rounds 4294967295 false c.requires.fit refl (omega arith)
 
 pub natural-requires-2 : goal.natural-requires-2
 natural-requires-2 c = counted 1 most_nodes 4294967295 (optional_at c.args.values.now 3) c.requires.counts.env c.requires.counts.few_nodes (omega arith)

@@ -3,6 +3,7 @@ use Rattle.std.proofs.lemmas.List.{get_or_default, get_or_past}
 use Rattle.std.proofs.lemmas.Int.{ints}
 use Rattle.std.proofs.lemmas.Bool.{cases_lt}
 use Rattle.pb_integers.specs.Sums.{item}
+use Rattle.pb_forest.specs.Flows.{most_given_flow}
 use Rattle.pb_forest.specs.Balancing.{AreNets, Chord, IsChordWithin, chord_flow, chords_of, gathered}
 use Rattle.pb_forest.proofs.SideLemmas.{one_balanced_law}
 use Rattle.pb_forest.proofs.NetLemmas.{chord_small, nets_none, settled_balance}
@@ -28,7 +29,7 @@ pub gather-requires-clause-start : goal.gather-requires-clause-start
 gather-requires-clause-start c = λ k. elim (cases_lt k (length c.args.held.now)) [
   | inl lt ↦
       let is : item c.write_chords.new.out k ≡ chord_flow c.args.held.now c.args.off.now k = c.write_chords.ensures k lt in
-      let small = chord_small c.args.held.now c.args.off.now (2 ^ 57) c.requires.within k in
+      let small = chord_small c.args.held.now c.args.off.now most_given_flow c.requires.within k in
       omega (arith, ints, is, small)
   | inr past ↦
       let none = get_or_past c.write_chords.new.out k (pos 0) (omega (arith, past, c.write_chords.auto.out, c.requires.room, c.requires.kept.forest.each)) in

@@ -3,6 +3,7 @@ use mir.Syntax.{w128}
 use Rattle.std.proofs.lemmas.Int.{ints}
 use Rattle.std.proofs.lemmas.List.{length-map}
 use Rattle.std.proofs.Math.Facts.{to_z-of_z}
+use Rattle.pb_forest.specs.Flows.{most_given_flow}
 use Rattle.pb_integers.specs.Sums.{item}
 use Rattle.pb_fixed.specs.Quotients.{nearest_div}
 use Rattle.pb_dual.specs.DualValue.{scale}
@@ -26,7 +27,7 @@ loop-j-preserved c =
     simp to_z-of_z (record {
       room = search rules;
       value = put_value c.loop-j.out (nearest_grams us) j x lt is inv.value;
-      within = put_fact (λ (v : ℤ). unsigned_abs v ≤ 2 ^ 57) c.loop-j.out j x lt c.nearest_gram.ensures.within inv.within;
+      within = put_fact (λ (v : ℤ). unsigned_abs v ≤ most_given_flow) c.loop-j.out j x lt c.nearest_gram.ensures.within inv.within;
     })
 
 pub returns-clause-value : goal.returns-clause-value
@@ -38,4 +39,4 @@ returns-clause-value c =
 pub returns-clause-within : goal.returns-clause-within
 returns-clause-within c =
     let inv = c.loop-j.invariant in
-    all_put (λ (v : ℤ). unsigned_abs v ≤ 2 ^ 57) c.loop-j.out (λ k lt. inv.within k (omega (arith, c.loop-j-test.false, lt, inv.room)))
+    all_put (λ (v : ℤ). unsigned_abs v ≤ most_given_flow) c.loop-j.out (λ k lt. inv.within k (omega (arith, c.loop-j-test.false, lt, inv.room)))

@@ -1,6 +1,6 @@
 use Rattle.std.proofs.Common.{◌≡◌, ◌∙◌, ◌*◌, ◌++◌, ◌-◌, ◌+◌, ℕ, Vec, Global, All, Result, Ok, Err, length, ap, refl}
 use Rattle.std.specs.Prelude.{IfOk, OnOk}
-use Rattle.pb_limits.specs.Limits.{most_streams}
+use Rattle.pb_limits.specs.Limits.{most_made_streams}
 use Rattle.pb_make.specs.declared.plant.MadeStream.{MadeStream}
 use Rattle.pb_make.specs.Bounds.{IsMade}
 use Rattle.pb_make.specs.Draws.{state_after}
@@ -42,5 +42,5 @@ returns c =
       value = weaker c.made_streams.result made (λ v. v.items ≡ made_streams number streams) (λ v is. (plant v is).value) c.made_streams.ensures;
       state = on_ok c.made_streams.result _ (c.in_ok-sides.ensures.state ∙ ap (λ (n : ℕ). state_after number (3 * n)) count_is);
       count = weaker c.made_streams.result made (λ v. length v.items ≡ streams) (λ v is. (plant v is).count) c.made_streams.ensures;
-      made = weaker c.made_streams.result made (λ v. All (IsMade most_streams) v.items) (λ v is. (plant v is).made) c.made_streams.ensures;
+      made = weaker c.made_streams.result made (λ v. All (IsMade most_made_streams) v.items) (λ v is. (plant v is).made) c.made_streams.ensures;
     }
