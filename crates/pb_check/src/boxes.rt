@@ -9,17 +9,14 @@ ghost use Rattle.pb_check.specs.Faults.{IsBoxFault, IsOutOfBox};
 
 use crate::faults::{Fault, Place};
 use pb_fixed::div_floor;
-use pb_graph::{Meas, Stage};
-
-// The most that a variance times a difference of prices may be.
-const BOX: i128 = 1 << 112;
+use pb_graph::{MOST_ADJUSTMENT, Meas, Stage};
 
 // The most by which the prices at the ends of a stream of this variance may differ.
 fn room(meas: &Meas) -> i128
     requires { IsMeasurement meas.now }
     ensures { result ≡ room_of meas.now.variance }
 {
-    div_floor(BOX, meas.variance)
+    div_floor(MOST_ADJUSTMENT, meas.variance)
 }
 
 // How much two prices differ.
