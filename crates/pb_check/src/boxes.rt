@@ -2,7 +2,7 @@
 
 ghost use Rattle.std.specs.Prelude.{◌≡◌, ◌<◌, ◌≤◌, ◌^◌, ℕ, pos, ◌≤ℤ◌, ◌-ℤ◌, unsigned_abs, length, MatchOption};
 ghost use Rattle.pb_graph.specs.ProcessGraph.{IsMeasurement, IsProcessGraph};
-ghost use Rattle.pb_graph.specs.WellFormed.{IsWellFormed};
+ghost use Rattle.pb_graph.specs.WellFormed.{IsPrice, IsWellFormed};
 ghost use Rattle.pb_dual.specs.Candidates.{room_of};
 ghost use Rattle.pb_check.specs.Asked.{IsInBoxAt, AreInBox};
 ghost use Rattle.pb_check.specs.Faults.{IsBoxFault, IsOutOfBox};
@@ -21,8 +21,8 @@ fn room(meas: &Meas) -> i128
 
 // How much two prices differ.
 fn difference(from: i128, to: i128) -> i128
-    requires from { unsigned_abs from ≤ 2 ^ 120 }
-    requires to { unsigned_abs to ≤ 2 ^ 120 }
+    requires from { IsPrice from }
+    requires to { IsPrice to }
     ensures { result ≡ pos (unsigned_abs (to -ℤ from)) }
 {
     (to - from).abs()
