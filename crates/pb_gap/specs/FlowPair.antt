@@ -1,5 +1,5 @@
 -- Statement. The flows of a graph beside the dual flows of prices: what the gap, the bounds and the statistic follow from.
-use Rattle.std.specs.Prelude.{◌≡◌, ◌<◌, ◌≤◌, ◌^◌, ℕ, ℤ, List, All, length, unsigned_abs}
+use Rattle.std.specs.Prelude.{◌≡◌, ◌≤◌, ℕ, ℤ, List, All, length, unsigned_abs}
 use Rattle.pb_limits.specs.Limits.{most_streams}
 use Rattle.pb_graph.specs.declared.records.Stream.{Stream}
 use Rattle.pb_graph.specs.ProcessGraph.{ProcessGraph, IsWithinLimits}

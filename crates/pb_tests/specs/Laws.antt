@@ -1,7 +1,6 @@
 -- Statement. What is proved of tests.
-use Rattle.std.specs.Prelude.{◌≡◌, ℕ, ◌*◌, ◌<◌, ◌≤◌, ℤ, pos, ◌≤ℤ◌, unsigned_abs, List, All, Option, Some}
+use Rattle.std.specs.Prelude.{◌≡◌, ℕ, ◌<◌, ◌≤◌, ℤ, pos, ◌≤ℤ◌, unsigned_abs, List, All, Option, Some}
 use Rattle.std.specs.List.{Any}
-use Rattle.pb_limits.specs.Limits.{most_streams, most_value}
 use Rattle.pb_graph.specs.declared.results.Verdict.TheVariants.{Reject, Accept}
 use Rattle.pb_graph.specs.declared.results.NodalTest.{NodalTest}
 use Rattle.pb_graph.specs.declared.results.MeasureTest.{MeasureTest}
