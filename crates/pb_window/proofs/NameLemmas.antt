@@ -8,6 +8,7 @@ use Rattle.std.proofs.lemmas.List.{map-append}
 use Rattle.std.proofs.lemmas.List.Elements.{All-from_recursion}
 use Rattle.std.proofs.lemmas.List.Folds.{list_all-append}
 use Rattle.std.proofs.lemmas.List.Kept.{AllPairs-cons}
+use Rattle.pb_limits.specs.Limits.{most_periods_of_window}
 use Rattle.pb_rows.specs.Name.{is_name, is_name_byte, same_name}
 use Rattle.pb_window.specs.declared.plant.Plant.{Plant}
 use Rattle.pb_window.specs.declared.plant.PlantArc.{PlantArc}
@@ -17,7 +18,7 @@ use Rattle.pb_window.specs.declared.window.Window.{Window}
 use Rattle.pb_window.specs.declared.window.WindowNode.{WindowNode}
 use Rattle.pb_window.specs.declared.window.WindowStream.{WindowStream}
 use Rattle.pb_window.specs.Plant.{IsPlant, NumberedArc, arcs_in}
-use Rattle.pb_window.specs.Window.{NumberedSpan, content_day, content_end, content_of, contents_of_arc, flow_of, flows_of_period, is_too_great, most_periods_of_window, stay_of, numbered_spans, unless_too_great, window_contents, window_flows, window_nodes, window_shape, window_streams}
+use Rattle.pb_window.specs.Window.{NumberedSpan, content_day, content_end, content_of, contents_of_arc, flow_of, flows_of_period, is_too_great, stay_of, numbered_spans, unless_too_great, window_contents, window_flows, window_nodes, window_shape, window_streams}
 use Rattle.pb_window.specs.Codes.{AreNames, AreWindowNames, code_text, node_code, source_letter, stream_code}
 use Rattle.pb_window.specs.Laws.{WindowNamesLaw}
 use Rattle.pb_window.proofs.CodeLemmas.{coded_name, codes_apart}
