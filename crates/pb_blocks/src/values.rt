@@ -167,37 +167,40 @@ fn critical(values: &Values, place: usize) -> Option<i64>
 fn class_at(values: &Values, place: usize) -> Class
     ensures { result ≡ chosen_at placed_class Class.Nonredundant values.now place }
 {
-    values
-        .word(place)
-        .and_then(placed_class)
-        .unwrap_or(Class::Nonredundant)
+    match values.word(place) {
+        Some(word) => placed_class(word).unwrap_or(Class::Nonredundant),
+        None => Class::Nonredundant,
+    }
 }
 
 // The shape whose word stands at a place.
 fn shape_at(values: &Values, place: usize) -> Shape
     ensures { result ≡ chosen_at placed_shape Shape.Cycle values.now place }
 {
-    values
-        .word(place)
-        .and_then(placed_shape)
-        .unwrap_or(Shape::Cycle)
+    match values.word(place) {
+        Some(word) => placed_shape(word).unwrap_or(Shape::Cycle),
+        None => Shape::Cycle,
+    }
 }
 
 // Whether the word at a place says that something holds.
 fn truth_at(values: &Values, place: usize) -> bool
     ensures { result ≡ chosen_at placed_truth false values.now place }
 {
-    values.word(place).and_then(placed_truth).unwrap_or(false)
+    match values.word(place) {
+        Some(word) => placed_truth(word).unwrap_or(false),
+        None => false,
+    }
 }
 
 // The verdict whose word stands at a place.
 fn verdict_at(values: &Values, place: usize) -> Verdict
     ensures { result ≡ chosen_at placed_verdict Verdict.NoTest values.now place }
 {
-    values
-        .word(place)
-        .and_then(placed_verdict)
-        .unwrap_or(Verdict::NoTest)
+    match values.word(place) {
+        Some(word) => placed_verdict(word).unwrap_or(Verdict::NoTest),
+        None => Verdict::NoTest,
+    }
 }
 
 // The sweeps done, and whether the gap was met.

@@ -1,6 +1,6 @@
 // The side and the parts of a certificate, as texts.
 
-ghost use Rattle.std.specs.Prelude.{◌≡◌, ◌<◌, ◌++◌, [], length, string_bytes, codes, All, IfOk, OnOk, if◌then◌else◌};
+ghost use Rattle.std.specs.Prelude.{◌≡◌, ◌<◌, ◌++◌, [], length, string_bytes, codes, int_le, pos, All, IfOk, OnOk, if◌then◌else◌};
 ghost use Rattle.pb_graph.specs.declared.records.Member.{Member};
 ghost use Rattle.pb_graph.specs.declared.records.Step.{Step};
 ghost use Rattle.pb_report.specs.Pieces.{gap_before};
@@ -40,7 +40,7 @@ pub fn members_text(
     let mut text = String::new(alloc);
     for (i, member) in members.iter().enumerate() {
         let name = streams.at(member.stream as usize);
-        add_part(&mut text, i == 0, member.sign >= 0, name)?;
+        add_part(&mut text, i == 0, enters(member), name)?;
     }
     Ok(text)
 }
@@ -56,6 +56,13 @@ pub fn steps_text(alloc: Global, streams: &NameList, steps: &[Step]) -> Result<S
         add_part(&mut text, i == 0, step.forward, name)?;
     }
     Ok(text)
+}
+
+// Whether a member of a cut enters the side.
+fn enters(member: &Member) -> bool
+    ensures { result ≡ int_le (pos 0) member.now.sign }
+{
+    member.sign >= 0
 }
 
 // Appends a part: a sign and a name, after a space unless it is the first.
