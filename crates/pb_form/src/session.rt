@@ -48,10 +48,11 @@ pub enum SessionKind {
     Design,
     Report,
     History,
+    Advise,
 }
 
 // The kinds in the order of their schemas.
-static KINDS: [SessionKind; 23] = [
+static KINDS: [SessionKind; 24] = [
     SessionKind::Unit,
     SessionKind::Tank,
     SessionKind::Strap,
@@ -75,7 +76,11 @@ static KINDS: [SessionKind; 23] = [
     SessionKind::Design,
     SessionKind::Report,
     SessionKind::History,
+    SessionKind::Advise,
 ];
+
+// The greatest cost of a meter, in whatever unit.
+pub(crate) const MOST_METER_COST: i128 = 1_000_000_000_000;
 
 const BASE: Column = number!("base", 1, MOST_ROW_VARIANCE);
 
@@ -90,6 +95,8 @@ const MM: Column = number!("mm", 0, MOST_LEVEL as i128);
 const ML: Column = number!("ml", 0, MOST_VOLUME as i128);
 
 const DENSITY: Column = number!("density", 1, MOST_DENSITY as i128);
+
+const COST: Column = number!("cost", 0, MOST_METER_COST);
 
 const DOF: Column = number!("dof", 1, MOST_FREEDOM as i128);
 
@@ -118,7 +125,7 @@ const FIRST: Column = column!("first", Holds::Date);
 const LAST: Column = column!("last", Holds::Date);
 
 // The schemas of all kinds, in their order.
-static SCHEMAS: [Schema; 23] = [
+static SCHEMAS: [Schema; 24] = [
     schema!(word!("row", "unit"), NAME),
     schema!(word!("row", "tank"), NAME, BASE),
     schema!(word!("row", "strap"), TANK, MM, ML),
@@ -202,6 +209,10 @@ static SCHEMAS: [Schema; 23] = [
     schema!(word!("row", "design")),
     schema!(word!("row", "report"), PERIOD),
     schema!(word!("row", "history"), PERIOD),
+    Schema {
+        columns: &[word!("row", "advise")],
+        tail: &[STREAM, COST],
+    },
 ];
 
 /// The schemas of the kinds of a session, in the order of the kinds.
