@@ -295,6 +295,33 @@ fn makes_rows(rt: HostRuntime) -> Result<(), Fail> {
     Ok(())
 }
 
+// A row that is cleared and takes a number holds that number alone.
+fn assert_number(
+    rt: &impl Abort,
+    row: &mut Row,
+    value: i128,
+    text: &[u8],
+) -> Result<(), AllocError> {
+    row.clear();
+    row.push_whole(value)?;
+    assert_fields(rt, row, &[text]);
+    Ok(())
+}
+
+#[test]
+fn clears_rows(rt: HostRuntime) -> Result<(), Fail> {
+    let mut row = Row::new(rt.alloc());
+    let table: [(i128, &[u8]); 3] = [
+        (0, b"0"),
+        (-1_000_000_000_000_000_000, b"-1000000000000000000"),
+        (i128::MIN, b"-170141183460469231731687303715884105728"),
+    ];
+    for (value, text) in table {
+        assert_number(&rt, &mut row, value, text)?;
+    }
+    Ok(())
+}
+
 // A row but for its end: a text, a number, a text in quotes and an empty one.
 fn write_fields(writer: &mut RowWriter) -> Result<(), AllocError> {
     writer.field(b"edit")?;

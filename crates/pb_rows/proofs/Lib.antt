@@ -5,3 +5,4 @@ mod NumberLemmas
 mod TextLemmas
 mod DateTextLemmas
 mod RoundTripLemmas
+pub mod TextLaws

@@ -38,7 +38,7 @@ longer_text n front large so_far =
     ∙ sym (some_text n (omega arith) ∙ ap (map (λ digit. 48 + digit)) step ∙ map-append (λ digit. 48 + digit) (digits_of 10 (n / 10)) (n % 10 ∷ []))
 
 -- what std writes of a number is its text
-wide_text : (n : ℕ) → n < 10 ^ 64 → decimal n ≡ decimal_text n
+pub wide_text : (n : ℕ) → n < 10 ^ 64 → decimal n ≡ decimal_text n
 wide_text n wide = decimal_by_steps_wide (λ m ds. ds ≡ decimal_text m) digit_text longer_text n wide
 
 pub signed_text : (z : ℤ) → FitsSigned w128 z → signed_decimal z ≡ whole_text z
@@ -79,7 +79,7 @@ text_length n some =
     by [] h = h
     by (d ∷ ds) h = omega arith
 
-text_digits : (n : ℕ) → 0 < n → (list_all is_ascii_digit (decimal_text n) ≡ true) × (digits_value 10 (decimal_text n) ≡ n)
+pub text_digits : (n : ℕ) → 0 < n → (list_all is_ascii_digit (decimal_text n) ≡ true) × (digits_value 10 (decimal_text n) ≡ n)
 text_digits n some =
     let back = digits_back 0 (digits_of 10 n) (all_below_base_digits_of 10 n (omega arith)) in
     rw (some_text n some) (back.0, back.1 ∙ number_digits_of 10 n (omega arith))

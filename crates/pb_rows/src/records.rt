@@ -52,10 +52,11 @@ impl<'a> Records<'a> {
         }
     }
 
-    /// Takes the next record, if one is left. After an `Err`, want of memory, none is left.
+    /// Takes the next record, if one is left. After an `Err`, out of memory, none is left, and no more are taken than before.
     pub fn next(&mut self) -> Result<Option<Row>, AllocError>
         ensures ok { IfOk result (λ row. TakesNext self.old self.new row) }
         ensures err { OnErr result (self.new.left ≡ []) }
+        ensures err_taken { OnErr result (self.new.taken ≡ self.old.taken) }
     {
         if self.ended {
             return Ok(None);
@@ -75,11 +76,12 @@ impl<'a> Records<'a> {
         }
     }
 
-    /// Takes the next record into a row, in place of its fields, and answers whether one was left. Where none was, and after an
-    /// `Err`, want of memory, the row is without fields, and none is left.
+    /// Takes the next record into a row, in place of its fields, and answers whether one was left. If none was, and after an
+    /// `Err`, out of memory, the row has no fields, none is left, and no more are taken than before.
     pub fn fill(&mut self, row: &mut Row) -> Result<bool, AllocError>
         ensures ok { IfOk result (λ found. FillsNext self.old self.new row.new found) }
         ensures err { OnErr result (self.new.left ≡ []) }
+        ensures err_taken { OnErr result (self.new.taken ≡ self.old.taken) }
         ensures err_row { OnErr result (row.new ≡ []) }
     {
         if self.ended {

@@ -4,9 +4,11 @@ ghost use Rattle.std.specs.Prelude.{◌≡◌, ◌<◌, ◌≤◌, ◌∷◌, �
 ghost use Rattle.csv.specs.Reading.{NotLengths, error_kind};
 ghost use Rattle.csv.specs.Records.{fields_of, partial_of};
 ghost use Rattle.pb_rows.specs.InHand.{IsBetween, ReadsFirst};
+ghost use Rattle.pb_rows.specs.Number.{whole_text};
 ghost use Rattle.pb_rows.specs.Records.{without_trailing_empty};
 
 use csv::{ByteRecord, Error, Reader};
+use itoa::Buffer;
 use std::alloc::{AllocError, Global};
 use std::marker::Model;
 
@@ -69,8 +71,17 @@ impl Row {
         Ok(())
     }
 
-    // Takes every field away. The memory stays for those to come.
-    pub(crate) fn clear(&mut self)
+    /// Appends a whole number as a field, in the form that `read_whole` reads. After an `Err`, out of memory, the row is as it was.
+    pub fn push_whole(&mut self, value: i128) -> Result<(), AllocError>
+        ensures appended { OnOk result (self.new ≡ self.old ++ whole_text value ∷ []) }
+        ensures unchanged { OnErr result (self.new ≡ self.old) }
+    {
+        let mut digits = Buffer::new();
+        self.push(digits.format(value).as_bytes())
+    }
+
+    /// Takes every field away. The memory stays for those to come.
+    pub fn clear(&mut self)
         ensures { self.new ≡ [] }
     {
         self.fields.clear();

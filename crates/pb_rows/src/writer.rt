@@ -5,7 +5,6 @@ ghost use Rattle.csv.specs.Records.{fields_of};
 ghost use Rattle.pb_rows.specs.Number.{whole_text};
 ghost use Rattle.pb_rows.specs.Written.{AddsField, AddsLine, EndsRow, line_of};
 
-use crate::number::whole_bytes;
 use crate::row::Row;
 use csv::{ByteRecord, WriterBuilder};
 use std::alloc::{AllocError, Global};
@@ -50,8 +49,7 @@ impl RowWriter {
         ensures appended { OnOk result (AddsField self.old self.new (whole_text value)) }
         ensures unchanged { OnErr result (self.new ≡ self.old) }
     {
-        let bytes = whole_bytes(*self.text.allocator(), value)?;
-        self.field(bytes.as_slice())
+        self.row.push_whole(value)
     }
 
     /// Ends the row: its line joins the text, and the next row begins without a field. After an `Err`, want of memory, all is
