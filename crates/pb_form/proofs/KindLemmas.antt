@@ -2,8 +2,8 @@
 use Rattle.std.specs.Prelude.{◌&&◌, ◌||◌, ◌==◌, ◌-◌, bytes_eq, drop, filter, map, nat_lt, not, position, slice_get, Some, Option, Result, Ok, Err, if◌then◌else◌}
 use Rattle.std.specs.List.{list_all, prefix_len}
 use Rattle.std.specs.Option.{option_map}
-use Rattle.std.proofs.Common.{◌≡◌, ◌∙◌, ◌<◌, ◌+◌, ℕ, zero, suc, Bool, true, false, List, [], ◌∷◌, length, get_or, take, refl, sym, ap, subst, arith, inl, inr}
-use Rattle.std.proofs.lemmas.Bool.{and_parts, cases_Bool, ne_eqb}
+use Rattle.std.proofs.Common.{◌≡◌, ◌∙◌, ◌<◌, ◌≤◌, ◌⊎◌, ◌+◌, ℕ, zero, suc, Bool, true, false, List, [], ◌∷◌, length, get_or, take, refl, sym, ap, subst, arith, inl, inr}
+use Rattle.std.proofs.lemmas.Bool.{and_parts, cases_Bool, cases_lt, ne_eqb}
 use Rattle.std.proofs.lemmas.Bool.Decides.{nat_tests}
 use Rattle.std.proofs.lemmas.List.{drop-map, get_or-drop, length-drop, take_all}
 use Rattle.std.proofs.lemmas.Option.{slice_get-get_or, slice_get-map}
@@ -320,6 +320,31 @@ told kinds it values fields are at reads =
     let place = place_told (map session_schema kinds) at.0 (session_schema it) values fields are.apart are.plain schema_there reads in
     ap (λ (o : Option ℕ). kind_in kinds (told_at (map session_schema kinds) fields o)) place ∙ ap kind_at at.1
 
+-- two kinds of one record have one place
+schema_at : (it : SessionKind) (i : ℕ) → slice_get session_kinds i ≡ Some it → slice_get session_schemas i ≡ Some (session_schema it)
+schema_at it i at = slice_get-map session_schema session_kinds i ∙ ap (λ (o : Option SessionKind). option_map session_schema o) at
+
+session_differ : all_differ session_schemas ≡ true
+session_differ = refl
+
+same_kind : (fields : List (List ℕ)) (a b : SessionKind) → is_of fields (session_schema a) ≡ true → is_of fields (session_schema b) ≡ true → a ≡ b
+same_kind fields a b one other =
+    let x = place_in a in
+    let y = place_in b in
+    by x.0 x.1 y.0 y.1 (cases_lt x.0 y.0) (cases_lt y.0 x.0)
+  where
+    by : (i : ℕ) → slice_get session_kinds i ≡ Some a → (j : ℕ) → slice_get session_kinds j ≡ Some b → (i < j) ⊎ (j ≤ i) → (j < i) ⊎ (i ≤ j) → a ≡ b
+    by i at j there (inl lt) after =
+        absurd (cc (sym (differ_at session_schemas i j (session_schema a) (session_schema b) session_differ lt (schema_at a i at) (schema_at b j there))
+        ∙ of_both (session_schema a) (session_schema b) fields refl refl one other))
+    by i at j there (inr ge) (inl gt) =
+        absurd (cc (sym (differ_at session_schemas j i (session_schema b) (session_schema a) session_differ gt (schema_at b j there) (schema_at a i at))
+        ∙ of_both (session_schema b) (session_schema a) fields refl refl other one))
+    by i at j there (inr ge) (inr le) =
+        let same : i ≡ j = omega (arith, ge, le) in
+        let both : (let a_there : Option SessionKind = Some a in a_there) ≡ Some b = sym at ∙ ap (slice_get session_kinds) same ∙ there in
+        cc both
+
 pub one_kind : OneKindLaw
 one_kind it values fields reads =
     let at = place_in it in
@@ -327,8 +352,10 @@ one_kind it values fields reads =
     let count = just_count (session_schema it) (length fields) refl read.counts in
     let firm = passes_at (λ (it : SessionKind). list_all is_firm (session_columns it)) session_kinds at.0 it session_firm at.1 in
     let ends = passes_at (λ (it : SessionKind). ends_filled (session_columns it)) session_kinds at.0 it session_filled at.1 in
+    let is : is_of fields (session_schema it) ≡ true = rw (read.counts, words_read (session_columns it) values fields firm read.says) refl in
     record {
-      is = rw (read.counts, words_read (session_columns it) values fields firm read.says) refl;
+      is = is;
+      only = λ other there. same_kind fields other it there is;
       told_1 = λ has. told kinds_of_version_1 it values fields kinds_1 (place_kept is_of_version_1 session_kinds at.0 it at.1 has) reads;
       told_2 = λ has. told kinds_of_version_2 it values fields kinds_2 (place_kept is_of_version_2 session_kinds at.0 it at.1 has) reads;
       filled = all_filled (session_columns it) values fields count ends read.says;

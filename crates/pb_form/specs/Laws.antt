@@ -16,9 +16,10 @@ OneRecordLaw = (schema : Schema) (values : List Value) (a b : List (List ℕ)) �
 abbrev pub FittingLaw : Type 0
 FittingLaw = (schema : Schema) (values : List Value) (fields : List (List ℕ)) → Writes schema values fields → FitEach schema.columns values
 
--- a record is of a kind, also by the kinds of a version that has it, and no empty field stands at its end
+-- a record is of a kind and of no other one, also among the kinds of a version that has it, and no empty field stands at its end
 pub record IsOfKind (kind : SessionKind) (fields : List (List ℕ)) : Type 0 where
   pub is : is_of fields (session_schema kind) ≡ true
+  pub only : (other : SessionKind) → is_of fields (session_schema other) ≡ true → other ≡ kind
   pub told_1 : is_of_version_1 kind ≡ true → session_told kinds_of_version_1 fields ≡ Ok kind
   pub told_2 : is_of_version_2 kind ≡ true → session_told kinds_of_version_2 fields ≡ Ok kind
   pub filled : without_trailing_empty fields ≡ fields
