@@ -1,5 +1,5 @@
 -- Statement. The rows of a session: the columns of each kind.
-use Rattle.std.specs.Prelude.{ℕ, pos, neg_ℤ, Bool, true, false, List, [], ◌∷◌, ◌++◌, Option, Some, None, Result, Ok, Err, codes, filter, map, slice_get}
+use Rattle.std.specs.Prelude.{ℕ, ◌^◌, pos, neg_ℤ, Bool, true, false, List, [], ◌∷◌, ◌++◌, Option, Some, None, Result, Ok, Err, codes, filter, map, slice_get}
 use Rattle.pb_limits.specs.Limits.{most_critical, most_density, most_freedom, most_grams, most_level, most_row_variance, most_volume}
 use Rattle.pb_form.specs.Columns.{Column, Schema, column, word_column}
 use Rattle.pb_form.specs.Holds.{Holds, Name, Reason, Number, Date}
@@ -43,6 +43,14 @@ freedom_range = Number (pos 1) (pos most_freedom)
 -- a critical value, in thousandths
 abbrev pub critical_range : Holds
 critical_range = Number (pos 0) (pos most_critical)
+
+-- the greatest cost of a meter, in whatever unit
+abbrev pub most_meter_cost : ℕ
+most_meter_cost = 10 ^ 12
+
+-- what a meter costs
+abbrev pub cost_range : Holds
+cost_range = Number (pos 0) (pos most_meter_cost)
 
 -- the columns of a stream of a kind, which has this word and this base variance
 abbrev pub stream_columns : List ℕ → Holds → List Column
@@ -122,10 +130,20 @@ session_columns kind.Close = word_column (codes "row") (codes "close") ∷ colum
 session_columns kind.Design = word_column (codes "row") (codes "design") ∷ []
 session_columns kind.Report = word_column (codes "row") (codes "report") ∷ column (codes "period") Name ∷ []
 session_columns kind.History = word_column (codes "row") (codes "history") ∷ column (codes "period") Name ∷ []
+session_columns kind.Advise = word_column (codes "row") (codes "advise") ∷ []
+
+-- the columns of a named cost: a stream, and what a meter on it costs
+abbrev pub cost_columns : List Column
+cost_columns = column (codes "stream") Name ∷ column (codes "cost") cost_range ∷ []
+
+-- The columns that come after those of a kind, over and over.
+abbrev pub session_tail : SessionKind → List Column
+session_tail kind.Advise = cost_columns
+session_tail kind = []
 
 -- the schema of each kind
 abbrev pub session_schema : SessionKind → Schema
-session_schema kind = record { columns = session_columns kind; tail = [] }
+session_schema kind = record { columns = session_columns kind; tail = session_tail kind }
 
 -- all kinds
 abbrev pub session_kinds : List SessionKind
@@ -134,7 +152,7 @@ session_kinds =
     ∷ kind.Unit ∷ kind.Tank ∷ kind.Strap ∷ kind.StreamMetered ∷ kind.StreamBatch ∷ kind.StreamPlain ∷ kind.Period
     ∷ kind.CriticalGlobal ∷ kind.CriticalNodal ∷ kind.CriticalMeasure ∷ kind.Reading ∷ kind.Transfer ∷ kind.Dip
     ∷ kind.LateReading ∷ kind.LateTransfer ∷ kind.LateDip ∷ kind.AmendAmount ∷ kind.AmendLevel ∷ kind.Strike ∷ kind.Close
-    ∷ kind.Design ∷ kind.Report ∷ kind.History ∷ []
+    ∷ kind.Design ∷ kind.Report ∷ kind.History ∷ kind.Advise ∷ []
 
 -- the schemas of all kinds
 abbrev pub session_schemas : List Schema

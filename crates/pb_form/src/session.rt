@@ -55,10 +55,11 @@ pub enum SessionKind {
     Design,
     Report,
     History,
+    Advise,
 }
 
 // The kinds in the order of their schemas.
-static KINDS: [SessionKind; 29] = [
+static KINDS: [SessionKind; 30] = [
     SessionKind::Version,
     SessionKind::Boundary,
     SessionKind::TankInService,
@@ -88,12 +89,16 @@ static KINDS: [SessionKind; 29] = [
     SessionKind::Design,
     SessionKind::Report,
     SessionKind::History,
+    SessionKind::Advise,
 ];
 
 // The places of the first kind of version 2 and of the first one of version 1.
 const FIRST_OF_VERSION_2: usize = 1;
 
 const FIRST_OF_VERSION_1: usize = 6;
+
+// The greatest cost of a meter, in whatever unit.
+pub(crate) const MOST_METER_COST: i128 = 1_000_000_000_000;
 
 const BASE: Column = number!("base", 1, MOST_ROW_VARIANCE);
 
@@ -108,6 +113,8 @@ const MM: Column = number!("mm", 0, MOST_LEVEL as i128);
 const ML: Column = number!("ml", 0, MOST_VOLUME as i128);
 
 const DENSITY: Column = number!("density", 1, MOST_DENSITY as i128);
+
+const COST: Column = number!("cost", 0, MOST_METER_COST);
 
 const DOF: Column = number!("dof", 1, MOST_FREEDOM as i128);
 
@@ -140,7 +147,7 @@ const SINCE: Column = column!("since", Holds::Date);
 const UNTIL: Column = column!("until", Holds::Date);
 
 // The schemas of all kinds, in their order.
-static SCHEMAS: [Schema; 29] = [
+static SCHEMAS: [Schema; 30] = [
     schema!(word!("row", "version"), word!("number", "2")),
     schema!(word!("row", "boundary"), NAME),
     schema!(word!("row", "tank"), NAME, BASE, SINCE, UNTIL),
@@ -257,6 +264,10 @@ static SCHEMAS: [Schema; 29] = [
     schema!(word!("row", "design")),
     schema!(word!("row", "report"), PERIOD),
     schema!(word!("row", "history"), PERIOD),
+    Schema {
+        columns: &[word!("row", "advise")],
+        tail: &[STREAM, COST],
+    },
 ];
 
 /// The schemas of the kinds of a session, in the order of the kinds.

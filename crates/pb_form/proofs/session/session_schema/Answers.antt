@@ -1,8 +1,5 @@
-use Rattle.std.proofs.Common.{◌≡◌, ◌∙◌, ◌<◌, ◌*◌, ap, sym, length, map, refl, arith, Fits, w64}
-use Rattle.std.proofs.lemmas.List.{length-map}
+use Rattle.std.proofs.Common.{refl, arith}
 use Rattle.std.proofs.lemmas.Option.{slice_get_within}
-use Rattle.pb_form.specs.Columns.{Schema}
-use Rattle.pb_form.specs.Seen.{schema_seen}
 use Rattle.pb_form.specs.SessionRows.{session_kinds, session_schema}
 use Rattle.pb_form.proofs.TableLemmas.{few_seen, seen_at, within_seen}
 use Rattle.pb_form.proofs.session.session_schema.Goals as goal
