@@ -1,4 +1,5 @@
 mod ThereLemmas
 mod RangeLemmas
+mod VersionLemmas
 mod RequestLemmas
 mod WrittenLemmas

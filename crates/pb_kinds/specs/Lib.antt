@@ -2,6 +2,7 @@
 pub mod Requests
 pub mod Ranges
 pub mod Effects
+pub mod Versions
 pub mod Laws
 -- Inside
 pub mod There
