@@ -5,6 +5,7 @@
 
 mod answer;
 mod book;
+mod costs;
 mod judge;
 mod laws;
 mod originals;

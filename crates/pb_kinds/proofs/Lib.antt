@@ -1,4 +1,5 @@
 mod ThereLemmas
 mod RangeLemmas
 mod RequestLemmas
+mod CostLemmas
 mod WrittenLemmas

@@ -123,6 +123,7 @@ asked_in_range kind.Close values fit = tt
 asked_in_range kind.Design values fit = tt
 asked_in_range kind.Report values fit = tt
 asked_in_range kind.History values fit = tt
+asked_in_range kind.Advise values fit = tt
 
 -- ---- names
 
@@ -179,3 +180,4 @@ asked_named kind.Close values fit = name_one (session_columns kind.Close) values
 asked_named kind.Design values fit = refl
 asked_named kind.Report values fit = refl
 asked_named kind.History values fit = refl
+asked_named kind.Advise values fit = refl

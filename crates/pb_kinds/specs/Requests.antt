@@ -19,7 +19,7 @@ use Rattle.pb_kinds.specs.declared.rows.Edit.{Edit}
 use Rattle.pb_kinds.specs.declared.rows.Edit.TheVariants.{Change, Strike}
 use Rattle.pb_kinds.specs.declared.rows.Effect.TheVariants.{Declares, Opens, Books, Edits, Closes}
 use Rattle.pb_kinds.specs.declared.rows.Request.{Request}
-use Rattle.pb_kinds.specs.declared.rows.Request.TheVariants.{Blank, Store, Design, Report, History}
+use Rattle.pb_kinds.specs.declared.rows.Request.TheVariants.{Blank, Store, Design, Report, History, Advise}
 
 -- the name, the reason, the number or the day that stands at a place of a row's values; each column holds what its place is asked for
 abbrev pub name_there : List Value → ℕ → List ℕ
@@ -92,6 +92,7 @@ request_of kind.Close values = Store (Closes (name_there values 1))
 request_of kind.Design values = Design
 request_of kind.Report values = Report (name_there values 1)
 request_of kind.History values = History (name_there values 1)
+request_of kind.Advise values = Advise
 
 -- the request of values that were read, or their fault
 abbrev pub request_by : SessionKind → Result (List Value) FormFault → Result Request FormFault

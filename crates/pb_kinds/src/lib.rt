@@ -5,6 +5,7 @@
 //! arm of `write_effect`, if it is stored.
 #![tactic(auto)]
 
+mod costs;
 mod facts;
 mod laws;
 mod reading;
@@ -12,6 +13,7 @@ mod rows;
 mod there;
 mod writing;
 
+pub use costs::{NamedCost, NamedCosts};
 pub use laws::{asking_law, stored_law};
 pub use reading::read_request;
 pub use rows::{Edit, Effect, Request};

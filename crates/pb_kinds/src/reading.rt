@@ -62,6 +62,7 @@ fn request_of(kind: SessionKind, values: &Values) -> Request
         SessionKind::Design => Request::Design,
         SessionKind::Report => Request::Report(name_there(values, 1)),
         SessionKind::History => Request::History(name_there(values, 1)),
+        SessionKind::Advise => Request::Advise,
     }
 }
 

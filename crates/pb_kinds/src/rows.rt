@@ -49,4 +49,6 @@ pub enum Request {
     Report(Name),
     /// The history of the period of this name.
     History(Name),
+    /// The cheapest metering of the declared plant, at the costs that the record names.
+    Advise,
 }
