@@ -269,7 +269,7 @@ impl Book {
     {
         let named = NamedCosts::of(row);
         match judge_costs(*self.places.allocator(), self.site(), &named)? {
-            Some(cause) => Err(NotAccepted::Refused(cause)),
+            Some(cause) => Err(NotAccepted::from(cause)),
             None => Ok(Accepted::Advise),
         }
     }

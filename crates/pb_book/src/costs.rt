@@ -89,11 +89,7 @@ fn is_not_plain(kind: Option<ArcKind>) -> bool
 }
 
 /// What a meter on each arc of the plant costs, in the order of the arcs.
-pub fn meter_costs(
-    alloc: Global,
-    site: &Site,
-    named: &NamedCosts,
-) -> Result<Vec<i64>, AllocError>
+pub fn meter_costs(alloc: Global, site: &Site, named: &NamedCosts) -> Result<Vec<i64>, AllocError>
     ensures value { IfOk result (λ costs. costs.items ≡ meter_costs site.now named.now) }
     ensures within { IfOk result (λ costs. All IsMeterCost costs.items) }
 {
