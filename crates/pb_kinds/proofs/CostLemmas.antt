@@ -1,13 +1,16 @@
 -- The pairs of a record that asks for an advice.
-use Rattle.std.specs.Prelude.{map, unwrap_or, slice_get, slice_index_or, Some, Result, Ok, Err, if◌then◌else◌}
+use Rattle.std.specs.Prelude.{All, map, unwrap_or, slice_get, slice_index_or, Some, Result, Ok, Err, if◌then◌else◌}
 use Rattle.std.proofs.Common.{◌≡◌, ◌∙◌, ◌<◌, ◌≤◌, ◌+◌, ◌*◌, ◌/◌, ◌-◌, ℕ, zero, suc, Bool, true, false, List, [], ◌∷◌, length, drop, length-drop, refl, sym, ap, ap₂, subst, ℤ, pos, Option, FitsSigned, of_z, to_z, arith}
 use mir.Syntax.{w64}
 use Rattle.std.proofs.lemmas.Int.{ints, to_z-of_z}
 use Rattle.std.proofs.lemmas.List.{length-map}
+use Rattle.std.proofs.lemmas.List.Elements.{All-cons, All-nil}
 use Rattle.pb_rows.specs.Records.{without_trailing_empty}
 use Rattle.pb_form.specs.Columns.{Column, Schema, column}
 use Rattle.pb_form.specs.Field.{field_read}
 use Rattle.pb_form.specs.Holds as holds
+use Rattle.pb_form.specs.Laws.{FittingLaw}
+use Rattle.pb_form.specs.Values.{number_in}
 use Rattle.pb_form.specs.Reading.{before, fields_read, has_count, joined, one_read, repeated, row_read, tail_read}
 use Rattle.pb_form.specs.SessionRows.{cost_columns, most_meter_cost, session_schema, session_told}
 use Rattle.pb_form.specs.Value.{Value}
@@ -21,7 +24,8 @@ use Rattle.pb_form.specs.declared.session.SessionKind.TheVariants as kind
 use Rattle.pb_kinds.specs.declared.costs.NamedCost.{NamedCost}
 use Rattle.pb_kinds.specs.declared.rows.Request.{Request}
 use Rattle.pb_kinds.specs.declared.rows.Request.TheVariants.{Advise}
-use Rattle.pb_kinds.specs.Costs.{costs_by, costs_in, named_costs}
+use Rattle.pb_kinds.specs.Costs.{IsMeterCost, costs_by, costs_in, named_costs}
+use Rattle.pb_kinds.specs.Laws.{NamedCostsLaw}
 use Rattle.pb_kinds.specs.Requests.{asked_by, name_there, number_there, request_by, request_if, request_in, request_of}
 use Rattle.pb_kinds.specs.There.{ArePairs, IsNameThere, IsNumberThere, pairs_read}
 use Rattle.pb_kinds.proofs.ThereLemmas.{name_is, number_is}
@@ -257,3 +261,42 @@ cost_is costs place read pair stream cost it reads range named numbered =
     let number : number_there pair 1 ≡ range.number = ap (λ (o : Option ℤ). unwrap_or o (pos 0)) range.is in
     let fits : FitsSigned w64 cost = omega (arith, ints, numbered, number, range.least, range.most) in
     it.there ∙ rw (to_z-of_z w64 cost fits, named, numbered, same) refl
+
+-- ---- each cost is what a meter may cost
+
+abbrev IsCostInRange : NamedCost → Type 0
+IsCostInRange named = IsMeterCost named.cost
+
+pair_in_range : FittingLaw → (a b : List ℕ) (stream cost : Value) → field_read stream_column a ≡ Ok stream → field_read cost_column b ≡ Ok cost → IsMeterCost (unwrap_or (number_in cost) (pos 0))
+pair_in_range law a b stream cost one other =
+    let reads : row_read (record { columns = cost_columns; tail = [] }) (a ∷ (b ∷ [])) ≡ Ok (stream ∷ (cost ∷ [])) = rw (one, other) refl in
+    let fits : FitEach cost_columns (stream ∷ (cost ∷ [])) = law (record { columns = cost_columns; tail = [] }) (stream ∷ (cost ∷ [])) (a ∷ (b ∷ [])) reads in
+    let it = number_is cost_columns (stream ∷ (cost ∷ [])) 0 1 1 _ _ _ fits refl refl in
+    let number : unwrap_or (number_in cost) (pos 0) ≡ it.number = ap (λ (o : Option ℤ). unwrap_or o (pos 0)) it.is in
+    rw number (it.least, it.most)
+
+all_in_range : FittingLaw → (n : ℕ) (pairs : List (List ℕ)) (values : List Value) → length pairs ≡ n → fields_read (repeated cost_columns [] n) pairs ≡ Ok values → All IsCostInRange (costs_in values)
+all_in_range law zero [] values count says =
+    let none : [] ≡ values = cc says in
+    subst (λ (v : List Value). All IsCostInRange (costs_in v)) none (All-nil IsCostInRange)
+all_in_range law zero (a ∷ pairs) values count says = absurd (omega (arith, count))
+all_in_range law (suc n) [] values count says = absurd (omega (arith, count))
+all_in_range law (suc zero) (a ∷ []) values count says =
+    let x = joined_parts (field_read stream_column a) _ values says in
+    let none : [] ≡ x.others = cc x.more in
+    let one : x.value ∷ [] ≡ values = ap (λ (rest : List Value). x.value ∷ rest) none ∙ sym x.all in
+    subst (λ (v : List Value). All IsCostInRange (costs_in v)) one (All-nil IsCostInRange)
+all_in_range law (suc zero) (a ∷ (b ∷ pairs)) values count says = absurd (omega (arith, count))
+all_in_range law (suc (suc n)) (a ∷ []) values count says = absurd (omega (arith, count))
+all_in_range law (suc (suc n)) (a ∷ (b ∷ pairs)) values count says =
+    let parts = pairs_parts a b n pairs values says in
+    let rest = all_in_range law n pairs parts.others (omega (arith, count)) parts.more in
+    let first = pair_in_range law a b parts.stream parts.cost parts.stream_says parts.cost_says in
+    subst (λ (v : List Value). All IsCostInRange (costs_in v)) (sym parts.all) (All-cons IsCostInRange _ (costs_in parts.others) first rest)
+
+pub named_in_range : FittingLaw → NamedCostsLaw
+named_in_range law fields asks =
+    let filled = without_trailing_empty fields in
+    let tail = (advise_read fields asks).1 in
+    let reads : pairs_read (drop 1 filled) ≡ Ok tail.0 = after_word filled ∙ tail.1 in
+    subst (λ (costs : List NamedCost). All IsCostInRange costs) (sym (ap costs_by tail.1)) (all_in_range law (length (drop 1 filled)) (drop 1 filled) tail.0 refl reads)
