@@ -2,4 +2,5 @@ mod ThereLemmas
 mod RangeLemmas
 mod VersionLemmas
 mod RequestLemmas
+mod CostLemmas
 mod WrittenLemmas

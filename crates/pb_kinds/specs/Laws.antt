@@ -1,5 +1,5 @@
 -- Statement. Laws of what records ask.
-use Rattle.std.specs.Prelude.{◌≡◌, ℕ, List, Option, Ok, true}
+use Rattle.std.specs.Prelude.{◌≡◌, ℕ, List, All, Option, Ok, true}
 use Rattle.std.specs.List.{list_all}
 use Rattle.pb_rows.specs.Name.{is_name}
 use Rattle.pb_form.specs.SessionRows.{session_schema}
@@ -7,8 +7,10 @@ use Rattle.pb_form.specs.Value.{Value}
 use Rattle.pb_form.specs.Writing.{Writes}
 use Rattle.pb_form.specs.declared.session.SessionKind.{SessionKind}
 use Rattle.pb_site.specs.declared.declared.Version.{Version}
+use Rattle.pb_kinds.specs.declared.costs.NamedCost.{NamedCost}
 use Rattle.pb_kinds.specs.declared.rows.Effect.{Effect}
-use Rattle.pb_kinds.specs.declared.rows.Request.TheVariants.{Store}
+use Rattle.pb_kinds.specs.declared.rows.Request.TheVariants.{Advise, Store}
+use Rattle.pb_kinds.specs.Costs.{IsMeterCost, named_costs}
 use Rattle.pb_kinds.specs.Effects.{effect_names}
 use Rattle.pb_kinds.specs.Ranges.{IsEffectInRange}
 use Rattle.pb_kinds.specs.Requests.{request_in, request_of}
@@ -23,6 +25,12 @@ pub record StoredLaw : Type 0 where
       → request_in version fields ≡ Ok (Store effect) → list_all is_name (effect_names effect) ≡ true
   pub of_version : (version : Option Version) (fields : List (List ℕ)) (effect : Effect)
       → request_in version fields ≡ Ok (Store effect) → may_do version effect ≡ true
+
+-- Each cost that a record names that asks for an advice is what a meter may cost.
+abbrev pub NamedCostsLaw : Type 0
+NamedCostsLaw =
+    (version : Option Version) (fields : List (List ℕ)) → request_in version fields ≡ Ok Advise
+    → All (λ (named : NamedCost). IsMeterCost named.cost) (named_costs fields)
 
 -- A record that writes values by the schema of a kind asks what they ask in a row of this kind, in each session that has rows of it.
 abbrev pub AskingLaw : Type 0

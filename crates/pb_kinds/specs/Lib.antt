@@ -1,5 +1,6 @@
 -- Statement
 pub mod Requests
+pub mod Costs
 pub mod Ranges
 pub mod Effects
 pub mod Versions

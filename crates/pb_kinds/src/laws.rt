@@ -1,6 +1,6 @@
 // Laws of what records ask.
 
-ghost use Rattle.pb_kinds.specs.Laws.{AskingLaw, StoredLaw};
+ghost use Rattle.pb_kinds.specs.Laws.{AskingLaw, NamedCostsLaw, StoredLaw};
 
 use pb_form::{fitting_law, one_kind_law};
 
@@ -8,6 +8,13 @@ use pb_form::{fitting_law, one_kind_law};
 /// a row of a session of the version may do it.
 pub fn stored_law()
     ensures { StoredLaw }
+{
+    fitting_law();
+}
+
+/// The law that each cost which a record names that asks for an advice is what a meter may cost.
+pub fn named_costs_law()
+    ensures { NamedCostsLaw }
 {
     fitting_law();
 }
