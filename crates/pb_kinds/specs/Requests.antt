@@ -1,5 +1,5 @@
 -- Statement. What a record asks, or the first fault of its fields.
-use Rattle.std.specs.Prelude.{ℕ, ◌+◌, ℤ, pos, Bool, true, false, List, [], Option, Some, None, Result, Ok, Err, if◌then◌else◌, unsigned_abs, unwrap_or}
+use Rattle.std.specs.Prelude.{◌≡◌, ℕ, ◌+◌, ℤ, pos, Bool, true, false, List, [], Option, Some, None, Result, Ok, Err, if◌then◌else◌, unsigned_abs, unwrap_or}
 use Rattle.pb_rows.specs.Records.{without_trailing_empty}
 use Rattle.pb_form.specs.Reading.{row_read}
 use Rattle.pb_form.specs.SessionRows.{kinds_of_version_1, kinds_of_version_2, session_schema, session_told}
@@ -140,3 +140,8 @@ asked_in (Some version) fields = asked_by (kinds_of version) fields
 -- version before its first row is stored. Empty fields at the record's end don't count.
 unfoldable pub request_in : Option Version → List (List ℕ) → Result Request FormFault
 request_in version fields = asked_in version (without_trailing_empty fields)
+
+-- a record asks for an advice, in a session of some version
+pub record AsksAdvice (fields : List (List ℕ)) : Type 0 where
+  pub version : Option Version
+  pub asks : request_in version fields ≡ Ok Advise
