@@ -1,5 +1,5 @@
 -- Inside. What a site keeps beside the declarations, so that no look-up walks them.
-use Rattle.std.specs.Prelude.{◌≡◌, ℕ, ◌<◌, ◌≤◌, nat_eq, ℤ, Bool, true, false, ◌||◌, List, [], ◌∷◌, ◌++◌, length, get_or, filter_map, position, Option, Some, None, IsSomeAnd, if◌then◌else◌, codes, vec_len, vec_capacity}
+use Rattle.std.specs.Prelude.{◌≡◌, ℕ, ◌<◌, ◌≤◌, ◌==◌, nat_eq, ℤ, Bool, true, false, ◌||◌, List, [], ◌∷◌, ◌++◌, length, get_or, filter_map, position, Option, Some, None, IsSomeAnd, if◌then◌else◌, codes, vec_len, vec_capacity}
 use Rattle.std.specs.Option.{option_map}
 use Rattle.std.specs.HashMap.{get, spare}
 use Rattle.std.specs.List.Sorted.{IsStrictlyIncreasing}
@@ -133,6 +133,12 @@ is_marked marks node = get_or marks node false
 pub record AreEnds (nodes : ℕ) (arcs : List Arc) (ends : List Bool) : Type 0 where
   pub each : length ends ≡ nodes
   pub marked : (node : ℕ) → node < nodes → is_marked ends node ≡ is_end_of arcs node
+
+-- the ends of an arc are marked beside those that were
+pub record MarksEnds (arc : Arc) (old new : List Bool) : Type 0 where
+  pub each : length new ≡ length old
+  pub marked : (node : ℕ) → node < length old
+      → is_marked new node ≡ (is_marked old node || ((arc.from == node) || (arc.to == node)))
 
 -- nodes in order, not too many for a graph
 pub record AreNodes (nodes : List ℕ) : Type 0 where

@@ -4,11 +4,11 @@ ghost use Rattle.std.specs.Prelude.{◌≡◌, ◌<◌, ◌≤◌, ◌-◌, ◌�
 ghost use Rattle.std.specs.List.{range_with_len};
 ghost use Rattle.pb_limits.specs.Limits.{most_nodes};
 ghost use Rattle.pb_site.specs.declared.declared.Arc.{Arc};
-ghost use Rattle.pb_site.specs.Kept.{AreEnds, is_marked};
+ghost use Rattle.pb_site.specs.Kept.{AreEnds, MarksEnds, is_marked};
 ghost use Rattle.pb_site.specs.OnDays.{has_place, is_arc_in_service, name_at_node, names_on, nodes_on, place_among};
 ghost use Rattle.pb_site.specs.Site.{arcs_of, node_names, version_of};
 
-use crate::declared::Version;
+use crate::declared::{Arc, Version};
 use crate::service::is_in_service_within;
 use crate::site::Site;
 use pb_rows::{NameList, Names};
@@ -117,11 +117,20 @@ fn ends_on(alloc: Global, site: &Site, first: i32, last: i32) -> Result<Vec<bool
     for place in 0..site.arcs() {
         let arc = site.arc(place);
         if is_in_service_within(arc.service, first, last) {
-            ends[arc.from as usize] = true;
-            ends[arc.to as usize] = true;
+            mark(ends.as_mut_slice(), &arc);
         }
     }
     Ok(ends)
+}
+
+// Marks the ends of an arc.
+fn mark(ends: &mut [bool], arc: &Arc)
+    requires begins { arc.now.from < length ends.old }
+    requires ends { arc.now.to < length ends.old }
+    ensures { MarksEnds arc.now ends.old ends.new }
+{
+    ends[arc.from as usize] = true;
+    ends[arc.to as usize] = true;
 }
 
 // The environment, and the other nodes that are kept, in order.

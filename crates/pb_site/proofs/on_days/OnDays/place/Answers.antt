@@ -1,0 +1,16 @@
+use Rattle.std.proofs.Common.{rules, ◌≡◌, ◌<◌, ◌≤◌, ◌-◌, ◌∷◌, filter, map, length, All, IfOk, true, ℕ, ◌+◌, ◌*◌, ◌/◌, ◌%◌, Bool, false, nat_eq, nat_lt, List, [], ◌++◌, slice_index_or, slice_set, bit_and, bit_or, Fits, w8, w32, w64, Bor, MutBor}
+use Rattle.std.specs.List.{range_with_len}
+use Rattle.pb_limits.specs.Limits.{most_nodes}
+use Rattle.pb_site.specs.declared.declared.Arc.{Arc}
+use Rattle.pb_site.specs.Kept.{AreEnds, MarksEnds, is_marked}
+use Rattle.pb_site.specs.OnDays.{has_place, is_arc_in_service, name_at_node, names_on, nodes_on, place_among}
+use Rattle.pb_site.specs.Site.{arcs_of, node_names, version_of}
+use Rattle.pb_site.proofs.on_days.OnDays.place.Goals as goal
+
+-- src/on_days.rt:59:5
+pub returns-clause-value : goal.returns-clause-value
+returns-clause-value c = ?
+
+-- src/on_days.rt:59:5
+pub returns-clause-within : goal.returns-clause-within
+returns-clause-within c = ?
