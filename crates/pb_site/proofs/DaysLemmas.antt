@@ -1,14 +1,13 @@
 -- Nodes in order, those of them that are kept, and their places.
-use Rattle.std.specs.Prelude.{◌||◌, filter, map}
-use Rattle.std.specs.List.{AllPairs, AllWithin, list_any, position_or_len, range_with_len}
-use Rattle.std.specs.List.Sorted.{IsNonDecreasingBy, IsPartitionPoint, IsStrictlyIncreasing}
-use Rattle.std.proofs.Common.{◌≡◌, ◌≢◌, ◌⊎◌, ◌∙◌, ℕ, zero, suc, ◌+◌, ◌-◌, ◌<◌, ◌≤◌, ◌==◌, Bool, true, false, List, [], ◌∷◌, ◌++◌, length, get_or, All, refl, sym, ap, subst, arith, inl, inr}
-use Rattle.std.proofs.lemmas.Bool.{cases_Bool, cases_eq, cases_lt, eq-eqb, eqb-true, ne_eqb}
+use Rattle.std.specs.Prelude.{filter}
+use Rattle.std.specs.List.{AllPairs, list_any, range_with_len}
+use Rattle.std.specs.List.Sorted.{IsNonDecreasingBy, IsStrictlyIncreasing}
+use Rattle.std.proofs.Common.{◌≡◌, ◌∙◌, ℕ, zero, suc, ◌+◌, ◌-◌, ◌<◌, ◌≤◌, ◌==◌, Bool, true, false, List, [], ◌∷◌, ◌++◌, length, get_or, All, refl, sym, ap, arith, inl, inr}
+use Rattle.std.proofs.lemmas.Bool.{cases_Bool, cases_eq, cases_lt, eq-eqb, ne_eqb}
 use Rattle.std.proofs.lemmas.List.{append-nil}
 use Rattle.std.proofs.lemmas.List.Elements.{All-cons, All-filter, filter-append}
-use Rattle.std.proofs.lemmas.List.Folds.{list_any_at}
 use Rattle.std.proofs.lemmas.List.FromFn.{get_or-range_with_len, length-range_with_len}
-use Rattle.std.proofs.lemmas.List.Kept.{AllPairs-cons, AllPairs-filter, AllPairs-from_increasing}
+use Rattle.std.proofs.lemmas.List.Kept.{AllPairs-cons, AllPairs-filter}
 use Rattle.std.proofs.lemmas.List.Sums.{count_by-le-length, length-filter}
 use Rattle.pb_site.specs.OnDays.{has_place, place_among}
 use Rattle.pb_site.proofs.LookUpLemmas.{any_place}
@@ -147,6 +146,15 @@ node_at_place (n ∷ nodes) node d there = elim (cases_eq n node) [
       let place = place_among nodes node in
       let next : 1 + place ≡ suc place = omega arith in
       rw (ne_eqb n node away) (ap (λ (k : ℕ). get_or (n ∷ nodes) k d) next ∙ node_at_place nodes node d (rw (ne_eqb n node away) at there))
+]
+
+pub not_falling : (nodes : List ℕ) → AllPairs (λ (a b : ℕ). a < b) nodes → IsNonDecreasingBy (λ (n : ℕ). n) nodes
+not_falling nodes rises i j d le within = elim (cases_lt i j) [
+  | inl before ↦ let less = rises i j d before within in omega (arith, less)
+  | inr past ↦
+      let same : i ≡ j = omega (arith, le, past) in
+      let equal = ap (λ (k : ℕ). get_or nodes k d) same in
+      omega (arith, equal)
 ]
 
 -- among nodes in order it is the number of those before it

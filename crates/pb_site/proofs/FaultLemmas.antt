@@ -3,7 +3,6 @@ use Rattle.std.specs.Prelude.{◌&&◌, not, nat_le, filter_map, map}
 use Rattle.std.specs.Cmp.Lexicographic.{bytes_decides}
 use Rattle.std.proofs.Common.{◌≡◌, ◌∙◌, ℕ, ◌+◌, ◌<◌, ◌≤◌, List, [], ◌∷◌, length, Bool, true, false, None, codes, refl, sym, ap, arith, inl, inr}
 use Rattle.std.proofs.lemmas.Bool.{cases_Bool, leb-false, or_parts}
-use Rattle.std.proofs.lemmas.List.{length-map}
 use Rattle.pb_limits.specs.Limits.{most_boundaries, most_nodes, most_points, most_streams, most_units_and_tanks}
 use Rattle.pb_rows.specs.Name.{same_name}
 use Rattle.pb_site.specs.declared.declared.Arc.{Arc}

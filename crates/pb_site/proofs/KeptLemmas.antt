@@ -19,7 +19,6 @@ use Rattle.pb_site.specs.declared.declared.Declared.TheVariants.{Version2, Unit 
 use Rattle.pb_site.specs.declared.index.Index.{Index}
 use Rattle.pb_site.specs.Row.{IsInRange, arc_in, arc_kind, boundary_name, declared_name, declares_tank, global_value, is_among, measure_value, nodal_value, node_at, node_name, point_of, says_version_2}
 use Rattle.pb_site.specs.Site.{AreDistinct, HasDistinctNames, IsArc, arcs_of, boundary_names, global_of, is_tank, measure_of, nodal_of, node_names, points_of, table_of, version_of}
-use Rattle.pb_site.specs.declared.declared.Service.{Service}
 use Rattle.pb_site.specs.Faults.{is_node, is_taken}
 use Rattle.pb_site.specs.Laws.{GrowthLaw, IsPlant, PlantLaw}
 use Rattle.pb_site.specs.Kept.{IsKept, Notes, SameIndex, arc_name, nodes_in, table_with, value_with, version_with}

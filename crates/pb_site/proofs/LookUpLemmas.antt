@@ -1,7 +1,7 @@
 -- Nodes, arcs and tables, as they are looked up.
 use Rattle.std.specs.Prelude.{◌||◌, find, filter_map, if◌then◌else◌, map, option_and_then, position}
 use Rattle.std.specs.List.{list_any, position_or_len}
-use Rattle.std.specs.Option.{IsSome, option_map}
+use Rattle.std.specs.Option.{IsSome}
 use Rattle.std.proofs.Common.{◌≡◌, ◌≢◌, ◌∙◌, ℕ, zero, suc, ◌<◌, List, [], ◌∷◌, ◌++◌, length, get_or, slice_get, Bool, true, false, true≢false, Option, Some, None, codes, refl, sym, ap, subst, arith, inl, inr, length-append}
 use Rattle.std.proofs.lemmas.Bool.{cases_Bool, lt-ltb, or_parts}
 use Rattle.std.proofs.lemmas.List.{get_or-map, length-map}

@@ -1,23 +1,25 @@
 -- The part of the plant that is in service on some days.
 use Rattle.std.specs.Prelude.{◌||◌, codes, filter, filter_map, map}
 use Rattle.std.specs.List.{AllByRecursion, AllPairs, list_any, range_with_len}
-use Rattle.std.proofs.Common.{◌≡◌, ◌≢◌, ◌∙◌, ℕ, zero, suc, ◌+◌, ◌-◌, ◌<◌, ◌≤◌, ◌==◌, ℤ, Bool, true, false, List, [], ◌∷◌, ◌++◌, length, get_or, All, refl, sym, ap, ap₂, subst, arith, length-append}
-use Rattle.std.proofs.lemmas.Bool.{cases_Bool, eq-eqb, ne_eqb}
-use Rattle.std.proofs.lemmas.List.{append-nil, get_or-map, get_or_append_left, length-map}
+use Rattle.std.proofs.Common.{◌≡◌, ◌∙◌, Option, Some, None, slice_get, take, replicate, ℕ, zero, suc, ◌+◌, ◌-◌, ◌<◌, ◌≤◌, ◌==◌, ℤ, Bool, true, false, List, [], ◌∷◌, ◌++◌, length, get_or, All, refl, sym, ap, ap₂, subst, arith, length-append}
+use Rattle.std.proofs.lemmas.Bool.{eq-eqb, ne_eqb}
+use Rattle.std.proofs.lemmas.List.{append-nil, get_or-map, get_or-replicate, get_or_append_left, length-map, length-replicate, map-append, take_more}
 use Rattle.std.proofs.lemmas.List.Elements.{All-filter, filter-append}
-use Rattle.std.proofs.lemmas.List.Folds.{list_any_at}
+use Rattle.std.proofs.lemmas.List.Folds.{list_any-append, list_any_at}
 use Rattle.std.proofs.lemmas.List.Kept.{AllPairs-filter}
+use Rattle.std.proofs.lemmas.Option.{slice_get-get_or}
 use Rattle.pb_rows.specs.Name.{same_name}
 use Rattle.pb_site.specs.declared.declared.Arc.{Arc}
 use Rattle.pb_site.specs.declared.declared.Declared.{Declared}
 use Rattle.pb_site.specs.declared.declared.Declared.TheVariants.{Tank, Stream}
-use Rattle.pb_site.specs.declared.declared.Version.{Version}
 use Rattle.pb_site.specs.declared.declared.Version.TheVariants.{One, Two}
 use Rattle.pb_site.specs.Row.{arc_in, node_name}
 use Rattle.pb_site.specs.Site.{AreDistinct, IsArc, arcs_of, boundary_names, node_names}
-use Rattle.pb_site.specs.OnDays.{arcs_on, declares_in_service, has_place, is_arc_in_service, is_end_of, name_at_node, names_on, nodes_on, place_among, places_of}
-use Rattle.pb_site.specs.Laws.{DaysLaw, IsPartOnDays, IsPlant, JoinsPlaces, SamePartLaw}
-use Rattle.pb_site.proofs.DaysLemmas.{all_kept, increasing, kept_few, kept_nodes, kept_rises, kept_there, kept_within, place_apart, ranges}
+use Rattle.pb_site.specs.OnDays.{arcs_on, declares_in_service, is_arc_in_service, is_end_of, name_at_node, nodes_on, places_of}
+use Rattle.pb_limits.specs.Limits.{most_nodes}
+use Rattle.pb_site.specs.Kept.{AreEnds, AreNodes, MarksEnds, MarksNodes, is_marked, marked_nodes}
+use Rattle.pb_site.specs.Laws.{DaysLaw, JoinsPlaces, SamePartLaw}
+use Rattle.pb_site.proofs.DaysLemmas.{all_kept, increasing, kept_few, kept_nodes, kept_rises, kept_there, kept_within, place_apart, ranges, same_kept}
 use Rattle.pb_site.proofs.KeptLemmas.{growth_law}
 
 -- ---- what is declared later and isn't in service leaves the part as it was
@@ -184,3 +186,105 @@ days_law Two declared first last plant =
       nodes = distinct_at (node_names declared) (kept_nodes is_end n) plant.distinct.nodes (kept_rises is_end n) (kept_within is_end n (omega arith));
       streams = distinct_some (arcs_of declared) (is_arc_in_service first last) plant.distinct.arcs;
     }
+
+-- ---- what the code makes of them
+
+-- the name of one more node
+pub names_next : (declared : List Declared) (nodes : List ℕ) (i : ℕ) (name : List ℕ) → i < length nodes → get_or nodes i 0 < length (node_names declared)
+    → slice_get (node_names declared) (get_or nodes i 0) ≡ Some name → map (name_at_node declared) (take (i + 1) nodes) ≡ map (name_at_node declared) (take i nodes) ++ name ∷ []
+names_next declared nodes i name within inside at =
+    let node = get_or nodes i 0 in
+    let here : name_at_node declared node ≡ name = some_same (sym (slice_get-get_or (node_names declared) node (codes "env") inside) ∙ at) in
+    ap (map (name_at_node declared)) (take_more nodes i 0 within) ∙ map-append (name_at_node declared) (take i nodes) (node ∷ [])
+    ∙ ap (λ (last : List ℕ). map (name_at_node declared) (take i nodes) ++ last ∷ []) here
+  where
+    value : Option (List ℕ) → List ℕ
+    value None = []
+    value (Some name) = name
+
+    some_same : {a b : List ℕ} → Some a ≡ Some b → a ≡ b
+    some_same same = ap value same
+
+take_next : (arcs : List Arc) (i : ℕ) (arc : Arc) → slice_get arcs i ≡ Some arc → take (i + 1) arcs ≡ take i arcs ++ arc ∷ []
+take_next [] i arc at = cc at
+take_next (first ∷ arcs) zero arc at = ap (λ (a : Arc). a ∷ []) (some_arc at)
+  where
+    value : Option Arc → Arc
+    value None = first
+    value (Some arc) = arc
+
+    some_arc : Some first ≡ Some arc → first ≡ arc
+    some_arc same = ap value same
+take_next (first ∷ arcs) (suc i) arc at =
+    let next : suc i + 1 ≡ suc (i + 1) = omega arith in
+    ap (λ (n : ℕ). take n (first ∷ arcs)) next ∙ ap (λ (rest : List Arc). first ∷ rest) (take_next arcs i arc at)
+
+-- the arcs in service among those up to one more
+pub served_next : (served : Arc → Bool) (arcs : List Arc) (i : ℕ) (arc : Arc) → slice_get arcs i ≡ Some arc → served arc ≡ true
+    → filter served (take (i + 1) arcs) ≡ filter served (take i arcs) ++ arc ∷ []
+served_next served arcs i arc at passes =
+    ap (filter served) (take_next arcs i arc at) ∙ filter-append served (take i arcs) (arc ∷ [])
+    ∙ ap (λ (last : List Arc). filter served (take i arcs) ++ last) (rw passes refl)
+
+pub served_same : (served : Arc → Bool) (arcs : List Arc) (i : ℕ) (arc : Arc) → slice_get arcs i ≡ Some arc → served arc ≡ false
+    → filter served (take (i + 1) arcs) ≡ filter served (take i arcs)
+served_same served arcs i arc at fails =
+    ap (filter served) (take_next arcs i arc at) ∙ filter-append served (take i arcs) (arc ∷ [])
+    ∙ ap (λ (last : List Arc). filter served (take i arcs) ++ last) (rw fails refl) ∙ append-nil (filter served (take i arcs))
+
+-- ends stay marked
+pub ends_next : (nodes : ℕ) (arcs : List Arc) (arc : Arc) (old new : List Bool) → AreEnds nodes arcs old → MarksEnds arc old new → AreEnds nodes (arcs ++ arc ∷ []) new
+ends_next nodes arcs arc old new are marks = record {
+  each = marks.each ∙ are.each;
+  few = omega (arith, marks.each, are.few);
+  marked = λ node within.
+      let before = are.marked node within in
+      let after = marks.marked node (omega (arith, within, are.each)) in
+      let test = λ (arc : Arc). (arc.from == node) || (arc.to == node) in
+      after ∙ ap (λ (b : Bool). b || ((arc.from == node) || (arc.to == node))) before
+      ∙ sym (list_any-append test arcs (arc ∷ []) ∙ ap (λ (b : Bool). list_any test arcs || b) (or_false (test arc)));
+}
+  where
+    or_false : (b : Bool) → (b || false) ≡ b
+    or_false true = refl
+    or_false false = refl
+
+-- at first nothing is marked
+pub no_ends : (nodes : ℕ) (ends : List Bool) → nodes ≤ most_nodes → ends ≡ replicate nodes false → AreEnds nodes [] ends
+no_ends nodes ends few is = record {
+  each = ap (λ (marks : List Bool). length marks) is ∙ length-replicate nodes false;
+  few = let long = ap (λ (marks : List Bool). length marks) is ∙ length-replicate nodes false in omega (arith, long, few);
+  marked = λ node within. ap (λ (marks : List Bool). get_or marks node false) is ∙ get_or-replicate nodes node false false within;
+}
+
+-- the nodes that are marked in version 1
+pub all_nodes : (declared : List Declared) (first last : ℤ) (marks : List Bool) → length (node_names declared) ≤ most_nodes → marks ≡ replicate (length (node_names declared)) true
+    → MarksNodes (length (node_names declared)) (nodes_on One declared first last) marks
+all_nodes declared first last marks few is =
+    let n = length (node_names declared) in
+    let long : length marks ≡ n = ap (λ (ms : List Bool). length ms) is ∙ length-replicate n true in
+    record {
+      each = long;
+      few = omega (arith, long, few);
+      marked = ap (kept_nodes (is_marked marks)) long
+          ∙ ap (λ (ns : List ℕ). 0 ∷ ns)
+          (all_kept (is_marked marks) 1 (n - 1) (λ k low high. ap (λ (ms : List Bool). get_or ms k false) is ∙ get_or-replicate n k true false (omega (arith, high))));
+    }
+
+-- and in version 2
+pub end_nodes : (declared : List Declared) (first last : ℤ) (marks : List Bool) → AreEnds (length (node_names declared)) (arcs_on Two declared first last) marks
+    → MarksNodes (length (node_names declared)) (nodes_on Two declared first last) marks
+end_nodes declared first last marks are =
+    let n = length (node_names declared) in
+    record {
+      each = are.each;
+      few = are.few;
+      marked = ap (kept_nodes (is_marked marks)) are.each
+          ∙ ap (λ (ns : List ℕ). 0 ∷ ns) (same_kept (is_marked marks) (is_end_of (arcs_on Two declared first last)) 1 (n - 1) (λ k low high. are.marked k (omega (arith, high))));
+    }
+
+-- the nodes that are marked are in order
+pub marked_in_order : (marks : List Bool) → 0 < length marks → length marks ≤ most_nodes → AreNodes (marked_nodes marks)
+marked_in_order marks some few =
+    let many = kept_few (is_marked marks) (length marks) some in
+    record { order = increasing (marked_nodes marks) (kept_rises (is_marked marks) (length marks)); few = omega (arith, many, few) }

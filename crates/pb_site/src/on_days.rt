@@ -1,10 +1,9 @@
 // The part of the plant that is in service on some days.
 
-ghost use Rattle.std.specs.Prelude.{◌≡◌, ◌<◌, ◌≤◌, ◌-◌, ◌∷◌, filter, map, length, All, IfOk, true};
-ghost use Rattle.std.specs.List.{range_with_len};
+ghost use Rattle.std.specs.Prelude.{◌≡◌, ◌<◌, ◌≤◌, filter, map, length, All, IfOk, true};
 ghost use Rattle.pb_limits.specs.Limits.{most_nodes};
 ghost use Rattle.pb_site.specs.declared.declared.Arc.{Arc};
-ghost use Rattle.pb_site.specs.Kept.{AreEnds, MarksEnds, is_marked};
+ghost use Rattle.pb_site.specs.Kept.{AreEnds, MarksEnds, MarksNodes, marked_nodes};
 ghost use Rattle.pb_site.specs.OnDays.{has_place, is_arc_in_service, name_at_node, names_on, nodes_on, place_among};
 ghost use Rattle.pb_site.specs.Site.{arcs_of, node_names, version_of};
 
@@ -38,12 +37,9 @@ impl OnDays {
     pub fn of(alloc: Global, site: &Site, first: i32, last: i32) -> Result<OnDays, AllocError>
         ensures { IfOk result (λ part. part ≡ nodes_on (version_of site.now) site.now first last) }
     {
-        let kept = match site.version() {
-            Version::One => vec![in alloc; true; site.nodes() as usize]?,
-            Version::Two => ends_on(alloc, site, first, last)?,
-        };
+        let marks = marks_on(alloc, site, first, last)?;
         Ok(OnDays {
-            nodes: marked(alloc, kept.as_slice())?,
+            nodes: marked(alloc, marks.as_slice())?,
         })
     }
 
@@ -108,6 +104,17 @@ fn arc_names_on(alloc: Global, site: &Site, first: i32, last: i32) -> Result<Nam
     Ok(names)
 }
 
+// Of each node of the plant, whether it is one of those of these days.
+fn marks_on(alloc: Global, site: &Site, first: i32, last: i32) -> Result<Vec<bool>, AllocError>
+    ensures { IfOk result (λ marks. MarksNodes (length (node_names site.now))
+        (nodes_on (version_of site.now) site.now first last) marks.items) }
+{
+    match site.version() {
+        Version::One => vec![in alloc; true; site.nodes() as usize],
+        Version::Two => ends_on(alloc, site, first, last),
+    }
+}
+
 // Of each node of the plant, whether it is an end of an arc that is in service on these days.
 fn ends_on(alloc: Global, site: &Site, first: i32, last: i32) -> Result<Vec<bool>, AllocError>
     ensures { IfOk result (λ ends. AreEnds (length (node_names site.now))
@@ -133,16 +140,16 @@ fn mark(ends: &mut [bool], arc: &Arc)
     ends[arc.to as usize] = true;
 }
 
-// The environment, and the other nodes that are kept, in order.
-fn marked(alloc: Global, kept: &[bool]) -> Result<Vec<u32>, AllocError>
-    requires { length kept.now ≤ most_nodes }
-    ensures { IfOk result (λ nodes. nodes.items
-        ≡ 0 ∷ filter (is_marked kept.now) (range_with_len 1 (length kept.now - 1))) }
+// The environment, and the other nodes that are marked, in order.
+fn marked(alloc: Global, marks: &[bool]) -> Result<Vec<u32>, AllocError>
+    requires some { 0 < length marks.now }
+    requires few { length marks.now ≤ most_nodes }
+    ensures { IfOk result (λ nodes. nodes.items ≡ marked_nodes marks.now) }
 {
     let mut nodes = Vec::new(alloc);
     nodes.push(0)?;
-    for node in 1..kept.len() {
-        if kept[node] {
+    for node in 1..marks.len() {
+        if marks[node] {
             nodes.push(node as u32)?;
         }
     }

@@ -1,20 +1,27 @@
-use Rattle.std.proofs.Common.{rules, ◌≡◌, ◌<◌, ◌≤◌, ◌-◌, ◌∷◌, filter, map, length, All, IfOk, true, ℕ, ◌+◌, ◌*◌, ◌/◌, ◌%◌, Bool, false, nat_eq, nat_lt, List, [], ◌++◌, slice_index_or, slice_set, bit_and, bit_or, Fits, w8, w32, w64, Bor, MutBor}
+use Rattle.std.proofs.Common.{◌≡◌, ◌∙◌, ◌++◌, ◌∷◌, [], ◌-◌, ℕ, List, Vec, Global, filter, ap, sym, length, arith}
 use Rattle.std.specs.List.{range_with_len}
-use Rattle.pb_limits.specs.Limits.{most_nodes}
-use Rattle.pb_site.specs.declared.declared.Arc.{Arc}
-use Rattle.pb_site.specs.Kept.{AreEnds, MarksEnds, is_marked}
-use Rattle.pb_site.specs.OnDays.{has_place, is_arc_in_service, name_at_node, names_on, nodes_on, place_among}
-use Rattle.pb_site.specs.Site.{arcs_of, node_names, version_of}
+use Rattle.pb_site.specs.Kept.{is_marked}
+use Rattle.pb_site.proofs.DaysLemmas.{kept_more, kept_same}
+use Rattle.pb_site.proofs.on_days.marked.Goals.{then-marks-node+in_ok-push-2, else-marks-node}
 use Rattle.pb_site.proofs.on_days.marked.Goals as goal
 
--- src/on_days.rt:144:5
-pub loop-node-init : goal.loop-node-init
-loop-node-init c = ?
-
--- src/on_days.rt:144:5
 pub loop-node-preserved : goal.loop-node-preserved
-loop-node-preserved c = ?
+loop-node-preserved c =
+    let marked = is_marked c.args.marks.now in
+    let node = c.loop-node.node in
+    let items = λ (nodes : Vec ℕ Global). nodes.items in
+    elim c.if-marks-node.branch [
+      | then-marks-node+in_ok-push-2 w ↦
+          ap items w.nodes-is ∙ w.in_ok-push-2.ensures.items ∙ ap (λ (ns : List ℕ). ns ++ node ∷ []) c.loop-node.invariant
+          ∙ sym (ap (λ (ns : List ℕ). 0 ∷ ns) (kept_more marked node c.loop-node.auto.node w.if-marks-node.true))
+      | else-marks-node w ↦
+          ap items w.nodes-is ∙ c.loop-node.invariant
+          ∙ sym (ap (λ (ns : List ℕ). 0 ∷ ns) (kept_same marked node c.loop-node.auto.node w.if-marks-node.false))
+    ]
 
--- src/on_days.rt:137:1
 pub returns : goal.returns
-returns c = ?
+returns c =
+    let marked = is_marked c.args.marks.now in
+    let node = c.loop-node.node in
+    let last : node - 1 ≡ length c.args.marks.now - 1 = omega (arith, c.requires.some, c.loop-node-test.false, c.loop-node.auto.node-end) in
+    c.loop-node.invariant ∙ ap (λ (n : ℕ). 0 ∷ filter marked (range_with_len 1 n)) last

@@ -1,11 +1,7 @@
-use Rattle.std.proofs.Common.{◌≡◌, ◌<◌, ◌≤◌, ◌-◌, ◌∷◌, filter, map, length, All, IfOk, true, ℕ, ◌+◌, ◌*◌}
+use Rattle.std.proofs.Common.{◌≡◌, ◌-◌, ◌∷◌, filter}
 use Rattle.std.specs.List.{range_with_len}
-use Rattle.pb_limits.specs.Limits.{most_nodes}
-use Rattle.pb_site.specs.declared.declared.Arc.{Arc}
-use Rattle.pb_site.specs.Kept.{AreEnds, MarksEnds, is_marked}
-use Rattle.pb_site.specs.OnDays.{has_place, is_arc_in_service, name_at_node, names_on, nodes_on, place_among}
-use Rattle.pb_site.specs.Site.{arcs_of, node_names, version_of}
+use Rattle.pb_site.specs.Kept.{is_marked}
 use Rattle.pb_site.proofs.on_days.marked.Given as goal
 
 abbrev pub invariant-loop-node : goal.invariant-loop-node
-invariant-loop-node l = ?
+invariant-loop-node l = l.nodes.items ≡ 0 ∷ filter (is_marked l.marks) (range_with_len 1 (l.node - 1))

@@ -1,20 +1,15 @@
-use Rattle.std.proofs.Common.{rules, ◌≡◌, ◌<◌, ◌≤◌, ◌-◌, ◌∷◌, filter, map, length, All, IfOk, true, ℕ, ◌+◌, ◌*◌, ◌/◌, ◌%◌, Bool, false, nat_eq, nat_lt, List, [], ◌++◌, slice_index_or, slice_set, bit_and, bit_or, Fits, w8, w32, w64, Bor, MutBor}
-use Rattle.std.specs.List.{range_with_len}
-use Rattle.pb_limits.specs.Limits.{most_nodes}
-use Rattle.pb_site.specs.declared.declared.Arc.{Arc}
-use Rattle.pb_site.specs.Kept.{AreEnds, MarksEnds, is_marked}
-use Rattle.pb_site.specs.OnDays.{has_place, is_arc_in_service, name_at_node, names_on, nodes_on, place_among}
-use Rattle.pb_site.specs.Site.{arcs_of, node_names, version_of}
+use Rattle.std.proofs.Common.{◌∙◌, ◌++◌, ◌∷◌, [], ℕ, List, map, ap, sym}
+use Rattle.std.proofs.lemmas.List.{take_all}
+use Rattle.pb_site.specs.OnDays.{name_at_node}
+use Rattle.pb_site.proofs.PartLemmas.{names_next}
 use Rattle.pb_site.proofs.on_days.node_names.Goals as goal
 
--- src/on_days.rt:90:5
-pub loop-node-init : goal.loop-node-init
-loop-node-init c = ?
-
--- src/on_days.rt:90:5
 pub loop-node-preserved : goal.loop-node-preserved
-loop-node-preserved c = ?
+loop-node-preserved c =
+    let i = c.loop-node.node-index in
+    let inside = c.requires i 0 c.loop-node-test.true in
+    c.in_ok-push.ensures.appended ∙ ap (λ (names : List (List ℕ)). names ++ c.node_name.result ∷ []) c.loop-node.invariant
+    ∙ sym (names_next c.args.site.now c.args.nodes.now i c.node_name.result c.loop-node-test.true inside c.node_name.ensures)
 
--- src/on_days.rt:85:1
 pub returns : goal.returns
-returns c = ?
+returns c = c.loop-node.invariant ∙ ap (map (name_at_node c.args.site.now)) (take_all c.loop-node.node-index c.args.nodes.now c.loop-node-test.false)

@@ -1,20 +1,23 @@
-use Rattle.std.proofs.Common.{rules, ◌≡◌, ◌<◌, ◌≤◌, ◌-◌, ◌∷◌, filter, map, length, All, IfOk, true, ℕ, ◌+◌, ◌*◌, ◌/◌, ◌%◌, Bool, false, nat_eq, nat_lt, List, [], ◌++◌, slice_index_or, slice_set, bit_and, bit_or, Fits, w8, w32, w64, Bor, MutBor, ℤ, pos, ◌+ℤ◌, ◌-ℤ◌, ◌*ℤ◌, ◌≤ℤ◌, ◌<ℤ◌, FitsSigned, to_z, of_z}
-use Rattle.std.specs.List.{range_with_len}
+use Rattle.std.proofs.Common.{◌≡◌, ◌∙◌, ◌≤◌, ℤ, List, Bool, length, ap, ap₂, arith}
+use mir.Syntax.{w32}
+use Rattle.std.proofs.lemmas.Int.{to_z-of_z}
 use Rattle.pb_limits.specs.Limits.{most_nodes}
-use Rattle.pb_site.specs.declared.declared.Arc.{Arc}
-use Rattle.pb_site.specs.Kept.{AreEnds, MarksEnds, is_marked}
-use Rattle.pb_site.specs.OnDays.{has_place, is_arc_in_service, name_at_node, names_on, nodes_on, place_among}
-use Rattle.pb_site.specs.Site.{arcs_of, node_names, version_of}
+use Rattle.pb_site.specs.Kept.{marked_nodes}
+use Rattle.pb_site.specs.OnDays.{nodes_on}
+use Rattle.pb_site.specs.Site.{node_names, version_of}
+use Rattle.pb_site.proofs.PartLemmas.{marked_in_order}
 use Rattle.pb_site.proofs.on_days.OnDays.of.Goals as goal
 
--- src/on_days.rt:46:20
-pub marked-requires : goal.marked-requires
-marked-requires c = ?
-
--- src/on_days.rt:45:9
 pub invariant_of-result : goal.invariant_of-result
-invariant_of-result c = ?
+invariant_of-result c =
+    let marks = c.as_slice.result.now in
+    let long : length marks ≡ length (node_names c.args.site.now) = ap (λ (ms : List Bool). length ms) c.as_slice.ensures.value ∙ c.in_ok-marks.ensures.each in
+    let same = ap (λ (ms : List Bool). length ms) c.as_slice.ensures.value in
+    let few : length marks ≤ most_nodes = omega (arith, same, c.in_ok-marks.ensures.few) in
+    rw c.in_ok-marked.ensures (marked_in_order marks (omega (arith, long)) few)
 
--- src/on_days.rt:38:5
 pub returns : goal.returns
-returns c = ?
+returns c =
+    let site = c.args.site.now in
+    c.in_ok-marked.ensures ∙ ap marked_nodes c.as_slice.ensures.value ∙ c.in_ok-marks.ensures.marked
+    ∙ ap₂ (λ (a b : ℤ). nodes_on (version_of site) site a b) (to_z-of_z w32 c.args.first c.ranges.first) (to_z-of_z w32 c.args.last c.ranges.last)

@@ -1,16 +1,27 @@
-use Rattle.std.proofs.Common.{rules, ◌≡◌, ◌<◌, ◌≤◌, ◌-◌, ◌∷◌, filter, map, length, All, IfOk, true, ℕ, ◌+◌, ◌*◌, ◌/◌, ◌%◌, Bool, false, nat_eq, nat_lt, List, [], ◌++◌, slice_index_or, slice_set, bit_and, bit_or, Fits, w8, w32, w64, Bor, MutBor}
-use Rattle.std.specs.List.{range_with_len}
-use Rattle.pb_limits.specs.Limits.{most_nodes}
-use Rattle.pb_site.specs.declared.declared.Arc.{Arc}
-use Rattle.pb_site.specs.Kept.{AreEnds, MarksEnds, is_marked}
-use Rattle.pb_site.specs.OnDays.{has_place, is_arc_in_service, name_at_node, names_on, nodes_on, place_among}
-use Rattle.pb_site.specs.Site.{arcs_of, node_names, version_of}
+use Rattle.std.specs.List.{AllPairs}
+use Rattle.std.proofs.Common.{◌≡◌, ◌<◌, ℕ, List, length, ltb, true, rules, sym, subst, arith}
+use Rattle.std.proofs.lemmas.Bool.{ltb-false, ltb-true}
+use Rattle.std.proofs.lemmas.List.Kept.{AllPairs-from_increasing}
+use Rattle.std.proofs.lemmas.List.Sorted.{IsPartitionPoint-from_clause, IsPartitionedBy-ltb}
+use Rattle.pb_site.specs.OnDays.{has_place, place_among}
+use Rattle.pb_site.proofs.DaysLemmas.{not_falling, place_found}
 use Rattle.pb_site.proofs.on_days.OnDays.place.Goals as goal
 
--- src/on_days.rt:59:5
-pub returns-clause-value : goal.returns-clause-value
-returns-clause-value c = ?
+found : (c : goal.After-partition_point) → (c.partition_point.result ≡ place_among c.args.self.now c.args.node) × (c.partition_point.result < length c.args.self.now)
+found c =
+    let nodes = c.deref.result.now in
+    let node = c.args.node in
+    let i = c.partition_point.result in
+    let same = sym c.deref.ensures.value in
+    let rises : AllPairs (λ (a b : ℕ). a < b) nodes = subst (AllPairs (λ (a b : ℕ). a < b)) same (AllPairs-from_increasing c.self.inside.nodes.items c.self.invariant.order) in
+    let there : has_place nodes node ≡ true = subst (λ (ns : List ℕ). has_place ns node ≡ true) same (rw (← c.self.view_is) at c.requires) in
+    let parted = IsPartitionedBy-ltb (λ n. n) nodes node (not_falling nodes rises) in
+    let point = IsPartitionPoint-from_clause (λ n. ltb n node) nodes i c.partition_point.ensures.partitioned parted (λ a r q k. search rules) in
+    let at = place_found nodes node i rises c.partition_point.ensures.bound (λ k lt. ltb-true _ _ (point.0 k 0 (omega arith) lt)) (λ k le lt. ltb-false _ _ (point.1 k 0 le lt)) there in
+    rw (← c.self.view_is) (subst (λ (ns : List ℕ). (i ≡ place_among ns node) × (i < length ns)) c.deref.ensures.value at)
 
--- src/on_days.rt:59:5
+pub returns-clause-value : goal.returns-clause-value
+returns-clause-value c = (found c).0
+
 pub returns-clause-within : goal.returns-clause-within
-returns-clause-within c = ?
+returns-clause-within c = (found c).1
