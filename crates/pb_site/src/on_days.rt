@@ -4,6 +4,7 @@ ghost use Rattle.std.specs.Prelude.{◌≡◌, ◌<◌, ◌≤◌, filter, map, 
 ghost use Rattle.pb_limits.specs.Limits.{most_nodes};
 ghost use Rattle.pb_site.specs.declared.declared.Arc.{Arc};
 ghost use Rattle.pb_site.specs.Kept.{AreEnds, MarksEnds, MarksNodes, marked_nodes};
+ghost use Rattle.pb_site.specs.Laws.{IsPartOnDays};
 ghost use Rattle.pb_site.specs.OnDays.{has_place, is_arc_in_service, name_at_node, names_on, nodes_on, place_among};
 ghost use Rattle.pb_site.specs.Site.{arcs_of, node_names, version_of};
 
@@ -35,7 +36,8 @@ impl Model for OnDays {
 impl OnDays {
     /// The part of a plant that is in service on the days from a first to a last one.
     pub fn of(alloc: Global, site: &Site, first: i32, last: i32) -> Result<OnDays, AllocError>
-        ensures { IfOk result (λ part. part ≡ nodes_on (version_of site.now) site.now first last) }
+        ensures value { IfOk result (λ nodes. nodes ≡ nodes_on (version_of site.now) site.now first last) }
+        ensures part { IsPartOnDays (version_of site.now) site.now first last }
     {
         let marks = marks_on(alloc, site, first, last)?;
         Ok(OnDays {
@@ -63,7 +65,8 @@ impl OnDays {
 
 /// The names of the nodes and arcs of the part of a plant that is in service on the days from a first to a last one, in order.
 pub fn names_on(alloc: Global, site: &Site, first: i32, last: i32) -> Result<Names, AllocError>
-    ensures { IfOk result (λ names. names ≡ names_on (version_of site.now) site.now first last) }
+    ensures value { IfOk result (λ names. names ≡ names_on (version_of site.now) site.now first last) }
+    ensures part { IsPartOnDays (version_of site.now) site.now first last }
 {
     match site.version() {
         Version::One => site.names(),
@@ -106,8 +109,9 @@ fn arc_names_on(alloc: Global, site: &Site, first: i32, last: i32) -> Result<Nam
 
 // Of each node of the plant, whether it is one of those of these days.
 fn marks_on(alloc: Global, site: &Site, first: i32, last: i32) -> Result<Vec<bool>, AllocError>
-    ensures { IfOk result (λ marks. MarksNodes (length (node_names site.now))
+    ensures marks { IfOk result (λ marks. MarksNodes (length (node_names site.now))
         (nodes_on (version_of site.now) site.now first last) marks.items) }
+    ensures part { IsPartOnDays (version_of site.now) site.now first last }
 {
     match site.version() {
         Version::One => vec![in alloc; true; site.nodes() as usize],
