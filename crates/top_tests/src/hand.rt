@@ -49,7 +49,7 @@ fn judged(
 }
 
 const PLANT: &str = "unit,U\nstream,P,U,env,plain,0\nstream,R,U,env,plain,0\ndesign\n";
-const CLASSES: &str = "design,2,2\nclass,P,U,env,no,unobservable,cycle,,+P -R\nclass,R,U,env,no,unobservable,cycle,,+R -P\n";
+const CLASSES: &str = "design,2,2\nclass,P,U,env,no,unobservable,cycle,,+R -P\nclass,R,U,env,no,unobservable,cycle,,+R -P\n";
 
 #[test]
 fn answers_bytes_in_hand(rt: HostRuntime) -> Result<(), AllocError> {
