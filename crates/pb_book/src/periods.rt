@@ -4,7 +4,7 @@ ghost use Rattle.std.specs.Prelude.{◌≡◌, ◌<◌, ◌≤◌, ◌∷◌, �
 ghost use Rattle.std.specs.List.{list_any};
 ghost use Rattle.indexmap.specs.IndexSet as set;
 ghost use Rattle.pb_limits.specs.Limits.{most_periods};
-ghost use Rattle.pb_site.specs.Faults.{is_among};
+ghost use Rattle.pb_site.specs.Row.{is_among};
 ghost use Rattle.pb_book.specs.Apart.{AreApart, is_named, shares_a_day};
 ghost use Rattle.pb_book.specs.Kept.{FindsLast, HasBegin, SameBegins};
 ghost use Rattle.pb_book.specs.Ranges.{IsPeriod};
