@@ -16,7 +16,8 @@ use Rattle.pb_site.specs.Site.{node_names}
 use Rattle.pb_site.specs.Faults.{is_among, is_one_node}
 use Rattle.pb_make.specs.declared.plant.MadeStream.{MadeStream}
 use Rattle.pb_make.specs.Rows.{node_name, stream_name}
-use Rattle.pb_make.proofs.NameLemmas.{nodes_apart, same_self, stream_no_node, streams_apart}
+use Rattle.pb_rows.proofs.TextLaws.{same_self}
+use Rattle.pb_make.proofs.NameLemmas.{nodes_apart, stream_no_node, streams_apart}
 use Rattle.pb_make.proofs.RequestLemmas.{base_at, kind_at}
 
 -- ---- the declarations
@@ -164,7 +165,7 @@ stream_not_there n i names are =
 node_place : (n a : ℕ) (names : List (List ℕ)) → a ≤ n → n < 2 ^ 31 → names ≡ map node_name (range_with_len 0 (suc n)) → position (same_name (node_name a)) names ≡ Some a
 node_place n a names within small are =
     ap (λ (l : List (List ℕ)). position (same_name (node_name a)) l) are
-    ∙ position_at node_name (same_name (node_name a)) (suc n) a [] (omega arith) (λ j lt. nodes_apart a j (omega (arith, small)) (omega (arith, small)) (λ e. absurd (omega (arith, e)))) (same_self (node_name a))
+    ∙ position_at node_name (same_name (node_name a)) (suc n) a [] (omega arith) (λ j lt. nodes_apart a j (λ e. absurd (omega (arith, e)))) (same_self (node_name a))
 
 -- two nodes are two
 pub two_nodes : (n a b : ℕ) (names : List (List ℕ)) → a ≤ n → b ≤ n → n < 2 ^ 31 → a ≢ b → names ≡ map node_name (range_with_len 0 (suc n))
@@ -196,6 +197,6 @@ kind_found nodes i (s ∷ streams) j low high small = elim (cases_Bool (i == j))
       rw test (ap (λ (k : ℕ). Some (arc_kind (kind_at k))) is)
   | inr differs ↦
       let other = eqb-false i j differs in
-      let test : same_name (stream_name j) (stream_name i) ≡ false = streams_apart j i (omega (arith, small)) (omega (arith, small)) (λ e. other (sym e)) in
+      let test : same_name (stream_name j) (stream_name i) ≡ false = streams_apart j i (λ e. other (sym e)) in
       rw test (kind_found nodes (i + 1) streams j (omega (arith, low, other)) (omega arith) (omega (arith, small)))
 ]
