@@ -12,7 +12,7 @@ use Rattle.pb_graph.specs.declared.results.Stage.{Stage}
 use Rattle.pb_graph.specs.declared.results.Stop.{Stop}
 use Rattle.pb_graph.specs.declared.results.Taken.{Taken}
 use Rattle.pb_graph.specs.declared.results.Tests.{Tests}
-use Rattle.pb_report.specs.Block.{block_rows, end_row, node_row, node_rows, result_row, result_rows, solved_row}
+use Rattle.pb_report.specs.Block.{block_rows, end_row, node_row, result_row, solved_row}
 use Rattle.pb_report.specs.Design.{class_row}
 use Rattle.pb_report.specs.History.{edit_row}
 use Rattle.pb_report.specs.Row.{OutputRow, fields_of}
@@ -47,9 +47,9 @@ test_words names (Some tests) =
 block_words : (names : Names) (period : List ℕ) (options : Options) (round : ℕ) (stage : Stage) → BeginWithWords (block_rows names period options round stage)
 block_words names period options round stage =
     let tail = words_both (tests_rows names stage.tests) (end_row period round ∷ []) (test_words names stage.tests) refl in
-    words_both (node_rows names.nodes stage.prices) (result_rows names stage.graph.streams stage.streams ++ (solved_row stage ∷ (tests_rows names stage.tests ++ end_row period round ∷ [])))
+    words_both (rows_with (λ n name price. node_row name price) 0 names.nodes stage.prices) (rows_with (result_row names) 0 stage.graph.streams stage.streams ++ (solved_row stage ∷ (tests_rows names stage.tests ++ end_row period round ∷ [])))
     (words_with (λ n name price. node_row name price) (λ n name price. refl) 0 names.nodes stage.prices)
-    (words_both (result_rows names stage.graph.streams stage.streams) (solved_row stage ∷ (tests_rows names stage.tests ++ end_row period round ∷ []))
+    (words_both (rows_with (result_row names) 0 stage.graph.streams stage.streams) (solved_row stage ∷ (tests_rows names stage.tests ++ end_row period round ∷ []))
     (words_with (result_row names) (λ i stream result. refl) 0 stage.graph.streams stage.streams) tail)
 
 round_words : (names : Names) (period : List ℕ) (options : Options) (round : ℕ) (taken : List Taken) (stages : List Stage) → BeginWithWords (round_rows names period options round taken stages)
