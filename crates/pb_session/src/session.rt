@@ -259,8 +259,8 @@ impl Session {
     {
         let names = self.book.site().names()?;
         let costs = self.book.costs(self.alloc, row)?;
-        let graph = design(self.alloc, &self.book)?;
-        self.write_meters(&names, &graph, &costs, out)
+        let plant = design(self.alloc, &self.book)?;
+        self.write_meters(&names, &plant, &costs, out)
     }
 
     // Appends the rows of the cheapest metering of a graph, of which a meter on each stream costs this and whose nodes and streams have

@@ -25,7 +25,7 @@ write_meters-requires-clause-names c =
     let rows = c.self.inside.book in
     let names_is : c.in_ok-names.names ≡ names_of (declared_of rows) = c.in_ok-names.ensures.ok ∙ ap names_of c.site.ensures.value in
     let distinct : HasDistinctNames (declared_of rows) = subst HasDistinctNames c.site.ensures.value c.in_ok-names.ensures.distinct in
-    rw (names_is, c.in_ok-graph.ensures) (names_are base_of rows distinct)
+    rw (names_is, c.in_ok-plant.ensures) (names_are base_of rows distinct)
 
 pub write_meters-requires-clause-costs : goal.write_meters-requires-clause-costs
 write_meters-requires-clause-costs c = ?
