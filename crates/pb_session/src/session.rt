@@ -192,12 +192,7 @@ impl Session {
     }
 
     // Appends what an accepted record adds, and keeps what a report leaves.
-    fn write(
-        &mut self,
-        accepted: Accepted,
-        row: &Row,
-        out: &mut Vec<u8>,
-    ) -> Result<(), AllocError>
+    fn write(&mut self, accepted: Accepted, row: &Row, out: &mut Vec<u8>) -> Result<(), AllocError>
         requires periods { IsOfPeriods self.old.state.rows accepted }
         requires advised { accepted ≡ Advise
             → answer_of self.old.state.rows row.now ≡ Says Advise }
