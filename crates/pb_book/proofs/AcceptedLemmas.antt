@@ -1,7 +1,7 @@
 -- Rows that were accepted, and one more.
 use Rattle.std.specs.Prelude.{filter_map, All, take, is_none, not, option_and_then, is_some}
 use Rattle.std.specs.List.{list_any}
-use Rattle.std.proofs.Common.{◌≡◌, ◌∙◌, ℕ, ◌<◌, List, [], ◌∷◌, ◌++◌, length, slice_get, Option, Some, None, Result, Ok, Err, refl, sym, ap, subst, arith, inl, inr, length-append, append_assoc}
+use Rattle.std.proofs.Common.{◌≡◌, ◌∙◌, ℕ, ◌<◌, true, List, [], ◌∷◌, ◌++◌, length, slice_get, Option, Some, None, Result, Ok, Err, refl, sym, ap, subst, arith, inl, inr, length-append, append_assoc}
 use Rattle.std.proofs.lemmas.Bool.{cases_lt}
 use Rattle.std.proofs.lemmas.List.{append-nil, take-append-le}
 use Rattle.std.proofs.lemmas.Option.{get_or_from_slice_get, slice_get-get_or, slice_get_within}
@@ -20,8 +20,9 @@ use Rattle.pb_book.specs.Costs.{refusal_of_costs}
 use Rattle.pb_kinds.specs.Ranges.{IsEffectInRange}
 use Rattle.pb_book.specs.Refusals.{refusal_of}
 use Rattle.pb_kinds.specs.Requests.{request_in}
+use Rattle.pb_kinds.specs.Versions.{may_do}
 use Rattle.pb_book.specs.declared.rows.StoredRow.{StoredRow}
-use Rattle.pb_book.specs.Rows.{declared_of, period_place}
+use Rattle.pb_book.specs.Rows.{declared_of, period_place, version_at}
 
 the_same : {X : Type 0} (a b : X) → Some a ≡ Some b → a ≡ b
 the_same a b is = ap (λ o. Rattle.std.specs.Prelude.unwrap_or o a) is
@@ -47,12 +48,14 @@ accepted_more rows stored right fine i row is = elim (cases_lt i (length rows)) 
 
 -- the rows after a record
 pub accepted_after : StoredLaw → (rows : List StoredRow) (at : ℕ) (fields : List (List ℕ)) → AreAccepted rows → AreAccepted (after rows at fields)
-accepted_after law rows at fields right = by (request_in fields) (λ effect is. law.in_range fields effect is)
+accepted_after law rows at fields right = 
+    by (request_in (version_at rows) fields) (λ effect is. (law.in_range (version_at rows) fields effect is, law.of_version (version_at rows) fields effect is))
   where
-    stored_then : (effect : Effect) → IsEffectInRange effect → (cause : Option Refusal) → refusal_of rows effect ≡ cause
+    stored_then : (effect : Effect) → IsEffectInRange effect × (may_do (version_at rows) effect ≡ true) → (cause : Option Refusal) → refusal_of rows effect ≡ cause
         → AreAccepted (after_answer rows at (stored_or_refused effect cause))
-    stored_then effect range (Some cause) is = right
-    stored_then effect range None is = accepted_more rows (record { at = at; effect = effect }) right (record { no_cause = is; in_range = range })
+    stored_then effect good (Some cause) is = right
+    stored_then effect good None is =
+        accepted_more rows (record { at = at; effect = effect }) right (record { no_cause = is; in_range = good.0; may = good.1 })
 
     reported : (place : Option ℕ) → AreAccepted (after_answer rows at (report_or_refused place))
     reported (Some place) = right
@@ -66,7 +69,8 @@ accepted_after law rows at fields right = by (request_in fields) (λ effect is. 
     advised (Some cause) = right
     advised None = right
 
-    by : (request : Result Request FormFault) → ((effect : Effect) → request ≡ Ok (asked.Store effect) → IsEffectInRange effect) → AreAccepted (after_answer rows at (answer_if rows (named_costs fields) request))
+    by : (request : Result Request FormFault) → ((effect : Effect) → request ≡ Ok (asked.Store effect) → IsEffectInRange effect × (may_do (version_at rows) effect ≡ true))
+        → AreAccepted (after_answer rows at (answer_if rows (named_costs fields) request))
     by (Err fault) range = right
     by (Ok asked.Blank) range = right
     by (Ok (asked.Store effect)) range = stored_then effect (range effect refl) (refusal_of rows effect) refl
