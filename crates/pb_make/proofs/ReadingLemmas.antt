@@ -18,15 +18,17 @@ use Rattle.pb_site.specs.declared.declared.ArcKind.TheVariants.{Metered as Meter
 use Rattle.pb_site.specs.declared.declared.Kind.TheVariants.{Metered, Plain}
 use Rattle.pb_site.specs.declared.declared.Declared.{Declared}
 use Rattle.pb_site.specs.Row.{arc_kind}
-use Rattle.pb_site.specs.Site.{kind_of, node_names}
+use Rattle.pb_site.specs.Site.{boundary_names, kind_of, node_names}
 use Rattle.pb_facts.specs.declared.fact.Fact.{Fact}
 use Rattle.pb_facts.specs.declared.fact.Fact.TheVariants.{Reading}
 use Rattle.pb_facts.specs.declared.facts.KeptFact.{KeptFact}
 use Rattle.pb_facts.specs.Facts.{is_repeat}
 use Rattle.pb_kinds.specs.declared.rows.Effect.TheVariants.{Books}
+use Rattle.pb_kinds.specs.Costs.{named_costs}
 use Rattle.pb_book.specs.declared.rows.Period.{Period}
 use Rattle.pb_book.specs.Answer.{after, answer_if, is_refused, report_or_refused}
 use Rattle.pb_book.specs.Apart.{is_named}
+use Rattle.pb_book.specs.Rows.{version_at}
 use Rattle.pb_book.specs.Refusals.{is_of_other_kind, names_other}
 use Rattle.pb_book.specs.declared.rows.StoredRow.{StoredRow}
 use Rattle.pb_make.specs.declared.plant.MadeStream.{MadeStream}
@@ -141,18 +143,19 @@ no_repeat number sides streams p q other =
         no false = refl
 
 criticals : AreOther (nodal ∷ measure ∷ [])
-criticals = record { no_node = refl; no_arc = λ nodes. refl }
+criticals = record { first = refl; no_node = refl; no_boundary = refl; no_arc = λ boundaries nodes. refl }
 
 -- the stream of a reading is metered
 kind_is : (n place : ℕ) (streams : List MadeStream) → length streams ≤ most_made_streams → place < readings_of (length streams)
     → kind_of (plant_of n streams (nodal ∷ measure ∷ [])) (stream_name (stream_read place)) ≡ Some MeteredArc
 kind_is n place streams few within =
     let declared = plant_of n streams (nodal ∷ measure ∷ []) in
+    let boundaries = boundary_names declared in
     let names = node_names declared in
     let j = stream_read place in
     let there : j ≤ length streams = metered_within (length streams) (place / 30) (omega (arith, within)) in
-    ap (λ (l : List Arc). option_map (λ (arc : Arc). arc.kind) (find (λ (arc : Arc). same_name (stream_name j) arc.name) l)) (arcs_are n streams (nodal ∷ measure ∷ []) names criticals)
-    ∙ kind_found names 1 streams j (omega arith) (omega (arith, there)) (omega (arith, few))
+    ap (λ (l : List Arc). option_map (λ (arc : Arc). arc.kind) (find (λ (arc : Arc). same_name (stream_name j) arc.name) l)) (arcs_are n streams (nodal ∷ measure ∷ []) boundaries names criticals)
+    ∙ kind_found boundaries names 1 streams j (omega arith) (omega (arith, there)) (omega (arith, few))
     ∙ ap (λ (plain : Bool). Some (kind_by plain)) (metered (place / 30))
   where
     kind_by : Bool → ArcKind
@@ -206,7 +209,7 @@ readings_taken law Holds number sides n place (suc left) streams records few mad
     let error_is = error_fits (reading_draw number sides place) in
     let are = shown truth error truth_is.0 truth_is.1 error_is.0 error_is.1 in
     let taken = store_fact rows at row (fact_at number sides streams place) declared (kept_to number sides streams place) (the_period ∷ []) is
-    (reading_asks law (reading_id place) (stream_name j) (day_read place) (shown_grams truth error) (variance_of truth) (is_reading_id place (omega (arith, here, few)))
+    (reading_asks law (version_at rows) (reading_id place) (stream_name j) (day_read place) (shown_grams truth error) (variance_of truth) (is_reading_id place (omega (arith, here, few)))
     (is_stream_name j (omega (arith, there, few))) (omega arith) (omega arith) are.low are.high are.least are.most)
     (reading_fine number sides n place streams few here) in
     let more : kept_to number sides streams place ++ kept_at number sides streams place ∷ [] ≡ kept_to number sides streams (place + 1) =
@@ -222,7 +225,7 @@ readings_taken law Holds number sides n place (suc left) streams records few mad
 
 pub report_taken : Asks → (declared : List Declared) (kept : List KeptFact) → Rest Anything declared kept (the_period ∷ []) (report_row ∷ [])
 report_taken law declared kept rows at is = (
-  ap (λ r. is_refused (answer_if rows r)) (report_asks law)
+  ap (λ r. is_refused (answer_if rows (named_costs report_row) r)) (report_asks law (version_at rows))
       ∙ ap (λ (p : List Period). is_refused (report_or_refused (position (is_named made_period) p))) is.periods_is,
   tt,
 )

@@ -17,6 +17,16 @@ write_row-requires-clause-fit c =
     let truth = to_z-of_z w128 c.args.truth c.ranges.truth in
     let error = error_fits c.args.draw in
     let are = shown c.args.truth (error_of c.args.draw) c.requires.least c.requires.most error.0 error.1 in
-    rw (c.name.ensures.value, c.name-2.ensures.value, day, c.january.ensures, grams, c.shown_grams.ensures.value, variance, c.variance_of.ensures.value, truth)
-    ((refl, refl), (c.name.ensures.form, (c.name-2.ensures.form, (january_fits c.day_read.result (omega (arith, c.day_read.ensures.value)) (omega (arith, c.day_read.ensures.value)),
-    ((are.low, are.high), ((are.least, are.most), tt))))))
+    rw (c.name.ensures.value, c.name-2.ensures.value, day, c.january.ensures, grams, c.shown_grams.ensures.value, variance, c.variance_of.ensures.value, truth) (
+      (refl, refl),
+      (
+        c.name.ensures.form,
+        (
+          c.name-2.ensures.form,
+          (
+            january_fits c.day_read.result (omega (arith, c.day_read.ensures.value)) (omega (arith, c.day_read.ensures.value)),
+            ((are.low, are.high), ((are.least, are.most), tt)),
+          ),
+        ),
+      ),
+    )
