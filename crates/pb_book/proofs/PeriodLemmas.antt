@@ -183,8 +183,8 @@ same_as a b one other = elim (cases_Bool (int_eq a b)) [
       eq-eqb (of_z w32 a) (of_z w32 b) same ∙ sym is
   | inr differs ↦
       ne_eqb (of_z w32 a) (of_z w32 b) (λ same.
-        let is : a ≡ b = sym (to_z-of_z w32 a one) ∙ ap (to_z w32) same ∙ to_z-of_z w32 b other in
-        absurd (cc (sym differs ∙ (Decides-int_eq a b).1 is))) ∙ sym differs
+      let is : a ≡ b = sym (to_z-of_z w32 a one) ∙ ap (to_z w32) same ∙ to_z-of_z w32 b other in
+      absurd (cc (sym differs ∙ (Decides-int_eq a b).1 is))) ∙ sym differs
 ]
 
 pub differ_as : (a b : ℤ) → (of_z w32 a ≡ of_z w32 b → ⊥) → int_eq a b ≡ false

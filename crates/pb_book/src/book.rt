@@ -191,7 +191,7 @@ impl Book {
         match self.edit(e) {
             Some(edit) => {
                 edit_touches(&self.site, &self.facts, &edit.effect, &self.periods.at(i))
-            },
+            }
             None => false,
         }
     }

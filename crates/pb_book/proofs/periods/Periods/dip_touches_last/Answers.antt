@@ -1,6 +1,8 @@
-use Rattle.std.proofs.Common.{◌≡◌, ◌∙◌, FitsSigned, Bool, true, sym, arith, rules}
+use Rattle.std.specs.Prelude.{All}
+use Rattle.std.proofs.Common.{◌≡◌, ◌∙◌, FitsSigned, List, subst, sym, arith, rules}
 use mir.Syntax.{w32}
 use Rattle.std.proofs.lemmas.Int.{ints, to_z-of_z}
+use Rattle.pb_book.specs.Ranges.{IsPeriod}
 use Rattle.pb_book.specs.Touching.{dip_touches}
 use Rattle.pb_book.specs.declared.rows.Period.{Period}
 use Rattle.pb_book.proofs.PeriodLemmas.{none_touched_on, period_found, place_found, touched_each, touched_last}
@@ -47,3 +49,6 @@ returns-in-None-clause-each c = λ some.
     let by : FitsSigned w32 c.args.by = c.ranges.by in
     let none = simp to_z-of_z at c.in-None.ensures in
     cc (sym (none_touched_on c.self.inside.periods.items c.self.inside.closes c.args.service c.args.day c.args.by c.self.invariant.closed none) ∙ rw (← c.self.view_is) at some)
+
+pub returns-in-Some-clause-days : goal.returns-in-Some-clause-days
+returns-in-Some-clause-days c = subst (λ (ps : List Period). All IsPeriod ps) c.self.view_is c.self.invariant.days
