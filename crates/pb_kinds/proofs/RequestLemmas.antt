@@ -24,9 +24,9 @@ use Rattle.pb_kinds.specs.declared.rows.Request.TheVariants.{Blank, Store}
 use Rattle.pb_kinds.specs.Laws.{AskingLaw, StoredLaw}
 use Rattle.pb_kinds.specs.Ranges.{IsRequestInRange}
 use Rattle.pb_kinds.specs.Requests.{asked_by, asked_in, declares, request_by, request_if, request_in, request_of}
-use Rattle.pb_kinds.specs.Versions.{has_kind, may_begin}
+use Rattle.pb_kinds.specs.Versions.{has_kind, may_ask, may_begin}
 use Rattle.pb_kinds.proofs.RangeLemmas.{asked_in_range, asked_named, stored_names}
-use Rattle.pb_kinds.proofs.VersionLemmas.{asks_what_it_may, begins, kept_passes, may_ask, may_begin_so, told_among}
+use Rattle.pb_kinds.proofs.VersionLemmas.{asks_what_it_may, begins, kept_passes, may_begin_so, told_among}
 
 -- fields of which there is none
 pub blank_asks : (kinds : List SessionKind) (fields : List (List ℕ)) → length fields ≡ 0 → asked_by kinds fields ≡ Ok Blank

@@ -1,7 +1,7 @@
 -- The kinds of the rows of a session of a version, and what these rows may do.
 use Rattle.std.specs.Prelude.{Option, Some, None, Result, Ok, Err, cond, filter, map, slice_get}
 use Rattle.std.proofs.Common.{◌≡◌, ◌∙◌, ◌⊎◌, ℕ, zero, suc, Bool, true, false, List, [], ◌∷◌, refl, sym, ap, inl, inr}
-use Rattle.pb_form.specs.SessionRows.{is_of_version_1, kind_at, kind_in, session_schema, session_told}
+use Rattle.pb_form.specs.SessionRows.{is_of_version_1, is_of_version_2, kind_at, kind_in, session_kinds, session_schema, session_told}
 use Rattle.pb_form.specs.Telling.{schema_told}
 use Rattle.pb_form.specs.Value.{Value}
 use Rattle.pb_form.specs.declared.fault.FormFault.{FormFault}
@@ -9,10 +9,14 @@ use Rattle.pb_form.specs.declared.session.SessionKind.{SessionKind}
 use Rattle.pb_form.specs.declared.session.SessionKind.TheVariants as kind
 use Rattle.pb_site.specs.declared.declared.Version.{Version}
 use Rattle.pb_site.specs.declared.declared.Version.TheVariants.{One, Two}
+use Rattle.pb_site.specs.declared.declared.Declared.{Declared}
+use Rattle.pb_site.specs.declared.declared.Declared.TheVariants.{Version2}
+use Rattle.pb_kinds.specs.declared.rows.Effect.{Effect}
+use Rattle.pb_kinds.specs.declared.rows.Effect.TheVariants.{Declares}
 use Rattle.pb_kinds.specs.declared.rows.Request.{Request}
 use Rattle.pb_kinds.specs.declared.rows.Request.TheVariants.{Store}
-use Rattle.pb_kinds.specs.Requests.{request_of}
-use Rattle.pb_kinds.specs.Versions.{has_kind, may_begin, may_do}
+use Rattle.pb_kinds.specs.Requests.{kinds_of, request_of}
+use Rattle.pb_kinds.specs.Versions.{has_kind, may_ask, may_begin, may_declare, may_do}
 
 -- ---- the kind that a record is told to be is one of the session's
 
@@ -54,11 +58,6 @@ may_begin_so it is = is
 
 -- ---- what a row of a kind asks may be done exactly if the session has rows of the kind
 
--- what is asked may be done, if it is to be stored
-abbrev pub may_ask : Option Version → Request → Bool
-may_ask version (Store effect) = may_do version effect
-may_ask version request = true
-
 pub asks_what_it_may : (version : Option Version) (it : SessionKind) (values : List Value) → has_kind version it ≡ may_ask version (request_of it values)
 asks_what_it_may None kind.Version values = refl
 asks_what_it_may None it values = refl
@@ -66,3 +65,26 @@ asks_what_it_may (Some One) kind.Version values = refl
 asks_what_it_may (Some One) it values = refl
 asks_what_it_may (Some Two) kind.Version values = refl
 asks_what_it_may (Some Two) it values = refl
+
+-- what a record of a kind that it is told to be asks, a session of the version may be asked
+pub told_may : (version : Version) (fields : List (List ℕ)) (it : SessionKind) (values : List Value) → session_told (kinds_of version) fields ≡ Ok it
+    → may_ask (Some version) (request_of it values) ≡ true
+told_may One fields it values told =
+    let at = told_among (kinds_of One) fields it told in
+    sym (asks_what_it_may (Some One) it values) ∙ kept_passes is_of_version_1 session_kinds at.0 it at.1
+told_may Two fields it values told =
+    let at = told_among (kinds_of Two) fields it told in
+    sym (asks_what_it_may (Some Two) it values) ∙ kept_passes is_of_version_2 session_kinds at.0 it at.1
+
+-- so may one of which no row is stored, if one of version 1 may
+declares_first : (declared : Declared) → may_declare (Some One) declared ≡ true → may_declare None declared ≡ true
+declares_first Version2 may = refl
+declares_first declared may = may
+
+does_first : (effect : Effect) → may_do (Some One) effect ≡ true → may_do None effect ≡ true
+does_first (Declares declared) may = declares_first declared may
+does_first effect may = refl
+
+pub asks_first : (request : Request) → may_ask (Some One) request ≡ true → may_ask None request ≡ true
+asks_first (Store effect) may = does_first effect may
+asks_first request may = refl

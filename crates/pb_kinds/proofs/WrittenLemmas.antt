@@ -29,7 +29,8 @@ use Rattle.pb_kinds.specs.declared.rows.Request.TheVariants.{Store}
 use Rattle.pb_kinds.specs.Requests.{request_of}
 use Rattle.pb_kinds.specs.There.{WritesEffect, served_stream_kind, stream_kind}
 use Rattle.pb_kinds.proofs.RequestLemmas.{asks_of}
-use Rattle.pb_kinds.proofs.VersionLemmas.{asks_what_it_may, may_ask}
+use Rattle.pb_kinds.specs.Versions.{may_ask}
+use Rattle.pb_kinds.proofs.VersionLemmas.{asks_what_it_may}
 
 pub written : {E : Type 0} (result : Result (List (List ℕ)) E) (it : SessionKind) (values : List Value) (effect : Effect) → IfOk result (Writes (session_schema it) values)
     → IfOk result (IsOfKind it) → request_of it values ≡ Store effect → IfOk result (WritesEffect effect)

@@ -9,6 +9,8 @@ use Rattle.pb_site.specs.declared.declared.Version.{Version}
 use Rattle.pb_site.specs.declared.declared.Version.TheVariants.{One, Two}
 use Rattle.pb_kinds.specs.declared.rows.Effect.{Effect}
 use Rattle.pb_kinds.specs.declared.rows.Effect.TheVariants.{Declares}
+use Rattle.pb_kinds.specs.declared.rows.Request.{Request}
+use Rattle.pb_kinds.specs.declared.rows.Request.TheVariants.{Store}
 
 -- before a row is stored the version may be said, and else the rows are those of version 1
 abbrev pub may_begin : SessionKind → Bool
@@ -31,7 +33,12 @@ may_declare version (Tank name base service) = is_none service
 may_declare version (Stream name from to sort base service) = is_none service
 may_declare version declared = true
 
--- A row of a session of a version may do this.
+-- a row of a session of a version may do this
 abbrev pub may_do : Option Version → Effect → Bool
 may_do version (Declares declared) = may_declare version declared
 may_do version effect = true
+
+-- A record of a session of a version may ask this: what it asks to be stored, a row of the session may do.
+abbrev pub may_ask : Option Version → Request → Bool
+may_ask version (Store effect) = may_do version effect
+may_ask version request = true

@@ -1,12 +1,13 @@
 // What a record asks, by the table of kinds.
 
-ghost use Rattle.std.specs.Prelude.{◌≡◌, ◌≤◌, IfOk, None};
+ghost use Rattle.std.specs.Prelude.{◌≡◌, ◌≤◌, IfOk, None, Some, true};
 ghost use Rattle.pb_form.specs.SessionRows.{session_columns, session_told};
 ghost use Rattle.pb_form.specs.Writing.{FitEach};
 ghost use Rattle.pb_form.specs.declared.session.SessionKind.TheVariants as kinds;
 ghost use Rattle.pb_kinds.specs.Ranges.{IsRequestInRange};
 ghost use Rattle.pb_kinds.specs.Requests.{asked_by, asked_in, books, declares, kinds_of, request_in, request_of, service_from, stream_of};
 ghost use Rattle.pb_kinds.specs.There.{IsNameThere};
+ghost use Rattle.pb_kinds.specs.Versions.{may_ask};
 
 use crate::facts::{dip_from, reading_from, transfer_from};
 use crate::rows::{Edit, Effect, Request};
@@ -24,6 +25,7 @@ use pb_site::{Declared, Kind, Service, Version};
 pub fn read_request(version: Option<Version>, row: &Row) -> Result<Request, FormFault>
     ensures value { result ≡ request_in version row.now }
     ensures in_range { IfOk result IsRequestInRange }
+    ensures may { IfOk result (λ request. may_ask version request ≡ true) }
 {
     let fields = Fields::filled(row);
     match version {
@@ -36,6 +38,7 @@ pub fn read_request(version: Option<Version>, row: &Row) -> Result<Request, Form
 fn read_first(fields: &Fields) -> Result<Request, FormFault>
     ensures value { result ≡ asked_in None fields.now }
     ensures in_range { IfOk result IsRequestInRange }
+    ensures may { IfOk result (λ request. may_ask None request ≡ true) }
 {
     if is_of_kind(SessionKind::Version, fields) {
         Ok(declares(Declared::Version2))
@@ -49,6 +52,7 @@ fn read_first(fields: &Fields) -> Result<Request, FormFault>
 fn read_fields(version: Version, fields: &Fields) -> Result<Request, FormFault>
     ensures value { result ≡ asked_by (kinds_of version) fields.now }
     ensures in_range { IfOk result IsRequestInRange }
+    ensures may { IfOk result (λ request. may_ask (Some version) request ≡ true) }
 {
     if fields.len() == 0 {
         return Ok(Request::Blank);

@@ -1,4 +1,4 @@
-use Rattle.std.specs.Prelude.{Result, Ok, Err}
+use Rattle.std.specs.Prelude.{Result, Ok, Err, Some}
 use Rattle.std.proofs.Common.{◌≡◌, ◌∙◌, ◌≤◌, List, length, ap, subst, sym, arith}
 use Rattle.std.proofs.lemmas.Result.{err_from_is_err_and}
 use Rattle.pb_form.specs.Columns.{Schema}
@@ -12,7 +12,9 @@ use Rattle.pb_kinds.specs.declared.rows.Request.{Request}
 use Rattle.pb_kinds.specs.Ranges.{IsRequestInRange}
 use Rattle.pb_kinds.specs.Requests.{kinds_of, request_by}
 use Rattle.pb_kinds.proofs.RangeLemmas.{asked_in_range}
+use Rattle.pb_kinds.specs.Versions.{may_ask}
 use Rattle.pb_kinds.proofs.RequestLemmas.{blank_asks, told_asks}
+use Rattle.pb_kinds.proofs.VersionLemmas.{told_may}
 use Rattle.pb_kinds.proofs.reading.read_fields.Goals as goal
 
 abbrev told_as : Result SessionKind FormFault → Result SessionKind FormFault
@@ -52,3 +54,8 @@ pub returns-in-Ok-clause-in_range : goal.returns-in-Ok-clause-in_range
 returns-in-Ok-clause-in_range c =
     let fit = subst (λ (s : Schema). FitEach s.columns c.in-Ok.values) c.session_schema.ensures.value (rw c.in-Ok.is at c.read.ensures.fit) in
     subst IsRequestInRange (sym c.request_of.ensures) (asked_in_range c.in_ok-kind.kind c.in-Ok.values fit)
+
+pub returns-in-Ok-clause-may : goal.returns-in-Ok-clause-may
+returns-in-Ok-clause-may c =
+    let told : session_told (kinds_of c.args.version) c.args.fields.now ≡ told_as (Ok c.in_ok-kind.kind) = sym c.kind_of.ensures ∙ c.in_ok-kind.was in
+    ap (may_ask (Some c.args.version)) c.request_of.ensures ∙ told_may c.args.version c.args.fields.now c.in_ok-kind.kind c.in-Ok.values told
