@@ -152,7 +152,7 @@ beside_fine Measure draft row none = (is_known (is_among draft.streams (name_fie
 beside_fine kind draft row none = (refl, refl, refl, refl)
 
 pub read_values : (kind : OutputKind) (row : List (List ℕ)) (values : List Value) → row_read (output_schema kind) row ≡ Ok values → values_in kind row ≡ values
-read_values kind row values read = ap result_unwrap_or read []
+read_values kind row values read = ap (λ (r : Result (List Value) FormFault). result_unwrap_or r []) read
 
 -- the row is read, and none of the faults beside its form holds
 pub record IsFine (kind : OutputKind) (draft : Draft) (row : List (List ℕ)) : Type 0 where

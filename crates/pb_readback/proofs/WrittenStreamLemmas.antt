@@ -220,17 +220,41 @@ stream_fits : AreWritten → (names : Names) (graph : ProcessGraph) (i : ℕ) (s
 stream_fits written names graph i stream result known joins limits within lt =
     let from : stream.from < length names.nodes = omega (arith, joins.from, known.each_node) in
     let to : stream.to < length names.nodes = omega (arith, joins.to, known.each_node) in
-    let least = least_within result within.least in
-    let shape = word_fits shape_words shape_place placed_shape written.shapes (witness_shape result.classified.witness) in
-    let certificate = (shape, (refl, (refl, tt))) in
-    let bounds = (low_fits result.bounds within.bounds, (high_fits result.bounds within.bounds, (low_fits (written_least result) least, (high_fits (written_least result) least, certificate)))) in
-    let class = word_fits class_words class_place placed_class written.classes result.classified.class in
-    let flow = (class, (under_between (2 ^ 68) result.flow within.flow, bounds)) in
-    let measured = (value_fits stream.meas limits, (variance_fits stream.meas limits, flow)) in (
+    let least = least_within result within.least in (
       (refl, refl),
       (
         named_at names.streams i known.of_streams.forms lt,
-        (named_at names.nodes stream.from known.form_nodes from, (named_at names.nodes stream.to known.form_nodes to, measured)),
+        (
+          named_at names.nodes stream.from known.form_nodes from,
+          (
+            named_at names.nodes stream.to known.form_nodes to,
+            (
+              value_fits stream.meas limits,
+              (
+                variance_fits stream.meas limits,
+                (
+                  word_fits class_words class_place placed_class written.classes result.classified.class,
+                  (
+                    under_between (2 ^ 68) result.flow within.flow,
+                    (
+                      low_fits result.bounds within.bounds,
+                      (
+                        high_fits result.bounds within.bounds,
+                        (
+                          low_fits (written_least result) least,
+                          (
+                            high_fits (written_least result) least,
+                            (word_fits shape_words shape_place placed_shape written.shapes (witness_shape result.classified.witness), (refl, (refl, tt))),
+                          ),
+                        ),
+                      ),
+                    ),
+                  ),
+                ),
+              ),
+            ),
+          ),
+        ),
       ),
     )
 
