@@ -1,7 +1,8 @@
 -- Inside. What a site keeps beside the declarations, so that no look-up walks them.
-use Rattle.std.specs.Prelude.{◌≡◌, ℕ, ◌<◌, ◌≤◌, nat_eq, ℤ, Bool, true, false, ◌||◌, List, [], ◌∷◌, ◌++◌, length, get_or, filter_map, position, Option, Some, None, IsSomeAnd, if◌then◌else◌, codes, vec_len, vec_capacity}
+use Rattle.std.specs.Prelude.{◌≡◌, ℕ, ◌<◌, ◌≤◌, ◌==◌, ◌-◌, nat_eq, ℤ, Bool, true, false, ◌||◌, List, [], ◌∷◌, ◌++◌, length, get_or, filter, filter_map, position, Option, Some, None, IsSomeAnd, if◌then◌else◌, codes, vec_len, vec_capacity}
 use Rattle.std.specs.Option.{option_map}
 use Rattle.std.specs.HashMap.{get, spare}
+use Rattle.std.specs.List.{range_with_len}
 use Rattle.std.specs.List.Sorted.{IsStrictlyIncreasing}
 use Rattle.indexmap.specs.IndexSet as set
 use Rattle.pb_limits.specs.Limits.{most_nodes, most_points}
@@ -129,10 +130,27 @@ IsNew index row = Unit {0}
 abbrev pub is_marked : List Bool → ℕ → Bool
 is_marked marks node = get_or marks node false
 
--- of each of so many nodes, whether it is an end of one of these arcs
+-- the environment, and the other nodes that are marked
+abbrev pub marked_nodes : List Bool → List ℕ
+marked_nodes marks = 0 ∷ filter (is_marked marks) (range_with_len 1 (length marks - 1))
+
+-- of each of that many nodes, whether it is one of these
+pub record MarksNodes (count : ℕ) (nodes : List ℕ) (marks : List Bool) : Type 0 where
+  pub each : length marks ≡ count
+  pub few : length marks ≤ most_nodes
+  pub marked : marked_nodes marks ≡ nodes
+
+-- of each of that many nodes, whether it is an end of one of these arcs
 pub record AreEnds (nodes : ℕ) (arcs : List Arc) (ends : List Bool) : Type 0 where
   pub each : length ends ≡ nodes
+  pub few : length ends ≤ most_nodes
   pub marked : (node : ℕ) → node < nodes → is_marked ends node ≡ is_end_of arcs node
+
+-- the ends of an arc are marked beside those that were
+pub record MarksEnds (arc : Arc) (old new : List Bool) : Type 0 where
+  pub each : length new ≡ length old
+  pub marked : (node : ℕ) → node < length old
+      → is_marked new node ≡ (is_marked old node || ((arc.from == node) || (arc.to == node)))
 
 -- nodes in order, not too many for a graph
 pub record AreNodes (nodes : List ℕ) : Type 0 where

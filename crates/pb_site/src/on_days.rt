@@ -1,14 +1,14 @@
 // The part of the plant that is in service on some days.
 
-ghost use Rattle.std.specs.Prelude.{◌≡◌, ◌<◌, ◌≤◌, ◌-◌, ◌∷◌, filter, map, length, All, IfOk, true};
-ghost use Rattle.std.specs.List.{range_with_len};
+ghost use Rattle.std.specs.Prelude.{◌≡◌, ◌<◌, ◌≤◌, filter, map, length, All, IfOk, true};
 ghost use Rattle.pb_limits.specs.Limits.{most_nodes};
 ghost use Rattle.pb_site.specs.declared.declared.Arc.{Arc};
-ghost use Rattle.pb_site.specs.Kept.{AreEnds, is_marked};
+ghost use Rattle.pb_site.specs.Kept.{AreEnds, MarksEnds, MarksNodes, marked_nodes};
+ghost use Rattle.pb_site.specs.Laws.{IsPartOnDays};
 ghost use Rattle.pb_site.specs.OnDays.{has_place, is_arc_in_service, name_at_node, names_on, nodes_on, place_among};
 ghost use Rattle.pb_site.specs.Site.{arcs_of, node_names, version_of};
 
-use crate::declared::Version;
+use crate::declared::{Arc, Version};
 use crate::service::is_in_service_within;
 use crate::site::Site;
 use pb_rows::{NameList, Names};
@@ -36,14 +36,12 @@ impl Model for OnDays {
 impl OnDays {
     /// The part of a plant that is in service on the days from a first to a last one.
     pub fn of(alloc: Global, site: &Site, first: i32, last: i32) -> Result<OnDays, AllocError>
-        ensures { IfOk result (λ part. part ≡ nodes_on (version_of site.now) site.now first last) }
+        ensures value { IfOk result (λ nodes. nodes ≡ nodes_on (version_of site.now) site.now first last) }
+        ensures part { IsPartOnDays (version_of site.now) site.now first last }
     {
-        let kept = match site.version() {
-            Version::One => vec![in alloc; true; site.nodes() as usize]?,
-            Version::Two => ends_on(alloc, site, first, last)?,
-        };
+        let marks = marks_on(alloc, site, first, last)?;
         Ok(OnDays {
-            nodes: marked(alloc, kept.as_slice())?,
+            nodes: marked(alloc, marks.as_slice())?,
         })
     }
 
@@ -67,7 +65,8 @@ impl OnDays {
 
 /// The names of the nodes and arcs of the part of a plant that is in service on the days from a first to a last one, in order.
 pub fn names_on(alloc: Global, site: &Site, first: i32, last: i32) -> Result<Names, AllocError>
-    ensures { IfOk result (λ names. names ≡ names_on (version_of site.now) site.now first last) }
+    ensures value { IfOk result (λ names. names ≡ names_on (version_of site.now) site.now first last) }
+    ensures part { IsPartOnDays (version_of site.now) site.now first last }
 {
     match site.version() {
         Version::One => site.names(),
@@ -108,6 +107,18 @@ fn arc_names_on(alloc: Global, site: &Site, first: i32, last: i32) -> Result<Nam
     Ok(names)
 }
 
+// Of each node of the plant, whether it is one of those of these days.
+fn marks_on(alloc: Global, site: &Site, first: i32, last: i32) -> Result<Vec<bool>, AllocError>
+    ensures marks { IfOk result (λ marks. MarksNodes (length (node_names site.now))
+        (nodes_on (version_of site.now) site.now first last) marks.items) }
+    ensures part { IsPartOnDays (version_of site.now) site.now first last }
+{
+    match site.version() {
+        Version::One => vec![in alloc; true; site.nodes() as usize],
+        Version::Two => ends_on(alloc, site, first, last),
+    }
+}
+
 // Of each node of the plant, whether it is an end of an arc that is in service on these days.
 fn ends_on(alloc: Global, site: &Site, first: i32, last: i32) -> Result<Vec<bool>, AllocError>
     ensures { IfOk result (λ ends. AreEnds (length (node_names site.now))
@@ -117,23 +128,32 @@ fn ends_on(alloc: Global, site: &Site, first: i32, last: i32) -> Result<Vec<bool
     for place in 0..site.arcs() {
         let arc = site.arc(place);
         if is_in_service_within(arc.service, first, last) {
-            ends[arc.from as usize] = true;
-            ends[arc.to as usize] = true;
+            mark(ends.as_mut_slice(), &arc);
         }
     }
     Ok(ends)
 }
 
-// The environment, and the other nodes that are kept, in order.
-fn marked(alloc: Global, kept: &[bool]) -> Result<Vec<u32>, AllocError>
-    requires { length kept.now ≤ most_nodes }
-    ensures { IfOk result (λ nodes. nodes.items
-        ≡ 0 ∷ filter (is_marked kept.now) (range_with_len 1 (length kept.now - 1))) }
+// Marks the ends of an arc.
+fn mark(ends: &mut [bool], arc: &Arc)
+    requires begins { arc.now.from < length ends.old }
+    requires ends { arc.now.to < length ends.old }
+    ensures { MarksEnds arc.now ends.old ends.new }
+{
+    ends[arc.from as usize] = true;
+    ends[arc.to as usize] = true;
+}
+
+// The environment, and the other nodes that are marked, in order.
+fn marked(alloc: Global, marks: &[bool]) -> Result<Vec<u32>, AllocError>
+    requires some { 0 < length marks.now }
+    requires few { length marks.now ≤ most_nodes }
+    ensures { IfOk result (λ nodes. nodes.items ≡ marked_nodes marks.now) }
 {
     let mut nodes = Vec::new(alloc);
     nodes.push(0)?;
-    for node in 1..kept.len() {
-        if kept[node] {
+    for node in 1..marks.len() {
+        if marks[node] {
             nodes.push(node as u32)?;
         }
     }

@@ -118,7 +118,8 @@ impl Site {
 
     /// The version of the session, which the first declaration says.
     pub fn version(&self) -> Version
-        ensures { result ≡ version_of self.now }
+        ensures value { result ≡ version_of self.now }
+        ensures plant { IsPlant self.now }
     {
         self.index.version
     }
