@@ -1,6 +1,7 @@
 use crate::graphs::{METER, graph_of, stream};
 use pb_classify::classify;
 use pb_graph::{Class, Classified, Graph, Member, Step, Stream, Witness};
+use pb_limits::MOST_STREAMS;
 use std::alloc::{AllocError, Global};
 use std::process::Abort;
 
@@ -163,10 +164,10 @@ fn long_ring(rt: HostRuntime) -> Result<(), AllocError> {
     Ok(())
 }
 
-// 2,000 parallel streams, every second one measured.
+// As many parallel streams as a graph has at most, every second one measured.
 fn parallel(rt: &impl Abort, alloc: Global) -> Result<Graph, AllocError> {
     let mut g = Graph::new(alloc, 2);
-    for j in 0..2_000 {
+    for j in 0..MOST_STREAMS {
         let s = stream(0, 1, if j % 2 == 0 { None } else { METER });
         assert!(rt; g.fits(&s), "{s:?}");
         g.push(s)?;
@@ -192,6 +193,6 @@ fn many_parallel_streams(rt: HostRuntime) -> Result<(), AllocError> {
     let g = parallel(&rt, rt.alloc())?;
     let classes = classify(rt.alloc(), &g)?;
     assert_alternating(&rt, classes.as_slice());
-    assert_eq!(rt; classes.len(), 2_000, "the streams");
+    assert_eq!(rt; classes.len(), MOST_STREAMS, "the streams");
     Ok(())
 }

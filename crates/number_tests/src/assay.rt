@@ -5,10 +5,9 @@ ghost use Rattle.pb_assay.specs.Grade.{IsGrade};
 
 use crate::common::{assert_at, metered, plain};
 use crate::elim::{stream_at, study_of};
-use pb_assay::{
-    ComponentFault, Grade, MOST_GRADE, MOST_GRADE_VARIANCE, carried_by, component_graph,
-};
+use pb_assay::{ComponentFault, Grade, carried_by, component_graph};
 use pb_graph::{Graph, Stage, Stream, Study};
+use pb_limits::{MOST_GRADE, MOST_GRADE_VARIANCE};
 use std::alloc::{AllocError, Global};
 use std::process::Abort;
 

@@ -13,6 +13,7 @@ use pb_graph::{
     Bounds, Class, Critical, CriticalRow, Graph, List, Member, Options, Solved, Stage, Step, Stop,
     Stream, StreamResult, Study, Taken, Verdict, Witness,
 };
+use pb_limits::MOST_STREAMS;
 use std::alloc::{AllocError, Global};
 use std::process::Abort;
 
@@ -468,10 +469,10 @@ fn parallel_plain_streams(rt: HostRuntime) -> Result<(), AllocError> {
     check_study(&rt, rt.alloc(), 3, &streams, 10, &answer)
 }
 
-/// As many streams between the environment and one unit as a graph has, readings far apart, variances from the least to the greatest.
+/// As many streams between the environment and one unit as a graph has at most, readings far apart, variances from the least to the greatest.
 fn parallel_streams(alloc: Global) -> Result<Vec<Stream>, AllocError> {
     let mut streams = Vec::new(alloc);
-    for j in 0..2_000 {
+    for j in 0..MOST_STREAMS {
         streams.push(if j % 2 == 0 {
             metered(0, 1, 1_000_000_000_000_000, 1)
         } else {
@@ -481,11 +482,11 @@ fn parallel_streams(alloc: Global) -> Result<Vec<Stream>, AllocError> {
     Ok(streams)
 }
 
-/// The study has one stage of 2,000 streams with bounds and least bounds, and their flows add up to 0.
+/// The study has one stage of that many streams with bounds and least bounds, and their flows add up to 0.
 fn assert_parallel(rt: &impl Abort, s: &Study) {
     assert_eq!(rt; s.stages.len(), 1);
     let results = s.stages.at(0).streams.as_slice();
-    assert_eq!(rt; results.len(), 2_000);
+    assert_eq!(rt; results.len(), MOST_STREAMS);
     let mut total: i128 = 0;
     for result in results {
         let both = result.bounds.is_some() && result.least.is_some();

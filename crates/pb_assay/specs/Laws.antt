@@ -3,14 +3,9 @@ use Rattle.std.specs.Prelude.{◌≡◌, ℕ, ◌+◌, ◌^◌, pos, ◌-ℤ◌,
 use Rattle.pb_graph.specs.declared.results.StreamResult.{StreamResult}
 use Rattle.pb_graph.specs.ProcessGraph.{ProcessGraph, IsProcessGraph}
 use Rattle.pb_assay.specs.declared.grade.Grade.{Grade}
-use Rattle.pb_assay.specs.declared.grade.TheConstants.{MOST_GRADE, MOST_GRADE_VARIANCE}
 use Rattle.pb_assay.specs.declared.component.ComponentFault.TheVariants.{Over}
-use Rattle.pb_assay.specs.Grade.{IsGrade, carried_variance, grams_error, most_grade, most_grade_variance, squared}
+use Rattle.pb_assay.specs.Grade.{IsGrade, carried_variance, grams_error, squared}
 use Rattle.pb_assay.specs.Component.{IsComponentGraph, IsFirstOver, component_of}
-
--- the constants of the code are the numbers of the definitions
-abbrev pub GradeLimitsLaw : Type 0
-GradeLimitsLaw = (MOST_GRADE ≡ pos most_grade) × (MOST_GRADE_VARIANCE ≡ pos most_grade_variance)
 
 -- the component graph is what its meaning says
 abbrev pub ComponentLaw : Type 0

@@ -3,11 +3,7 @@
 ghost use Rattle.std.specs.Prelude.{◌↔◌, IsTrue};
 ghost use Rattle.pb_assay.specs.Grade.{IsGrade};
 
-/// The greatest grade, in parts per million: the stream is the component alone.
-pub const MOST_GRADE: i64 = 1_000_000;
-
-/// The greatest variance of a grade, in squares of parts per million.
-pub const MOST_GRADE_VARIANCE: i64 = 100_000_000;
+use pb_limits::{MOST_GRADE, MOST_GRADE_VARIANCE};
 
 /// The grade of a component in a stream, as an assay gives it: parts per million of the stream's mass, and the variance of their
 /// error, in squares of parts per million.

@@ -1,11 +1,6 @@
 // What is proved of the definitions alone. The functions are empty: the contract of each is a law.
 
-ghost use Rattle.pb_assay.specs.Laws.{ComponentFormLaw, ComponentLaw, ErrorLaw, FirstOverLaw, GradeLimitsLaw};
-
-/// The constants of the limits of a grade are the numbers of their definitions.
-pub fn grade_limits_law()
-    ensures { GradeLimitsLaw }
-{}
+ghost use Rattle.pb_assay.specs.Laws.{ComponentFormLaw, ComponentLaw, ErrorLaw, FirstOverLaw};
 
 /// The component graph, by what each of its streams is.
 pub fn component_law()

@@ -14,5 +14,5 @@ mod laws;
 
 pub use carried::carried_by;
 pub use component::{ComponentFault, component_graph};
-pub use grade::{Grade, MOST_GRADE, MOST_GRADE_VARIANCE};
-pub use laws::{component_form_law, component_law, error_law, first_over_law, grade_limits_law};
+pub use grade::Grade;
+pub use laws::{component_form_law, component_law, error_law, first_over_law};

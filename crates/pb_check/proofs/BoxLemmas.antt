@@ -1,5 +1,5 @@
 -- The box of a measured stream, by how much the prices at its ends differ.
-use Rattle.std.proofs.Common.{◌≡◌, ◌∙◌, ℕ, ◌^◌, ◌<◌, ◌≤◌, ℤ, pos, negsuc, ◌-ℤ◌, ◌*ℤ◌, ◌≤ℤ◌, ◌<ℤ◌, unsigned_abs, Option, Some, None, slice_get, get_or, length, sym, ap, ap₂, subst, arith}
+use Rattle.std.proofs.Common.{◌≡◌, ◌∙◌, ℕ, ◌<◌, ◌≤◌, ℤ, pos, negsuc, ◌-ℤ◌, ◌*ℤ◌, ◌≤ℤ◌, ◌<ℤ◌, unsigned_abs, Option, Some, None, slice_get, get_or, length, sym, ap, ap₂, subst, arith}
 use Rattle.std.specs.Prelude.{IfSome}
 use Rattle.std.proofs.lemmas.Int.{ints}
 use Rattle.std.proofs.lemmas.Option.{get_or_from_slice_get, slice_get-get_or}
@@ -26,20 +26,20 @@ size_times (pos v) (negsuc d) some = omega (arith, ints)
 size_times (negsuc v) d some = absurd (omega (arith, ints, some))
 
 -- within the room is within the box
-pub in_box : (v d : ℤ) → pos 1 ≤ℤ v → pos (unsigned_abs d) ≤ℤ room_of v → unsigned_abs (v *ℤ d) ≤ 2 ^ 112
+pub in_box : (v d : ℤ) → pos 1 ≤ℤ v → pos (unsigned_abs d) ≤ℤ room_of v → unsigned_abs (v *ℤ d) ≤ most_adjustment
 in_box v d some near =
     let above : pos 0 <ℤ v = omega (arith, ints, some) in
-    let floor : IsFloor (pos (2 ^ 112)) v (room_of v) = floor_is (pos (2 ^ 112)) v above in
-    let product : (pos (unsigned_abs d) *ℤ v) ≤ℤ pos (2 ^ 112) =
-    le_trans (pos (unsigned_abs d) *ℤ v) (room_of v *ℤ v) (pos (2 ^ 112)) (mul_mono (pos (unsigned_abs d)) (room_of v) v near (omega (arith, ints, some))) floor.below in
+    let floor : IsFloor (pos most_adjustment) v (room_of v) = floor_is (pos most_adjustment) v above in
+    let product : (pos (unsigned_abs d) *ℤ v) ≤ℤ pos most_adjustment =
+    le_trans (pos (unsigned_abs d) *ℤ v) (room_of v *ℤ v) (pos most_adjustment) (mul_mono (pos (unsigned_abs d)) (room_of v) v near (omega (arith, ints, some))) floor.below in
     let size = size_times v d some in
     omega (arith, ints, product, size)
 
 -- and the other way round
-pub in_room : (v d : ℤ) → pos 1 ≤ℤ v → unsigned_abs (v *ℤ d) ≤ 2 ^ 112 → pos (unsigned_abs d) ≤ℤ room_of v
+pub in_room : (v d : ℤ) → pos 1 ≤ℤ v → unsigned_abs (v *ℤ d) ≤ most_adjustment → pos (unsigned_abs d) ≤ℤ room_of v
 in_room v d some small =
     let size = size_times v d some in
-    floor_from (pos (unsigned_abs d)) (pos (2 ^ 112)) v (omega (arith, ints, some)) (omega (arith, ints, size, small))
+    floor_from (pos (unsigned_abs d)) (pos most_adjustment) v (omega (arith, ints, some)) (omega (arith, ints, size, small))
 
 -- the rise of the printed price along a stream, by the prices that stand at its ends
 rise_is : (stage : Stage) (s : Stream) (a b : ℤ) → slice_get stage.prices s.from ≡ Some a → slice_get stage.prices s.to ≡ Some b

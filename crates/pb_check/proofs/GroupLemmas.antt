@@ -1,5 +1,5 @@
 -- The least node of a group, and the price of a node by it.
-use Rattle.std.proofs.Common.{◌≡◌, ◌≢◌, ◌∙◌, ℕ, ◌^◌, ◌<◌, ◌≤◌, ℤ, pos, Bool, true, false, get_or, Some, slice_get, unsigned_abs, refl, sym, ap, subst, inl, inr, arith}
+use Rattle.std.proofs.Common.{◌≡◌, ◌≢◌, ◌∙◌, ℕ, ◌<◌, ℤ, pos, Bool, true, false, get_or, Some, slice_get, refl, sym, ap, subst, inl, inr, arith}
 use Rattle.std.proofs.lemmas.Bool.{cases_Bool, cases_lt}
 use Rattle.std.proofs.lemmas.Option.{get_or_from_slice_get}
 use Rattle.pb_integers.proofs.Lists.{all_each}
@@ -136,5 +136,5 @@ free_here graph groups n k b are lt is_k is_b =
 pub price_there : (stage : Stage) (n : ℕ) (a : ℤ) → slice_get stage.prices n ≡ Some a → printed_price stage n ≡ a
 price_there stage n a here = get_or_from_slice_get stage.prices n a (pos 0) here
 
-pub price_small : (stage : Stage) (n : ℕ) (a : ℤ) → IsWellFormed stage → slice_get stage.prices n ≡ Some a → unsigned_abs a ≤ 2 ^ 120
+pub price_small : (stage : Stage) (n : ℕ) (a : ℤ) → IsWellFormed stage → slice_get stage.prices n ≡ Some a → IsPrice a
 price_small stage n a formed here = all_each IsPrice stage.prices formed.prices n a here

@@ -11,7 +11,7 @@ use Rattle.pb_graph.specs.declared.records.Stream.{Stream}
 use Rattle.pb_graph.specs.declared.results.StreamResult.{StreamResult}
 use Rattle.pb_graph.specs.declared.results.Stage.{Stage}
 use Rattle.pb_graph.specs.ProcessGraph.{IsStream}
-use Rattle.pb_graph.specs.WellFormed.{IsResultWithin, IsWellFormed}
+use Rattle.pb_graph.specs.WellFormed.{IsFlow, IsResultWithin, IsWellFormed}
 use Rattle.pb_graph.specs.Balance.{brought_to, net_of}
 use Rattle.pb_elim.specs.Printed.{printed_flows}
 
@@ -66,18 +66,18 @@ pub gathered : (sum more rest whole part next : ℤ) → sum +ℤ rest ≡ whole
 gathered sum more rest whole part next so_far is step = omega (arith, ints, so_far, is, step)
 
 -- what a flow brings to a node is small
-brought_by : (b c : Bool) (f : ℤ) → unsigned_abs f < 2 ^ 68 → unsigned_abs ((if b then f else pos 0) -ℤ (if c then f else pos 0)) ≤ 2 ^ 69
+brought_by : (b c : Bool) (f : ℤ) → IsFlow f → unsigned_abs ((if b then f else pos 0) -ℤ (if c then f else pos 0)) ≤ 2 ^ 69
 brought_by true true f small = omega (arith, ints, small)
 brought_by true false f small = omega (arith, ints, small)
 brought_by false true f small = omega (arith, ints, small)
 brought_by false false f small = omega (arith, ints, small)
 
-pub brought_small : (n : ℕ) (stream : Stream) (flow : ℤ) → unsigned_abs flow < 2 ^ 68 → unsigned_abs (brought_to n stream flow) ≤ 2 ^ 69
+pub brought_small : (n : ℕ) (stream : Stream) (flow : ℤ) → IsFlow flow → unsigned_abs (brought_to n stream flow) ≤ 2 ^ 69
 brought_small n stream flow small = brought_by (stream.to == n) (stream.from == n) flow small
 
 pub sum_small : (sum part more : ℤ) (j : ℕ) → more ≡ sum +ℤ part → unsigned_abs sum ≤ j * 2 ^ 69 → unsigned_abs part ≤ 2 ^ 69 → unsigned_abs more ≤ (j + 1) * 2 ^ 69
 sum_small sum part more j is so_far small = omega (arith, ints, is, so_far, small)
 
 -- the flow of a well-formed result is small
-pub flow_small : (stage : Stage) (j : ℕ) (result : StreamResult) → IsWellFormed stage → slice_get stage.streams j ≡ Some result → unsigned_abs result.flow < 2 ^ 68
+pub flow_small : (stage : Stage) (j : ℕ) (result : StreamResult) → IsWellFormed stage → slice_get stage.streams j ≡ Some result → IsFlow result.flow
 flow_small stage j result formed here = (all_each (IsResultWithin stage.graph) stage.streams formed.results j result here).flow

@@ -4,6 +4,7 @@ use Rattle.std.specs.Prelude.{IfSome}
 use Rattle.std.proofs.Math.Bool.{and-true}
 use Rattle.std.proofs.lemmas.List.{length-map}
 use Rattle.std.proofs.lemmas.Option.{slice_get-get_or, slice_get_within}
+use Rattle.pb_limits.specs.Limits.{most_streams}
 use Rattle.pb_integers.proofs.Lists.{all_each, some_same}
 use Rattle.pb_graph.specs.declared.records.Member.{Member}
 use Rattle.pb_graph.specs.declared.records.Witness.{Witness}
@@ -97,7 +98,7 @@ pub result_at : (stage : Stage) (results : List StreamResult) (j : ℕ) (r : Str
 result_at stage results j r same is lt = ap (λ (rs : List StreamResult). slice_get rs j) (sym same) ∙ slice_get-get_or results j r lt ∙ ap Some (sym is)
 
 -- its place is a number of 32 bits
-pub place_small : (stage : Stage) (results : List StreamResult) (j : ℕ) → results ≡ stage.streams → IsProcessGraph stage.graph → IsWellFormed stage → j < length results → j < 4000
+pub place_small : (stage : Stage) (results : List StreamResult) (j : ℕ) → results ≡ stage.streams → IsProcessGraph stage.graph → IsWellFormed stage → j < length results → j < most_streams
 place_small stage results j same limits formed lt = omega (arith, ap length same, limits.few_streams, formed.each_stream, lt)
 
 -- the first stream that has other bounds than the rule gives

@@ -2,30 +2,27 @@
 
 ghost use Rattle.std.specs.Prelude.{◌≡◌, ◌<◌, ◌≤◌, ◌^◌, ℕ, pos, ◌≤ℤ◌, ◌-ℤ◌, unsigned_abs, length, MatchOption};
 ghost use Rattle.pb_graph.specs.ProcessGraph.{IsMeasurement, IsProcessGraph};
-ghost use Rattle.pb_graph.specs.WellFormed.{IsWellFormed};
+ghost use Rattle.pb_graph.specs.WellFormed.{IsPrice, IsWellFormed};
 ghost use Rattle.pb_dual.specs.Candidates.{room_of};
 ghost use Rattle.pb_check.specs.Asked.{IsInBoxAt, AreInBox};
 ghost use Rattle.pb_check.specs.Faults.{IsBoxFault, IsOutOfBox};
 
 use crate::faults::{Fault, Place};
 use pb_fixed::div_floor;
-use pb_graph::{Meas, Stage};
-
-// The most that a variance times a difference of prices may be.
-const BOX: i128 = 1 << 112;
+use pb_graph::{MOST_ADJUSTMENT, Meas, Stage};
 
 // The most by which the prices at the ends of a stream of this variance may differ.
 fn room(meas: &Meas) -> i128
     requires { IsMeasurement meas.now }
     ensures { result ≡ room_of meas.now.variance }
 {
-    div_floor(BOX, meas.variance)
+    div_floor(MOST_ADJUSTMENT, meas.variance)
 }
 
 // How much two prices differ.
 fn difference(from: i128, to: i128) -> i128
-    requires from { unsigned_abs from ≤ 2 ^ 120 }
-    requires to { unsigned_abs to ≤ 2 ^ 120 }
+    requires from { IsPrice from }
+    requires to { IsPrice to }
     ensures { result ≡ pos (unsigned_abs (to -ℤ from)) }
 {
     (to - from).abs()

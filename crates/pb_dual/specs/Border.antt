@@ -1,15 +1,15 @@
 -- Inside. A group's own view of the measured streams at its border.
-use Rattle.std.specs.Prelude.{◌≡◌, ◌≢◌, ◌==◌, ◌^◌, ◌<◌, ◌≤◌, ℕ, suc, ℤ, pos, neg_ℤ, ◌+ℤ◌, ◌-ℤ◌, ◌*ℤ◌, ◌≤ℤ◌, unsigned_abs, Bool, not, List, All, map, [], ◌∷◌, ◌++◌, length, get_or, Option, Some, None, if◌then◌else◌}
+use Rattle.std.specs.Prelude.{◌≡◌, ◌≢◌, ◌==◌, ◌<◌, ◌≤◌, ℕ, suc, ℤ, pos, neg_ℤ, ◌+ℤ◌, ◌-ℤ◌, ◌*ℤ◌, ◌≤ℤ◌, unsigned_abs, Bool, not, List, All, map, [], ◌∷◌, ◌++◌, length, get_or, Option, Some, None, if◌then◌else◌}
 use Rattle.std.specs.Int.{int_max, int_min}
 use Rattle.std.specs.List.{AllByRecursion}
 use Rattle.std.specs.Option.{option_to_list}
-use Rattle.pb_limits.specs.Limits.{most_streams, most_value, most_variance}
+use Rattle.pb_limits.specs.Limits.{most_price, most_streams, most_value, most_variance}
 use Rattle.pb_integers.specs.Sums.{item, sum_over}
 use Rattle.pb_graph.specs.declared.records.Meas.{Meas}
 use Rattle.pb_graph.specs.declared.records.Stream.{Stream}
 use Rattle.pb_graph.specs.ProcessGraph.{IsProcessGraph}
 use Rattle.pb_graph.specs.Groups.{AreGroups, group_at, group_count}
-use Rattle.pb_graph.specs.Prices.{PricesFit}
+use Rattle.pb_graph.specs.Prices.{PricesFit, most_adjustment}
 use Rattle.pb_dual.specs.declared.border.BorderStream.{BorderStream}
 use Rattle.pb_dual.specs.DualValue.{scale, dual_flows_of}
 use Rattle.pb_dual.specs.Candidates.{room_of}
@@ -86,8 +86,8 @@ pub record IsBorderStream (prices : List ℤ) (k : ℕ) (a : BorderStream) : Typ
   pub size : unsigned_abs a.value ≤ most_value
   pub least : pos 1 ≤ℤ a.variance
   pub greatest : a.variance ≤ℤ pos most_variance
-  pub space : unsigned_abs a.room ≤ 2 ^ 112
-  pub box : unsigned_abs (a.variance *ℤ border_rise prices k a) ≤ 2 ^ 112
+  pub space : unsigned_abs a.room ≤ most_adjustment
+  pub box : unsigned_abs (a.variance *ℤ border_rise prices k a) ≤ most_adjustment
 
 -- the border of group k, of no more streams than a graph has
 pub record AreBorder (prices : List ℤ) (k : ℕ) (border : List BorderStream) : Type 0 where
@@ -106,12 +106,12 @@ pub record AreBorders (group : List ℕ) (streams : List Stream) (borders : List
   pub each : length borders ≡ group_count group
   pub are : (k : ℕ) → k < length borders → get_or borders k [] ≡ border_of group k streams
   pub variance : variances ≡ map border_variance borders
-  pub room : rooms ≡ map (border_room (pos (2 ^ 112))) borders
+  pub room : rooms ≡ map (border_room (pos most_adjustment)) borders
 
 -- a number that no price exceeds, either way
 pub record IsGreatest (greatest : ℤ) (prices : List ℤ) : Type 0 where
   pub from : pos 0 ≤ℤ greatest
-  pub to : greatest ≤ℤ pos (2 ^ 120)
+  pub to : greatest ≤ℤ pos most_price
   pub above : All (λ p. pos (unsigned_abs p) ≤ℤ greatest) prices
 
 -- what is kept with prices: each stream's dual flow at them, the borders of the groups, and a number that no price exceeds

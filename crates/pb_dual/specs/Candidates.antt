@@ -1,17 +1,19 @@
 -- Statement. The candidates for the price of one group, and the best of them.
-use Rattle.std.specs.Prelude.{◌==◌, ◌^◌, ℕ, ℤ, pos, neg_ℤ, ◌+ℤ◌, ◌-ℤ◌, List, [], ◌∷◌, Option, Some, None, if◌then◌else◌}
+use Rattle.std.specs.Prelude.{◌==◌, ℕ, ℤ, pos, neg_ℤ, ◌+ℤ◌, ◌-ℤ◌, List, [], ◌∷◌, Option, Some, None, if◌then◌else◌}
 use Rattle.std.specs.Int.{int_max, int_min}
+use Rattle.pb_limits.specs.Limits.{most_price}
 use Rattle.pb_fixed.specs.Quotients.{floor_div}
 use Rattle.pb_graph.specs.declared.records.Meas.{Meas}
 use Rattle.pb_graph.specs.declared.records.Stream.{Stream}
 use Rattle.pb_graph.specs.Groups.{group_at, has_one_end}
+use Rattle.pb_graph.specs.Prices.{most_adjustment}
 use Rattle.pb_dual.specs.DualValue.{dual_value}
 use Rattle.pb_dual.specs.Moves.{with_price}
 use Rattle.pb_dual.specs.Best.{best}
 
 -- the most by which the prices at the ends of a stream of this variance may differ
 abbrev pub room_of : ℤ → ℤ
-room_of variance = floor_div (pos (2 ^ 112)) variance
+room_of variance = floor_div (pos most_adjustment) variance
 
 -- the price at the other end of a stream with exactly one end in group k
 abbrev pub other_price : List ℕ → (ℕ → ℤ) → ℕ → Stream → ℤ
@@ -44,10 +46,10 @@ high_from group price k hi (s ∷ ss) = high_from group price k (lowered_at grou
 
 -- The candidates for the price of group k, the other prices held, are the whole numbers from the least to the greatest one.
 abbrev pub least_candidate : List ℕ → (ℕ → ℤ) → ℕ → List Stream → ℤ
-least_candidate group price k ss = low_from group price k (neg_ℤ (pos (2 ^ 120))) ss
+least_candidate group price k ss = low_from group price k (neg_ℤ (pos most_price)) ss
 
 abbrev pub greatest_candidate : List ℕ → (ℕ → ℤ) → ℕ → List Stream → ℤ
-greatest_candidate group price k ss = high_from group price k (pos (2 ^ 120)) ss
+greatest_candidate group price k ss = high_from group price k (pos most_price) ss
 
 -- The best price of group k, the other prices held: the least candidate of greatest dual value.
 abbrev pub best_price : List ℕ → (ℕ → ℤ) → ℕ → List Stream → ℤ

@@ -5,7 +5,7 @@ use Rattle.pb_limits.specs.Limits.{most_value}
 use Rattle.pb_integers.specs.Sums.{sum_over}
 use Rattle.pb_graph.specs.declared.records.Meas.{Meas}
 use Rattle.pb_graph.specs.declared.records.Stream.{Stream}
-use Rattle.pb_graph.specs.Prices.{rise_of}
+use Rattle.pb_graph.specs.Prices.{most_adjustment, rise_of}
 
 -- a gram has 2^56 units of dual flow
 abbrev pub scale : ℤ
@@ -26,7 +26,7 @@ dual_flows_of price streams = map (dual_flow price) streams
 
 -- the greatest dual flow of prices that fit, either way: that of the greatest value, and the box
 abbrev pub most_dual_flow : ℕ
-most_dual_flow = most_value * 2 ^ 56 + 2 ^ 112
+most_dual_flow = most_value * 2 ^ 56 + most_adjustment
 
 -- what a measurement along which the price rises by d takes from the dual value
 abbrev pub cost_at : Option Meas → ℤ → ℤ

@@ -3,7 +3,9 @@
 ghost use Rattle.std.specs.Prelude.{◌≡◌, ◌*◌, ◌^◌, ◌<◌, ◌≤◌, pos, neg_ℤ, ◌+ℤ◌, ◌-ℤ◌, ◌*ℤ◌, ◌≤ℤ◌, ◌<ℤ◌, ◌↔◌, IsTrue, unsigned_abs, if◌then◌else◌};
 ghost use Rattle.std.specs.Int.{int_max, int_min};
 ghost use Rattle.pb_fixed.specs.Quotients.{nearest_div};
-ghost use Rattle.pb_limits.specs.Limits.{most_streams, most_value};
+ghost use Rattle.pb_limits.specs.Limits.{most_price, most_streams, most_value};
+ghost use Rattle.pb_graph.specs.WellFormed.{IsPrice};
+ghost use Rattle.pb_graph.specs.Prices.{most_adjustment};
 ghost use Rattle.pb_dual.specs.DualValue.{scale, most_dual_flow};
 ghost use Rattle.pb_dual.specs.Best.{clamped};
 
@@ -14,8 +16,8 @@ pub const SCALE: i128 = 1 << 56;
 
 /// How much the price rises from one end of a stream to the other.
 pub fn rise(from: i128, to: i128) -> i128
-    requires from { unsigned_abs from ≤ 2 ^ 120 }
-    requires to { unsigned_abs to ≤ 2 ^ 120 }
+    requires from { IsPrice from }
+    requires to { IsPrice to }
     ensures { result ≡ to -ℤ from }
 {
     to - from
@@ -33,7 +35,7 @@ pub fn scaled(value: i128) -> i128
 /// The dual flow of a measurement along which the price rises.
 pub fn flow(value: i128, variance: i128, rise: i128) -> i128
     requires value { unsigned_abs value ≤ most_value }
-    requires in_box { unsigned_abs (variance *ℤ rise) ≤ 2 ^ 112 }
+    requires in_box { unsigned_abs (variance *ℤ rise) ≤ most_adjustment }
     ensures value { result ≡ (scale *ℤ value) +ℤ (variance *ℤ rise) }
     ensures within { unsigned_abs result ≤ most_dual_flow }
 {
@@ -42,8 +44,8 @@ pub fn flow(value: i128, variance: i128, rise: i128) -> i128
 
 /// A lower bound, raised to a price less a room.
 pub fn raised(lo: i128, price: i128, room: i128) -> i128
-    requires price { unsigned_abs price ≤ 2 ^ 120 }
-    requires room { unsigned_abs room ≤ 2 ^ 112 }
+    requires price { IsPrice price }
+    requires room { unsigned_abs room ≤ most_adjustment }
     ensures { result ≡ int_max lo (price -ℤ room) }
 {
     lo.max(price - room)
@@ -51,8 +53,8 @@ pub fn raised(lo: i128, price: i128, room: i128) -> i128
 
 /// An upper bound, lowered to a price and a room.
 pub fn lowered(hi: i128, price: i128, room: i128) -> i128
-    requires price { unsigned_abs price ≤ 2 ^ 120 }
-    requires room { unsigned_abs room ≤ 2 ^ 112 }
+    requires price { IsPrice price }
+    requires room { unsigned_abs room ≤ most_adjustment }
     ensures { result ≡ int_min hi (price +ℤ room) }
 {
     hi.min(price + room)
@@ -61,7 +63,7 @@ pub fn lowered(hi: i128, price: i128, room: i128) -> i128
 /// The whole price nearest to the peak of the dual value along a group's price, the lower one of two:
 /// the present price less the nearest quotient of the net dual flow by the variance.
 pub fn peak(price: i128, net: i128, variance: i128) -> i128
-    requires price { unsigned_abs price ≤ 2 ^ 120 }
+    requires price { IsPrice price }
     requires net { unsigned_abs net < 2 ^ 125 }
     requires positive { pos 0 <ℤ variance }
     requires variance { variance <ℤ pos (2 ^ 125) }
@@ -75,7 +77,7 @@ pub fn peak(price: i128, net: i128, variance: i128) -> i128
 pub fn is_within(price: i128, greatest: i128, room: i128) -> bool
     requires price { unsigned_abs price < 2 ^ 126 }
     requires greatest_from { pos 0 ≤ℤ greatest }
-    requires greatest_to { greatest ≤ℤ pos (2 ^ 120) }
+    requires greatest_to { greatest ≤ℤ pos most_price }
     ensures { IsTrue result ↔ ((pos (unsigned_abs price) +ℤ greatest) ≤ℤ room) }
 {
     price.abs() + greatest <= room
@@ -83,7 +85,7 @@ pub fn is_within(price: i128, greatest: i128, room: i128) -> bool
 
 /// The greater of a number and the size of a price.
 pub fn greater(greatest: i128, price: i128) -> i128
-    requires { unsigned_abs price ≤ 2 ^ 120 }
+    requires { IsPrice price }
     ensures { result ≡ int_max greatest (pos (unsigned_abs price)) }
 {
     greatest.max(price.abs())

@@ -1,22 +1,22 @@
 // Passes over the border of one group.
 
 ghost use Rattle.std.specs.Prelude.{◌≡◌, ◌*◌, ◌^◌, ◌<◌, ◌≤◌, ℤ, pos, neg_ℤ, List, length, All, unsigned_abs};
-ghost use Rattle.pb_limits.specs.Limits.{most_streams};
+ghost use Rattle.pb_limits.specs.Limits.{most_price, most_streams};
+ghost use Rattle.pb_graph.specs.WellFormed.{IsPrice};
+ghost use Rattle.pb_graph.specs.Prices.{most_adjustment};
 ghost use Rattle.pb_dual.specs.DualValue.{most_dual_flow};
 ghost use Rattle.pb_dual.specs.Best.{clamped};
 ghost use Rattle.pb_dual.specs.Border.{IsBorderStream, AreBorder, IsGreatest, HaveFlows, AreSameElsewhere, border_rise, border_stream_flow, inflow_of, border_flow, border_room, border_low, border_high};
 
 use crate::arithmetic::{flow, into_interval, is_within, lowered, raised, rise};
 use crate::border::BorderStream;
-
-// The greatest price.
-const MOST_PRICE: i128 = 1 << 120;
+use pb_graph::MOST_PRICE;
 
 // How much the price rises along a stream at the border of a group.
 fn rise_along(stream: &BorderStream, prices: &[i128], group: u32) -> i128
     requires group { group < length prices.now }
     requires stream { IsBorderStream prices.now group stream.now }
-    requires small { All (λ p. unsigned_abs p ≤ 2 ^ 120) prices.now }
+    requires small { All IsPrice prices.now }
     ensures { result ≡ border_rise prices.now group stream.now }
 {
     let own = prices[group as usize];
@@ -32,7 +32,7 @@ fn rise_along(stream: &BorderStream, prices: &[i128], group: u32) -> i128
 fn flow_along(stream: &BorderStream, prices: &[i128], group: u32) -> i128
     requires group { group < length prices.now }
     requires stream { IsBorderStream prices.now group stream.now }
-    requires small { All (λ p. unsigned_abs p ≤ 2 ^ 120) prices.now }
+    requires small { All IsPrice prices.now }
     ensures { result ≡ border_stream_flow prices.now group stream.now }
 {
     flow(
@@ -46,7 +46,7 @@ fn flow_along(stream: &BorderStream, prices: &[i128], group: u32) -> i128
 pub fn write_flows(border: &[BorderStream], prices: &[i128], group: u32, flows: &mut [i128])
     requires group { group < length prices.now }
     requires border { AreBorder prices.now group border.now }
-    requires small { All (λ p. unsigned_abs p ≤ 2 ^ 120) prices.now }
+    requires small { All IsPrice prices.now }
     requires there { All (λ a. a.stream < length flows.old) border.now }
     ensures { (others : List ℤ) → length others ≡ length flows.old
         → HaveFlows prices.now group border.now others
@@ -87,8 +87,8 @@ pub fn net_flow(border: &[BorderStream], flows: &[i128]) -> i128
 // The least price of a group that its border allows.
 fn lowest(border: &[BorderStream], prices: &[i128], group: u32) -> i128
     requires border { AreBorder prices.now group border.now }
-    requires small { All (λ p. unsigned_abs p ≤ 2 ^ 120) prices.now }
-    ensures { result ≡ border_low prices.now (neg_ℤ (pos (2 ^ 120))) border.now }
+    requires small { All IsPrice prices.now }
+    ensures { result ≡ border_low prices.now (neg_ℤ (pos most_price)) border.now }
 {
     let mut lo = -MOST_PRICE;
     for stream in border {
@@ -100,8 +100,8 @@ fn lowest(border: &[BorderStream], prices: &[i128], group: u32) -> i128
 // The greatest price of a group that its border allows.
 fn highest(border: &[BorderStream], prices: &[i128], group: u32) -> i128
     requires border { AreBorder prices.now group border.now }
-    requires small { All (λ p. unsigned_abs p ≤ 2 ^ 120) prices.now }
-    ensures { result ≡ border_high prices.now (pos (2 ^ 120)) border.now }
+    requires small { All IsPrice prices.now }
+    ensures { result ≡ border_high prices.now (pos most_price) border.now }
 {
     let mut hi = MOST_PRICE;
     for stream in border {
@@ -123,11 +123,11 @@ pub fn into_box(
 ) -> i128
     requires price { unsigned_abs price < 2 ^ 126 }
     requires border { AreBorder prices.now group border.now }
-    requires room { room ≡ border_room (pos (2 ^ 112)) border.now }
+    requires room { room ≡ border_room (pos most_adjustment) border.now }
     requires greatest { IsGreatest greatest prices.now }
     ensures { result
-        ≡ clamped (border_low prices.now (neg_ℤ (pos (2 ^ 120))) border.now)
-        (border_high prices.now (pos (2 ^ 120)) border.now) price }
+        ≡ clamped (border_low prices.now (neg_ℤ (pos most_price)) border.now)
+        (border_high prices.now (pos most_price) border.now) price }
 {
     if is_within(price, greatest, room) {
         return price;

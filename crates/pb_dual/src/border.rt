@@ -5,11 +5,12 @@ ghost use Rattle.std.specs.Option.{option_to_list};
 ghost use Rattle.pb_limits.specs.Limits.{most_streams};
 ghost use Rattle.pb_graph.specs.ProcessGraph.{IsStream, IsWithinLimits};
 ghost use Rattle.pb_graph.specs.Groups.{is_one_end};
+ghost use Rattle.pb_graph.specs.Prices.{most_adjustment};
 ghost use Rattle.pb_dual.specs.Candidates.{room_of};
 ghost use Rattle.pb_dual.specs.Border.{HasLimits, seen_at, border_of, border_variance, border_room};
 
 use pb_fixed::div_floor;
-use pb_graph::{List, Stream};
+use pb_graph::{List, MOST_ADJUSTMENT, Stream};
 use std::alloc::{AllocError, Global};
 
 /// A measured stream with exactly one end in a group, seen from that group.
@@ -26,15 +27,12 @@ pub struct BorderStream {
     pub room: i128,
 }
 
-// The most that a variance times a difference of prices may be.
-const BOX: i128 = 1 << 112;
-
 // The most by which the prices at the ends of a stream of this variance may differ.
 fn room(variance: i128) -> i128
     requires { pos 0 <ℤ variance }
     ensures { result ≡ room_of variance }
 {
-    div_floor(BOX, variance)
+    div_floor(MOST_ADJUSTMENT, variance)
 }
 
 // Whether exactly one of two ends is in group `k`.
@@ -180,9 +178,9 @@ fn variance(border: &[BorderStream]) -> i128
 
 // The least room at a border, at most that of the least variance.
 fn least_room(border: &[BorderStream]) -> i128
-    ensures { result ≡ border_room (pos (2 ^ 112)) border.now }
+    ensures { result ≡ border_room (pos most_adjustment) border.now }
 {
-    let mut least = BOX;
+    let mut least = MOST_ADJUSTMENT;
     for stream in border {
         least = least.min(stream.room);
     }
@@ -204,7 +202,7 @@ pub fn variances(alloc: Global, borders: &[List<BorderStream>]) -> Result<Vec<i1
 
 /// The least room at each border.
 pub fn least_rooms(alloc: Global, borders: &[List<BorderStream>]) -> Result<Vec<i128>, AllocError>
-    ensures { IfOk result (λ v. v.items ≡ map (border_room (pos (2 ^ 112))) borders.now) }
+    ensures { IfOk result (λ v. v.items ≡ map (border_room (pos most_adjustment)) borders.now) }
 {
     let mut rooms = Vec::new(alloc);
     for border in borders {

@@ -4,7 +4,7 @@ ghost use Rattle.std.specs.Prelude.{◌≡◌, ◌≢◌, ℕ, suc, ◌*◌, ◌
 ghost use Rattle.pb_limits.specs.Limits.{most_nodes, most_streams};
 ghost use Rattle.pb_graph.specs.ProcessGraph.{IsWithinLimits};
 ghost use Rattle.pb_graph.specs.Groups.{AreGroups, group_count, is_free_group};
-ghost use Rattle.pb_graph.specs.Prices.{PricesFit};
+ghost use Rattle.pb_graph.specs.Prices.{PricesFit, most_adjustment};
 ghost use Rattle.pb_dual.specs.DualValue.{flow_at, dual_flow, dual_flows_of, dual_value, most_dual_flow};
 ghost use Rattle.pb_dual.specs.Moves.{with_price, group_flow};
 ghost use Rattle.pb_dual.specs.Candidates.{best_price};
@@ -12,6 +12,7 @@ ghost use Rattle.pb_dual.specs.Sweeps.{stepped, sweep_of, prices_after};
 ghost use Rattle.pb_dual.specs.Priced.{price_of};
 ghost use Rattle.pb_dual.specs.Border.{IsPriced};
 ghost use Rattle.pb_graph.specs.declared.records.Stream.{Stream};
+ghost use Rattle.pb_graph.specs.WellFormed.{IsPrice};
 
 use crate::arithmetic::{flow, greater, peak, rise};
 use crate::best::{into_box, net_flow, write_flows};
@@ -68,10 +69,10 @@ fn count(group: &[u32]) -> u32
 /// unmeasured.
 pub fn dual_flow(stream: &Stream, from: i128, to: i128) -> i128
     requires limits { IsWithinLimits stream.now }
-    requires from { unsigned_abs from ≤ 2 ^ 120 }
-    requires to { unsigned_abs to ≤ 2 ^ 120 }
+    requires from { IsPrice from }
+    requires to { IsPrice to }
     requires in_box { IfSome stream.now.meas
-        (λ m. unsigned_abs (m.variance *ℤ (to -ℤ from)) ≤ 2 ^ 112) }
+        (λ m. unsigned_abs (m.variance *ℤ (to -ℤ from)) ≤ most_adjustment) }
     ensures value { result ≡ flow_at stream.now.meas (to -ℤ from) }
     ensures within { unsigned_abs result ≤ most_dual_flow }
 {
@@ -151,7 +152,7 @@ impl<'a> Dual<'a> {
     pub fn price(&self, group: u32) -> i128
         requires { group < group_count self.now.group }
         ensures value { result ≡ get_or self.now.prices group (pos 0) }
-        ensures within { unsigned_abs result ≤ 2 ^ 120 }
+        ensures within { IsPrice result }
         ensures fit { PricesFit self.now.graph (price_of self.now) }
     {
         self.prices[group as usize]
@@ -161,7 +162,7 @@ impl<'a> Dual<'a> {
     pub fn price_at(&self, node: u32) -> i128
         requires { node < self.now.graph.nodes }
         ensures value { result ≡ price_of self.now node }
-        ensures within { unsigned_abs result ≤ 2 ^ 120 }
+        ensures within { IsPrice result }
     {
         self.price(self.group[node as usize])
     }
@@ -210,7 +211,7 @@ impl<'a> Dual<'a> {
         requires free { is_free_group self.now.group self.now.graph.streams group ≡ true }
         ensures value { result
             ≡ best_price self.now.group (price_of self.now) group self.now.graph.streams }
-        ensures within { unsigned_abs result ≤ 2 ^ 120 }
+        ensures within { IsPrice result }
         ensures fit { PricesFit self.now.graph
             (with_price self.now.group (price_of self.now) group result) }
         ensures ascent { dual_value (price_of self.now) self.now.graph.streams
@@ -237,7 +238,7 @@ impl<'a> Dual<'a> {
     // Gives a group a price that fits.
     fn set_price(&mut self, group: u32, price: i128)
         requires group { group < group_count self.old.group }
-        requires within { unsigned_abs price ≤ 2 ^ 120 }
+        requires within { IsPrice price }
         requires fit { PricesFit self.old.graph
             (with_price self.old.group (price_of self.old) group price) }
         ensures price { price_of self.new

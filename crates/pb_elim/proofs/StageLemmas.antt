@@ -152,7 +152,6 @@ pub record AreNarrow (stage : Stage) : Type 0 where
   pub prices : All IsPrice stage.prices
   pub g : stage.g ≤ 2 ^ 63
   pub h : stage.h ≤ 32
-  pub dof : stage.dof ≤ length stage.graph.streams
   pub low : IsWide stage.low
   pub high : IfSome stage.high IsWide
   pub untested : stage.tests ≡ None

@@ -1,6 +1,6 @@
 -- A study is well formed by its definition: each number of a stage is within its range.
-use Rattle.std.proofs.Common.{◌≡◌, ◌∙◌, ℕ, zero, suc, ◌+◌, ◌^◌, ◌<◌, ◌≤◌, ℤ, pos, ◌-ℤ◌, ◌≤ℤ◌, Bool, true, false, List, [], ◌∷◌, length, take, Option, Some, None, slice_get, get_or, All, sym, ap, subst, arith}
-use Rattle.std.specs.Prelude.{IfSome, ◌&&◌, option_map, if◌then◌else◌}
+use Rattle.std.proofs.Common.{◌≡◌, ◌∙◌, ℕ, zero, suc, ◌^◌, ◌<◌, ℤ, pos, ◌-ℤ◌, ◌≤ℤ◌, Bool, true, false, List, [], ◌∷◌, length, take, Option, Some, None, slice_get, get_or, All, sym, ap, subst, arith}
+use Rattle.std.specs.Prelude.{IfSome, option_map, if◌then◌else◌}
 use Rattle.std.specs.Int.{int_max}
 use Rattle.std.proofs.lemmas.Int.{ints}
 use Rattle.std.proofs.lemmas.List.{get_or_default, length-map}
@@ -21,12 +21,11 @@ use Rattle.pb_graph.specs.declared.results.Stage.{Stage}
 use Rattle.pb_graph.specs.declared.results.Taken.{Taken}
 use Rattle.pb_graph.specs.declared.results.Options.{Options}
 use Rattle.pb_graph.specs.declared.results.Critical.{Critical}
-use Rattle.pb_graph.specs.ProcessGraph.{ProcessGraph, IsProcessGraph, is_measured}
+use Rattle.pb_graph.specs.ProcessGraph.{ProcessGraph, IsProcessGraph}
 use Rattle.pb_graph.specs.Prices.{PricesFit}
 use Rattle.pb_graph.specs.Groups.{group_count, is_free_group}
 use Rattle.pb_graph.specs.WellFormed.{AreBoundsWithin, AreTestsWithin, HasShapeOf, IsFlow, IsMeasureWithin, IsNodalWithin, IsPrice, IsResultWithin, IsTakenWithin, IsWellFormed, IsWide}
 use Rattle.pb_graph.proofs.CertificateLemmas.{witness_within}
-use Rattle.pb_forest.specs.Forest.{degrees_of_freedom}
 use Rattle.pb_dual.specs.Laws.{AscentLaw}
 use Rattle.pb_gap.specs.declared.gap.Gap.{Gap}
 use Rattle.pb_gap.specs.Gap.{gap_of}
@@ -114,15 +113,6 @@ result_within laws options stage j r is fitted at =
       bounds = subst (λ (o : Option Bounds). IfSome o AreBoundsWithin) (sym same) bounds;
       least = subst (λ (o : Option Bounds). IfSome o AreBoundsWithin) (sym least_same) least;
     }
-
-count_more : (b : Bool) (n m : ℕ) → n ≤ m → (if b then 1 else 0) + n ≤ suc m
-count_more true n m le = omega (arith, le)
-count_more false n m le = omega (arith, le)
-
-freedom_most : (ss : List Stream) (held : List Bool) → degrees_of_freedom ss held ≤ length ss
-freedom_most [] held = omega arith
-freedom_most (s ∷ ss) [] = omega arith
-freedom_most (s ∷ ss) (b ∷ held) = count_more (is_measured s && b) (degrees_of_freedom ss held) (length ss) (freedom_most ss held)
 
 -- ---- nodal tests
 -- each has the critical value that is given

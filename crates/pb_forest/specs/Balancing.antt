@@ -1,10 +1,11 @@
 -- Inside. How flows are balanced: net flows are kept at the branches, from the leaves of each tree to its root.
-use Rattle.std.specs.Prelude.{◌≡◌, ◌≢◌, ℕ, zero, suc, ◌<◌, ◌≤◌, ◌^◌, ℤ, pos, neg_ℤ, ◌+ℤ◌, Bool, false, ◌==◌, List, [], ◌∷◌, ◌++◌, length, map, Option, Some, None, get_or, set, unsigned_abs, if◌then◌else◌}
+use Rattle.std.specs.Prelude.{◌≡◌, ◌≢◌, ℕ, zero, suc, ◌<◌, ◌≤◌, ℤ, pos, neg_ℤ, ◌+ℤ◌, Bool, false, ◌==◌, List, [], ◌∷◌, ◌++◌, length, map, Option, Some, None, get_or, set, if◌then◌else◌}
 use Rattle.pb_integers.specs.Sums.{sum_below, item}
 use Rattle.pb_graph.specs.declared.records.Stream.{Stream}
 use Rattle.pb_graph.specs.ProcessGraph.{ProcessGraph, IsProcessGraph, some_stream}
 use Rattle.pb_graph.specs.Groups.{entering}
 use Rattle.pb_graph.specs.Balance.{brought_to}
+use Rattle.pb_graph.specs.WellFormed.{IsFlow}
 pub use Rattle.pb_forest.specs.declared.chords.Chord.{Chord}
 pub use Rattle.pb_forest.specs.declared.branches.Branch.{Branch}
 use Rattle.pb_forest.specs.Forest.{IsForest}
@@ -107,7 +108,7 @@ pub record AreNets (streams : List Stream) (held : List Bool) (off : List ℤ) (
 pub record AreBalancedFrom (streams : List Stream) (held : List Bool) (off : List ℤ) (trees : RootedTrees) (i : ℕ) (out : List ℤ) : Type 0 where
   pub each : length out ≡ length streams
   pub agree : AgreeOffForest held out off
-  pub small : (k : ℕ) → unsigned_abs (item out k) < 2 ^ 68
+  pub small : (k : ℕ) → IsFlow (item out k)
   pub flow : ℕ → ℤ
   pub waits : (b e : ℕ) → b < i → up_of trees (node_at trees b) ≡ Some e → flow e ≡ pos 0
   pub decided : (k : ℕ) → k < length streams → ((b : ℕ) → b < i → up_of trees (node_at trees b) ≢ Some k) → flow k ≡ item out k

@@ -78,7 +78,7 @@ fn gather(chords: &[Chord], off: &[i128], out: &mut [i128])
 // Balances a node: its branch takes its net flow, which the parent's net flow grows by.
 fn settle(branch: &Option<Branch>, out: &mut [i128])
     requires there { (b : Branch) → branch.now ≡ Some b → IsBranchWithin (length out.old) b }
-    requires nets { All (λ v. unsigned_abs v < 2 ^ 68) out.old }
+    requires nets { All IsFlow out.old }
     ensures { out.new ≡ settled_by branch.now out.old }
 {
     if let Some(branch) = branch {

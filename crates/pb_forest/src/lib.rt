@@ -16,6 +16,6 @@ mod trees;
 
 pub use forest::Forest;
 pub use laws::{
-    acyclic_law, chord_law, few_held_law, one_balanced_law, one_forest_law, part_law, some_balanced_law,
-    some_forest_law, some_path_law, spans_law, unique_law,
+    acyclic_law, chord_law, few_held_law, one_balanced_law, one_forest_law, part_law,
+    some_balanced_law, some_forest_law, some_path_law, spans_law, unique_law,
 };

@@ -1,23 +1,26 @@
 -- A record is of one kind: no two schemas of a table have their words and their number of fields in common.
-use Rattle.std.specs.Prelude.{◌&&◌, ◌||◌, ◌==◌, bytes_eq, nat_lt, not, position, slice_get, Some, Option, Result, Ok, Err, if◌then◌else◌}
+use Rattle.std.specs.Prelude.{◌&&◌, ◌||◌, ◌==◌, bytes_eq, filter, map, nat_lt, not, position, slice_get, Some, Option, Result, Ok, Err, if◌then◌else◌}
 use Rattle.std.specs.List.{list_all, prefix_len}
 use Rattle.std.specs.Option.{option_map}
-use Rattle.std.proofs.Common.{◌≡◌, ◌∙◌, ◌<◌, ℕ, zero, suc, Bool, true, false, List, [], ◌∷◌, length, refl, sym, ap, subst, arith, inl, inr}
-use Rattle.std.proofs.lemmas.Bool.{and_parts, cases_Bool, ne_eqb}
+use Rattle.std.proofs.Common.{◌≡◌, ◌∙◌, ◌<◌, ◌≤◌, ◌⊎◌, ◌+◌, ◌-◌, ℕ, zero, suc, Bool, true, false, List, [], ◌∷◌, length, drop, length-drop, get_or, take, refl, sym, ap, subst, arith, inl, inr}
+use Rattle.std.proofs.lemmas.Bool.{and_parts, cases_Bool, cases_lt, ne_eqb}
 use Rattle.std.proofs.lemmas.Bool.Decides.{nat_tests}
-use Rattle.std.proofs.lemmas.Option.{slice_get-map}
+use Rattle.std.proofs.lemmas.List.{drop-map, get_or-drop, take_all}
+use Rattle.std.proofs.lemmas.Option.{slice_get-get_or, slice_get-map}
 use Rattle.std.proofs.lemmas.Slice.Eq.{bytes_eq-Decides}
 use Rattle.pb_rows.specs.Records.{without_trailing_empty}
-use Rattle.pb_form.proofs.PartsLemmas.{just_count, parts_of, read_parts}
+use Rattle.pb_form.proofs.PartsLemmas.{IsRead, has_columns, just_count, parts_of, read_parts}
 use Rattle.pb_form.proofs.TableLemmas.{passes_at}
 use Rattle.pb_form.specs.Columns.{Column, Schema}
 use Rattle.pb_form.specs.Field.{field_read, found, held_in}
 use Rattle.pb_form.specs.Holds as holds
 use Rattle.pb_form.specs.Laws.{OneKindLaw}
-use Rattle.pb_form.specs.Reading.{fields_read, has_count, row_read}
-use Rattle.pb_form.specs.SessionRows.{kind_at, kind_in, session_columns, session_kinds, session_schema, session_schemas, session_told}
-use Rattle.pb_form.specs.Telling.{agrees, has_word, is_of, told_at}
+use Rattle.pb_form.specs.Reading.{fields_read, has_count, repeated, row_read}
+use Rattle.pb_form.specs.SessionRows.{is_of_version_1, is_of_version_2, kind_at, kind_in, kinds_of_version_1, kinds_of_version_2, session_columns, session_kinds, session_schema, session_schemas, session_tail, session_told}
+use Rattle.pb_form.specs.Seen.{schema_seen}
+use Rattle.pb_form.specs.Telling.{agrees, has_word, is_of, schema_told, told_at}
 use Rattle.pb_form.specs.Value.{Value, Word}
+use Rattle.pb_form.specs.declared.column.Schema as coded
 use Rattle.pb_form.specs.declared.fault.FormFault.{FormFault}
 use Rattle.pb_form.specs.declared.fault.FormFault.TheVariants as fault
 use Rattle.pb_form.specs.declared.session.SessionKind.{SessionKind}
@@ -70,11 +73,18 @@ abbrev other_word : holds.Holds → holds.Holds → Bool
 other_word (holds.Word (a ∷ [])) (holds.Word (b ∷ [])) = not (bytes_eq a b)
 other_word a b = false
 
--- two lists of columns have other words, or another number of columns
-abbrev differ : List Column → List Column → Bool
-differ (a ∷ xs) (b ∷ ys) = other_word a.holds b.holds || differ xs ys
-differ [] [] = false
-differ xs ys = true
+-- two lists of columns take other words at some place
+abbrev other_words : List Column → List Column → Bool
+other_words (a ∷ xs) (b ∷ ys) = other_word a.holds b.holds || other_words xs ys
+other_words xs ys = false
+
+-- two schemas without tails have another number of columns
+abbrev other_count : Schema → Schema → Bool
+other_count a b = ((length a.tail == 0) && (length b.tail == 0)) && not (length a.columns == length b.columns)
+
+-- two schemas have other words, or another number of columns
+abbrev differ : Schema → Schema → Bool
+differ a b = other_words a.columns b.columns || other_count a b
 
 same_word : (a b field : List ℕ) → bytes_eq field a ≡ true → bytes_eq field b ≡ true → not (bytes_eq a b) ≡ false
 same_word a b field one other =
@@ -100,42 +110,58 @@ no_other_word (holds.Number lo hi) b field one other = refl
 no_other_word holds.Date b field one other = refl
 no_other_word holds.Items b field one other = refl
 
-alike : (xs ys : List Column) (fields : List (List ℕ)) → length fields ≡ length xs → length fields ≡ length ys → agrees xs fields ≡ true → agrees ys fields ≡ true
-    → differ xs ys ≡ false
-alike [] [] fields m n one other = refl
-alike [] (b ∷ ys) fields m n one other = absurd (omega (arith, m, n))
-alike (a ∷ xs) [] fields m n one other = absurd (omega (arith, m, n))
+alike : (xs ys : List Column) (fields : List (List ℕ)) → length xs ≤ length fields → length ys ≤ length fields → agrees xs fields ≡ true → agrees ys fields ≡ true
+    → other_words xs ys ≡ false
+alike [] ys fields m n one other = refl
+alike (a ∷ xs) [] fields m n one other = refl
 alike (a ∷ xs) (b ∷ ys) [] m n one other = absurd (omega (arith, m))
 alike (a ∷ xs) (b ∷ ys) (field ∷ fields) m n one other =
     let x = and_parts (has_word a.holds field) (agrees xs fields) one in
     let y = and_parts (has_word b.holds field) (agrees ys fields) other in
     rw (no_other_word a.holds b.holds field x.0 y.0, alike xs ys fields (omega (arith, m)) (omega (arith, n)) x.1 y.1) refl
 
+no_tail : (tail : List Column) → (length tail == 0) ≡ true → tail ≡ []
+no_tail [] is = refl
+no_tail (column ∷ tail) is =
+    let some : (length (column ∷ tail) == 0) ≡ false = ne_eqb (length (column ∷ tail)) 0 (λ same. absurd (omega (arith, same))) in
+    cc (sym some ∙ is)
+
+one_count : (a b : Schema) (n : ℕ) → has_count a n ≡ true → has_count b n ≡ true → other_count a b ≡ false
+one_count a b n one other = by (length a.tail == 0) (length b.tail == 0) refl refl
+  where
+    by : (p q : Bool) → (length a.tail == 0) ≡ p → (length b.tail == 0) ≡ q → ((p && q) && not (length a.columns == length b.columns)) ≡ false
+    by true true is it =
+        let same : length a.columns ≡ length b.columns = sym (just_count a n (no_tail a.tail is) one) ∙ just_count b n (no_tail b.tail it) other in
+        let test : (length a.columns == length b.columns) ≡ true = grind (arith, nat_tests, same) in
+        rw test refl
+    by true false is it = refl
+    by false q is it = refl
+
 -- a record of two schemas
-of_both : (a b : Schema) (fields : List (List ℕ)) → a.tail ≡ [] → b.tail ≡ [] → is_of fields a ≡ true → is_of fields b ≡ true → differ a.columns b.columns ≡ false
-of_both a b fields no_tail none one other =
+of_both : (a b : Schema) (fields : List (List ℕ)) → is_of fields a ≡ true → is_of fields b ≡ true → differ a b ≡ false
+of_both a b fields one other =
     let x = and_parts (has_count a (length fields)) (agrees a.columns fields) one in
     let y = and_parts (has_count b (length fields)) (agrees b.columns fields) other in
-    alike a.columns b.columns fields (just_count a (length fields) no_tail x.0) (just_count b (length fields) none y.0) x.1 y.1
+    rw (alike a.columns b.columns fields (has_columns a (length fields) x.0) (has_columns b (length fields) y.0) x.1 y.1) (one_count a b (length fields) x.0 y.0)
 
 -- ---- a table of schemas
 
 -- a schema differs from each of the others
 abbrev all_differ : List Schema → Bool
 all_differ [] = true
-all_differ (schema ∷ schemas) = list_all (λ (other : Schema). differ schema.columns other.columns) schemas && all_differ schemas
+all_differ (schema ∷ schemas) = list_all (differ schema) schemas && all_differ schemas
 
 differ_at : (schemas : List Schema) (k i : ℕ) (a b : Schema) → all_differ schemas ≡ true → k < i → slice_get schemas k ≡ Some a → slice_get schemas i ≡ Some b
-    → differ a.columns b.columns ≡ true
+    → differ a b ≡ true
 differ_at [] k i a b all before at there = cc at
 differ_at (schema ∷ schemas) zero zero a b all before at there = absurd (omega (arith, before))
 differ_at (schema ∷ schemas) zero (suc i) a b all before at there =
-    let parts = and_parts (list_all (λ (other : Schema). differ schema.columns other.columns) schemas) (all_differ schemas) all in
+    let parts = and_parts (list_all (differ schema) schemas) (all_differ schemas) all in
     let same : schema ≡ a = cc at in
-    subst (λ (s : Schema). differ s.columns b.columns ≡ true) same (passes_at (λ (other : Schema). differ schema.columns other.columns) schemas i b parts.0 there)
+    subst (λ (s : Schema). differ s b ≡ true) same (passes_at (differ schema) schemas i b parts.0 there)
 differ_at (schema ∷ schemas) (suc k) zero a b all before at there = absurd (omega (arith, before))
 differ_at (schema ∷ schemas) (suc k) (suc i) a b all before at there =
-    let parts = and_parts (list_all (λ (other : Schema). differ schema.columns other.columns) schemas) (all_differ schemas) all in
+    let parts = and_parts (list_all (differ schema) schemas) (all_differ schemas) all in
     differ_at schemas k i a b parts.1 (omega (arith, before)) at there
 
 -- the first item that passes stands where one passes and none before it does
@@ -157,31 +183,23 @@ position_is p xs i at =
     let test : nat_lt i (length xs) ≡ true = grind (arith, nat_tests) in
     rw (at.0, test) refl
 
--- no schema of a table has a tail, or takes an empty field
-abbrev is_plain_schema : Schema → Bool
-is_plain_schema schema = (length schema.tail == 0) && list_all is_firm schema.columns
-
-no_tail : (tail : List Column) → (length tail == 0) ≡ true → tail ≡ []
-no_tail [] is = refl
-no_tail (column ∷ tail) is =
-    let some : (length (column ∷ tail) == 0) ≡ false = ne_eqb (length (column ∷ tail)) 0 (λ same. absurd (omega (arith, same))) in
-    cc (sym some ∙ is)
+-- no column of a schema takes an empty field
+abbrev has_firm_columns : Schema → Bool
+has_firm_columns schema = list_all is_firm schema.columns
 
 -- the place of a schema by which a record was read is the place of the first one that the record is of
-place_told : (schemas : List Schema) (i : ℕ) (schema : Schema) (values : List Value) (fields : List (List ℕ)) → all_differ schemas ≡ true → list_all is_plain_schema schemas ≡ true
+place_told : (schemas : List Schema) (i : ℕ) (schema : Schema) (values : List Value) (fields : List (List ℕ)) → all_differ schemas ≡ true → list_all has_firm_columns schemas ≡ true
     → slice_get schemas i ≡ Some schema → row_read schema fields ≡ Ok values → position (is_of fields) schemas ≡ Some i
-place_told schemas i schema values fields apart plain at reads =
+place_told schemas i schema values fields apart firm at reads =
     let read = read_parts schema values fields reads in
-    let tests = and_parts (length schema.tail == 0) (list_all is_firm schema.columns) (passes_at is_plain_schema schemas i schema plain at) in
-    let is : is_of fields schema ≡ true = rw (read.counts, words_read schema.columns values fields tests.1 read.says) refl in
-    position_is (is_of fields) schemas i (first_at (is_of fields) schemas i schema at is (others is (no_tail schema.tail tests.0)))
+    let words = words_read schema.columns values fields (passes_at has_firm_columns schemas i schema firm at) read.says in
+    let is : is_of fields schema ≡ true = rw (read.counts, words) refl in
+    position_is (is_of fields) schemas i (first_at (is_of fields) schemas i schema at is (others is))
   where
-    others : is_of fields schema ≡ true → schema.tail ≡ [] → (k : ℕ) (other : Schema) → k < i → slice_get schemas k ≡ Some other → is_of fields other ≡ false
-    others is none k other before there = elim (cases_Bool (is_of fields other)) [
+    others : is_of fields schema ≡ true → (k : ℕ) (other : Schema) → k < i → slice_get schemas k ≡ Some other → is_of fields other ≡ false
+    others is k other before there = elim (cases_Bool (is_of fields other)) [
       | inr not_it ↦ not_it
-      | inl it ↦
-          let tests = and_parts (length other.tail == 0) (list_all is_firm other.columns) (passes_at is_plain_schema schemas k other plain there) in
-          absurd (cc (sym (differ_at schemas k i other schema apart before there at) ∙ of_both other schema fields (no_tail other.tail tests.0) none it is))
+      | inl it ↦ absurd (cc (sym (differ_at schemas k i other schema apart before there at) ∙ of_both other schema fields it is))
     ]
 
 -- ---- no empty field at the end
@@ -190,15 +208,33 @@ abbrev is_fault : Result Value FormFault → Bool
 is_fault (Ok value) = false
 is_fault (Err bad) = true
 
+-- a column takes no empty field
+abbrev is_filled : Column → Bool
+is_filled column = is_fault (field_read column [])
+
 -- the last column takes no empty field
 abbrev ends_filled : List Column → Bool
 ends_filled [] = true
-ends_filled (column ∷ []) = is_fault (field_read column [])
+ends_filled (column ∷ []) = is_filled column
 ends_filled (column ∷ (next ∷ columns)) = ends_filled (next ∷ columns)
 
 some_field : (column : Column) (field : List ℕ) (v : Value) → is_fault (field_read column []) ≡ true → field_read column field ≡ Ok v → (length field == 0) ≡ false
 some_field column [] v bad says = cc (ap is_fault (sym says) ∙ bad)
 some_field column (byte ∷ field) v bad says = ne_eqb (length (byte ∷ field)) 0 (λ same. absurd (omega (arith, same)))
+
+-- a field that isn't empty, before others
+filled_more : (field : List ℕ) (fields : List (List ℕ)) → (length field == 0) ≡ false → without_trailing_empty fields ≡ fields → without_trailing_empty (field ∷ fields) ≡ field ∷ fields
+filled_more field fields some rest = rw (some, rest) refl
+
+-- a field before others, of which the last isn't empty
+filled_before : (field : List ℕ) (fields : List (List ℕ)) → 1 ≤ length fields → without_trailing_empty fields ≡ fields → without_trailing_empty (field ∷ fields) ≡ field ∷ fields
+filled_before field fields some rest =
+    let more : (length fields == 0) ≡ false = ne_eqb (length fields) 0 (λ same. absurd (omega (arith, same, some))) in
+    rw (rest, more) (by (length field == 0))
+  where
+    by : (b : Bool) → (if b && false then [] else field ∷ fields) ≡ field ∷ fields
+    by true = refl
+    by false = refl
 
 all_filled : (columns : List Column) (values : List Value) (fields : List (List ℕ)) → length fields ≡ length columns → ends_filled columns ≡ true → fields_read columns fields ≡ Ok values
     → without_trailing_empty fields ≡ fields
@@ -213,63 +249,184 @@ all_filled (column ∷ (next ∷ columns)) values (field ∷ []) count ends says
 all_filled (column ∷ (next ∷ columns)) values (field ∷ (more ∷ fields)) count ends says =
     let parts = parts_of (field_read column field) (fields_read (next ∷ columns) (more ∷ fields)) values says in
     let rest = all_filled (next ∷ columns) parts.others (more ∷ fields) (omega (arith, count)) ends parts.more in
-    let some : (length (more ∷ fields) == 0) ≡ false = ne_eqb (length (more ∷ fields)) 0 (λ same. absurd (omega (arith, same))) in
-    rw (rest, some) (by (length field == 0))
+    filled_before field (more ∷ fields) (omega arith) rest
+
+-- the fields of some turns of a tail that takes no empty field
+turns_filled : (first : Column) (tail rest : List Column) (n : ℕ) (values : List Value) (fields : List (List ℕ)) → length fields ≡ n → list_all is_filled (first ∷ tail) ≡ true
+    → list_all is_filled rest ≡ true → fields_read (repeated (first ∷ tail) rest n) fields ≡ Ok values → without_trailing_empty fields ≡ fields
+turns_filled first tail rest zero values [] count all left says = refl
+turns_filled first tail rest zero values (field ∷ fields) count all left says = absurd (omega (arith, count))
+turns_filled first tail rest (suc n) values [] count all left says = absurd (omega (arith, count))
+turns_filled first tail [] (suc n) values (field ∷ fields) count all left says =
+    let parts = parts_of (field_read first field) (fields_read (repeated (first ∷ tail) tail n) fields) values says in
+    let tests = and_parts (is_filled first) (list_all is_filled tail) all in
+    filled_more field fields (some_field first field parts.value tests.0 parts.one) (turns_filled first tail tail n parts.others fields (omega (arith, count)) all tests.1 parts.more)
+turns_filled first tail (column ∷ rest) (suc n) values (field ∷ fields) count all left says =
+    let parts = parts_of (field_read column field) (fields_read (repeated (first ∷ tail) rest n) fields) values says in
+    let tests = and_parts (is_filled column) (list_all is_filled rest) left in
+    filled_more field fields (some_field column field parts.value tests.0 parts.one) (turns_filled first tail rest n parts.others fields (omega (arith, count)) all tests.1 parts.more)
+
+-- fields of which the last ones, from a place on, end with one that isn't empty
+front_filled : (k : ℕ) (fields : List (List ℕ)) → 1 ≤ length (drop k fields) → without_trailing_empty (drop k fields) ≡ drop k fields → without_trailing_empty fields ≡ fields
+front_filled zero fields some rest = rest
+front_filled (suc k) [] some rest = refl
+front_filled (suc k) (field ∷ fields) some rest =
+    filled_before field fields (omega (arith, some, length-drop k fields)) (front_filled k fields some rest)
+
+-- the fields of a record of a schema: either it has a tail and some turns of it, or it has just one field a column
+schema_filled : (schema : Schema) (values : List Value) (fields : List (List ℕ)) → ends_filled schema.columns ≡ true → list_all is_filled schema.tail ≡ true
+    → IsRead schema values fields → without_trailing_empty fields ≡ fields
+schema_filled schema values fields ends turns read = by schema.tail (length (drop (length schema.columns) fields)) turns refl refl read.tail
   where
-    by : (b : Bool) → (if b && false then [] else field ∷ (more ∷ fields)) ≡ field ∷ (more ∷ fields)
-    by true = refl
-    by false = refl
+    just : length fields ≡ length schema.columns → without_trailing_empty fields ≡ fields
+    just count = all_filled schema.columns values fields count ends read.says
+
+    by : (tail : List Column) (n : ℕ) → list_all is_filled tail ≡ true → schema.tail ≡ tail → length (drop (length schema.columns) fields) ≡ n
+        → fields_read (repeated tail [] (length fields - length schema.columns)) (drop (length schema.columns) fields) ≡ Ok read.others → without_trailing_empty fields ≡ fields
+    by [] n turns none count says = just (just_count schema (length fields) none read.counts)
+    by (first ∷ tail) zero turns is count says = just (omega (arith, count, length-drop (length schema.columns) fields, has_columns schema (length fields) read.counts))
+    by (first ∷ tail) (suc n) turns is count says =
+        let left : length (drop (length schema.columns) fields) ≡ length fields - length schema.columns = omega (arith, length-drop (length schema.columns) fields) in
+        front_filled (length schema.columns) fields (omega (arith, count)) (turns_filled first tail [] _ read.others _ left turns refl says)
 
 -- ---- the kinds of a session
 
 -- the place of a kind
 place_in : (it : SessionKind) → (i : ℕ) × (slice_get session_kinds i ≡ Some it)
-place_in kind.Unit = (0, refl)
-place_in kind.Tank = (1, refl)
-place_in kind.Strap = (2, refl)
-place_in kind.StreamMetered = (3, refl)
-place_in kind.StreamBatch = (4, refl)
-place_in kind.StreamPlain = (5, refl)
-place_in kind.Period = (6, refl)
-place_in kind.CriticalGlobal = (7, refl)
-place_in kind.CriticalNodal = (8, refl)
-place_in kind.CriticalMeasure = (9, refl)
-place_in kind.Reading = (10, refl)
-place_in kind.Transfer = (11, refl)
-place_in kind.Dip = (12, refl)
-place_in kind.LateReading = (13, refl)
-place_in kind.LateTransfer = (14, refl)
-place_in kind.LateDip = (15, refl)
-place_in kind.AmendAmount = (16, refl)
-place_in kind.AmendLevel = (17, refl)
-place_in kind.Strike = (18, refl)
-place_in kind.Close = (19, refl)
-place_in kind.Design = (20, refl)
-place_in kind.Report = (21, refl)
-place_in kind.History = (22, refl)
+place_in kind.Version = (0, refl)
+place_in kind.Boundary = (1, refl)
+place_in kind.TankInService = (2, refl)
+place_in kind.MeteredInService = (3, refl)
+place_in kind.BatchInService = (4, refl)
+place_in kind.PlainInService = (5, refl)
+place_in kind.Unit = (6, refl)
+place_in kind.Tank = (7, refl)
+place_in kind.Strap = (8, refl)
+place_in kind.StreamMetered = (9, refl)
+place_in kind.StreamBatch = (10, refl)
+place_in kind.StreamPlain = (11, refl)
+place_in kind.Period = (12, refl)
+place_in kind.CriticalGlobal = (13, refl)
+place_in kind.CriticalNodal = (14, refl)
+place_in kind.CriticalMeasure = (15, refl)
+place_in kind.Reading = (16, refl)
+place_in kind.Transfer = (17, refl)
+place_in kind.Dip = (18, refl)
+place_in kind.LateReading = (19, refl)
+place_in kind.LateTransfer = (20, refl)
+place_in kind.LateDip = (21, refl)
+place_in kind.AmendAmount = (22, refl)
+place_in kind.AmendLevel = (23, refl)
+place_in kind.Strike = (24, refl)
+place_in kind.Close = (25, refl)
+place_in kind.Design = (26, refl)
+place_in kind.Report = (27, refl)
+place_in kind.History = (28, refl)
+place_in kind.Advise = (29, refl)
+
+-- the schemas of the kinds from a place on
+pub schemas_from : (schemas : List coded.Schema) (start : ℕ) → map schema_seen schemas ≡ session_schemas
+    → map schema_seen (take (length schemas - start) (drop start schemas)) ≡ map session_schema (drop start session_kinds)
+schemas_from schemas start same =
+    ap (map schema_seen) (take_all (length schemas - start) (drop start schemas) (omega (arith, length-drop start schemas)))
+    ∙ sym (drop-map schema_seen start schemas) ∙ ap (drop start) same ∙ drop-map session_schema start session_kinds
+
+-- the kind that they tell
+pub kind_from_told : (start place : ℕ) (fields : List (List ℕ)) → schema_told (map session_schema (drop start session_kinds)) fields ≡ Ok place
+    → start + place < length session_kinds → session_told (drop start session_kinds) fields ≡ Ok (get_or session_kinds (start + place) kind.Version)
+unfolding session_told
+kind_from_told start place fields told within =
+    let there : place < length (drop start session_kinds) = omega (arith, length-drop start session_kinds, within) in
+    ap (kind_in (drop start session_kinds)) told ∙ ap kind_at (slice_get-get_or (drop start session_kinds) place kind.Version there)
+    ∙ ap (λ (it : SessionKind). (let told_kind : Result SessionKind FormFault = Ok it in told_kind)) (get_or-drop start session_kinds place kind.Version)
+
+-- or why there is none
+pub no_kind_told : (start : ℕ) (fields : List (List ℕ)) (bad : FormFault) → schema_told (map session_schema (drop start session_kinds)) fields ≡ Err bad
+    → session_told (drop start session_kinds) fields ≡ Err bad
+unfolding session_told
+no_kind_told start fields bad told = ap (kind_in (drop start session_kinds)) told
+
+-- what passes a test has a place among all that do
+place_kept : {X : Type 0} (p : X → Bool) (xs : List X) (i : ℕ) (x : X) → slice_get xs i ≡ Some x → p x ≡ true → (j : ℕ) × (slice_get (filter p xs) j ≡ Some x)
+place_kept p [] i x at is = cc at
+place_kept p (y ∷ xs) zero x at is =
+    let same : y ≡ x = cc at in
+    let passes : p y ≡ true = ap p same ∙ is in
+    (0, rw passes at)
+place_kept p (y ∷ xs) (suc i) x at is =
+    let rest = place_kept p xs i x at is in
+    by (p y) refl rest
+  where
+    by : (b : Bool) → p y ≡ b → (j : ℕ) × (slice_get (filter p xs) j ≡ Some x) → (j : ℕ) × (slice_get (if b then y ∷ filter p xs else filter p xs) j ≡ Some x)
+    by true e rest = (suc rest.0, rest.1)
+    by false e rest = rest
+
+session_ends : list_all (λ (it : SessionKind). ends_filled (session_columns it)) session_kinds ≡ true
+session_ends = refl
+
+session_turns : list_all (λ (it : SessionKind). list_all is_filled (session_tail it)) session_kinds ≡ true
+session_turns = refl
+
+session_firm : list_all (λ (it : SessionKind). list_all is_firm (session_columns it)) session_kinds ≡ true
+session_firm = refl
+
+-- the kinds that a session has, of which no two have their words and their number of fields in common
+record AreKinds (kinds : List SessionKind) : Type 0 where
+  apart : all_differ (map session_schema kinds) ≡ true
+  firm : list_all has_firm_columns (map session_schema kinds) ≡ true
+
+kinds_1 : AreKinds kinds_of_version_1
+kinds_1 = record { apart = refl; firm = refl }
+
+kinds_2 : AreKinds kinds_of_version_2
+kinds_2 = record { apart = refl; firm = refl }
+
+told : (kinds : List SessionKind) (it : SessionKind) (values : List Value) (fields : List (List ℕ)) → AreKinds kinds → (i : ℕ) × (slice_get kinds i ≡ Some it)
+    → row_read (session_schema it) fields ≡ Ok values → session_told kinds fields ≡ Ok it
+unfolding session_told
+told kinds it values fields are at reads =
+    let schema_there : slice_get (map session_schema kinds) at.0 ≡ Some (session_schema it) =
+    slice_get-map session_schema kinds at.0 ∙ ap (λ (o : Option SessionKind). option_map session_schema o) at.1 in
+    let place = place_told (map session_schema kinds) at.0 (session_schema it) values fields are.apart are.firm schema_there reads in
+    ap (λ (o : Option ℕ). kind_in kinds (told_at (map session_schema kinds) fields o)) place ∙ ap kind_at at.1
+
+-- two kinds of one record have one place
+schema_at : (it : SessionKind) (i : ℕ) → slice_get session_kinds i ≡ Some it → slice_get session_schemas i ≡ Some (session_schema it)
+schema_at it i at = slice_get-map session_schema session_kinds i ∙ ap (λ (o : Option SessionKind). option_map session_schema o) at
 
 session_differ : all_differ session_schemas ≡ true
 session_differ = refl
 
-session_plain : list_all is_plain_schema session_schemas ≡ true
-session_plain = refl
-
-session_filled : list_all (λ (it : SessionKind). ends_filled (session_columns it)) session_kinds ≡ true
-session_filled = refl
-
-told : (it : SessionKind) (values : List Value) (fields : List (List ℕ)) → row_read (session_schema it) fields ≡ Ok values → session_told fields ≡ Ok it
-unfolding session_told
-told it values fields reads =
-    let at = place_in it in
-    let schema_there : slice_get session_schemas at.0 ≡ Some (session_schema it) =
-    slice_get-map session_schema session_kinds at.0 ∙ ap (λ (o : Option SessionKind). option_map session_schema o) at.1 in
-    let place = place_told session_schemas at.0 (session_schema it) values fields session_differ session_plain schema_there reads in
-    ap (λ (o : Option ℕ). kind_in (told_at session_schemas fields o)) place ∙ ap kind_at at.1
+same_kind : (fields : List (List ℕ)) (a b : SessionKind) → is_of fields (session_schema a) ≡ true → is_of fields (session_schema b) ≡ true → a ≡ b
+same_kind fields a b one other =
+    let x = place_in a in
+    let y = place_in b in
+    by x.0 x.1 y.0 y.1 (cases_lt x.0 y.0) (cases_lt y.0 x.0)
+  where
+    by : (i : ℕ) → slice_get session_kinds i ≡ Some a → (j : ℕ) → slice_get session_kinds j ≡ Some b → (i < j) ⊎ (j ≤ i) → (j < i) ⊎ (i ≤ j) → a ≡ b
+    by i at j there (inl lt) after =
+        absurd (cc (sym (differ_at session_schemas i j (session_schema a) (session_schema b) session_differ lt (schema_at a i at) (schema_at b j there))
+        ∙ of_both (session_schema a) (session_schema b) fields one other))
+    by i at j there (inr ge) (inl gt) =
+        absurd (cc (sym (differ_at session_schemas j i (session_schema b) (session_schema a) session_differ gt (schema_at b j there) (schema_at a i at))
+        ∙ of_both (session_schema b) (session_schema a) fields other one))
+    by i at j there (inr ge) (inr le) =
+        let same : i ≡ j = omega (arith, ge, le) in
+        let both : (let a_there : Option SessionKind = Some a in a_there) ≡ Some b = sym at ∙ ap (slice_get session_kinds) same ∙ there in
+        cc both
 
 pub one_kind : OneKindLaw
 one_kind it values fields reads =
     let at = place_in it in
     let read = read_parts (session_schema it) values fields reads in
-    let count = just_count (session_schema it) (length fields) refl read.counts in
-    let ends = passes_at (λ (it : SessionKind). ends_filled (session_columns it)) session_kinds at.0 it session_filled at.1 in
-    record { told = told it values fields reads; filled = all_filled (session_columns it) values fields count ends read.says }
+    let ends = passes_at (λ (it : SessionKind). ends_filled (session_columns it)) session_kinds at.0 it session_ends at.1 in
+    let turns = passes_at (λ (it : SessionKind). list_all is_filled (session_tail it)) session_kinds at.0 it session_turns at.1 in
+    let firm = passes_at (λ (it : SessionKind). list_all is_firm (session_columns it)) session_kinds at.0 it session_firm at.1 in
+    let is : is_of fields (session_schema it) ≡ true = rw (read.counts, words_read (session_columns it) values fields firm read.says) refl in
+    record {
+      is = is;
+      only = λ other there. same_kind fields other it there is;
+      told_1 = λ has. told kinds_of_version_1 it values fields kinds_1 (place_kept is_of_version_1 session_kinds at.0 it at.1 has) reads;
+      told_2 = λ has. told kinds_of_version_2 it values fields kinds_2 (place_kept is_of_version_2 session_kinds at.0 it at.1 has) reads;
+      filled = schema_filled (session_schema it) values fields ends turns read;
+    }

@@ -1,6 +1,6 @@
 -- The parts of a reading without a fault: the number of fields, and the value of each field.
 use Rattle.std.specs.Prelude.{◌==◌, nat_le, Some, None, Option, Result, Ok, Err, if◌then◌else◌}
-use Rattle.std.proofs.Common.{◌≡◌, ◌-◌, ℕ, Bool, true, false, List, [], ◌∷◌, length, refl, sym, arith}
+use Rattle.std.proofs.Common.{◌≡◌, ◌≤◌, ◌-◌, ℕ, Bool, true, false, List, [], ◌∷◌, length, refl, sym, arith}
 use Rattle.std.proofs.lemmas.Bool.{and_parts}
 use Rattle.std.proofs.lemmas.Bool.Decides.{nat_tests}
 use Rattle.pb_form.specs.Columns.{Schema}
@@ -39,28 +39,37 @@ parts_of (Ok v) (Err bad) values says = absurd (cc says)
 parts_of (Err bad) (Ok others) values says = absurd (cc says)
 parts_of (Err bad) (Err other) values says = absurd (cc says)
 
--- the number of fields of a record that was read is right, and its fields say the values
+-- the number of fields of a record that was read is right, its fields say the values, and those of its tail say some too
 pub record IsRead (schema : Schema) (values : List Value) (row : List (List ℕ)) : Type 0 where
   pub counts : has_count schema (length row) ≡ true
   pub says : fields_read schema.columns row ≡ Ok values
+  pub others : List Value
+  pub tail : tail_read schema row ≡ Ok others
 
 pub read_parts : (schema : Schema) (values : List Value) (row : List (List ℕ)) → row_read schema row ≡ Ok values → IsRead schema values row
 read_parts schema values row reads = by (has_count schema (length row)) refl reads
   where
-    said : (front rest : Result (List Value) FormFault) → before front rest ≡ Ok values → front ≡ Ok values
-    said (Ok front) (Ok rest) is = is
-    said (Ok front) (Err bad) is = cc is
-    said (Err bad) (Ok rest) is = cc is
-    said (Err bad) (Err other) is = cc is
+    said : (front rest : Result (List Value) FormFault) → before front rest ≡ Ok values → (front ≡ Ok values) × ((others : List Value) × (rest ≡ Ok others))
+    said (Ok front) (Ok rest) is = (is, (rest, refl))
+    said (Ok front) (Err bad) is = absurd (cc is)
+    said (Err bad) (Ok rest) is = absurd (cc is)
+    said (Err bad) (Err other) is = absurd (cc is)
 
     by : (b : Bool) → has_count schema (length row) ≡ b
         → (if b then before (fields_read schema.columns row) (tail_read schema row) else Err fault.Fields) ≡ Ok values → IsRead schema values row
-    by true counts is = record { counts = counts; says = said (fields_read schema.columns row) (tail_read schema row) is }
+    by true counts is =
+        let parts = said (fields_read schema.columns row) (tail_read schema row) is in
+        record { counts = counts; says = parts.0; others = parts.1.0; tail = parts.1.1 }
     by false counts is = cc is
 
 -- a row of a schema has at least one field a column
 pub least_count : (schema : Schema) (n : ℕ) → has_count schema n ≡ true → nat_le (length schema.columns) n ≡ true
 least_count schema n counts = (and_parts (nat_le (length schema.columns) n) (are_turns schema.tail (n - length schema.columns)) counts).0
+
+pub has_columns : (schema : Schema) (n : ℕ) → has_count schema n ≡ true → length schema.columns ≤ n
+has_columns schema n counts =
+    let least : nat_le (length schema.columns) n ≡ true = least_count schema n counts in
+    grind (arith, nat_tests)
 
 -- without a tail it has just one field a column
 pub just_count : (schema : Schema) (n : ℕ) → schema.tail ≡ [] → has_count schema n ≡ true → n ≡ length schema.columns

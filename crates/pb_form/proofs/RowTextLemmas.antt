@@ -187,3 +187,5 @@ rows_begin kind.Summary values = refl
 rows_begin kind.Yes values = refl
 rows_begin kind.No values = refl
 rows_begin kind.Unreadable values = refl
+rows_begin kind.Advise values = refl
+rows_begin kind.Meter values = refl

@@ -3,7 +3,7 @@ use Rattle.std.specs.Prelude.{◌-◌, ◌^◌, pos, neg_ℤ, List, [], ◌∷�
 use Rattle.pb_limits.specs.Limits.{most_freedom, most_gap, most_price, most_rounds, most_sweeps, most_value, most_variance, most_wide}
 use Rattle.pb_form.specs.Columns.{Column, Schema, column, optional, word_column}
 use Rattle.pb_form.specs.Holds.{Holds, Word, Name, Reason, Number, Items}
-use Rattle.pb_form.specs.SessionRows.{critical_range}
+use Rattle.pb_form.specs.SessionRows.{cost_range, critical_range}
 use Rattle.pb_form.specs.Words.{cause_words, class_words, edit_words, measured_words, period_words, shape_words, state_words, stop_words, test_words, unread_words, verdict_words}
 use Rattle.pb_form.specs.declared.output.OutputKind.{OutputKind}
 use Rattle.pb_form.specs.declared.output.OutputKind.TheVariants as kind
@@ -133,6 +133,12 @@ output_columns kind.No =
 output_columns kind.Unreadable =
     word_column (codes "row") (codes "unreadable") ∷ column (codes "at") natural_range ∷ column (codes "code") natural_range
     ∷ column (codes "word") (Word unread_words) ∷ []
+output_columns kind.Advise =
+    word_column (codes "row") (codes "advise") ∷ column (codes "count") natural_range ∷ column (codes "total") natural_range
+    ∷ []
+output_columns kind.Meter =
+    word_column (codes "row") (codes "meter") ∷ column (codes "stream") Name ∷ column (codes "cost") cost_range
+    ∷ column (codes "parts") Items ∷ []
 
 -- the schema of each kind
 abbrev pub output_schema : OutputKind → Schema
@@ -143,7 +149,7 @@ abbrev pub output_kinds : List OutputKind
 output_kinds =
     kind.Refused ∷ kind.Over ∷ kind.Design ∷ kind.Class ∷ kind.History ∷ kind.Edit ∷ kind.Report ∷ kind.Node ∷ kind.Stream
     ∷ kind.StreamBefore ∷ kind.Solved ∷ kind.Global ∷ kind.Nodal ∷ kind.Measure ∷ kind.End ∷ kind.Taken ∷ kind.Stop
-    ∷ kind.Summary ∷ kind.Yes ∷ kind.No ∷ kind.Unreadable ∷ []
+    ∷ kind.Summary ∷ kind.Yes ∷ kind.No ∷ kind.Unreadable ∷ kind.Advise ∷ kind.Meter ∷ []
 
 -- the schemas of all kinds
 abbrev pub output_schemas : List Schema

@@ -10,6 +10,7 @@ ghost use Rattle.pb_form.specs.Texts.{texts_of};
 
 use crate::column::{Column, Holds, Schema};
 use crate::json::write_json;
+use crate::session::MOST_METER_COST;
 use crate::table::{column, optional, schema, word};
 use crate::texts::write_texts;
 use crate::value::{ROOM, Value};
@@ -46,6 +47,8 @@ pub enum OutputKind {
     Yes,
     No,
     Unreadable,
+    Advise,
+    Meter,
 }
 
 // 2^126, the greatest of the numbers that aren't bounded by a plant's limits.
@@ -111,13 +114,18 @@ const DOF: Holds = Holds::Number {
     hi: MOST_FREEDOM as i128,
 };
 
+const COST: Holds = Holds::Number {
+    lo: 0,
+    hi: MOST_METER_COST,
+};
+
 const CRITICAL: Holds = Holds::Number {
     lo: 0,
     hi: MOST_CRITICAL as i128,
 };
 
 // The schemas of all kinds, in their order.
-static SCHEMAS: [Schema; 21] = [
+static SCHEMAS: [Schema; 23] = [
     schema!(
         word!("row", "refused"),
         column!("at", NATURAL),
@@ -288,6 +296,17 @@ static SCHEMAS: [Schema; 21] = [
         column!("at", NATURAL),
         column!("code", NATURAL),
         column!("word", Holds::Word(UNREAD_WORDS))
+    ),
+    schema!(
+        word!("row", "advise"),
+        column!("count", NATURAL),
+        column!("total", NATURAL)
+    ),
+    schema!(
+        word!("row", "meter"),
+        column!("stream", Holds::Name),
+        column!("cost", COST),
+        column!("parts", Holds::Items)
     ),
 ];
 

@@ -27,7 +27,7 @@ use Rattle.pb_forest.specs.Flows.{IsGivenFlow, most_given_flow}
 use Rattle.pb_gap.specs.Gap.{Gap, deviation_at, deviations_of, gap_from, gap_of, gap_size}
 use Rattle.pb_gap.specs.GapRange.{IsGapInRange}
 use Rattle.pb_gap.specs.Bounds.{AreSigned, IsSigned, bounds_of, dual_flow_in, dual_flow_sum, half_width_in, variance_in, variance_sum}
-use Rattle.pb_gap.specs.Statistic.{adjustment_above, adjustment_at, adjustment_below, adjustments_by, capped_squares, full_squares, high_of, low_of, most_adjustment}
+use Rattle.pb_gap.specs.Statistic.{adjustment_above, adjustment_at, adjustment_below, adjustments_by, capped_squares, full_squares, high_of, low_of, adjustment_cap}
 use Rattle.pb_gap.specs.State.{nearest_flows}
 use Rattle.pb_gap.specs.RangeLaws.{IsEnd, RangeLaw}
 use Rattle.pb_gap.proofs.Columns.{length-adjustments, length-deviations}
@@ -124,38 +124,38 @@ adjustments_nonneg r each (s ∷ ss) [] limits = tt
 adjustments_nonneg r each (s ∷ ss) (p ∷ ps) limits = (each s.meas p limits.0, adjustments_nonneg r each ss ps limits.1)
 
 -- a square of an adjustment that is at most the most
-square_of : (b : ℤ) → pos 0 ≤ℤ b → b ≤ℤ most_adjustment → (pos 0 ≤ℤ (b *ℤ b)) × (unsigned_abs (b *ℤ b) ≤ 2 ^ 104)
+square_of : (b : ℤ) → pos 0 ≤ℤ b → b ≤ℤ adjustment_cap → (pos 0 ≤ℤ (b *ℤ b)) × (unsigned_abs (b *ℤ b) ≤ 2 ^ 104)
 square_of b least most =
     let low = square_mono (pos 0) b (omega (arith, ints)) least in
-    let high = square_mono b most_adjustment least most in
+    let high = square_mono b adjustment_cap least most in
     (omega (arith, ints, low), omega (arith, ints, low, high))
 
-capped : (b : ℤ) → pos 0 ≤ℤ b → (pos 0 ≤ℤ int_min b most_adjustment) × (int_min b most_adjustment ≤ℤ most_adjustment)
+capped : (b : ℤ) → pos 0 ≤ℤ b → (pos 0 ≤ℤ int_min b adjustment_cap) × (int_min b adjustment_cap ≤ℤ adjustment_cap)
 capped b least = (grind (arith, ints, least), grind (arith, ints, least))
 
 capped_sum : (bs : List ℤ) → AllByRecursion (λ (b : ℤ). pos 0 ≤ℤ b) bs → (pos 0 ≤ℤ capped_squares bs) × (unsigned_abs (capped_squares bs) ≤ length bs * 2 ^ 104)
 capped_sum bs nonneg =
-    let one : ℤ → ℤ = λ b. int_min b most_adjustment *ℤ int_min b most_adjustment in
-    let each : (b : ℤ) → pos 0 ≤ℤ b → (pos 0 ≤ℤ one b) × (unsigned_abs (one b) ≤ 2 ^ 104) = λ b least. let (from, to) = capped b least in square_of (int_min b most_adjustment) from to in (
+    let one : ℤ → ℤ = λ b. int_min b adjustment_cap *ℤ int_min b adjustment_cap in
+    let each : (b : ℤ) → pos 0 ≤ℤ b → (pos 0 ≤ℤ one b) × (unsigned_abs (one b) ≤ 2 ^ 104) = λ b least. let (from, to) = capped b least in square_of (int_min b adjustment_cap) from to in (
       sum_over-nonneg one bs (AllByRecursion-map (λ (b : ℤ). pos 0 ≤ℤ b) (λ b. pos 0 ≤ℤ one b) bs (λ b least. (each b least).0) nonneg),
       sum_over-bound one (2 ^ 104) bs (AllByRecursion-map (λ (b : ℤ). pos 0 ≤ℤ b) (λ b. unsigned_abs (one b) ≤ 2 ^ 104) bs (λ b least. (each b least).1) nonneg),
     )
 
-not_passed : (b : ℤ) → int_lt most_adjustment b ≡ false → b ≤ℤ most_adjustment
+not_passed : (b : ℤ) → int_lt adjustment_cap b ≡ false → b ≤ℤ adjustment_cap
 not_passed b none = omega (arith, ints, none)
 
 any_parts : (a b : Bool) → (a || b) ≡ false → (a ≡ false) × (b ≡ false)
 any_parts true b h = cc h
 any_parts false b h = (refl, h)
 
-full_parts : (bs : List ℤ) → AllByRecursion (λ (b : ℤ). pos 0 ≤ℤ b) bs → list_any (λ b. int_lt most_adjustment b) bs ≡ false
+full_parts : (bs : List ℤ) → AllByRecursion (λ (b : ℤ). pos 0 ≤ℤ b) bs → list_any (λ b. int_lt adjustment_cap b) bs ≡ false
     → AllByRecursion (λ (b : ℤ). (pos 0 ≤ℤ (b *ℤ b)) × (unsigned_abs (b *ℤ b) ≤ 2 ^ 104)) bs
 full_parts [] nonneg none = tt
 full_parts (b ∷ bs) nonneg none =
-    let parts = any_parts (int_lt most_adjustment b) (list_any (λ b. int_lt most_adjustment b) bs) none in
+    let parts = any_parts (int_lt adjustment_cap b) (list_any (λ b. int_lt adjustment_cap b) bs) none in
     (square_of b nonneg.0 (not_passed b parts.0), full_parts bs nonneg.1 parts.1)
 
-full_sum : (bs : List ℤ) → AllByRecursion (λ (b : ℤ). pos 0 ≤ℤ b) bs → list_any (λ b. int_lt most_adjustment b) bs ≡ false
+full_sum : (bs : List ℤ) → AllByRecursion (λ (b : ℤ). pos 0 ≤ℤ b) bs → list_any (λ b. int_lt adjustment_cap b) bs ≡ false
     → (pos 0 ≤ℤ full_squares bs) × (unsigned_abs (full_squares bs) ≤ length bs * 2 ^ 104)
 full_sum bs nonneg none =
     let P : ℤ → Type 0 = λ b. (pos 0 ≤ℤ (b *ℤ b)) × (unsigned_abs (b *ℤ b) ≤ 2 ^ 104) in
@@ -205,7 +205,7 @@ high_within : (ss : List Stream) (ps : List ℤ) → length ss ≤ most_streams 
 high_within ss ps few each limits =
     let bs = adjustments_by adjustment_above ss ps in
     let count = length-adjustments adjustment_above ss ps each in
-    unless (list_any (λ b. int_lt most_adjustment b) bs) (ceil_div (pos 1000 *ℤ full_squares bs) (pos (2 ^ 40))) (λ none.
+    unless (list_any (λ b. int_lt adjustment_cap b) bs) (ceil_div (pos 1000 *ℤ full_squares bs) (pos (2 ^ 40))) (λ none.
     let (least, most) = full_sum bs (adjustments_nonneg adjustment_above above_nonneg ss ps limits) none in
     high_end (full_squares bs) least (omega (arith, ints, least, most, count, few)))
 

@@ -17,7 +17,7 @@ use Rattle.pb_graph.specs.Squares.{variance_product, weighted_squares, squares_u
 use Rattle.pb_dual.specs.DualValue.{scale, dual_value}
 use Rattle.pb_gap.specs.Residuals.{residual_squares}
 use Rattle.pb_gap.specs.Gap.{gap_of, gap_size}
-use Rattle.pb_gap.specs.Statistic.{adjustment_at, adjustment_below, adjustment_above, adjustments_by, most_adjustment, capped_squares, full_squares}
+use Rattle.pb_gap.specs.Statistic.{adjustment_at, adjustment_below, adjustment_above, adjustments_by, adjustment_cap, capped_squares, full_squares}
 use Rattle.pb_gap.specs.Laws.{LowLaw, HighLaw}
 use Rattle.pb_gap.proofs.Weights.{MayWeigh, product_of, weights_of, weigh_all}
 use Rattle.pb_gap.proofs.InnerProductLemmas.{square_at, squares_from, squares_nonneg}
@@ -26,8 +26,8 @@ use Rattle.pb_gap.proofs.Enclosure.{root_below, root_positive, whole_pair, withi
 
 -- ---- the squares from below
 -- what counts of an adjustment is not more than it
-capped : (b : ℤ) → pos 0 ≤ℤ b → (pos 0 ≤ℤ int_min b most_adjustment) × (int_min b most_adjustment ≤ℤ b)
-capped b h = let e = int_min_is b most_adjustment in (omega (arith, ints, h, e), omega (arith, ints, h, e))
+capped : (b : ℤ) → pos 0 ≤ℤ b → (pos 0 ≤ℤ int_min b adjustment_cap) × (int_min b adjustment_cap ≤ℤ b)
+capped b h = let e = int_min_is b adjustment_cap in (omega (arith, ints, h, e), omega (arith, ints, h, e))
 
 -- c roots of the variance v, rounded up to r, are within the adjustment x, in whole numbers
 square_below : (l w v c r x : ℤ) → w *ℤ v ≡ l → pos 0 ≤ℤ w → (v *ℤ pos (2 ^ 40)) ≤ℤ (r *ℤ r) → pos 0 ≤ℤ (c *ℤ r) → (c *ℤ r) ≤ℤ (pos (unsigned_abs x) *ℤ pos (2 ^ 40))
@@ -56,7 +56,7 @@ above_strict : (a b : ℤ) → a <ℤ b → a ≤ℤ b
 above_strict a b h = omega (arith, ints, h)
 
 one_low : (l : ℤ) (o : Option Meas) (y : ℤ) → MayWeigh l o
-    → (l *ℤ (int_min (adjustment_below o y) most_adjustment *ℤ int_min (adjustment_below o y) most_adjustment)) ≤ℤ (square_at l (pos 1) o y *ℤ pos (2 ^ 40))
+    → (l *ℤ (int_min (adjustment_below o y) adjustment_cap *ℤ int_min (adjustment_below o y) adjustment_cap)) ≤ℤ (square_at l (pos 1) o y *ℤ pos (2 ^ 40))
 one_low l None y h = le_of_eq _ _ (ring (l ∷ []) (times (var 0) (square (lit (pos 0)))) (times (lit (pos 0)) (lit (pos (2 ^ 40)))) refl)
 one_low l (Some m) y h =
     let v = m.variance in
@@ -65,7 +65,7 @@ one_low l (Some m) y h =
     let size = adjustment_at m y in
     let r = scaled_root_of v +ℤ pos 1 in
     let b = adjustment_below (Some m) y in
-    let c = int_min b most_adjustment in
+    let c = int_min b adjustment_cap in
     let v_pos = h.variance in
     let s_pos = root_positive v v_pos in
     let r_pos : pos 0 <ℤ r = omega (arith, ints, s_pos) in
@@ -94,7 +94,7 @@ all_low : (l : ℤ) (ss : List Stream) (ys : List ℤ) → AllByRecursion (λ s.
 all_low l [] ys h = le_of_eq _ _ (no_stream l)
 all_low l (s ∷ ss) [] h = le_of_eq _ _ (no_stream l)
 all_low l (s ∷ ss) (y ∷ ys) h =
-    let c = int_min (adjustment_below s.meas y) most_adjustment in
+    let c = int_min (adjustment_below s.meas y) adjustment_cap in
     add_two _ _ _ _ _ _ (split_left l (c *ℤ c) (capped_squares (adjustments_by adjustment_below ss ys))) (split_right (square_at l (pos 1) s.meas y) (squares_from l (pos 1) ss ys))
     (one_low l s.meas y h.0) (all_low l ss ys h.1)
 
@@ -214,5 +214,5 @@ high g ps is =
     let l_pos = product_of g is in
     let up = ceiling_is (pos 1000 *ℤ full_squares bs) (pos (2 ^ 40)) (omega (arith, ints)) in
     let top = ceil_div (pos 1000 *ℤ full_squares bs) (pos (2 ^ 40)) in
-    if_some (λ (z : ℤ). (pos 1000 *ℤ weighted_squares g (whole_flows ps)) ≤ℤ (z *ℤ squares_unit g (whole_flows ps))) (list_any (λ b. int_lt most_adjustment b) bs) top
+    if_some (λ (z : ℤ). (pos 1000 *ℤ weighted_squares g (whole_flows ps)) ≤ℤ (z *ℤ squares_unit g (whole_flows ps))) (list_any (λ b. int_lt adjustment_cap b) bs) top
     (highest (weighted_squares g (whole_flows ps)) l (full_squares bs) top (all_high l g.streams ps (weights_of g is)) up.above (omega (arith, ints, l_pos)))

@@ -1,8 +1,9 @@
 -- Statement. The flows of a graph beside the dual flows of prices: what the gap, the bounds and the statistic follow from.
-use Rattle.std.specs.Prelude.{◌≡◌, ◌<◌, ◌≤◌, ◌^◌, ℕ, ℤ, List, All, length, unsigned_abs}
+use Rattle.std.specs.Prelude.{◌≡◌, ◌≤◌, ℕ, ℤ, List, All, length, unsigned_abs}
 use Rattle.pb_limits.specs.Limits.{most_streams}
 use Rattle.pb_graph.specs.declared.records.Stream.{Stream}
 use Rattle.pb_graph.specs.ProcessGraph.{ProcessGraph, IsWithinLimits}
+use Rattle.pb_graph.specs.WellFormed.{IsFlow}
 use Rattle.pb_dual.specs.DualValue.{dual_flows_of, most_dual_flow}
 use Rattle.pb_gap.specs.Gap.{standard_deviations_of}
 
@@ -22,7 +23,7 @@ pub record AreMeasured (streams : List Stream) (standard_deviations flows : List
   pub limits : All IsWithinLimits streams
   pub roots : standard_deviations ≡ standard_deviations_of streams
   pub each : length flows ≡ length streams
-  pub small : All (λ flow. unsigned_abs flow < 2 ^ 68) flows
+  pub small : All IsFlow flows
 
 -- a dual flow of each stream
 pub record AreDualFlows (streams : List Stream) (dual_flows : List ℤ) : Type 0 where

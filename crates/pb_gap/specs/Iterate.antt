@@ -1,10 +1,11 @@
 -- Inside. What a solver keeps with a state.
-use Rattle.std.specs.Prelude.{◌≡◌, ◌<◌, ◌^◌, ℕ, ℤ, pos, ◌*ℤ◌, ◌≤ℤ◌, ◌<ℤ◌, List, length, get_or, take, All, unsigned_abs}
+use Rattle.std.specs.Prelude.{◌≡◌, ◌<◌, ◌^◌, ℕ, ℤ, pos, ◌*ℤ◌, ◌≤ℤ◌, ◌<ℤ◌, List, length, get_or, take, All}
 use Rattle.pb_integers.specs.Sums.{item, sum_over}
 use Rattle.pb_graph.specs.ProcessGraph.{ProcessGraph, IsProcessGraph}
 use Rattle.pb_graph.specs.Balance.{IsBalanced}
 use Rattle.pb_graph.specs.Groups.{AreGroups, group_count}
 use Rattle.pb_graph.specs.Prices.{PricesFit}
+use Rattle.pb_graph.specs.WellFormed.{IsFlow}
 use Rattle.pb_forest.specs.Forest.{SpanningForest, IsForest}
 use Rattle.pb_forest.specs.Flows.{AgreeOffForest}
 use Rattle.pb_merge.specs.Grouping.{Grouping}
@@ -27,7 +28,7 @@ pub record AreOfGraph (f : SpanningForest) (d : Priced) : Type 0 where
 pub record AreFlowsOf (f : SpanningForest) (d : Priced) (flows : List ℤ) : Type 0 where
   pub balanced : IsBalanced d.graph flows
   pub nearest : AgreeOffForest f.held flows (nearest_flows (price_of d) d.graph.streams)
-  pub small : All (λ v. unsigned_abs v < 2 ^ 68) flows
+  pub small : All IsFlow flows
 
 -- the standard deviation of an imbalance is within 2^63
 pub record IsSmallRoot (root : ℤ) : Type 0 where
@@ -50,7 +51,7 @@ pub record HaveRoom (g : ProcessGraph) (standard_deviations nearest flows deviat
   pub rooted : standard_deviations ≡ standard_deviations_of g.streams
   pub of_nearest : length nearest ≡ length g.streams
   pub of_flows : length flows ≡ length g.streams
-  pub small : All (λ v. unsigned_abs v < 2 ^ 68) flows
+  pub small : All IsFlow flows
   pub of_deviations : length deviations ≡ length g.streams
 
 pub record IsIterate (f : SpanningForest) (d : Priced) (standard_deviations roots nearest flows deviations : List ℤ) : Type 0 where

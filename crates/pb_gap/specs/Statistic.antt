@@ -30,12 +30,12 @@ adjustments_by rounded (s ∷ ss) [] = []
 adjustments_by rounded (s ∷ ss) (p ∷ ps) = rounded s.meas p ∷ adjustments_by rounded ss ps
 
 -- the most that an adjustment counts
-abbrev pub most_adjustment : ℤ
-most_adjustment = pos (2 ^ 52)
+abbrev pub adjustment_cap : ℤ
+adjustment_cap = pos (2 ^ 52)
 
 -- the sum of the squares of adjustments, each counted up to the most
 abbrev pub capped_squares : List ℤ → ℤ
-capped_squares bs = sum_over (λ b. int_min b most_adjustment *ℤ int_min b most_adjustment) bs
+capped_squares bs = sum_over (λ b. int_min b adjustment_cap *ℤ int_min b adjustment_cap) bs
 
 abbrev pub full_squares : List ℤ → ℤ
 full_squares bs = sum_over (λ (b : ℤ). b *ℤ b) bs
@@ -50,7 +50,7 @@ low_of ss ps gap =
 -- The high end: a thousand times the squares of the adjustments, rounded up. There is none where an adjustment is above the most.
 abbrev pub high_of : List Stream → List ℤ → Option ℤ
 high_of ss ps =
-    if list_any (λ b. int_lt most_adjustment b) (adjustments_by adjustment_above ss ps) then None
+    if list_any (λ b. int_lt adjustment_cap b) (adjustments_by adjustment_above ss ps) then None
     else Some (ceil_div (pos 1000 *ℤ full_squares (adjustments_by adjustment_above ss ps)) (pos (2 ^ 40)))
 
 abbrev pub statistic_of : List Stream → List ℤ → Gap → ℤ × Option ℤ

@@ -4,13 +4,14 @@ ghost use Rattle.std.specs.Prelude.{◌≡◌, ◌*◌, ◌<◌, ◌≤◌, ◌^
 ghost use Rattle.std.specs.List.{list_any};
 ghost use Rattle.pb_limits.specs.Limits.{most_streams};
 ghost use Rattle.pb_graph.specs.ProcessGraph.{IsWithinLimits};
-ghost use Rattle.pb_gap.specs.Statistic.{adjustment_below, adjustment_above, adjustments_by, most_adjustment, capped_squares, full_squares, low_of, high_of};
+ghost use Rattle.pb_graph.specs.WellFormed.{IsFlow, IsWide};
+ghost use Rattle.pb_gap.specs.Statistic.{adjustment_below, adjustment_above, adjustments_by, adjustment_cap, capped_squares, full_squares, low_of, high_of};
 ghost use Rattle.pb_gap.specs.Gap.{standard_deviation_of};
 ghost use Rattle.pb_gap.specs.GapRange.{IsGapInRange};
 ghost use Rattle.pb_gap.specs.FlowPair.{AreMeasured};
 
 use crate::arithmetic::{
-    MOST_ADJUSTMENT, adjustment, capped, low_end, size_square, square, thousandths,
+    ADJUSTMENT_CAP, adjustment, capped, low_end, size_square, square, thousandths,
 };
 use crate::gap::{Gap, size};
 use pb_fixed::{div_ceil, div_floor};
@@ -20,7 +21,7 @@ use pb_graph::Stream;
 fn below(stream: &Stream, root: i128, flow: i128) -> i128
     requires limits { IsWithinLimits stream.now }
     requires root { root ≡ standard_deviation_of stream.now.meas }
-    requires flow { unsigned_abs flow < 2 ^ 68 }
+    requires flow { IsFlow flow }
     ensures value { result ≡ adjustment_below stream.now.meas flow }
     ensures nonneg { pos 0 ≤ℤ result }
 {
@@ -34,7 +35,7 @@ fn below(stream: &Stream, root: i128, flow: i128) -> i128
 fn above(stream: &Stream, root: i128, flow: i128) -> i128
     requires limits { IsWithinLimits stream.now }
     requires root { root ≡ standard_deviation_of stream.now.meas }
-    requires flow { unsigned_abs flow < 2 ^ 68 }
+    requires flow { IsFlow flow }
     ensures value { result ≡ adjustment_above stream.now.meas flow }
     ensures nonneg { pos 0 ≤ℤ result }
 {
@@ -64,14 +65,14 @@ fn full_squares(streams: &[Stream], standard_deviations: &[i128], flows: &[i128]
     requires { AreMeasured streams.now standard_deviations.now flows.now }
     ensures value { let bs = adjustments_by adjustment_above streams.now flows.now in
         result
-        ≡ (if list_any (λ b. int_lt most_adjustment b) bs then None
+        ≡ (if list_any (λ b. int_lt adjustment_cap b) bs then None
         else Some (full_squares bs)) }
     ensures within { IfSome result (λ t. (pos 0 ≤ℤ t) × (t ≤ℤ pos (most_streams * 2 ^ 104))) }
 {
     let mut total = 0;
     for (j, stream) in streams.iter().enumerate() {
         let adjustment = above(stream, standard_deviations[j], flows[j]);
-        if adjustment > MOST_ADJUSTMENT {
+        if adjustment > ADJUSTMENT_CAP {
             return None;
         }
         total += square(adjustment);
@@ -85,7 +86,7 @@ pub fn low(streams: &[Stream], standard_deviations: &[i128], flows: &[i128], gap
     requires gap { IsGapInRange gap }
     ensures value { result ≡ low_of streams.now flows.now gap }
     ensures nonneg { pos 0 ≤ℤ result }
-    ensures within { unsigned_abs result ≤ 2 ^ 126 }
+    ensures within { IsWide result }
 {
     let size = size(gap);
     if size > 1 << 57 {
@@ -101,7 +102,7 @@ pub fn low(streams: &[Stream], standard_deviations: &[i128], flows: &[i128], gap
 pub fn high(streams: &[Stream], standard_deviations: &[i128], flows: &[i128]) -> Option<i128>
     requires { AreMeasured streams.now standard_deviations.now flows.now }
     ensures value { result ≡ high_of streams.now flows.now }
-    ensures within { IfSome result (λ v. unsigned_abs v ≤ 2 ^ 126) }
+    ensures within { IfSome result IsWide }
 {
     match full_squares(streams, standard_deviations, flows) {
         None => None,

@@ -6,14 +6,15 @@ ghost use Rattle.pb_forest.specs.Flows.{most_given_flow};
 ghost use Rattle.pb_fixed.specs.Quotients.{floor_div, ceil_div, nearest_div};
 ghost use Rattle.pb_fixed.specs.Blocks.{IsBlockItem};
 ghost use Rattle.pb_limits.specs.Limits.{most_streams, most_value};
+ghost use Rattle.pb_graph.specs.WellFormed.{IsFlow, IsWide};
 ghost use Rattle.pb_dual.specs.DualValue.{scale, most_dual_flow};
-ghost use Rattle.pb_gap.specs.Statistic.{most_adjustment};
+ghost use Rattle.pb_gap.specs.Statistic.{adjustment_cap};
 
 use pb_dual::SCALE;
 use pb_fixed::{div_ceil, div_floor, shift_nearest};
 
 /// The most that an adjustment counts.
-pub const MOST_ADJUSTMENT: i128 = 1 << 52;
+pub const ADJUSTMENT_CAP: i128 = 1 << 52;
 
 /// A dual flow to the nearest gram.
 pub fn nearest_gram(dual_flow: i128) -> i128
@@ -26,7 +27,7 @@ pub fn nearest_gram(dual_flow: i128) -> i128
 
 /// How far a flow is from a dual flow, in units of 2^-56 gram.
 pub fn distance(flow: i128, dual_flow: i128) -> i128
-    requires flow { unsigned_abs flow < 2 ^ 68 }
+    requires flow { IsFlow flow }
     requires dual_flow { unsigned_abs dual_flow ≤ most_dual_flow }
     ensures value { result ≡ pos (unsigned_abs ((flow *ℤ scale) -ℤ dual_flow)) }
     ensures nonneg { pos 0 ≤ℤ result }
@@ -38,7 +39,7 @@ pub fn distance(flow: i128, dual_flow: i128) -> i128
 /// How far a flow is from a dual flow, in standard deviations, in units of 2^-20, rounded up. `root` is the standard deviation in
 /// units of 2^-20 gram.
 pub fn deviation(flow: i128, dual_flow: i128, root: i128) -> i128
-    requires flow { unsigned_abs flow < 2 ^ 68 }
+    requires flow { IsFlow flow }
     requires dual_flow { unsigned_abs dual_flow ≤ most_dual_flow }
     requires root_from { pos (2 ^ 20) ≤ℤ root }
     requires root_to { root <ℤ pos (2 ^ 63) }
@@ -52,7 +53,7 @@ pub fn deviation(flow: i128, dual_flow: i128, root: i128) -> i128
 
 /// How far a flow is from a measured value, in units of 2^-40 gram.
 pub fn adjustment(flow: i128, value: i128) -> i128
-    requires flow { unsigned_abs flow < 2 ^ 68 }
+    requires flow { IsFlow flow }
     requires value { unsigned_abs value ≤ most_value }
     ensures value { result ≡ pos (unsigned_abs (flow -ℤ value)) *ℤ pos (2 ^ 40) }
     ensures nonneg { pos 0 ≤ℤ result }
@@ -64,17 +65,17 @@ pub fn adjustment(flow: i128, value: i128) -> i128
 /// An adjustment, counted up to the most.
 pub fn capped(adjustment: i128) -> i128
     requires { pos 0 ≤ℤ adjustment }
-    ensures value { result ≡ int_min adjustment most_adjustment }
+    ensures value { result ≡ int_min adjustment adjustment_cap }
     ensures nonneg { pos 0 ≤ℤ result }
-    ensures within { result ≤ℤ most_adjustment }
+    ensures within { result ≤ℤ adjustment_cap }
 {
-    adjustment.min(MOST_ADJUSTMENT)
+    adjustment.min(ADJUSTMENT_CAP)
 }
 
 /// The square of an adjustment.
 pub fn square(adjustment: i128) -> i128
     requires nonneg { pos 0 ≤ℤ adjustment }
-    requires within { adjustment ≤ℤ most_adjustment }
+    requires within { adjustment ≤ℤ adjustment_cap }
     ensures value { result ≡ adjustment *ℤ adjustment }
     ensures nonneg { pos 0 ≤ℤ result }
     ensures within { result ≤ℤ pos (2 ^ 104) }
@@ -86,7 +87,7 @@ pub fn square(adjustment: i128) -> i128
 pub fn square_up_to(deviation: i128, limit: i128) -> i128
     requires deviation { pos 0 ≤ℤ deviation }
     requires from { pos 0 ≤ℤ limit }
-    requires to { limit <ℤ most_adjustment }
+    requires to { limit <ℤ adjustment_cap }
     ensures below { result ≤ℤ (deviation *ℤ deviation) }
     ensures nonneg { pos 0 ≤ℤ result }
     ensures within { result <ℤ pos (2 ^ 105) }
@@ -132,7 +133,7 @@ pub fn low_end(squares: i128, size_square: i128) -> i128
     ensures value { result
         ≡ int_max (pos 0) (floor_div (pos 1000 *ℤ (squares -ℤ size_square)) (pos (2 ^ 40))) }
     ensures nonneg { pos 0 ≤ℤ result }
-    ensures within { unsigned_abs result ≤ 2 ^ 126 }
+    ensures within { IsWide result }
 {
     div_floor(thousandths(squares - size_square), 1 << 40).max(0)
 }

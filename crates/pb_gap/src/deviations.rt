@@ -3,9 +3,10 @@
 ghost use Rattle.std.specs.Prelude.{◌≡◌, ◌<◌, ◌≤◌, ◌^◌, ℕ, ℤ, false, pos, ◌≤ℤ◌, ◌<ℤ◌, length, unsigned_abs, All, IsTrue};
 ghost use Rattle.pb_fixed.specs.Blocks.{IsBlockItem};
 ghost use Rattle.pb_graph.specs.ProcessGraph.{IsWithinLimits};
+ghost use Rattle.pb_graph.specs.WellFormed.{IsFlow};
 ghost use Rattle.pb_dual.specs.DualValue.{dual_flow, dual_flows_of, most_dual_flow};
 ghost use Rattle.pb_gap.specs.Gap.{standard_deviation_of, deviation_of, deviations_of};
-ghost use Rattle.pb_gap.specs.Statistic.{most_adjustment};
+ghost use Rattle.pb_gap.specs.Statistic.{adjustment_cap};
 ghost use Rattle.pb_gap.specs.FlowPair.{AreMeasured, AreDualFlows};
 ghost use Rattle.pb_gap.specs.Iterate.{AreFar};
 
@@ -17,7 +18,7 @@ fn stream_deviation(stream: &Stream, root: i128, dual: i128, flow: i128) -> i128
     requires limits { IsWithinLimits stream.now }
     requires root { root ≡ standard_deviation_of stream.now.meas }
     requires dual { unsigned_abs dual ≤ most_dual_flow }
-    requires flow { unsigned_abs flow < 2 ^ 68 }
+    requires flow { IsFlow flow }
     ensures value { (price : ℕ → ℤ) → dual ≡ dual_flow price stream.now
         → result ≡ deviation_of price stream.now flow }
     ensures within { IsBlockItem result }
@@ -60,7 +61,7 @@ pub fn write_near_deviations(
     requires measured { AreMeasured streams.now standard_deviations.now flows.now }
     requires duals { AreDualFlows streams.now dual_flows.now }
     requires from { pos 0 ≤ℤ limit }
-    requires to { limit <ℤ most_adjustment }
+    requires to { limit <ℤ adjustment_cap }
     requires room { length out.old ≡ length streams.now }
     ensures value { IsTrue result → (price : ℕ → ℤ)
         → dual_flows.now ≡ dual_flows_of price streams.now

@@ -3,6 +3,7 @@
 ghost use Rattle.std.specs.Prelude.{◌≡◌, ◌≤◌, ◌^◌, length, unsigned_abs, All};
 ghost use Rattle.pb_graph.specs.Prices.{IsInBox};
 ghost use Rattle.pb_integers.specs.Sums.{item};
+ghost use Rattle.pb_graph.specs.WellFormed.{IsPrice};
 ghost use Rattle.pb_dual.specs.DualValue.{dual_flows_of, most_dual_flow};
 
 use pb_dual::dual_flow;
@@ -11,7 +12,7 @@ use pb_graph::Graph;
 /// Writes the dual flow of each stream at the prices of the nodes, in order of nodes.
 pub fn write_dual_flows(graph: &Graph, prices: &[i128], out: &mut [i128])
     requires each { length prices.now ≡ graph.now.nodes }
-    requires small { All (λ p. unsigned_abs p ≤ 2 ^ 120) prices.now }
+    requires small { All IsPrice prices.now }
     requires in_box { All (IsInBox (item prices.now)) graph.now.streams }
     requires room { length out.old ≡ length graph.now.streams }
     ensures value { out.new ≡ dual_flows_of (item prices.now) graph.now.streams }

@@ -1,6 +1,7 @@
 // The flows of a graph beside the dual flows of prices, and the numbers that follow from them.
 
 ghost use Rattle.std.specs.Prelude.{◌≡◌, ◌↔◌, ◌≤◌, ◌^◌, ℕ, ℤ, pos, ◌≤ℤ◌, length, unsigned_abs, IsTrue, IfSome};
+ghost use Rattle.pb_graph.specs.WellFormed.{IsWide};
 ghost use Rattle.pb_gap.specs.Gap.{MeetsGap, gap_of};
 ghost use Rattle.pb_gap.specs.GapRange.{IsGapInRange};
 ghost use Rattle.pb_gap.specs.Bounds.{AreSigned, bounds_of};
@@ -112,8 +113,8 @@ impl<'a> FlowPair<'a> {
         requires gap { IsGapInRange gap }
         ensures value { (price : ℕ → ℤ) → AreOfPrices price self.now
             → result ≡ bounds_of price self.now.graph.streams gap members.now }
-        ensures lo { unsigned_abs result.lo ≤ 2 ^ 126 }
-        ensures hi { unsigned_abs result.hi ≤ 2 ^ 126 }
+        ensures lo { IsWide result.lo }
+        ensures hi { IsWide result.hi }
     {
         let streams = self.graph.streams();
         let sum = dual_flow_sum(streams, self.dual_flows, members);
@@ -128,8 +129,8 @@ impl<'a> FlowPair<'a> {
         ensures value { (price : ℕ → ℤ) → AreOfPrices price self.now
             → result
             ≡ least_bounds_of price self.now.graph.streams self.now.flows gap members.now }
-        ensures lo { unsigned_abs result.lo ≤ 2 ^ 126 }
-        ensures hi { unsigned_abs result.hi ≤ 2 ^ 126 }
+        ensures lo { IsWide result.lo }
+        ensures hi { IsWide result.hi }
     {
         let streams = self.graph.streams();
         let flows = flow_sum(streams, self.flows, members);
@@ -143,8 +144,8 @@ impl<'a> FlowPair<'a> {
         requires { IsGapInRange gap }
         ensures value { result ≡ statistic_of self.now.graph.streams self.now.flows gap }
         ensures least { pos 0 ≤ℤ result.0 }
-        ensures low_within { unsigned_abs result.0 ≤ 2 ^ 126 }
-        ensures high_within { IfSome result.1 (λ v. unsigned_abs v ≤ 2 ^ 126) }
+        ensures low_within { IsWide result.0 }
+        ensures high_within { IfSome result.1 IsWide }
     {
         let streams = self.graph.streams();
         (

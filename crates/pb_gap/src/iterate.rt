@@ -4,6 +4,7 @@ ghost use Rattle.std.specs.Prelude.{◌≡◌, ◌↔◌, ℕ, suc, ◌<◌, ◌
 ghost use Rattle.pb_graph.specs.Balance.{IsBalanced};
 ghost use Rattle.pb_graph.specs.Groups.{AreGroups};
 ghost use Rattle.pb_graph.specs.Prices.{PricesFit};
+ghost use Rattle.pb_graph.specs.WellFormed.{IsFlow, IsPrice};
 ghost use Rattle.pb_forest.specs.Forest.{IsForest, IsForestOf, degrees_of_freedom};
 ghost use Rattle.pb_dual.specs.Sweeps.{prices_after};
 ghost use Rattle.pb_gap.specs.Gap.{MeetsGap, gap_of};
@@ -96,7 +97,7 @@ impl<'a> Iterate<'a> {
     pub fn price(&self, node: u32) -> i128
         requires { node < self.now.graph.nodes }
         ensures value { result ≡ price_in self.now node }
-        ensures within { unsigned_abs result ≤ 2 ^ 120 }
+        ensures within { IsPrice result }
     {
         self.dual.price_at(node)
     }
@@ -105,7 +106,7 @@ impl<'a> Iterate<'a> {
     pub fn flow(&self, stream: u32) -> i128
         requires { stream < length self.now.graph.streams }
         ensures value { slice_get self.now.flows stream ≡ Some result }
-        ensures within { unsigned_abs result < 2 ^ 68 }
+        ensures within { IsFlow result }
     {
         self.flows[stream as usize]
     }

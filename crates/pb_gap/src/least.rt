@@ -4,6 +4,7 @@ ghost use Rattle.std.specs.Prelude.{◌≡◌, ◌<◌, ◌≤◌, ◌^◌, pos,
 ghost use Rattle.pb_limits.specs.Limits.{most_streams};
 ghost use Rattle.pb_balance.specs.PricedSums.{signed_sum};
 ghost use Rattle.pb_fixed.specs.Quotients.{floor_div, ceil_div};
+ghost use Rattle.pb_graph.specs.WellFormed.{IsFlow, IsWide};
 ghost use Rattle.pb_dual.specs.DualValue.{scale};
 ghost use Rattle.pb_gap.specs.Members.{AreMembers};
 
@@ -16,7 +17,7 @@ use pb_graph::{Bounds, Member, Stream};
 pub fn flow_sum(streams: &[Stream], flows: &[i128], members: &[Member]) -> i128
     requires few { length members.now ≤ most_streams }
     requires each { length flows.now ≡ length streams.now }
-    requires small { All (λ flow. unsigned_abs flow < 2 ^ 68) flows.now }
+    requires small { All IsFlow flows.now }
     requires members { AreMembers streams.now members.now }
     ensures value { result ≡ signed_sum members.now flows.now }
     ensures within { unsigned_abs result < 2 ^ 124 }
@@ -40,8 +41,8 @@ pub fn about_middle(flows: i128, dual_flows: i128, half: i128) -> Bounds
           lo = floor_div (flows +ℤ floor_div dual_flows scale) (pos 2) -ℤ ceil_div half (pos 2);
           hi = ceil_div (flows +ℤ ceil_div dual_flows scale) (pos 2) +ℤ ceil_div half (pos 2);
         } }
-    ensures lo { unsigned_abs result.lo ≤ 2 ^ 126 }
-    ensures hi { unsigned_abs result.hi ≤ 2 ^ 126 }
+    ensures lo { IsWide result.lo }
+    ensures hi { IsWide result.hi }
 {
     let width = div_ceil(half, 2);
     Bounds {

@@ -5,6 +5,7 @@ ghost use Rattle.pb_limits.specs.Limits.{most_gap, most_sweeps};
 ghost use Rattle.pb_graph.specs.Balance.{IsBalanced};
 ghost use Rattle.pb_graph.specs.Squares.{Fractional, IsBalancedFractional, IsLeast, IsNoWorse, AreSquaresAtLeast, AreSquaresAtMost, whole_flows};
 ghost use Rattle.pb_graph.specs.Prices.{PricesFit};
+ghost use Rattle.pb_graph.specs.WellFormed.{IsFlow, IsPrice, IsWide};
 ghost use Rattle.pb_forest.specs.Forest.{IsForest, IsForestOf, degrees_of_freedom};
 ghost use Rattle.pb_gap.specs.Bounds.{AreSigned, IsWithin, bounds_of};
 ghost use Rattle.pb_gap.specs.LeastBounds.{least_bounds_of};
@@ -87,7 +88,7 @@ impl<'a> Solver<'a> {
     pub fn price(&self, node: u32) -> i128
         requires { node < self.now.graph.nodes }
         ensures value { result ≡ price_in self.now node }
-        ensures within { unsigned_abs result ≤ 2 ^ 120 }
+        ensures within { IsPrice result }
         ensures fit { PricesFit self.now.graph (price_in self.now) }
         ensures outside { (n : ℕ) → self.now.graph.nodes ≤ n → price_in self.now n ≡ pos 0 }
     {
@@ -98,7 +99,7 @@ impl<'a> Solver<'a> {
     pub fn flow(&self, stream: u32) -> i128
         requires { stream < length self.now.graph.streams }
         ensures value { slice_get self.now.flows stream ≡ Some result }
-        ensures within { unsigned_abs result < 2 ^ 68 }
+        ensures within { IsFlow result }
         ensures balanced { IsBalanced self.now.graph self.now.flows }
     {
         self.iterate.flow(stream)
@@ -135,8 +136,8 @@ impl<'a> Solver<'a> {
         requires { AreSigned self.now.graph members.now }
         ensures value { result
             ≡ bounds_of (price_in self.now) self.now.graph.streams (gap_in self.now) members.now }
-        ensures lo { unsigned_abs result.lo ≤ 2 ^ 126 }
-        ensures hi { unsigned_abs result.hi ≤ 2 ^ 126 }
+        ensures lo { IsWide result.lo }
+        ensures hi { IsWide result.hi }
         ensures enclosure { (x : Fractional) → IsBalancedFractional self.now.graph x
             → IsNoWorse self.now.graph x (whole_flows self.now.flows)
             → IsWithin x members.now result }
@@ -152,8 +153,8 @@ impl<'a> Solver<'a> {
         ensures value { result
             ≡ least_bounds_of (price_in self.now) self.now.graph.streams self.now.flows
             (gap_in self.now) members.now }
-        ensures lo { unsigned_abs result.lo ≤ 2 ^ 126 }
-        ensures hi { unsigned_abs result.hi ≤ 2 ^ 126 }
+        ensures lo { IsWide result.lo }
+        ensures hi { IsWide result.hi }
         ensures least { (x : Fractional) → IsLeast self.now.graph x
             → IsWithin x members.now result }
     {
@@ -167,8 +168,8 @@ impl<'a> Solver<'a> {
         ensures value { result
             ≡ statistic_of self.now.graph.streams self.now.flows (gap_in self.now) }
         ensures least { pos 0 ≤ℤ result.0 }
-        ensures low_within { unsigned_abs result.0 ≤ 2 ^ 126 }
-        ensures high_within { IfSome result.1 (λ v. unsigned_abs v ≤ 2 ^ 126) }
+        ensures low_within { IsWide result.0 }
+        ensures high_within { IfSome result.1 IsWide }
         ensures low { (x : Fractional) → IsBalancedFractional self.now.graph x
             → AreSquaresAtLeast self.now.graph x result.0 }
         ensures high { IfSome result.1

@@ -5,6 +5,7 @@ ghost use Rattle.pb_limits.specs.Limits.{most_streams, most_variance};
 ghost use Rattle.pb_graph.specs.ProcessGraph.{IsWithinLimits};
 ghost use Rattle.pb_merge.specs.Variance.{variance_of};
 ghost use Rattle.pb_fixed.specs.Quotients.{floor_div, ceil_div};
+ghost use Rattle.pb_graph.specs.WellFormed.{IsWide};
 ghost use Rattle.pb_dual.specs.DualValue.{scale, dual_flows_of};
 ghost use Rattle.pb_gap.specs.GapRange.{IsGapInRange};
 ghost use Rattle.pb_gap.specs.FlowPair.{AreDualFlows};
@@ -90,8 +91,8 @@ pub fn outward(sum: i128, half: i128) -> Bounds
     requires half_to { half ≤ℤ pos (2 ^ 118) }
     ensures value { result
         ≡ record { lo = floor_div sum scale -ℤ half; hi = ceil_div sum scale +ℤ half } }
-    ensures lo { unsigned_abs result.lo ≤ 2 ^ 126 }
-    ensures hi { unsigned_abs result.hi ≤ 2 ^ 126 }
+    ensures lo { IsWide result.lo }
+    ensures hi { IsWide result.hi }
 {
     Bounds {
         lo: div_floor(sum, SCALE) - half,

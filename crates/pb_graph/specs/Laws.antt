@@ -1,5 +1,7 @@
--- Statement. What is proved of walks, of the nodes that they reach, of the parts that they make, and of certificates.
-use Rattle.std.specs.Prelude.{◌≡◌, ◌↔◌, ℕ, ◌<◌, Bool, true, List, Option, Some, slice_get}
+-- Statement. What is proved of walks, of the nodes that they reach, of the parts that they make, of certificates, and of limits.
+use Rattle.std.specs.Prelude.{◌≡◌, ◌↔◌, ℕ, ◌<◌, pos, Bool, true, List, Option, Some, slice_get}
+use Rattle.pb_limits.specs.Limits.{most_price}
+use Rattle.pb_graph.specs.declared.prices.TheConstants.{MOST_ADJUSTMENT, MOST_PRICE}
 use Rattle.pb_graph.specs.declared.records.Stream.{Stream}
 use Rattle.pb_graph.specs.declared.records.Step.{Step}
 use Rattle.pb_graph.specs.declared.records.Classified.{Classified}
@@ -7,6 +9,7 @@ use Rattle.pb_graph.specs.ProcessGraph.{ProcessGraph, IsProcessGraph}
 use Rattle.pb_graph.specs.Walk.{ends_of, Reaches, IsStricter, IsReach}
 use Rattle.pb_graph.specs.Parts.{label_at, IsLabelling}
 use Rattle.pb_graph.specs.Certificates.{IsCertified}
+use Rattle.pb_graph.specs.Prices.{most_adjustment}
 use Rattle.pb_graph.specs.WellFormed.{IsWitnessWithin}
 
 -- reaching is reflexive, symmetric and transitive, and each stream that may be taken joins its ends
@@ -53,3 +56,7 @@ LabelsLaw =
 abbrev pub CertificateFormLaw : Type 0
 CertificateFormLaw =
     (graph : ProcessGraph) (stream_id : ℕ) (classified : Classified) → IsCertified graph stream_id classified → IsWitnessWithin graph classified.witness
+
+-- the constants of the code are the numbers of the definitions
+abbrev pub PriceLimitsLaw : Type 0
+PriceLimitsLaw = (MOST_PRICE ≡ pos most_price) × (MOST_ADJUSTMENT ≡ pos most_adjustment)

@@ -2,13 +2,10 @@
 -- weighted squares (the dual variables, or potentials, of the balances: Rockafellar, Network Flows and Monotropic Optimization,
 -- chapter 1).
 use Rattle.std.specs.Prelude.{◌≡◌, ℕ, ◌^◌, ◌<◌, ◌≤◌, ℤ, pos, ◌-ℤ◌, ◌*ℤ◌, unsigned_abs, All, IfSome}
+use Rattle.pb_limits.specs.Limits.{most_price}
 use Rattle.pb_graph.specs.declared.records.Stream.{Stream}
 use Rattle.pb_graph.specs.ProcessGraph.{ProcessGraph}
 use Rattle.pb_graph.specs.Groups.{SameGroup, IsFreeGroup}
-
--- the greatest price, in units of 2^-56 per gram, either way
-abbrev pub most_price : ℕ
-most_price = 2 ^ 120
 
 -- the greatest adjustment of a measured flow, in units of 2^-56 grams, either way
 abbrev pub most_adjustment : ℕ

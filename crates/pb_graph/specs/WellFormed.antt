@@ -1,6 +1,6 @@
 -- Statement. The form of certificates, results, stages and studies: what those who write and read them stand on.
 use Rattle.std.specs.Prelude.{◌≡◌, ◌⊎◌, ℕ, ◌+◌, ◌^◌, ◌<◌, ◌≤◌, ℤ, pos, negsuc, unsigned_abs, length, All, IfSome}
-use Rattle.pb_limits.specs.Limits.{most_freedom, most_sweeps}
+use Rattle.pb_limits.specs.Limits.{most_freedom, most_price, most_sweeps, most_wide}
 use Rattle.pb_limits.specs.Ranges.{IsCriticalValue}
 use Rattle.pb_graph.specs.declared.records.Member.{Member}
 use Rattle.pb_graph.specs.declared.records.Step.{Step}
@@ -17,7 +17,6 @@ use Rattle.pb_graph.specs.declared.results.Stage.{Stage}
 use Rattle.pb_graph.specs.declared.results.Taken.{Taken}
 use Rattle.pb_graph.specs.declared.results.Study.{Study}
 use Rattle.pb_graph.specs.ProcessGraph.{ProcessGraph}
-use Rattle.pb_graph.specs.Prices.{most_price}
 
 -- a sign is 1 or -1
 abbrev pub IsSign : ℤ → Type 0
@@ -43,7 +42,7 @@ IsFlow grams = unsigned_abs grams < 2 ^ 68
 
 -- an end of bounds, in grams, a net flow with its variance, or a statistic in thousandths
 abbrev pub IsWide : ℤ → Type 0
-IsWide value = unsigned_abs value ≤ 2 ^ 126
+IsWide value = unsigned_abs value ≤ most_wide
 
 -- both ends of bounds
 pub record AreBoundsWithin (bounds : Bounds) : Type 0 where

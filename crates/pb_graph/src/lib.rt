@@ -12,6 +12,7 @@ mod laws;
 mod list;
 mod neighbours;
 mod parts;
+mod prices;
 mod records;
 mod results;
 mod search;
@@ -26,6 +27,7 @@ pub use list::List;
 pub use neighbours::Neighbours;
 pub use parts::Parts;
 pub use pb_limits::{MOST_NODES, MOST_STREAMS};
+pub use prices::{MOST_ADJUSTMENT, MOST_PRICE, price_limits_law};
 pub use records::{Class, Classified, Meas, Member, Step, Stream, Witness};
 pub use results::{
     Bounds, Critical, CriticalRow, GlobalTest, MeasureTest, NodalTest, Options, Solved, Stage,

@@ -6,6 +6,7 @@ ghost use Rattle.pb_limits.specs.Ranges.{IsCriticalValue};
 ghost use Rattle.pb_graph.specs.WellFormed.{IsMember, IsStep, IsWitnessWithin, IsFlow, IsWide, AreBoundsWithin, IsResultWithin, IsNodalWithin, IsMeasureWithin, AreTestsWithin, sweeps_of, IsPrice, IsWellFormed, HasShapeOf, IsTakenWithin, IsWellFormedStudy};
 
 use crate::graph::Graph;
+use crate::prices::MOST_PRICE;
 use crate::records::{Member, Step, Witness};
 use crate::results::{
     Bounds, MeasureTest, NodalTest, Solved, Stage, StreamResult, Study, Taken, Tests,
@@ -202,7 +203,9 @@ fn sweeps_of(solved: &Solved) -> u32
 fn are_prices(prices: &[i128]) -> bool
     ensures { IsTrue result ↔ All IsPrice prices.now }
 {
-    prices.iter().all(|price| price.unsigned_abs() <= 1 << 120)
+    prices
+        .iter()
+        .all(|price| price.unsigned_abs() <= MOST_PRICE.unsigned_abs())
 }
 
 // Whether there is a price for each node and a result for each stream.

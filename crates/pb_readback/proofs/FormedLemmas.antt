@@ -7,14 +7,13 @@ use Rattle.std.proofs.lemmas.Bool.{cases_Bool, or_parts}
 use Rattle.std.proofs.lemmas.Int.{ints}
 use Rattle.std.proofs.lemmas.List.{length-map}
 use Rattle.std.proofs.lemmas.List.Elements.{All-cons, All-head, All-map, All-nil, All-push, All-tail, All-weaker}
-use Rattle.pb_limits.specs.Limits.{most_critical, most_freedom, most_gap, most_nodes, most_rounds, most_streams, most_sweeps, most_value, most_variance}
+use Rattle.pb_limits.specs.Limits.{most_critical, most_freedom, most_gap, most_nodes, most_price, most_rounds, most_streams, most_sweeps, most_value, most_variance}
 use Rattle.pb_limits.specs.Ranges.{IsCriticalValue}
 use Rattle.pb_rows.specs.Name.{is_name}
 use Rattle.pb_graph.specs.declared.results.NodalTest.{NodalTest}
 use Rattle.pb_graph.specs.declared.results.MeasureTest.{MeasureTest}
 use Rattle.pb_graph.specs.declared.results.Solved.TheVariants.{Converged, Unconverged}
 use Rattle.pb_graph.specs.declared.results.Tests.{Tests}
-use Rattle.pb_graph.specs.Prices.{most_price}
 use Rattle.pb_graph.specs.ProcessGraph.{IsMeasurement, IsStream, IsWithinLimits, ProcessGraph}
 use Rattle.pb_graph.specs.WellFormed.{AreBoundsWithin, AreTestsWithin, IsFlow, IsMeasureWithin, IsMember, IsNodalWithin, IsPrice, IsResultWithin, IsSign, IsStep, IsWide, IsWitnessWithin, sweeps_of}
 use Rattle.pb_form.specs.OutputRows.{output_schema}

@@ -4,10 +4,10 @@ use Rattle.std.specs.List.{list_all, AllByRecursion}
 use Rattle.std.proofs.Common.{◌≡◌, ◌∙◌, ℕ, ℤ, pos, ◌+◌, ◌<◌, ◌≤◌, List, [], ◌∷◌, ◌++◌, length, Bool, true, false, Option, None, refl, sym, ap, ap₂, subst, arith, append_assoc, length-append}
 use Rattle.std.proofs.lemmas.Bool.{ne_eqb, lt-ltb, and_parts}
 use Rattle.std.proofs.lemmas.List.{append-nil}
+use Rattle.pb_limits.specs.Limits.{most_price}
 use Rattle.pb_rows.specs.Name.{is_name}
 use Rattle.pb_rows.specs.Number.{whole_text}
 use Rattle.pb_rows.specs.Texts.{HaveOneNumberText}
-use Rattle.pb_graph.specs.Prices.{most_price}
 use Rattle.pb_graph.specs.WellFormed.{IsPrice}
 use Rattle.pb_report.specs.Block.{node_row}
 use Rattle.pb_report.specs.Rows.{rows_with}

@@ -17,7 +17,7 @@ use Rattle.pb_gap.specs.declared.gap.Gap.{Gap}
 use Rattle.pb_gap.specs.Gap.{gap_of, gap_size}
 use Rattle.pb_gap.specs.State.{State, gap_in, price_in}
 use Rattle.pb_gap.specs.Solution.{IsSolution, IsSolvedStatistic}
-use Rattle.pb_gap.specs.Statistic.{adjustment_above, adjustment_below, adjustments_by, capped_squares, full_squares, high_of, low_of, most_adjustment, statistic_of}
+use Rattle.pb_gap.specs.Statistic.{adjustment_above, adjustment_below, adjustments_by, capped_squares, full_squares, high_of, low_of, adjustment_cap, statistic_of}
 use Rattle.pb_tests.specs.Ends.{IsEndPair, IsNonnegative}
 
 max_nonnegative : (x : ℤ) (b : Bool) → int_lt x (pos 0) ≡ b → pos 0 ≤ℤ cond b (pos 0) x
@@ -48,7 +48,7 @@ high_nonnegative : (ss : List Stream) (ps : List ℤ) → IfSome (high_of ss ps)
 high_nonnegative ss ps =
     let bs = adjustments_by adjustment_above ss ps in
     let squares = squares_nonnegative bs in
-    none_or (list_any (λ b. int_lt most_adjustment b) bs) (ceil_div (pos 1000 *ℤ full_squares bs) (pos (2 ^ 40)))
+    none_or (list_any (λ b. int_lt adjustment_cap b) bs) (ceil_div (pos 1000 *ℤ full_squares bs) (pos (2 ^ 40)))
     (ceiling_nonnegative (pos 1000 *ℤ full_squares bs) (omega (arith, ints, squares)))
 
 -- of a graph that is solved

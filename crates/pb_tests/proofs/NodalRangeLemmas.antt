@@ -1,5 +1,5 @@
 -- The numbers of nodal tests are within their limits.
-use Rattle.std.proofs.Common.{◌≡◌, ◌∙◌, ℕ, zero, suc, ◌*◌, ◌≤◌, ℤ, pos, neg_ℤ, ◌≤ℤ◌, unsigned_abs, Bool, true, false, List, [], ◌∷◌, ◌++◌, length, All, Option, None, Some, sym, subst, arith}
+use Rattle.std.proofs.Common.{ℕ, zero, suc, ◌≤◌, ℤ, pos, ◌≤ℤ◌, unsigned_abs, Bool, true, false, List, [], ◌∷◌, length, All, Option, None, Some, sym, subst, arith}
 use Rattle.std.specs.Prelude.{IfSome, if◌then◌else◌}
 use Rattle.std.specs.List.{AllByRecursion}
 use Rattle.std.proofs.lemmas.Int.{ints}
@@ -14,7 +14,7 @@ use Rattle.pb_graph.specs.ProcessGraph.{IsMeasurement, IsWithinLimits}
 use Rattle.pb_graph.specs.Groups.{entering, group_count, has_one_end, is_free_group}
 use Rattle.pb_graph.specs.Squares.{value_or_zero}
 use Rattle.pb_merge.specs.Variance.{crossing_variance, group_variance, most_group_variance, variance_of}
-use Rattle.pb_tests.specs.Nodal.{crossing_value, group_net, nodal_test, nodal_tests_below, test_of_group}
+use Rattle.pb_tests.specs.Nodal.{crossing_value, group_net, most_group_net, nodal_test, nodal_tests_below, test_of_group}
 use Rattle.pb_tests.specs.Laws.{IsNodalNumber, NodalRangeLaw}
 
 value_within : (o : Option Meas) → IfSome o IsMeasurement → unsigned_abs (value_or_zero o) ≤ most_value
@@ -27,7 +27,7 @@ entering_within false true x n small = small
 entering_within true false x n small = omega (arith, ints, small)
 entering_within false false x n small = omega arith
 
-net_within : (group : List ℕ) (k : ℕ) (ss : List Stream) → length ss ≤ most_streams → AllByRecursion IsWithinLimits ss → unsigned_abs (group_net group k ss) ≤ most_streams * most_value
+net_within : (group : List ℕ) (k : ℕ) (ss : List Stream) → length ss ≤ most_streams → AllByRecursion IsWithinLimits ss → unsigned_abs (group_net group k ss) ≤ most_group_net
 net_within group k ss few limits =
     let each = AllByRecursion-map IsWithinLimits (λ s. unsigned_abs (crossing_value group k s) ≤ most_value) ss
     (λ s l. entering_within _ _ (value_or_zero s.meas) most_value (value_within s.meas l)) limits in

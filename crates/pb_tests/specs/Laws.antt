@@ -1,7 +1,6 @@
 -- Statement. What is proved of tests.
-use Rattle.std.specs.Prelude.{◌≡◌, ℕ, ◌*◌, ◌<◌, ◌≤◌, ℤ, pos, ◌≤ℤ◌, unsigned_abs, List, All, Option, Some}
+use Rattle.std.specs.Prelude.{◌≡◌, ℕ, ◌<◌, ◌≤◌, ℤ, pos, ◌≤ℤ◌, unsigned_abs, List, All, Option, Some}
 use Rattle.std.specs.List.{Any}
-use Rattle.pb_limits.specs.Limits.{most_streams, most_value}
 use Rattle.pb_graph.specs.declared.results.Verdict.TheVariants.{Reject, Accept}
 use Rattle.pb_graph.specs.declared.results.NodalTest.{NodalTest}
 use Rattle.pb_graph.specs.declared.results.MeasureTest.{MeasureTest}
@@ -11,7 +10,7 @@ use Rattle.pb_graph.specs.Squares.{Fractional, IsBalancedFractional, AreSquaresA
 use Rattle.pb_merge.specs.Variance.{most_group_variance}
 use Rattle.pb_gap.specs.Solution.{IsSolvedStatistic}
 use Rattle.pb_tests.specs.Verdicts.{global_verdict, measure_verdict}
-use Rattle.pb_tests.specs.Nodal.{AreNodalTests}
+use Rattle.pb_tests.specs.Nodal.{AreNodalTests, most_group_net}
 use Rattle.pb_tests.specs.Drop.{IsMeasureTestOf, AreMeasureTests, drop_high, drop_low, without_measurement}
 use Rattle.pb_tests.specs.Decided.{AreSquaresAbove, AreSquaresAboveBy, AreSquaresWithinBy, AreEnds}
 
@@ -42,7 +41,7 @@ FreeGroupsLaw = (graph : ProcessGraph) (critical : Option ℤ) (tests : List Nod
 
 -- the net flow of a nodal test is that of as many values as a graph has streams, and its variance that of as many variances
 pub record IsNodalNumber (test : NodalTest) : Type 0 where
-  pub net : unsigned_abs test.net ≤ most_streams * most_value
+  pub net : unsigned_abs test.net ≤ most_group_net
   pub positive : pos 0 ≤ℤ test.variance
   pub variance : test.variance ≤ℤ pos most_group_variance
 

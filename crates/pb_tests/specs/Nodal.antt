@@ -1,6 +1,7 @@
 -- Statement. Nodal tests: the measured net flow of each group of nodes that can be tested (Mah, Stanley and Downing 1976, who merge
 -- the nodes that an unmeasured stream joins; Mah and Tamhane 1982, on the test).
-use Rattle.std.specs.Prelude.{◌≡◌, ℕ, zero, suc, ◌==◌, ℤ, List, [], ◌∷◌, ◌++◌, Option, if◌then◌else◌}
+use Rattle.std.specs.Prelude.{◌≡◌, ℕ, zero, suc, ◌*◌, ◌==◌, ℤ, List, [], ◌∷◌, ◌++◌, Option, if◌then◌else◌}
+use Rattle.pb_limits.specs.Limits.{most_streams, most_value}
 use Rattle.pb_integers.specs.Sums.{sum_over}
 use Rattle.pb_graph.specs.declared.records.Stream.{Stream}
 use Rattle.pb_graph.specs.declared.results.NodalTest.{NodalTest}
@@ -18,6 +19,10 @@ crossing_value group k stream =
 -- the net flow of group k by the measured values: what enters less what leaves
 abbrev pub group_net : List ℕ → ℕ → List Stream → ℤ
 group_net group k streams = sum_over (crossing_value group k) streams
+
+-- the greatest net flow of a group, in grams, either way: each stream brings in the greatest value
+abbrev pub most_group_net : ℕ
+most_group_net = most_streams * most_value
 
 -- the least node of group k
 abbrev pub least_node : ℕ → List ℕ → ℕ

@@ -10,7 +10,7 @@ ghost use Rattle.pb_graph.specs.WellFormed.{IsNodalWithin};
 ghost use Rattle.pb_merge.specs.Variance.{most_group_variance};
 ghost use Rattle.pb_merge.specs.Grouping.{AreGroupsOf};
 ghost use Rattle.pb_tests.specs.Verdicts.{nodal_verdict};
-ghost use Rattle.pb_tests.specs.Nodal.{AreNodalTests, crossing_value, group_net, nodal_test, nodal_tests_below};
+ghost use Rattle.pb_tests.specs.Nodal.{AreNodalTests, crossing_value, group_net, most_group_net, nodal_test, nodal_tests_below};
 
 use pb_graph::{Graph, List, Meas, NodalTest, Stream, Verdict};
 use pb_merge::Groups;
@@ -61,7 +61,7 @@ fn group_net(numbers: &[u32], group: u32, streams: &[Stream]) -> i128
     requires ends { All (IsStream (length numbers.now)) streams.now }
     requires limits { All IsWithinLimits streams.now }
     ensures value { result ≡ group_net numbers.now group streams.now }
-    ensures within { unsigned_abs result ≤ most_streams * most_value }
+    ensures within { unsigned_abs result ≤ most_group_net }
 {
     let mut total = 0;
     for stream in streams {
@@ -72,7 +72,7 @@ fn group_net(numbers: &[u32], group: u32, streams: &[Stream]) -> i128
 
 // The square of a net flow.
 fn square(net: u128) -> u128
-    requires { net ≤ most_streams * most_value }
+    requires { net ≤ most_group_net }
     ensures value { result ≡ net * net }
     ensures within { result < 2 ^ 124 }
 {
@@ -91,7 +91,7 @@ fn scaled_variance(critical: u128, variance: u128) -> u128
 
 // Whether a thousand times the square of a net flow is above a critical value times a variance.
 fn is_above(net: u128, variance: u128, critical: u128) -> bool
-    requires net { net ≤ most_streams * most_value }
+    requires net { net ≤ most_group_net }
     requires variance { variance ≤ most_group_variance }
     requires critical { critical ≤ most_critical }
     ensures { result ≡ nat_lt (critical * variance) (1000 * (net * net)) }
@@ -101,7 +101,7 @@ fn is_above(net: u128, variance: u128, critical: u128) -> bool
 
 /// The verdict of a nodal test on a net flow in grams and its variance, by a critical value in thousandths.
 pub fn nodal_verdict(net: i128, variance: i128, critical: Option<i64>) -> Verdict
-    requires net { unsigned_abs net ≤ most_streams * most_value }
+    requires net { unsigned_abs net ≤ most_group_net }
     requires positive { pos 0 ≤ℤ variance }
     requires variance { variance ≤ℤ pos most_group_variance }
     requires critical { IfSome critical IsCriticalValue }

@@ -8,6 +8,7 @@ use Rattle.std.proofs.lemmas.List.{map-append}
 use Rattle.std.proofs.lemmas.List.Elements.{All-from_recursion}
 use Rattle.std.proofs.lemmas.List.Folds.{list_all-append}
 use Rattle.std.proofs.lemmas.List.Kept.{AllPairs-cons}
+use Rattle.pb_limits.specs.Limits.{most_periods_of_window, most_streams}
 use Rattle.pb_rows.specs.Name.{is_name, is_name_byte, same_name}
 use Rattle.pb_window.specs.declared.plant.Plant.{Plant}
 use Rattle.pb_window.specs.declared.plant.PlantArc.{PlantArc}
@@ -17,7 +18,7 @@ use Rattle.pb_window.specs.declared.window.Window.{Window}
 use Rattle.pb_window.specs.declared.window.WindowNode.{WindowNode}
 use Rattle.pb_window.specs.declared.window.WindowStream.{WindowStream}
 use Rattle.pb_window.specs.Plant.{IsPlant, NumberedArc, arcs_in}
-use Rattle.pb_window.specs.Window.{NumberedSpan, content_day, content_end, content_of, contents_of_arc, flow_of, flows_of_period, is_too_great, most_periods_of_window, stay_of, numbered_spans, unless_too_great, window_contents, window_flows, window_nodes, window_shape, window_streams}
+use Rattle.pb_window.specs.Window.{NumberedSpan, content_day, content_end, content_of, contents_of_arc, flow_of, flows_of_period, is_too_great, stay_of, numbered_spans, unless_too_great, window_contents, window_flows, window_nodes, window_shape, window_streams}
 use Rattle.pb_window.specs.Codes.{AreNames, AreWindowNames, code_text, node_code, source_letter, stream_code}
 use Rattle.pb_window.specs.Laws.{WindowNamesLaw}
 use Rattle.pb_window.proofs.CodeLemmas.{coded_name, codes_apart}
@@ -74,7 +75,7 @@ other_numbers t i u j lt = elim (cases_Bool (t == u)) [
   | inr differ ↦ inl (eqb-false t u differ)
 ]
 
-differ_by : (letter t i u j e : ℕ) → e ≤ 2001 * 65536 → t * 65536 + i < u * 65536 + j → u * 65536 + j < e → Differ (code_text letter t i) (code_text letter u j)
+differ_by : (letter t i u j e : ℕ) → e ≤ (most_streams + 1) * 65536 → t * 65536 + i < u * 65536 + j → u * 65536 + j < e → Differ (code_text letter t i) (code_text letter u j)
 differ_by letter t i u j e most lt below =
     codes_apart letter t i u j (omega (arith, most, lt, below)) (omega (arith, most, lt, below)) (omega (arith, most, below)) (omega (arith, most, below)) (other_numbers t i u j lt)
 
@@ -82,15 +83,15 @@ differ_by letter t i u j e most lt below =
 swapped : (t i u j : ℕ) → (t ≢ u) ⊎ (i ≢ j) → (i ≢ j) ⊎ (t ≢ u)
 swapped t i u j other = elim other [ inl one ↦ inr one | inr one ↦ inl one ]
 
-differ_by_place : (letter t i u j e : ℕ) → e ≤ 2001 * 65536 → i * 65536 + t < j * 65536 + u → j * 65536 + u < e → Differ (code_text letter t i) (code_text letter u j)
+differ_by_place : (letter t i u j e : ℕ) → e ≤ (most_streams + 1) * 65536 → i * 65536 + t < j * 65536 + u → j * 65536 + u < e → Differ (code_text letter t i) (code_text letter u j)
 differ_by_place letter t i u j e most lt below =
     codes_apart letter t i u j (omega (arith, most, lt, below)) (omega (arith, most, lt, below)) (omega (arith, most, below)) (omega (arith, most, below))
     (swapped i t j u (other_numbers i t j u lt))
 
-name_by : (letter t i e : ℕ) → is_name_byte letter ≡ true → e ≤ 2001 * 65536 → t * 65536 + i < e → is_name (code_text letter t i) ≡ true
+name_by : (letter t i e : ℕ) → is_name_byte letter ≡ true → e ≤ (most_streams + 1) * 65536 → t * 65536 + i < e → is_name (code_text letter t i) ≡ true
 name_by letter t i e good most below = coded_name letter t i good (omega (arith, most, below)) (omega (arith, most, below))
 
-name_by_place : (letter t i e : ℕ) → is_name_byte letter ≡ true → e ≤ 2001 * 65536 → i * 65536 + t < e → is_name (code_text letter t i) ≡ true
+name_by_place : (letter t i e : ℕ) → is_name_byte letter ≡ true → e ≤ (most_streams + 1) * 65536 → i * 65536 + t < e → is_name (code_text letter t i) ≡ true
 name_by_place letter t i e good most below = coded_name letter t i good (omega (arith, most, below)) (omega (arith, most, below))
 
 -- ---- nodes
@@ -114,7 +115,7 @@ node_names plant spans is few = record {
     end : ℕ
     end = (1 + length spans) * 65536
 
-    most : end ≤ 2001 * 65536
+    most : end ≤ (most_streams + 1) * 65536
     most = omega (arith, few)
 
     rises : Rise node_key 65536 nodes end
@@ -212,7 +213,7 @@ stream_names plant spans is few = subst AreNames (sym (map-append stream_code fl
     flow_end : ℕ
     flow_end = (1 + length spans) * 65536
 
-    flow_most : flow_end ≤ 2001 * 65536
+    flow_most : flow_end ≤ (most_streams + 1) * 65536
     flow_most = omega (arith, few)
 
     flow_rises : Rise flow_key 65536 flows flow_end
@@ -230,7 +231,7 @@ stream_names plant spans is few = subst AreNames (sym (map-append stream_code fl
     content_last : ℕ
     content_last = (0 + length plant.arcs) * 65536
 
-    content_most : content_last ≤ 2001 * 65536
+    content_most : content_last ≤ (most_streams + 1) * 65536
     content_most = omega (arith, is.few_arcs)
 
     content_rises : Rise content_key 0 contents content_last

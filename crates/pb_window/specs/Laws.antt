@@ -1,11 +1,12 @@
 -- Statement. What is proved of windows, law by law.
 use Rattle.std.specs.Prelude.{◌≡◌, ℕ, ◌+◌, ◌≤◌, List, length, All, Ok}
+use Rattle.pb_limits.specs.Limits.{most_periods_of_window}
 use Rattle.pb_rows.specs.declared.name.Names.{Names}
 use Rattle.pb_window.specs.declared.plant.Plant.{Plant}
 use Rattle.pb_window.specs.declared.plant.Span.{Span}
 use Rattle.pb_window.specs.declared.window.Window.{Window}
 use Rattle.pb_window.specs.Plant.{IsPlant}
-use Rattle.pb_window.specs.Window.{IsWindow, most_periods_of_window, window_of}
+use Rattle.pb_window.specs.Window.{IsWindow, window_of}
 use Rattle.pb_window.specs.Codes.{AreWindowNames}
 use Rattle.pb_window.specs.Places.{HaveNames}
 use Rattle.pb_window.specs.Meaning.{IsNodeOf, IsStreamOf}

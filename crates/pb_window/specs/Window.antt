@@ -14,10 +14,6 @@ use Rattle.pb_window.specs.declared.window.WindowNode.{WindowNode}
 use Rattle.pb_window.specs.declared.window.WindowStream.{WindowStream}
 use Rattle.pb_window.specs.Plant.{NumberedArc, arcs_in, closing_day, is_served, nodes_in, opening_day}
 
--- how many periods a window has at the most
-abbrev pub most_periods_of_window : ℕ
-most_periods_of_window = 31
-
 -- a period after its number in the window, counted from 1
 abbrev pub NumberedSpan : Type 0
 NumberedSpan = ℕ × Span

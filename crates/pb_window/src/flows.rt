@@ -2,9 +2,9 @@
 
 ghost use Rattle.std.specs.Prelude.{◌≡◌, ◌<◌, ◌≤◌, ◌^◌, ◌++◌, length, IfOk, OnOk};
 ghost use Rattle.std.specs.List.{enumerate_from, filter_map};
-ghost use Rattle.pb_limits.specs.Limits.{most_streams};
+ghost use Rattle.pb_limits.specs.Limits.{most_periods_of_window, most_streams};
 ghost use Rattle.pb_window.specs.Plant.{arcs_in};
-ghost use Rattle.pb_window.specs.Window.{flow_of, most_periods_of_window, window_flows};
+ghost use Rattle.pb_window.specs.Window.{flow_of, window_flows};
 
 use crate::nodes::number_of;
 use crate::plant::{PlantArc, Span, is_served};

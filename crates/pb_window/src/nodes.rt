@@ -2,9 +2,9 @@
 
 ghost use Rattle.std.specs.Prelude.{◌≡◌, ◌<◌, ◌≤◌, ◌*◌, ◌^◌, ◌++◌, length, map, position, IfOk, OnOk};
 ghost use Rattle.std.specs.List.{enumerate_from};
-ghost use Rattle.pb_limits.specs.Limits.{most_units_and_tanks};
+ghost use Rattle.pb_limits.specs.Limits.{most_periods_of_window, most_units_and_tanks};
 ghost use Rattle.pb_window.specs.Plant.{IsPlant, nodes_in};
-ghost use Rattle.pb_window.specs.Window.{most_periods_of_window, nodes_of_period, number_of, stands_for, window_node, window_nodes};
+ghost use Rattle.pb_window.specs.Window.{nodes_of_period, number_of, stands_for, window_node, window_nodes};
 
 use crate::plant::{Plant, Span, is_node_in};
 use crate::window::WindowNode;

@@ -1,10 +1,11 @@
 // Windows.
 
 ghost use Rattle.std.specs.Prelude.{◌≡◌, ◌≢◌, ◌≤◌, length, All, Err, IfOk};
+ghost use Rattle.pb_limits.specs.Limits.{most_periods_of_window};
 ghost use Rattle.pb_window.specs.declared.window.WindowFault.TheVariants.{NoMemory};
 ghost use Rattle.pb_window.specs.Plant.{IsPlant, IsSpan};
 ghost use Rattle.pb_window.specs.Codes.{AreWindowNames};
-ghost use Rattle.pb_window.specs.Window.{IsWindow, is_too_great, most_periods_of_window, window_of};
+ghost use Rattle.pb_window.specs.Window.{IsWindow, is_too_great, window_of};
 
 use crate::contents::push_contents;
 use crate::flows::push_flows;
@@ -54,7 +55,7 @@ pub struct Window {
 /// Why there is no window.
 #[derive(Clone, Copy, Debug, PartialEq, Eq)]
 pub enum WindowFault {
-    /// It would have more than 1,001 nodes or more streams than a graph may have.
+    /// It would have more nodes or more streams than a graph may have.
     TooGreat,
     NoMemory,
 }

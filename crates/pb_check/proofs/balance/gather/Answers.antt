@@ -1,9 +1,10 @@
-use Rattle.std.proofs.Common.{◌≡◌, ◌∙◌, ℕ, ◌+◌, ◌<◌, ◌^◌, ◌+ℤ◌, unsigned_abs, drop, FitsSigned, arith}
+use Rattle.std.proofs.Common.{◌≡◌, ◌∙◌, ℕ, ◌+◌, ◌+ℤ◌, drop, FitsSigned, arith}
 use mir.Syntax.{w128}
 use Rattle.std.proofs.lemmas.Int.{ints}
 use Rattle.std.proofs.Math.Facts.{to_z-of_z}
 use Rattle.pb_integers.specs.Sums.{item}
 use Rattle.pb_graph.specs.Balance.{brought_to, net_of}
+use Rattle.pb_graph.specs.WellFormed.{IsFlow}
 use Rattle.pb_elim.specs.Printed.{printed_flows}
 use Rattle.pb_check.proofs.NetLemmas.{net_next, gathered, brought_small, sum_small, flow_small}
 use Rattle.pb_check.proofs.balance.gather.Goals as goal
@@ -17,7 +18,7 @@ loop-j-preserved c =
     let s = c.stream.result in
     let r = c.at.result.now in
     let inv = c.loop-j.invariant in
-    let small : unsigned_abs r.flow < 2 ^ 68 = flow_small stage j r c.requires.formed c.at.ensures in
+    let small : IsFlow r.flow = flow_small stage j r c.requires.formed c.at.ensures in
     let fits : FitsSigned w128 r.flow = omega (arith, ints, small) in
     let value : (n : ℕ) → item c.bring.new.nets n ≡ item c.loop-j.nets n +ℤ brought_to n s r.flow = λ n. simp to_z-of_z at (c.bring.ensures.value n) in
     record {

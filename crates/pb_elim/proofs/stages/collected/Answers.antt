@@ -1,4 +1,4 @@
-use Rattle.std.proofs.Common.{◌∙◌, ℤ, length, Option, None, to_z, of_z, FitsSigned, refl, sym, ap, subst, arith, rules}
+use Rattle.std.proofs.Common.{◌∙◌, ℤ, Option, None, to_z, of_z, FitsSigned, refl, sym, ap, subst, rules}
 use Rattle.std.specs.Int.{w128}
 use Rattle.std.proofs.lemmas.Int.{to_z-of_z}
 use Rattle.pb_graph.specs.declared.results.Stage.{Stage}
@@ -55,12 +55,10 @@ returns-clause-graph c = subst IsProcessGraph (c.requires.graph ∙ sym c.in_ok-
 pub returns-clause-formed : goal.returns-clause-formed
 returns-clause-formed c =
     let fits : FitsSigned w128 c.statistic-low.result.0 = search rules in
-    let streams = ap (λ (g : ProcessGraph). length g.streams) (c.in_ok-copy.ensures ∙ sym c.requires.graph) in
     stage_formed c.args.options.now c.args.solver.now c.args.classes (made c) c.requires.limits (parts c) (record {
       prices = c.in_ok-node_prices.ensures.within;
       g = c.g.ensures.most;
       h = c.h.ensures.most;
-      dof = omega (arith, c.dof.ensures.most, streams);
       low = simp to_z-of_z c.statistic-low.ensures.low_within;
       high = c.statistic-low.ensures.high_within;
       untested = refl;

@@ -1,4 +1,4 @@
-use Rattle.std.proofs.Common.{◌≡◌, ℕ, ◌+◌, ◌*◌, ◌^◌, ◌≤◌, unsigned_abs, length, take}
+use Rattle.std.proofs.Common.{◌≡◌, ℕ, ◌+◌, ◌*◌, ◌≤◌, unsigned_abs, length, take}
 use Rattle.pb_integers.specs.Sums.{item}
 use Rattle.pb_forest.specs.Flows.{most_given_flow}
 use Rattle.pb_forest.specs.Balancing.{gathered}

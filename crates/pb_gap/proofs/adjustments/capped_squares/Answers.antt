@@ -8,7 +8,7 @@ use Rattle.pb_limits.specs.Limits.{most_streams}
 use Rattle.pb_integers.specs.Sums.{item}
 use Rattle.pb_integers.proofs.Sums.{sum_over-take_more}
 use Rattle.pb_graph.specs.ProcessGraph.{some_stream}
-use Rattle.pb_gap.specs.Statistic.{adjustment_below, adjustments_by, capped_squares, most_adjustment}
+use Rattle.pb_gap.specs.Statistic.{adjustment_below, adjustments_by, capped_squares, adjustment_cap}
 use Rattle.pb_gap.proofs.Columns.{adjustment_item, length-adjustments}
 use Rattle.pb_gap.proofs.adjustments.capped_squares.Goals as goal
 
@@ -32,11 +32,11 @@ loop-j-preserved c =
     let total = to_z w128 c.loop-j.total-bits in
     let below : c.below.result ≡ adjustment_below (get_or ss j some_stream).meas (item ps j) = simp to_z-of_z at c.below.ensures.value in
     let own : c.below.result ≡ item bs j = below ∙ sym (adjustment_item adjustment_below ss ps j some_stream c.requires.each there) in
-    let capped : c.capped.result ≡ int_min c.below.result most_adjustment = simp to_z-of_z at c.capped.ensures.value in
+    let capped : c.capped.result ≡ int_min c.below.result adjustment_cap = simp to_z-of_z at c.capped.ensures.value in
     let square : part ≡ c.capped.result *ℤ c.capped.result = simp to_z-of_z at c.square-total.ensures.value in
-    let is = capped ∙ ap (λ (b : ℤ). int_min b most_adjustment) own in
+    let is = capped ∙ ap (λ (b : ℤ). int_min b adjustment_cap) own in
     let value = square ∙ ap₂ (λ (x y : ℤ). x *ℤ y) is is in
-    let next = sum_over-take_more (λ b. int_min b most_adjustment *ℤ int_min b most_adjustment) bs j (pos 0) within in
+    let next = sum_over-take_more (λ b. int_min b adjustment_cap *ℤ int_min b adjustment_cap) bs j (pos 0) within in
     let fits_sum : FitsSigned w128 (total +ℤ part) = omega (arith, ints, inv.nonneg, inv.small, c.square-total.ensures.nonneg, c.square-total.ensures.within, there, few) in
     simp to_z-of_z (record {
       so_far = ap₂ (λ (x y : ℤ). x +ℤ y) inv.so_far value ∙ sym next;

@@ -10,14 +10,14 @@ use Rattle.pb_limits.specs.Limits.{most_streams}
 use Rattle.pb_integers.specs.Sums.{item}
 use Rattle.pb_integers.proofs.Sums.{sum_over-take_more}
 use Rattle.pb_graph.specs.ProcessGraph.{some_stream}
-use Rattle.pb_gap.specs.Statistic.{adjustment_above, adjustments_by, full_squares, most_adjustment}
+use Rattle.pb_gap.specs.Statistic.{adjustment_above, adjustments_by, full_squares, adjustment_cap}
 use Rattle.pb_gap.proofs.Widths.{int_lt_no, int_lt_yes}
 use Rattle.pb_gap.proofs.Columns.{adjustment_item, length-adjustments}
 use Rattle.pb_gap.proofs.adjustments.full_squares.Goals as goal
 
 -- an adjustment above the most leaves no sum
-pub returns-then-adjustment-gt-MOST_ADJUSTMENT-clause-value : goal.returns-then-adjustment-gt-MOST_ADJUSTMENT-clause-value
-returns-then-adjustment-gt-MOST_ADJUSTMENT-clause-value c =
+pub returns-then-adjustment-gt-ADJUSTMENT_CAP-clause-value : goal.returns-then-adjustment-gt-ADJUSTMENT_CAP-clause-value
+returns-then-adjustment-gt-ADJUSTMENT_CAP-clause-value c =
     let ss = c.args.streams.now in
     let ps = c.args.flows.now in
     let bs = adjustments_by adjustment_above ss ps in
@@ -29,9 +29,9 @@ returns-then-adjustment-gt-MOST_ADJUSTMENT-clause-value c =
     let fits_above : FitsSigned w128 c.above-adjustment.result = record { sfits = c.above-adjustment.type_inv } in
     let above : c.above-adjustment.result ≡ adjustment_above (get_or ss j some_stream).meas (item ps j) = simp to_z-of_z at c.above-adjustment.ensures.value in
     let own : c.above-adjustment.result ≡ item bs j = above ∙ sym (adjustment_item adjustment_above ss ps j some_stream c.requires.each there) in
-    let more = simp to_z-of_z at c.if-adjustment-gt-MOST_ADJUSTMENT.true in
-    let passes = int_lt_yes most_adjustment (item bs j) (omega (arith, ints, more, own)) in
-    let any = list_any_at (λ b. int_lt most_adjustment b) bs j (pos 0) within passes in
+    let more = simp to_z-of_z at c.if-adjustment-gt-ADJUSTMENT_CAP.true in
+    let passes = int_lt_yes adjustment_cap (item bs j) (omega (arith, ints, more, own)) in
+    let any = list_any_at (λ b. int_lt adjustment_cap b) bs j (pos 0) within passes in
     rw any refl
 
 -- the square of one adjustment more joins the total
@@ -57,9 +57,9 @@ loop-j-preserved c =
     let value = square ∙ ap₂ (λ (x y : ℤ). x *ℤ y) own own in
     let next = sum_over-take_more (λ (b : ℤ). b *ℤ b) bs j (pos 0) within in
     let fits_sum : FitsSigned w128 (total +ℤ part) = omega (arith, ints, inv.nonneg, inv.small, c.square-total.ensures.nonneg, c.square-total.ensures.within, there, few) in
-    let not_more = simp to_z-of_z at c.if-adjustment-gt-MOST_ADJUSTMENT.false in
-    let fails = int_lt_no most_adjustment (item bs j) (omega (arith, ints, not_more, own)) in
-    let none = list_any_more (λ b. int_lt most_adjustment b) bs j (pos 0) within ∙ ap₂ (λ (x y : Bool). x || y) inv.none fails in
+    let not_more = simp to_z-of_z at c.if-adjustment-gt-ADJUSTMENT_CAP.false in
+    let fails = int_lt_no adjustment_cap (item bs j) (omega (arith, ints, not_more, own)) in
+    let none = list_any_more (λ b. int_lt adjustment_cap b) bs j (pos 0) within ∙ ap₂ (λ (x y : Bool). x || y) inv.none fails in
     simp to_z-of_z (record {
       so_far = ap₂ (λ (x y : ℤ). x +ℤ y) inv.so_far value ∙ sym next;
       none = none;
@@ -71,5 +71,5 @@ pub returns-clause-value : goal.returns-clause-value
 returns-clause-value c =
     let bs = adjustments_by adjustment_above c.args.streams.now c.args.flows.now in
     let all = take_all c.loop-j.j bs (omega (arith, c.loop-j-test.false, length-adjustments adjustment_above c.args.streams.now c.args.flows.now c.requires.each)) in
-    let none = sym (ap (list_any (λ b. int_lt most_adjustment b)) all) ∙ c.loop-j.invariant.none in
+    let none = sym (ap (list_any (λ b. int_lt adjustment_cap b)) all) ∙ c.loop-j.invariant.none in
     rw none (ap Some (c.loop-j.invariant.so_far ∙ ap full_squares all))

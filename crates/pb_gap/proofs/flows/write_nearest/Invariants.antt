@@ -1,4 +1,4 @@
-use Rattle.std.proofs.Common.{◌≡◌, ℕ, ◌^◌, ◌<◌, ◌≤◌, length, unsigned_abs}
+use Rattle.std.proofs.Common.{◌≡◌, ℕ, ◌<◌, ◌≤◌, length, unsigned_abs}
 use Rattle.pb_forest.specs.Flows.{most_given_flow}
 use Rattle.pb_integers.specs.Sums.{item}
 use Rattle.pb_gap.specs.State.{nearest_grams}
