@@ -27,7 +27,7 @@ pub record IsReady (rows : List StoredRow) : Type 0 where
   pub ranges : All (λ (k : KeptFact). IsInRange k.fact) (facts_of rows)
 
 -- a declaration that there is no cause to refuse has no fault
-no_fault : (a b c d e f : Bool)
+pub no_fault : (a b c d e f : Bool)
     → (if a then Some Unknown else if b then Some Duplicate else if c then Some Order else if d then Some Mismatch else if e then Some Sealed
     else if false then Some Closed else if false then Some Range else if f then Some Full else None) ≡ None → first_fault a b c d f ≡ None
 no_fault true b c d e f none = cc none

@@ -38,7 +38,7 @@ use Rattle.pb_kinds.specs.declared.rows.Edit.TheVariants as edits
 use Rattle.pb_kinds.specs.declared.rows.Effect.TheVariants.{Declares, Opens, Books, Edits, Closes}
 use Rattle.pb_book.specs.declared.rows.Period.{Period}
 use Rattle.pb_book.specs.Apart.{shares_a_day}
-use Rattle.pb_book.specs.TakenOut.{takes_out, touches_by_id}
+use Rattle.pb_book.specs.TakenOut.{takes_out, touches_by_id, touching_of}
 use Rattle.pb_book.specs.declared.rows.StoredRow.{StoredRow}
 use Rattle.pb_book.specs.Rows.{declaration_in, declared_of, facts_after, facts_of, live}
 use Rattle.pb_book.specs.Touching.{is_boundary_of, touches, touches_in}
@@ -434,11 +434,11 @@ declared_same touch period kept (Closes name) spared = refl
 
 -- a row that doesn't touch a period leaves what is declared and its graph
 pub leaves : (rows : List StoredRow) (stored : StoredRow) (period : Period) → AreDistinct (arc_names (declared_of (rows ++ stored ∷ []))) → NoRepeats (facts_of (rows ++ stored ∷ []))
-    → (let declared = declared_of (rows ++ stored ∷ []) in takes_out (touches_in (version_of declared) declared) (facts_of (rows ++ stored ∷ [])) stored.effect period ≡ false)
+    → takes_out (touching_of (rows ++ stored ∷ [])) (facts_of (rows ++ stored ∷ [])) stored.effect period ≡ false
     → LeavesDays rows (rows ++ stored ∷ []) (days_of period)
 leaves rows stored period distinct apart spared =
     let new = rows ++ stored ∷ [] in
-    let touch = touches_in (version_of (declared_of new)) (declared_of new) in
+    let touch = touching_of new in
     let days = days_of period in
     let facts : facts_of new ≡ facts_after (facts_of rows) stored.effect = fold_push (λ (kept : List KeptFact) (s : StoredRow). facts_after kept s.effect) [] rows stored in
     let apart_now = subst NoRepeats facts apart in

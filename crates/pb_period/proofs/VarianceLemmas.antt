@@ -54,14 +54,14 @@ head P x xs all = all 0 x (omega arith)
 tail : {A : Type 0} (P : A → Type 0) (x : A) (xs : List A) → All P (x ∷ xs) → All P xs
 tail P x xs all = λ k d lt. all (suc k) d (omega (arith, lt))
 
--- the live facts lie in their ranges
-live_ranges : (kept : List KeptFact) → All (λ (k : KeptFact). IsInRange k.fact) kept → All IsInRange (live_facts kept)
-live_ranges [] all = All-nil IsInRange
-live_ranges (k ∷ kept) all =
-    let rest = live_ranges kept (tail (λ (k : KeptFact). IsInRange k.fact) k kept all) in
+-- what all facts have, the live ones have
+pub live_have : (P : Fact → Type 0) (kept : List KeptFact) → All (λ (k : KeptFact). P k.fact) kept → All P (live_facts kept)
+live_have P [] all = All-nil P
+live_have P (k ∷ kept) all =
+    let rest = live_have P kept (tail (λ (k : KeptFact). P k.fact) k kept all) in
     elim (cases_Bool k.struck) [
       | inl struck ↦ rw struck rest
-      | inr live ↦ rw live (All-cons IsInRange k.fact (live_facts kept) (head (λ (k : KeptFact). IsInRange k.fact) k kept all) rest)
+      | inr live ↦ rw live (All-cons P k.fact (live_facts kept) (head (λ (k : KeptFact). P k.fact) k kept all) rest)
     ]
 
 -- what is found has what all have
@@ -287,14 +287,14 @@ graph_right One rows days plant part ranges =
     let measure = measured declared facts days None in
     within_right (graph_in One rows days) (graph_of measure rows plant)
     (all_map (IsArc (length (node_names declared))) HasLeast (stream_with measure) (arcs_of declared)
-    (λ arc right. measured_least declared facts days None arc (live_ranges (facts_of rows) ranges) right.limits) plant.joined)
+    (λ arc right. measured_least declared facts days None arc (live_have IsInRange (facts_of rows) ranges) right.limits) plant.joined)
 graph_right Two rows days plant part ranges =
     let facts = live_facts (facts_of rows) in
     let declared = declared_of rows in
     let nodes = length (node_names declared) in
     within_right (graph_in Two rows days) (served_of declared facts days plant part)
     (all_map (IsArc nodes) HasLeast (stream_among (nodes_on Two declared days.first days.last) (measured_served declared facts days)) (arcs_on Two declared days.first days.last)
-    (λ arc right. measured_least declared facts days arc.service arc (live_ranges (facts_of rows) ranges) right.limits)
+    (λ arc right. measured_least declared facts days arc.service arc (live_have IsInRange (facts_of rows) ranges) right.limits)
     (all_filter (IsArc nodes) (is_arc_in_service days.first days.last) (arcs_of declared) plant.joined))
 
 -- ---- names

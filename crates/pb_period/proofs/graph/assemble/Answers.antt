@@ -24,13 +24,13 @@ found_at P version own days found period own_is days_is at holds =
 pub returns-in-Two-clause-answer : goal.returns-in-Two-clause-answer
 returns-in-Two-clause-answer c = λ sure.
     let rows = c.args.book.now in
-    let version_is : version_of (declared_of rows) ≡ Two = sym (c.in-Two.ensures ∙ ap version_of c.site.ensures.value) in
+    let version_is : version_of (declared_of rows) ≡ Two = sym (c.in-Two.ensures.value ∙ ap version_of c.site.ensures.value) in
     found_at (λ version days. c.served_graph.result ≡ assembly_in version rows days) Two (version_of (declared_of rows)) c.of-days.result _ c.period.result version_is c.of-days.ensures
     c.period.ensures.value (c.served_graph.ensures.answer sure)
 
 pub returns-in-Two-clause-over : goal.returns-in-Two-clause-over
 returns-in-Two-clause-over c =
     let rows = c.args.book.now in
-    let version_is : version_of (declared_of rows) ≡ Two = sym (c.in-Two.ensures ∙ ap version_of c.site.ensures.value) in
+    let version_is : version_of (declared_of rows) ≡ Two = sym (c.in-Two.ensures.value ∙ ap version_of c.site.ensures.value) in
     found_at (λ version days. IfErr c.served_graph.result (IsStreamOf (graph_in version rows days))) Two (version_of (declared_of rows)) c.of-days.result _ c.period.result version_is
     c.of-days.ensures c.period.ensures.value c.served_graph.ensures.over
