@@ -1,5 +1,5 @@
 -- What a row that was read says is of its columns.
-use Rattle.std.specs.Prelude.{◌&&◌, ◌==◌, ◌-◌, int_le, nat_le, IfSome, Result, Ok, Err, slice_get, if◌then◌else◌}
+use Rattle.std.specs.Prelude.{◌&&◌, ◌==◌, ◌-◌, bytes_eq, int_le, nat_le, position, IfSome, Result, Ok, Err, slice_get, if◌then◌else◌}
 use Rattle.std.specs.Option.{unwrap_or}
 use Rattle.std.proofs.Common.{◌≡◌, ◌∙◌, ◌≤◌, ℕ, ℤ, zero, suc, pos, Bool, true, false, List, [], ◌∷◌, length, Option, Some, None, refl, sym, ap, arith, inl, inr}
 use Rattle.std.proofs.lemmas.Bool.{and_parts, cases_Bool}
@@ -9,10 +9,10 @@ use Rattle.pb_rows.specs.Name.{is_name}
 use Rattle.pb_rows.specs.Number.{number, within}
 use Rattle.pb_form.specs.Columns.{Column, Schema, column, optional}
 use Rattle.pb_form.specs.Field.{field_read, formed, found}
-use Rattle.pb_form.specs.Holds.{Name as NameColumn, Number as NumberColumn}
+use Rattle.pb_form.specs.Holds.{Name as NameColumn, Number as NumberColumn, Word as WordColumn}
 use Rattle.pb_form.specs.OutputRows.{output_columns, output_schema}
 use Rattle.pb_form.specs.Reading.{are_turns, before, fields_read, has_count, joined, one_read, row_read, tail_read}
-use Rattle.pb_form.specs.Value.{Value, Missing, Name, Number}
+use Rattle.pb_form.specs.Value.{Value, Missing, Name, Number, Word}
 use Rattle.pb_form.specs.Values.{number_in}
 use Rattle.pb_form.specs.declared.fault.FormFault.{FormFault}
 use Rattle.pb_form.specs.declared.fault.FormFault.TheVariants as fault
@@ -104,6 +104,11 @@ optional_says lo hi true read value says = let is : Missing ≡ value = cc says 
 optional_says lo hi false None value says = cc says
 optional_says lo hi false (Some z) value says = let h = passes lo hi z value says in rw (h.0) h.1
 
+-- a word is no number
+word_says : (place : Option ℕ) (value : Value) → found Word fault.Word place ≡ Ok value → number_in value ≡ None
+word_says None value says = cc says
+word_says (Some place) value says = let is : Word place ≡ value = cc says in rw (← is) refl
+
 name_says : (text : List ℕ) (value : Value) → formed is_name Name fault.Name text ≡ Ok value → is_name text ≡ true
 name_says text value says = elim (cases_Bool (is_name text)) [
   | inl holds ↦ holds
@@ -127,6 +132,12 @@ pub optional_read : (kind : OutputKind) (row : List (List ℕ)) (values : List V
 optional_read kind row values place key lo hi read has =
     let here = says_in kind row values place (optional key (NumberColumn lo hi)) read has in
     rw (here.at) (optional_says lo hi (length (field row place) == 0) (number (field row place)) here.value here.says)
+
+pub word_read : (kind : OutputKind) (row : List (List ℕ)) (values : List Value) (place : ℕ) (key : List ℕ) (words : List (List ℕ))
+    → row_read (output_schema kind) row ≡ Ok values → HasColumn kind place (column key (WordColumn words)) → optional_at values place ≡ None
+word_read kind row values place key words read has =
+    let here = says_in kind row values place (column key (WordColumn words)) read has in
+    rw (here.at) (word_says (position (bytes_eq (field row place)) words) here.value here.says)
 
 pub name_read : (kind : OutputKind) (row : List (List ℕ)) (values : List Value) (place : ℕ) (key : List ℕ) → row_read (output_schema kind) row ≡ Ok values
     → HasColumn kind place (column key NameColumn) → is_name (field row place) ≡ true

@@ -49,21 +49,17 @@ is_side nodes names = list_all is_name names && rise_from 0 (map (place_of nodes
 abbrev pub side_of : List (List ℕ) → List (List ℕ) → List Bool
 side_of nodes names = map (is_among names) nodes
 
--- the first byte of a part
-abbrev pub sign_of : List ℕ → ℕ
-sign_of part = slice_index_or part 0 0
-
 -- a part whose sign is `+`
 abbrev pub is_plus : List ℕ → Bool
-is_plus part = sign_of part == plus
+is_plus part = slice_index_or part 0 0 == plus
 
--- the name in a part, behind its sign
+-- the name in a part, after its sign
 abbrev pub part_name : List ℕ → List ℕ
 part_name part = drop 1 part
 
 -- a part: a sign and a name
 abbrev pub is_part : List ℕ → Bool
-is_part part = (is_plus part || sign_of part == dash) && is_name (part_name part)
+is_part part = (is_plus part || slice_index_or part 0 0 == dash) && is_name (part_name part)
 
 -- a part that names none of these streams
 abbrev pub names_no_stream : List (List ℕ) → List ℕ → Bool

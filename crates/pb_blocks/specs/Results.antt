@@ -4,8 +4,8 @@ use Rattle.std.specs.List.{list_any}
 use Rattle.pb_graph.specs.declared.records.Witness.{Witness}
 use Rattle.pb_graph.specs.declared.records.Witness.TheVariants.{Cut as CutWitness, Cycle as CycleWitness}
 use Rattle.pb_graph.specs.declared.results.StreamResult.{StreamResult}
-use Rattle.pb_blocks.specs.declared.rows.Shape.{Shape}
-use Rattle.pb_blocks.specs.declared.rows.Shape.TheVariants.{Cut, Cycle}
+use Rattle.pb_choices.specs.declared.places.Shape.{Shape}
+use Rattle.pb_choices.specs.declared.places.Shape.TheVariants.{Cut, Cycle}
 use Rattle.pb_blocks.specs.declared.rows.StreamRow.{StreamRow}
 use Rattle.pb_blocks.specs.Lists.{items, member_of, names_no_stream, step_of}
 

@@ -1,5 +1,5 @@
 -- Statement. The fields of a row of a block that name or list something, as they are written.
-use Rattle.std.specs.Prelude.{ℕ, ◌==◌, Bool, List, [], length, slice_index_or}
+use Rattle.std.specs.Prelude.{ℕ, ◌==◌, ◌-◌, Bool, List, [], length, slice_index_or}
 use Rattle.pb_form.specs.declared.output.OutputKind.{OutputKind}
 use Rattle.pb_form.specs.declared.output.OutputKind.TheVariants.{StreamBefore}
 
@@ -22,43 +22,14 @@ from_field row = field row 2
 abbrev pub to_field : List (List ℕ) → List ℕ
 to_field row = field row 3
 
--- the places of a stream's value and its variance, of its bounds, and of its least bounds in a row that has them
-abbrev pub value_place : ℕ
-value_place = 4
+-- the place of a column after the least bounds of a stream's row: in a row without them it is two places further to the front
+abbrev pub place_after : OutputKind → ℕ → ℕ
+place_after StreamBefore place = place - 2
+place_after kind place = place
 
-abbrev pub variance_place : ℕ
-variance_place = 5
-
-abbrev pub lo_place : ℕ
-lo_place = 8
-
-abbrev pub hi_place : ℕ
-hi_place = 9
-
-abbrev pub least_lo_place : ℕ
-least_lo_place = 10
-
-abbrev pub least_hi_place : ℕ
-least_hi_place = 11
-
--- the shape of a stream's certificate, its side and its parts: a row without least bounds has them two places further to the front
-abbrev pub shape_place : OutputKind → ℕ
-shape_place StreamBefore = 10
-shape_place kind = 12
-
-abbrev pub side_place : OutputKind → ℕ
-side_place StreamBefore = 11
-side_place kind = 13
-
-abbrev pub parts_place : OutputKind → ℕ
-parts_place StreamBefore = 12
-parts_place kind = 14
-
-abbrev pub shape_field : OutputKind → List (List ℕ) → List ℕ
-shape_field kind row = field row (shape_place kind)
-
+-- the side and the parts of a stream's certificate
 abbrev pub side_field : OutputKind → List (List ℕ) → List ℕ
-side_field kind row = field row (side_place kind)
+side_field kind row = field row (place_after kind 13)
 
 abbrev pub parts_field : OutputKind → List (List ℕ) → List ℕ
-parts_field kind row = field row (parts_place kind)
+parts_field kind row = field row (place_after kind 14)

@@ -1,14 +1,11 @@
 // What may be wrong with a row of a block beside its form.
 
 ghost use Rattle.std.specs.Prelude.{◌≡◌, bytes_eq};
-ghost use Rattle.pb_blocks.specs.Beside.{has_bad_list, leads_to_itself, has_unknown_node, is_half, is_half_at, is_half_told, is_round};
+ghost use Rattle.pb_blocks.specs.Beside.{has_bad_list, leads_to_itself, has_unknown_node, is_half, is_half_told, is_round, pairs_of};
 
 use crate::known::Known;
 use crate::lists::{are_parts, has_unknown_item, is_side};
-use crate::texts::{
-    HI, LEAST_HI, LEAST_LO, LO, VALUE, VARIANCE, field, from_field, parts_field, shape_field,
-    side_field, to_field,
-};
+use crate::texts::{field, from_field, parts_field, place_after, side_field, to_field};
 use pb_form::{Fields, OutputKind};
 use pb_limits::MOST_ROUNDS;
 use pb_rows::read_whole;
@@ -17,26 +14,20 @@ use pb_rows::read_whole;
 pub fn is_half_told(kind: OutputKind, fields: &Fields) -> bool
     ensures { result ≡ is_half_told kind fields.now }
 {
+    pairs_of(kind).iter().any(|pair| is_half(field(fields, pair.0), field(fields, pair.1)))
+}
+
+// The places of the columns of a stream's row that come together: a value and its variance, bounds, and least bounds.
+fn pairs_of(kind: OutputKind) -> &'static [(usize, usize)]
+    ensures { result.now ≡ pairs_of kind }
+{
     match kind {
-        OutputKind::Stream => {
-            is_half_at(fields, VALUE, VARIANCE)
-                || is_half_at(fields, LO, HI)
-                || is_half_at(fields, LEAST_LO, LEAST_HI)
-        }
-        OutputKind::StreamBefore => {
-            is_half_at(fields, VALUE, VARIANCE) || is_half_at(fields, LO, HI)
-        }
-        _ => false,
+        OutputKind::StreamBefore => &[(4, 5), (8, 9)],
+        _ => &[(4, 5), (8, 9), (10, 11)],
     }
 }
 
-// Whether one of the fields at two places is left out and the other isn't.
-fn is_half_at(fields: &Fields, one: usize, other: usize) -> bool
-    ensures { result ≡ is_half_at fields.now one other }
-{
-    is_half(field(fields, one), field(fields, other))
-}
-
+// Whether one of two fields is left out and the other isn't.
 fn is_half(one: &[u8], other: &[u8]) -> bool
     ensures { result ≡ is_half one.now other.now }
 {
@@ -62,7 +53,7 @@ pub fn has_bad_list(nodes: &Known, kind: OutputKind, fields: &Fields) -> bool
 {
     let side = side_field(kind, fields);
     !is_side(nodes, side)
-        || (is_word(shape_field(kind, fields), b"cycle") && !side.is_empty())
+        || (is_word(field(fields, place_after(kind, 12)), b"cycle") && !side.is_empty())
         || !are_parts(parts_field(kind, fields))
 }
 

@@ -2,7 +2,10 @@
 
 ghost use Rattle.std.specs.Prelude.{◌≡◌, find, option_copied};
 ghost use Rattle.std.specs.List.{list_any};
-ghost use Rattle.pb_blocks.specs.Kinds.{has_word_of, is_passed_over, is_row_of, kind_among, no_kind, passed_kinds};
+ghost use Rattle.pb_form.specs.OutputRows.{output_schema};
+ghost use Rattle.pb_form.specs.Telling.{is_of};
+ghost use Rattle.pb_form.specs.declared.output.OutputKind.{OutputKind};
+ghost use Rattle.pb_blocks.specs.Kinds.{begins_with, has_word_of, is_passed_over, kind_among, no_kind, passed_kinds};
 
 use crate::fault::RowFault;
 use pb_form::{Fields, FormFault, OutputKind, output_schema, tell};
@@ -21,7 +24,8 @@ pub fn kind_among(kinds: &[OutputKind], fields: &Fields) -> Result<OutputKind, R
 
 // The first of these kinds whose word and number of fields a record has.
 fn first_kind<'a>(kinds: &'a [OutputKind], fields: &Fields) -> Option<&'a OutputKind>
-    ensures { option_copied result ≡ find (is_row_of fields.now) kinds.now }
+    ensures { option_copied result
+        ≡ find (λ (kind : OutputKind). is_of fields.now (output_schema kind)) kinds.now }
 {
     kinds.iter().find(|kind| is_row_of(**kind, fields))
 }
@@ -46,7 +50,7 @@ fn has_word_among(kinds: &[OutputKind], fields: &Fields) -> bool
 
 // Whether a record has a kind's word and its number of fields.
 fn is_row_of(kind: OutputKind, fields: &Fields) -> bool
-    ensures { result ≡ is_row_of fields.now kind }
+    ensures { result ≡ is_of fields.now (output_schema kind) }
 {
     tell(&[*output_schema(kind)], fields).is_ok()
 }
@@ -65,7 +69,25 @@ fn has_word_of(kind: OutputKind, fields: &Fields) -> bool
 pub fn is_passed_over(row: &Row) -> bool
     ensures { result ≡ is_passed_over row.now }
 {
-    has_word_among(passed_kinds(), &Fields::all(row))
+    let fields = Fields::all(row);
+    has_word_among(passed_kinds(), &fields) || begins_with_one(COMING_WORDS, &fields)
+}
+
+// The words of rows that are passed over too, though no session writes them yet: those of windows and of component balances.
+const COMING_WORDS: &[&str] = &["window", "place", "component"];
+
+// Whether the first field of a record is one of these words.
+fn begins_with_one(words: &[&str], fields: &Fields) -> bool
+    ensures { result ≡ list_any (λ word. begins_with fields.now word.now) words.now }
+{
+    words.iter().any(|word| begins_with(fields, word))
+}
+
+// Whether the first field of a record is this word.
+fn begins_with(fields: &Fields, word: &str) -> bool
+    ensures { result ≡ begins_with fields.now word.now }
+{
+    fields.len() > 0 && fields.at(0) == word.as_bytes()
 }
 
 // The kinds of the rows that are passed over.
@@ -81,5 +103,7 @@ fn passed_kinds() -> &'static [OutputKind]
         OutputKind::Edit,
         OutputKind::Taken,
         OutputKind::Stop,
+        OutputKind::Advise,
+        OutputKind::Meter,
     ]
 }

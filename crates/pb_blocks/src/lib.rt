@@ -25,8 +25,8 @@ pub use kinds::{is_passed_over, kind_among};
 pub use known::Known;
 pub use laws::row_read_law;
 pub use results::result_of;
-pub use rows::{Heading, Shape, Solution, StreamRow};
+pub use rows::{Heading, Solution, StreamRow};
 pub use texts::name_field;
 pub use values::{
-    said_arc, said_global, said_measure, said_nodal, said_price, said_solution, said_stream,
+    number, said_arc, said_global, said_measure, said_nodal, said_solution, said_stream,
 };

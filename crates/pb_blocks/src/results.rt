@@ -5,7 +5,8 @@ ghost use Rattle.pb_blocks.specs.Results.{result_of, witness_by};
 
 use crate::known::Known;
 use crate::lists::{members_of, steps_of};
-use crate::rows::{Shape, StreamRow};
+use crate::rows::StreamRow;
+use pb_choices::Shape;
 use pb_graph::{Classified, StreamResult, Witness};
 use std::alloc::{AllocError, Global};
 

@@ -1,5 +1,6 @@
 // What the rows of a block say.
 
+use pb_choices::Shape;
 use pb_graph::{Bounds, Class, List, Solved};
 use pb_rows::Name;
 
@@ -13,13 +14,6 @@ pub struct Heading {
     pub streams: u32,
     pub gap: u32,
     pub sweeps: u32,
-}
-
-/// The shape of a certificate.
-#[derive(Clone, Copy, PartialEq, Eq, Debug)]
-pub enum Shape {
-    Cut,
-    Cycle,
 }
 
 /// What the row of a stream says beside its name and its ends: the parts of the certificate are kept as they are written until

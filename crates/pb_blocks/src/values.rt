@@ -1,32 +1,24 @@
 // What the rows of each kind say, column by column.
 
-ghost use Rattle.std.specs.Prelude.{◌≡◌, IfOk};
+ghost use Rattle.std.specs.Prelude.{◌≡◌, false, IfOk, if◌then◌else◌};
 ghost use Rattle.pb_graph.specs.ProcessGraph.{IsWithinLimits};
 ghost use Rattle.pb_form.specs.OutputRows.{output_columns};
 ghost use Rattle.pb_form.specs.Writing.{FitEach};
 ghost use Rattle.pb_form.specs.declared.output.OutputKind.TheVariants.{Solved as SolvedKind, Global as GlobalKind, Nodal, Measure};
 ghost use Rattle.pb_blocks.specs.Counts.{IsCountAt, IsStreamKind};
-ghost use Rattle.pb_blocks.specs.Values.{said_arc, both_bounds, choice_at, chosen_class, said_global, said_least, both_meas, said_measure, natural_at, said_nodal, number_at, optional_at, said_price, chosen_shape, said_solution, chosen_state, said_stream, chosen_verdict};
+ghost use Rattle.pb_choices.specs.Places.{placed_class, placed_shape, placed_truth, placed_verdict};
+ghost use Rattle.pb_blocks.specs.Values.{said_arc, both_bounds, chosen_at, said_global, both_meas, said_measure, natural_at, said_nodal, number_at, optional_at, said_solution, said_stream};
 
 use crate::known::Known;
 use crate::lists::side_of;
-use crate::rows::{Shape, Solution, StreamRow};
-use crate::texts::{
-    HI, LEAST_HI, LEAST_LO, LO, VALUE, VARIANCE, from_field, name_field, parts_field, shape_place,
-    side_field, to_field,
-};
+use crate::rows::{Solution, StreamRow};
+use crate::texts::{from_field, name_field, parts_field, place_after, side_field, to_field};
+use pb_choices::{Shape, placed_class, placed_shape, placed_truth, placed_verdict};
 use pb_form::{Fields, OutputKind, Values};
 use pb_graph::{
     Bounds, Class, GlobalTest, List, Meas, MeasureTest, NodalTest, Solved, Stream, Verdict,
 };
 use std::alloc::{AllocError, Global};
-
-/// The price of a node, in units of 2^-56.
-pub fn said_price(values: &Values) -> i128
-    ensures { result ≡ said_price values.now }
-{
-    number(values, 2)
-}
 
 /// The ends of a stream, by their places among the nodes, and what was measured of it.
 pub fn said_arc(nodes: &Known, kind: OutputKind, fields: &Fields, values: &Values) -> Stream
@@ -38,7 +30,7 @@ pub fn said_arc(nodes: &Known, kind: OutputKind, fields: &Fields, values: &Value
     Stream {
         from: nodes.place(from_field(fields)),
         to: nodes.place(to_field(fields)),
-        meas: both_meas(values.number(VALUE), values.number(VARIANCE)),
+        meas: both_meas(values.number(4), values.number(5)),
     }
 }
 
@@ -63,11 +55,11 @@ pub fn said_stream(
     ensures { IfOk result (λ row. row ≡ said_stream nodes.now kind fields.now values.now) }
 {
     Ok(StreamRow {
-        class: chosen_class(choice(values, 6)),
+        class: class_at(values, 6),
         flow: number(values, 7),
-        bounds: both_bounds(values.number(LO), values.number(HI)),
-        least: said_least(kind, values),
-        shape: chosen_shape(choice(values, shape_place(kind))),
+        bounds: both_bounds(values.number(8), values.number(9)),
+        least: both_bounds(values.number(10), values.number(11)),
+        shape: shape_at(values, place_after(kind, 12)),
         side: side_of(alloc, nodes, side_field(kind, fields))?,
         parts: List::from_vec(Vec::from_slice(alloc, parts_field(kind, fields))?),
     })
@@ -83,23 +75,13 @@ fn both_bounds(lo: Option<i128>, hi: Option<i128>) -> Option<Bounds>
     }
 }
 
-// The least bounds, which a row of the time before there were any hasn't.
-fn said_least(kind: OutputKind, values: &Values) -> Option<Bounds>
-    ensures { result ≡ said_least kind values.now }
-{
-    match kind {
-        OutputKind::StreamBefore => None,
-        _ => both_bounds(values.number(LEAST_LO), values.number(LEAST_HI)),
-    }
-}
-
 /// How the stage was solved.
 pub fn said_solution(values: &Values) -> Solution
     requires { FitEach (output_columns SolvedKind) values.now }
     ensures { result ≡ said_solution values.now }
 {
     Solution {
-        solved: chosen_state(choice(values, 2), natural(values, 1)),
+        solved: solved_after(truth_at(values, 2), natural(values, 1)),
         g: long_natural(values, 3),
         h: natural(values, 4),
         dof: natural(values, 5),
@@ -115,7 +97,7 @@ pub fn said_global(values: &Values) -> GlobalTest
 {
     GlobalTest {
         critical: critical(values, 1),
-        verdict: chosen_verdict(choice(values, 2)),
+        verdict: verdict_at(values, 2),
     }
 }
 
@@ -129,7 +111,7 @@ pub fn said_nodal(nodes: &Known, fields: &Fields, values: &Values) -> NodalTest
         net: number(values, 2),
         variance: number(values, 3),
         critical: critical(values, 4),
-        verdict: chosen_verdict(choice(values, 5)),
+        verdict: verdict_at(values, 5),
     }
 }
 
@@ -143,12 +125,12 @@ pub fn said_measure(streams: &Known, fields: &Fields, values: &Values) -> Measur
         low: number(values, 2),
         high: values.number(3),
         critical: critical(values, 4),
-        verdict: chosen_verdict(choice(values, 5)),
+        verdict: verdict_at(values, 5),
     }
 }
 
-// The number at a place of a column that may not be empty.
-pub(crate) fn number(values: &Values, place: usize) -> i128
+/// The number at a place of a column that may not be empty.
+pub fn number(values: &Values, place: usize) -> i128
     ensures { result ≡ number_at values.now place }
 {
     values.number(place).unwrap_or(0)
@@ -181,54 +163,53 @@ fn critical(values: &Values, place: usize) -> Option<i64>
     }
 }
 
-// The place of a word among those of its column.
-fn choice(values: &Values, place: usize) -> usize
-    ensures { result ≡ choice_at values.now place }
+// The class whose word stands at a place.
+fn class_at(values: &Values, place: usize) -> Class
+    ensures { result ≡ chosen_at placed_class Class.Nonredundant values.now place }
 {
-    values.word(place).unwrap_or(0)
-}
-
-// The class whose word stands at a place among the words of classes.
-fn chosen_class(place: usize) -> Class
-    ensures { result ≡ chosen_class place }
-{
-    match place {
-        0 => Class::Observable,
-        1 => Class::Unobservable,
-        2 => Class::Redundant,
-        _ => Class::Nonredundant,
+    match values.word(place) {
+        Some(word) => placed_class(word).unwrap_or(Class::Nonredundant),
+        None => Class::Nonredundant,
     }
 }
 
 // The shape whose word stands at a place.
-fn chosen_shape(place: usize) -> Shape
-    ensures { result ≡ chosen_shape place }
+fn shape_at(values: &Values, place: usize) -> Shape
+    ensures { result ≡ chosen_at placed_shape Shape.Cycle values.now place }
 {
-    match place {
-        0 => Shape::Cut,
-        _ => Shape::Cycle,
+    match values.word(place) {
+        Some(word) => placed_shape(word).unwrap_or(Shape::Cycle),
+        None => Shape::Cycle,
     }
 }
 
-// The sweeps done, and whether the gap was met by the place of its word.
-fn chosen_state(place: usize, sweeps: u32) -> Solved
-    ensures { result ≡ chosen_state place sweeps }
+// Whether the word at a place says that something holds.
+fn truth_at(values: &Values, place: usize) -> bool
+    ensures { result ≡ chosen_at placed_truth false values.now place }
 {
-    match place {
-        0 => Solved::Converged(sweeps),
-        _ => Solved::Unconverged(sweeps),
+    match values.word(place) {
+        Some(word) => placed_truth(word).unwrap_or(false),
+        None => false,
     }
 }
 
 // The verdict whose word stands at a place.
-fn chosen_verdict(place: usize) -> Verdict
-    ensures { result ≡ chosen_verdict place }
+fn verdict_at(values: &Values, place: usize) -> Verdict
+    ensures { result ≡ chosen_at placed_verdict Verdict.NoTest values.now place }
 {
-    match place {
-        0 => Verdict::Reject,
-        1 => Verdict::Accept,
-        2 => Verdict::Undecided,
-        3 => Verdict::NoCritical,
-        _ => Verdict::NoTest,
+    match values.word(place) {
+        Some(word) => placed_verdict(word).unwrap_or(Verdict::NoTest),
+        None => Verdict::NoTest,
+    }
+}
+
+// The sweeps done, and whether the gap was met.
+fn solved_after(met: bool, sweeps: u32) -> Solved
+    ensures { result ≡ if met then Solved.Converged sweeps else Solved.Unconverged sweeps }
+{
+    if met {
+        Solved::Converged(sweeps)
+    } else {
+        Solved::Unconverged(sweeps)
     }
 }

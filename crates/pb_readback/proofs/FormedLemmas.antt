@@ -2,6 +2,7 @@
 use Rattle.std.specs.Prelude.{◌||◌, ◌&&◌, not, int_lt, unsigned_abs, All, IfSome, codes, bytes_eq, if◌then◌else◌, slice_index_or, position, option_map, Result, Ok, Err}
 use Rattle.std.specs.Cmp.Lexicographic.{bytes_decides}
 use Rattle.std.specs.List.{list_any}
+use Rattle.std.specs.Result.{result_unwrap_or}
 use Rattle.std.proofs.Common.{◌≡◌, ◌∙◌, ℕ, ◌-◌, ◌^◌, ◌<◌, ◌≤◌, ◌==◌, ℤ, pos, negsuc, neg_ℤ, List, [], ◌∷◌, ◌++◌, length, map, Bool, true, false, Option, Some, None, refl, sym, ap, arith, inl, inr}
 use Rattle.std.proofs.lemmas.Bool.{cases_Bool, or_parts}
 use Rattle.std.proofs.lemmas.Int.{ints}
@@ -19,17 +20,19 @@ use Rattle.pb_graph.specs.WellFormed.{AreBoundsWithin, AreTestsWithin, IsFlow, I
 use Rattle.pb_form.specs.OutputRows.{output_schema}
 use Rattle.pb_form.specs.Reading.{row_read}
 use Rattle.pb_form.specs.Value.{Value}
+use Rattle.pb_form.specs.Words.{shape_words}
 use Rattle.pb_form.specs.declared.fault.FormFault.{FormFault}
 use Rattle.pb_form.specs.declared.output.OutputKind.{OutputKind}
 use Rattle.pb_form.specs.declared.output.OutputKind.TheVariants.{Report, Node, Stream, StreamBefore, Solved, Global, Nodal, Measure, End}
 use Rattle.pb_blocks.specs.declared.fault.RowFault.{RowFault}
 use Rattle.pb_blocks.specs.declared.fault.RowFault.TheVariants.{Number as NumberFault, Unknown, Duplicate, Shape, Count, Env}
 use Rattle.pb_blocks.specs.declared.rows.Heading.{Heading}
-use Rattle.pb_blocks.specs.declared.rows.Shape.{Shape as ShapeKind}
-use Rattle.pb_blocks.specs.declared.rows.Shape.TheVariants.{Cut, Cycle}
+use Rattle.pb_choices.specs.Places.{placed_truth}
+use Rattle.pb_choices.specs.declared.places.Shape.{Shape as ShapeKind}
+use Rattle.pb_choices.specs.declared.places.Shape.TheVariants.{Cut, Cycle}
 use Rattle.pb_blocks.specs.declared.rows.Solution.{Solution}
 use Rattle.pb_blocks.specs.declared.rows.StreamRow.{StreamRow}
-use Rattle.pb_blocks.specs.Beside.{are_miscounted, form_fault, leads_to_itself, has_unknown_node, heading_fault, heading_in, is_half_told, opening_by, opening_fault}
+use Rattle.pb_blocks.specs.Beside.{are_miscounted, form_fault, leads_to_itself, has_bad_list, has_unknown_node, heading_fault, heading_in, is_half_told, opening_fault}
 use Rattle.pb_blocks.specs.Codes.{lowest}
 use Rattle.pb_blocks.specs.Counts.{IsHeading}
 use Rattle.pb_blocks.specs.Kinds.{kind_among}
@@ -37,19 +40,19 @@ use Rattle.pb_blocks.specs.Laws.{LiesWithin}
 use Rattle.pb_blocks.specs.Lists.{is_among, is_plus, items, member_of, names_no_stream, part_name, side_of, step_of}
 use Rattle.pb_blocks.specs.Results.{has_unknown_part, result_of, witness_by}
 use Rattle.pb_blocks.specs.Texts.{name_field, side_field}
-use Rattle.pb_blocks.specs.Values.{said_arc, both_bounds, choice_at, said_least, both_meas, said_measure, natural_at, said_nodal, number_at, optional_at, said_price, said_stream, values_in, values_or_none}
+use Rattle.pb_blocks.specs.Values.{said_arc, both_bounds, both_meas, chosen_at, said_measure, natural_at, said_nodal, number_at, optional_at, said_stream, values_in}
 use Rattle.pb_blocks.proofs.NameLemmas.{some_found}
-use Rattle.pb_blocks.proofs.RowLaws.{name_read, number_read, optional_read}
+use Rattle.pb_blocks.proofs.RowLaws.{name_read, number_read, optional_read, word_read}
 use Rattle.pb_readback.specs.declared.draft.Draft.{Draft}
 use Rattle.pb_readback.specs.Blocks.{block_of}
-use Rattle.pb_readback.specs.Drafts.{kinds_next, told_if, told_with, with_measure, with_nodal, with_row, with_rows, with_stream}
-use Rattle.pb_readback.specs.Faults.{fault_behind, fault_beside, fault_if, fault_of, first_unknown, is_duplicate, is_loop, is_misshapen, is_other_env, is_unknown}
+use Rattle.pb_readback.specs.Drafts.{kinds_next, told_with, with_measure, with_nodal, with_row, with_rows, with_stream}
+use Rattle.pb_readback.specs.Faults.{fault_behind, fault_beside, fault_of, first_unknown}
 use Rattle.pb_readback.specs.Laws.{FormedLaw}
 use Rattle.pb_readback.specs.Next.{AreSound, opened}
 use Rattle.pb_readback.specs.Reading.{AwaitsStreams, IsUnderWay, MayCome}
 use Rattle.pb_readback.specs.WellFormed.{AreNames, IsWellFormedBlock}
 use Rattle.pb_readback.proofs.StreamLemmas.{arc_joins, names_more, not_false, place_within}
-use Rattle.pb_readback.proofs.ReadingLemmas.{all_nodes, begins_under_way, may_come, one_more, still_under, stream_under}
+use Rattle.pb_readback.proofs.ReadingLemmas.{all_nodes, begins_under_way, fault_if, may_come, one_more, opening_by, still_under, stream_under, told_if}
 use Rattle.pb_readback.proofs.NextLemmas.{ended_complete}
 
 -- ---- numbers
@@ -79,25 +82,25 @@ bounds_in (Some lo) (Some hi) h k = record { lo = h; hi = k }
 
 -- ---- a row without a fault
 
--- the row is read, and none of the faults beside its form holds
-pub record IsFine (kind : OutputKind) (draft : Draft) (row : List (List ℕ)) : Type 0 where
-  pub read : row_read (output_schema kind) row ≡ Ok (values_in kind row)
-  pub known : is_unknown kind draft row ≡ false
-  pub new : is_duplicate kind draft row ≡ false
-  pub apart : is_loop kind row ≡ false
-  pub env : is_other_env kind draft row ≡ false
+-- a stream's row has none of its faults, a node's row neither of its two, and what a test names is known
+none_of_five : (a b c d e : Bool)
+    → (if a then Some NumberFault else if b then Some Unknown else if c then Some Duplicate else if d then Some Shape else if e then Some Count else None) ≡ None
+    → (b ≡ false) × (c ≡ false) × (e ≡ false) × (let same : Bool = false in same ≡ false)
+none_of_five true b c d e is = cc is
+none_of_five false true c d e is = cc is
+none_of_five false false true d e is = cc is
+none_of_five false false false true e is = cc is
+none_of_five false false false false true is = cc is
+none_of_five false false false false false is = (refl, refl, refl, refl)
 
-first_of : (a b c d e f : Bool)
-    → (if a then Some NumberFault else if b then Some Unknown else if c then Some Duplicate else if d then Some Shape else if e then Some Count
-    else if f then Some Env else None) ≡ None
-    → (b ≡ false) × (c ≡ false) × (e ≡ false) × (f ≡ false)
-first_of true b c d e f is = cc is
-first_of false true c d e f is = cc is
-first_of false false true d e f is = cc is
-first_of false false false true e f is = cc is
-first_of false false false false true f is = cc is
-first_of false false false false false true is = cc is
-first_of false false false false false false is = (refl, refl, refl, refl)
+none_of_two : (a b : Bool) → (if a then Some Duplicate else if b then Some Env else None) ≡ None → (a ≡ false) × (b ≡ false)
+none_of_two true b is = cc is
+none_of_two false true is = cc is
+none_of_two false false is = (refl, refl)
+
+is_known : (known : Bool) → (if known then None else Some Unknown) ≡ None → not known ≡ false
+is_known true is = refl
+is_known false is = cc is
 
 none_lowest : (one other : Option RowFault) → lowest one other ≡ None → (one ≡ None) × (other ≡ None)
 none_lowest None other none = (refl, none)
@@ -107,18 +110,57 @@ none_lowest (Some one) (Some other) none = cc none
 pub is_read : (kind : OutputKind) (row : List (List ℕ)) → form_fault (row_read (output_schema kind) row) ≡ None → row_read (output_schema kind) row ≡ Ok (values_in kind row)
 is_read kind row none = by (row_read (output_schema kind) row) none
   where
-    by : (read : Result (List Value) FormFault) → form_fault read ≡ None → read ≡ Ok (values_or_none read)
+    by : (read : Result (List Value) FormFault) → form_fault read ≡ None → read ≡ Ok (result_unwrap_or read [])
     by (Ok values) none = refl
     by (Err fault) none = cc none
+
+-- what a row names is none of the block's, is there already, leads from a node to itself, or is the first node and not the environment
+abbrev pub is_unknown : OutputKind → Draft → List (List ℕ) → Bool
+is_unknown Stream draft row = has_unknown_node draft.nodes Stream row
+is_unknown StreamBefore draft row = has_unknown_node draft.nodes StreamBefore row
+is_unknown Nodal draft row = not (is_among draft.nodes (name_field row))
+is_unknown Measure draft row = not (is_among draft.streams (name_field row))
+is_unknown kind draft row = false
+
+abbrev pub is_duplicate : OutputKind → Draft → List (List ℕ) → Bool
+is_duplicate Node draft row = is_among draft.nodes (name_field row)
+is_duplicate Stream draft row = is_among draft.streams (name_field row)
+is_duplicate StreamBefore draft row = is_among draft.streams (name_field row)
+is_duplicate kind draft row = false
+
+abbrev pub is_loop : OutputKind → List (List ℕ) → Bool
+is_loop Stream row = leads_to_itself row
+is_loop StreamBefore row = leads_to_itself row
+is_loop kind row = false
+
+abbrev pub is_other_env : OutputKind → Draft → List (List ℕ) → Bool
+is_other_env Node draft row = (length draft.nodes == 0) && not (bytes_eq (name_field row) (codes "env"))
+is_other_env kind draft row = false
 
 -- no fault beside the form
 pub beside_fine : (kind : OutputKind) (draft : Draft) (row : List (List ℕ)) → fault_beside kind draft row ≡ None
     → (is_unknown kind draft row ≡ false) × (is_duplicate kind draft row ≡ false) × (is_loop kind row ≡ false) × (is_other_env kind draft row ≡ false)
-beside_fine kind draft row none =
-    first_of (is_half_told kind row) (is_unknown kind draft row) (is_duplicate kind draft row) (is_misshapen kind draft row) (is_loop kind row) (is_other_env kind draft row) none
+beside_fine Node draft row none =
+    let two = none_of_two (is_among draft.nodes (name_field row)) ((length draft.nodes == 0) && not (bytes_eq (name_field row) (codes "env"))) none in
+    (refl, two.0, refl, two.1)
+beside_fine Stream draft row none =
+    none_of_five (is_half_told Stream row) (has_unknown_node draft.nodes Stream row) (is_among draft.streams (name_field row)) (has_bad_list draft.nodes Stream row) (leads_to_itself row) none
+beside_fine StreamBefore draft row none =
+    none_of_five (is_half_told StreamBefore row) (has_unknown_node draft.nodes StreamBefore row) (is_among draft.streams (name_field row)) (has_bad_list draft.nodes StreamBefore row) (leads_to_itself row) none
+beside_fine Nodal draft row none = (is_known (is_among draft.nodes (name_field row)) none, refl, refl, refl)
+beside_fine Measure draft row none = (is_known (is_among draft.streams (name_field row)) none, refl, refl, refl)
+beside_fine kind draft row none = (refl, refl, refl, refl)
 
 pub read_values : (kind : OutputKind) (row : List (List ℕ)) (values : List Value) → row_read (output_schema kind) row ≡ Ok values → values_in kind row ≡ values
-read_values kind row values read = ap values_or_none read
+read_values kind row values read = ap result_unwrap_or read []
+
+-- the row is read, and none of the faults beside its form holds
+pub record IsFine (kind : OutputKind) (draft : Draft) (row : List (List ℕ)) : Type 0 where
+  pub read : row_read (output_schema kind) row ≡ Ok (values_in kind row)
+  pub known : is_unknown kind draft row ≡ false
+  pub new : is_duplicate kind draft row ≡ false
+  pub apart : is_loop kind row ≡ false
+  pub env : is_other_env kind draft row ≡ false
 
 pub fine : (kind : OutputKind) (draft : Draft) (row : List (List ℕ)) → fault_of kind draft row ≡ None → IsFine kind draft row
 fine kind draft row none =
@@ -194,7 +236,7 @@ node_formed draft row formed may fine =
     let name = name_read Node row values 1 (codes "name") fine.read refl in
     let price = number_read Node row values 2 (codes "price") (neg_ℤ (pos most_price)) (pos most_price) fine.read refl in
     let names = one_more draft.nodes (name_field row) in
-    let prices = one_more draft.prices (said_price values) in
+    let prices = one_more draft.prices (number_at values 2) in
     let each = formed.nodes.each in
     record {
       way = still_under draft Node row formed.way may;
@@ -203,7 +245,7 @@ node_formed draft row formed may fine =
         names = names_more draft.nodes (name_field row) formed.nodes.names name fine.new;
         env = first draft.nodes formed.nodes.env fine.env;
         each = omega (arith, names, prices, each);
-        ranges = All-push IsPrice draft.prices (said_price values) formed.nodes.ranges (abs_within most_price (said_price values) price);
+        ranges = All-push IsPrice draft.prices (number_at values 2) formed.nodes.ranges (abs_within most_price (number_at values 2) price);
       };
       streams = record { names = formed.streams.names; joins = formed.streams.joins; limits = formed.streams.limits; rows = formed.streams.rows };
       solution = formed.solution;
@@ -221,7 +263,7 @@ record IsSaidStream (kind : OutputKind) (row : List (List ℕ)) : Type 0 where
   meas : IfSome (both_meas (optional_at (values_in kind row) 4) (optional_at (values_in kind row) 5)) IsMeasurement
   flow : IsFlow (number_at (values_in kind row) 7)
   bounds : IfSome (both_bounds (optional_at (values_in kind row) 8) (optional_at (values_in kind row) 9)) AreBoundsWithin
-  least : IfSome (said_least kind (values_in kind row)) AreBoundsWithin
+  least : IfSome (both_bounds (optional_at (values_in kind row) 10) (optional_at (values_in kind row) 11)) AreBoundsWithin
 
 flow_in : (z : ℤ) → LiesWithin (neg_ℤ (pos (2 ^ 68 - 1))) (pos (2 ^ 68 - 1)) z → IsFlow z
 flow_in z h = let most = abs_within (2 ^ 68 - 1) z h in omega (arith, most)
@@ -255,7 +297,7 @@ before_within row read =
       bounds = bounds_in (optional_at values 8) (optional_at values 9)
           (wide 8 (optional_read StreamBefore row values 8 (codes "lo") (neg_ℤ (pos (2 ^ 126))) (pos (2 ^ 126)) read refl))
           (wide 9 (optional_read StreamBefore row values 9 (codes "hi") (neg_ℤ (pos (2 ^ 126))) (pos (2 ^ 126)) read refl));
-      least = tt;
+      least = rw (word_read StreamBefore row values 10 (codes "shape") shape_words read refl) tt;
     }
 
 -- for a side as many items as nodes
@@ -303,7 +345,7 @@ solved_formed draft row formed may fine =
       nodes = formed.nodes;
       streams = record { names = formed.streams.names; joins = formed.streams.joins; limits = formed.streams.limits; rows = formed.streams.rows };
       solution = record {
-        sweeps = sweeps_within (choice_at values 2 == 0) (natural_at values 1) (count 1 most_sweeps (number_read Solved row values 1 (codes "k") (pos 0) (pos most_sweeps) fine.read refl));
+        sweeps = sweeps_within (chosen_at placed_truth false values 2) (natural_at values 1) (count 1 most_sweeps (number_read Solved row values 1 (codes "k") (pos 0) (pos most_sweeps) fine.read refl));
         g = count 3 (2 ^ 63) (number_read Solved row values 3 (codes "g") (pos 0) (pos (2 ^ 63)) fine.read refl);
         h = count 4 32 (number_read Solved row values 4 (codes "h") (pos 0) (pos 32) fine.read refl);
         dof = count 5 most_freedom (number_read Solved row values 5 (codes "dof") (pos 0) (pos most_freedom) fine.read refl);
@@ -428,7 +470,7 @@ not_miscounted true none = cc none
 not_miscounted false none = refl
 
 heading_read : (read : Result (List Value) FormFault) → heading_fault read ≡ None
-    → (read ≡ Ok (values_or_none read)) × (are_miscounted (number_at (values_or_none read) 3) (number_at (values_or_none read) 4) ≡ false)
+    → (read ≡ Ok (result_unwrap_or read [])) × (are_miscounted (number_at (result_unwrap_or read []) 3) (number_at (result_unwrap_or read []) 4) ≡ false)
 heading_read (Err fault) none = cc none
 heading_read (Ok values) none = (refl, not_miscounted (are_miscounted (number_at values 3) (number_at values 4)) none)
 

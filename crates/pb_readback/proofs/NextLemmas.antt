@@ -11,17 +11,17 @@ use Rattle.pb_form.specs.declared.output.OutputKind.{OutputKind}
 use Rattle.pb_form.specs.declared.output.OutputKind.TheVariants.{Report, Node, Stream, StreamBefore, Solved, Global, Nodal, Measure, End}
 use Rattle.pb_blocks.specs.declared.fault.RowFault.{RowFault}
 use Rattle.pb_blocks.specs.declared.fault.RowFault.TheVariants.{Unknown, Ended}
-use Rattle.pb_blocks.specs.Beside.{opening_by, opening_fault}
-use Rattle.pb_blocks.specs.Kinds.{is_passed_over, is_row_of, kind_among}
+use Rattle.pb_blocks.specs.Beside.{opening_fault}
+use Rattle.pb_blocks.specs.Kinds.{is_passed_over, kind_among}
 use Rattle.pb_readback.specs.declared.block.Block.{Block}
 use Rattle.pb_readback.specs.declared.draft.Draft.{Draft}
 use Rattle.pb_readback.specs.Blocks.{block_of}
-use Rattle.pb_readback.specs.Drafts.{kinds_next, told_if, with_row, with_rows}
-use Rattle.pb_readback.specs.Faults.{fault_behind, fault_if, first_unknown}
+use Rattle.pb_readback.specs.Drafts.{kinds_next, with_row, with_rows}
+use Rattle.pb_readback.specs.Faults.{fault_behind, first_unknown}
 use Rattle.pb_readback.specs.Laws.{JoinLaw, NextLaw}
 use Rattle.pb_readback.specs.Next.{AreBlocks, ArePassedOver, AreSound, Found, IsFault, IsFound, IsNext, Next, NoBlock, Refused, fault_next, opened}
 use Rattle.pb_readback.specs.Reading.{HasAll, IsReadWhole, MayCome}
-use Rattle.pb_readback.proofs.ReadingLemmas.{may_come, not_below, sound_more, unended, with_rows_more}
+use Rattle.pb_readback.proofs.ReadingLemmas.{fault_if, is_row_of, may_come, not_below, opening_by, sound_more, told_if, unended, with_rows_more}
 
 -- the row that ends a block
 abbrev pub is_end : OutputKind → Bool

@@ -1,8 +1,13 @@
 -- Reading on: what one row more shows of the records.
 use Rattle.std.specs.Prelude.{◌≢◌, nat_eq, nat_lt, find, Result, Ok, Err, if◌then◌else◌}
 use Rattle.std.specs.List.{list_all, AllByRecursion}
+use Rattle.std.specs.Option.{ok_or, option_map_or}
+use Rattle.std.specs.Result.{result_ok}
 use Rattle.std.proofs.Common.{◌≡◌, ◌∙◌, ℕ, ◌+◌, ◌<◌, ◌≤◌, List, [], ◌∷◌, ◌++◌, length, Bool, true, false, Option, Some, None, refl, sym, ap, arith, inl, inr, append_assoc, length-append}
 use Rattle.std.proofs.lemmas.Bool.{and_parts, cases_Bool}
+use Rattle.pb_form.specs.OutputRows.{output_schema}
+use Rattle.pb_form.specs.Reading.{row_read}
+use Rattle.pb_form.specs.Telling.{is_of}
 use Rattle.pb_form.specs.declared.output.OutputKind.{OutputKind}
 use Rattle.pb_form.specs.declared.output.OutputKind.TheVariants.{Report, Node, Stream, StreamBefore, Solved, Global, Nodal, Measure, End}
 use Rattle.pb_rows.specs.RecordsLeft.{RecordsLeft}
@@ -10,7 +15,8 @@ use Rattle.pb_blocks.specs.declared.fault.RowFault.{RowFault}
 use Rattle.pb_blocks.specs.declared.fault.RowFault.TheVariants.{Unknown, Ended}
 use Rattle.pb_blocks.specs.declared.rows.Heading.{Heading}
 use Rattle.pb_blocks.specs.Counts.{IsHeading}
-use Rattle.pb_blocks.specs.Kinds.{is_passed_over, is_row_of, kind_among, kind_or, no_kind}
+use Rattle.pb_blocks.specs.Beside.{fault_as, heading_fault}
+use Rattle.pb_blocks.specs.Kinds.{is_passed_over, kind_among, no_kind}
 use Rattle.pb_blocks.specs.Texts.{name_field}
 use Rattle.pb_blocks.specs.Values.{said_arc, said_stream, values_in}
 use Rattle.pb_readback.specs.declared.block.Block.{Block}
@@ -18,10 +24,27 @@ use Rattle.pb_readback.specs.declared.draft.Draft.{Draft}
 use Rattle.pb_readback.specs.declared.reading.ReadRefused.{ReadRefused}
 use Rattle.pb_readback.specs.declared.reading.ReadRefused.TheVariants.{At, NoMemory}
 use Rattle.pb_readback.specs.Blocks.{block_of}
-use Rattle.pb_readback.specs.Drafts.{draft_of, kinds_after, kinds_next, stream_kinds, told_if, told_with, with_row, with_rows, with_stream}
-use Rattle.pb_readback.specs.Faults.{fault_behind, fault_if, first_unknown}
+use Rattle.pb_readback.specs.Drafts.{draft_of, kinds_after, kinds_next, stream_kinds, told_with, with_row, with_rows, with_stream}
+use Rattle.pb_readback.specs.Faults.{fault_behind, fault_of, first_unknown}
 use Rattle.pb_readback.specs.Next.{AreCounted, ArePassedOver, AreSound, IsFound, Tells, opened}
 use Rattle.pb_readback.specs.Reading.{AwaitsNodes, AwaitsStreams, Breaks, BreaksFrom, Ends, HasAll, IsBroken, IsReadFrom, IsReadTo, IsReadWhole, IsUnderWay, MayCome, RefusesPart, RefusesRow, Skips, is_stream_kind}
+
+-- ---- a row whose kind was asked
+
+-- a row has a kind's word and its number of fields
+abbrev pub is_row_of : List (List ℕ) → OutputKind → Bool
+is_row_of row kind = is_of row (output_schema kind)
+
+-- what it tells, and its fault
+abbrev pub told_if : Result OutputKind RowFault → Draft → List (List ℕ) → Draft
+told_if kind draft row = option_map_or (λ (k : OutputKind). told_with k draft row) (result_ok kind) draft
+
+abbrev pub fault_if : Result OutputKind RowFault → Draft → List (List ℕ) → Option RowFault
+fault_if kind draft row = fault_as (λ k. fault_of k draft row) kind
+
+-- the fault of a row that opens a block, or is to
+abbrev pub opening_by : Result OutputKind RowFault → List (List ℕ) → Option RowFault
+opening_by kind row = fault_as (λ k. heading_fault (row_read (output_schema Report) row)) kind
 
 -- ---- what may come
 
@@ -39,7 +62,7 @@ found_among P row (first ∷ kinds) kind all found = elim (cases_Bool (is_row_of
 told_among : (P : OutputKind → Type 0) (row : List (List ℕ)) (kinds : List OutputKind) (kind : OutputKind) → AllByRecursion P kinds → kind_among kinds row ≡ Ok kind → P kind
 told_among P row kinds kind all told = by (find (is_row_of row) kinds) refl (no_kind kinds row) told
   where
-    by : (found : Option OutputKind) → find (is_row_of row) kinds ≡ found → (fault : RowFault) → kind_or fault found ≡ Ok kind → P kind
+    by : (found : Option OutputKind) → find (is_row_of row) kinds ≡ found → (fault : RowFault) → ok_or found fault ≡ Ok kind → P kind
     by None is fault told = cc told
     by (Some other) is fault told =
         let same : other ≡ kind = cc told in
@@ -50,15 +73,12 @@ going draft last is apart = λ ends. apart (sym is ∙ ends)
 
 -- behind the last stream
 after_all : (draft : Draft) → HasAll draft → (last : OutputKind) → draft.last ≡ last → AllByRecursion (MayCome draft) (kinds_after last)
-after_all draft all Report is = ((all, going draft Report is (λ e. cc e)), tt)
-after_all draft all Node is = ((all, going draft Node is (λ e. cc e)), tt)
-after_all draft all Stream is = ((all, going draft Stream is (λ e. cc e)), tt)
-after_all draft all StreamBefore is = ((all, going draft StreamBefore is (λ e. cc e)), tt)
 after_all draft all Solved is = let on = going draft Solved is (λ e. cc e) in ((all, on), ((all, on), tt))
 after_all draft all Global is = let on = going draft Global is (λ e. cc e) in ((all, on), ((all, on), ((all, on), tt)))
 after_all draft all Nodal is = let on = going draft Nodal is (λ e. cc e) in ((all, on), ((all, on), ((all, on), tt)))
 after_all draft all Measure is = let on = going draft Measure is (λ e. cc e) in ((all, on), ((all, on), tt))
-after_all draft all last is = tt
+after_all draft all End is = tt
+after_all draft all last is = ((all, going draft last is (λ e. cc e)), tt)
 
 of_stream : (draft : Draft) → AwaitsStreams draft → (last : OutputKind) → AllByRecursion (MayCome draft) (stream_kinds last)
 of_stream draft awaits Stream = (awaits, tt)

@@ -12,19 +12,19 @@ use Rattle.pb_form.specs.declared.output.OutputKind.{OutputKind}
 use Rattle.pb_form.specs.declared.output.OutputKind.TheVariants.{Stream, StreamBefore, End}
 use Rattle.pb_blocks.specs.declared.fault.RowFault.{RowFault}
 use Rattle.pb_blocks.specs.declared.rows.Heading.{Heading}
-use Rattle.pb_blocks.specs.declared.rows.Shape.{Shape}
-use Rattle.pb_blocks.specs.declared.rows.Shape.TheVariants.{Cut, Cycle}
+use Rattle.pb_choices.specs.declared.places.Shape.{Shape}
+use Rattle.pb_choices.specs.declared.places.Shape.TheVariants.{Cut, Cycle}
 use Rattle.pb_blocks.specs.declared.rows.StreamRow.{StreamRow}
 use Rattle.pb_blocks.specs.Kinds.{kind_among}
 use Rattle.pb_blocks.specs.Lists.{is_among, items, member_of, names_no_stream, part_name, place_of, step_of}
 use Rattle.pb_blocks.specs.Results.{has_unknown_part, result_of, witness_by}
 use Rattle.pb_blocks.proofs.NameLemmas.{any_place, none_place}
 use Rattle.pb_readback.specs.declared.draft.Draft.{Draft}
-use Rattle.pb_readback.specs.Drafts.{draft_of, kinds_next, told_if, with_row, with_rows}
+use Rattle.pb_readback.specs.Drafts.{draft_of, kinds_next, with_row, with_rows}
 use Rattle.pb_readback.specs.Faults.{first_unknown}
 use Rattle.pb_readback.specs.Reading.{IsReadTo, IsUnderWay, KeepsResults, has_stream, is_on_stream, is_stream_kind}
 use Rattle.pb_readback.proofs.NextLemmas.{is_end, rows_complete}
-use Rattle.pb_readback.proofs.ReadingLemmas.{not_below}
+use Rattle.pb_readback.proofs.ReadingLemmas.{not_below, told_if}
 
 same_number : (n : ℕ) → (n == n) ≡ true
 same_number n = grind arith

@@ -1,28 +1,26 @@
 -- The rows of a block, one after the other: what they tell.
-use Rattle.std.specs.Prelude.{◌&&◌, not, ◌==◌, neg_ℤ, codes, bytes_eq, if◌then◌else◌, slice_index_or}
+use Rattle.std.specs.Prelude.{◌&&◌, not, ◌==◌, codes, bytes_eq, if◌then◌else◌, slice_index_or}
 use Rattle.std.specs.List.{list_all, AllByRecursion}
-use Rattle.std.proofs.Common.{◌≡◌, ◌∙◌, ℕ, ℤ, pos, ◌+◌, ◌<◌, ◌≤◌, List, [], ◌∷◌, ◌++◌, length, Bool, true, false, Option, None, refl, sym, ap, ap₂, subst, arith, append_assoc, length-append}
+use Rattle.std.proofs.Common.{◌≡◌, ◌∙◌, ℕ, ℤ, ◌+◌, ◌<◌, ◌≤◌, List, [], ◌∷◌, ◌++◌, length, Bool, true, false, Option, None, refl, sym, ap, ap₂, subst, arith, append_assoc, length-append}
 use Rattle.std.proofs.lemmas.Bool.{ne_eqb, lt-ltb, and_parts}
 use Rattle.std.proofs.lemmas.List.{append-nil}
 use Rattle.pb_limits.specs.Limits.{most_price}
 use Rattle.pb_rows.specs.Name.{is_name}
-use Rattle.pb_rows.specs.Number.{whole_text}
-use Rattle.pb_rows.specs.Texts.{HaveOneNumberText}
 use Rattle.pb_graph.specs.WellFormed.{IsPrice}
 use Rattle.pb_report.specs.Block.{node_row}
+use Rattle.pb_report.specs.Row.{fields_of}
 use Rattle.pb_report.specs.Rows.{rows_with}
-use Rattle.pb_form.specs.OutputRows.{output_columns}
-use Rattle.pb_form.specs.Value.{Value, Name, Number, Word}
+use Rattle.pb_form.specs.Value.{Value}
 use Rattle.pb_form.specs.declared.output.OutputKind.{OutputKind}
 use Rattle.pb_form.specs.declared.output.OutputKind.TheVariants.{Node}
 use Rattle.pb_blocks.specs.Lists.{is_among}
-use Rattle.pb_blocks.specs.Values.{said_price}
+use Rattle.pb_blocks.specs.Values.{number_at}
 use Rattle.pb_readback.specs.declared.draft.Draft.{Draft}
 use Rattle.pb_readback.specs.Drafts.{with_row, with_rows}
 use Rattle.pb_readback.specs.Faults.{fault_behind, first_unknown}
 use Rattle.pb_readback.specs.Next.{AreSound}
 use Rattle.pb_readback.specs.Written.{records_in}
-use Rattle.pb_readback.proofs.WrittenFieldLemmas.{AreNew, abs_between, name_back, number_back}
+use Rattle.pb_readback.proofs.WrittenFieldLemmas.{AreNew, AreWritten, abs_between}
 use Rattle.pb_readback.proofs.WrittenListLemmas.{AreNamed}
 use Rattle.pb_readback.proofs.WrittenRowLemmas.{IsSoundRow, node_beside, row_back, row_leaves, row_sound, told_node, values_back}
 
@@ -79,35 +77,29 @@ abbrev pub behind_nodes : Draft → List (List ℕ) → List ℤ → Draft
 behind_nodes draft names prices =
     record draft { last = last_of Node draft.last names; nodes = draft.nodes ++ names; prices = draft.prices ++ prices }
 
-pub nodes_tell : HaveOneNumberText → (i : ℕ) (draft : Draft) (names : List (List ℕ)) (prices : List ℤ) → length names ≡ length prices → AreNodeNames draft.nodes names
+pub nodes_tell : AreWritten → (i : ℕ) (draft : Draft) (names : List (List ℕ)) (prices : List ℤ) → length names ≡ length prices → AreNodeNames draft.nodes names
     → AllByRecursion IsPrice prices → length draft.nodes + length names ≤ draft.heading.nodes → draft.rows ≡ []
     → Tells draft (records_in (rows_with (λ n name price. node_row name price) i names prices)) (behind_nodes draft names prices)
-nodes_tell texts i draft [] [] long fine ranges room empty =
+nodes_tell written i draft [] [] long fine ranges room empty =
     tells_to draft draft (behind_nodes draft [] []) []
     (ap₂ (λ (ns : List (List ℕ)) (ps : List ℤ). record draft { nodes = ns; prices = ps }) (sym (append-nil draft.nodes)) (sym (append-nil draft.prices))) (tells_none draft)
-nodes_tell texts i draft [] (price ∷ prices) long fine ranges room empty = absurd (omega (arith, long))
-nodes_tell texts i draft (name ∷ names) [] long fine ranges room empty = absurd (omega (arith, long))
-nodes_tell texts i draft (name ∷ names) (price ∷ prices) long fine ranges room empty =
+nodes_tell written i draft [] (price ∷ prices) long fine ranges room empty = absurd (omega (arith, long))
+nodes_tell written i draft (name ∷ names) [] long fine ranges room empty = absurd (omega (arith, long))
+nodes_tell written i draft (name ∷ names) (price ∷ prices) long fine ranges room empty =
     let next : Draft = record draft { last = Node; nodes = draft.nodes ++ name ∷ []; prices = draft.prices ++ price ∷ [] } in
     let more : length (draft.nodes ++ name ∷ []) ≡ length draft.nodes + 1 = length-append draft.nodes (name ∷ []) in
-    let row = codes "node" ∷ name ∷ whole_text price ∷ [] in
-    let values : List Value = Word 0 ∷ Name name ∷ Number price ∷ [] in
+    let row = fields_of (node_row name price) in
+    let values : List Value = (node_row name price).values in
     let sound : IsSoundRow draft Node row values = record {
       told = told_node draft row (lt-ltb (length draft.nodes) draft.heading.nodes (omega (arith, room))) refl;
-      read = row_back (output_columns Node) row values (
-        refl,
-        (
-          name_back (codes "name") name fine.0,
-          (number_back texts (codes "price") (neg_ℤ (pos most_price)) (pos most_price) price (abs_between most_price price ranges.0), tt),
-        ),
-      );
-      beside = node_beside draft name (whole_text price) (record { new = fine.1; env = fine.2 });
+      read = row_back written.texts (node_row name price) ((refl, refl), (fine.0, (abs_between most_price price ranges.0, tt)));
+      beside = node_beside draft name price (record { new = fine.1; env = fine.2 });
     } in
     let leaves : with_row draft row ≡ next =
     row_leaves draft Node row values sound
-    ∙ ap (λ (said : List Value). record draft { last = Node; nodes = draft.nodes ++ name ∷ []; prices = draft.prices ++ said_price said ∷ [] })
+    ∙ ap (λ (said : List Value). record draft { last = Node; nodes = draft.nodes ++ name ∷ []; prices = draft.prices ++ number_at said 2 ∷ [] })
     (values_back Node row values sound.read) in
-    let rest = nodes_tell texts (i + 1) next names prices (omega (arith, long)) fine.3 ranges.1 (omega (arith, more, room)) empty in
+    let rest = nodes_tell written (i + 1) next names prices (omega (arith, long)) fine.3 ranges.1 (omega (arith, more, room)) empty in
     let same : behind_nodes next names prices ≡ behind_nodes draft (name ∷ names) (price ∷ prices) =
     ap₂ (λ (ns : List (List ℕ)) (ps : List ℤ). record draft { last = last_of Node Node names; nodes = ns; prices = ps })
     (append_assoc draft.nodes (name ∷ []) names) (append_assoc draft.prices (price ∷ []) prices) in

@@ -1,24 +1,26 @@
--- What a single field reads as that was written: numbers, optional numbers and names.
-use Rattle.std.specs.Prelude.{◌==◌, ◌-◌, neg_ℤ, unsigned_abs, int_le, ◌≤ℤ◌, not, AllPairs, IfSome, Ok, is_some}
+-- What a single field reads as that was written: numbers, words of tables and names.
+use Rattle.std.specs.Prelude.{◌==◌, ◌-◌, neg_ℤ, unsigned_abs, int_le, ◌≤ℤ◌, AllPairs, IfSome, option_and_then}
 use Rattle.std.specs.Cmp.Lexicographic.{bytes_decides}
-use Rattle.std.proofs.Common.{◌≡◌, ◌∙◌, ℕ, ℤ, pos, suc, ◌+◌, ◌<◌, ◌≤◌, List, [], ◌∷◌, ◌++◌, length, get_or, Bool, true, false, Option, None, Some, refl, sym, subst, arith, inl, inr, append_assoc, length-append}
+use Rattle.std.specs.Option.{unwrap_or}
+use Rattle.std.proofs.Common.{◌≡◌, ◌∙◌, ℕ, ℤ, pos, suc, ◌+◌, ◌<◌, ◌≤◌, List, [], ◌∷◌, ◌++◌, length, get_or, Bool, true, false, Option, None, Some, refl, sym, ap, subst, arith, inl, inr, append_assoc, length-append}
 use Rattle.std.proofs.lemmas.Bool.{cases_Bool, ne_eqb}
 use Rattle.std.proofs.lemmas.Int.{ints}
 use Rattle.std.proofs.lemmas.List.{get_or_append_left}
 use Rattle.std.proofs.Math.Seq.{get_or-append_seam}
 use Rattle.std.proofs.lemmas.List.Folds.{list_any_at, list_any_none}
 use Rattle.std.proofs.lemmas.List.Sums.{position_or_len_is}
-use Rattle.pb_rows.specs.Name.{is_name, same_name}
+use Rattle.pb_rows.specs.Name.{same_name}
 use Rattle.pb_rows.specs.Number.{number, whole_text, within}
 use Rattle.pb_rows.specs.Texts.{HaveOneNumberText}
 use Rattle.pb_report.specs.Names.{name_at}
-use Rattle.pb_report.specs.Row.{optional_number}
-use Rattle.pb_form.specs.Columns.{column, optional as optional_column}
-use Rattle.pb_form.specs.Field.{field_read}
-use Rattle.pb_form.specs.Holds.{Holds, Name as NameColumn, Number as NumberColumn}
-use Rattle.pb_form.specs.Texts.{value_text}
-use Rattle.pb_form.specs.Value.{Value, Missing, Name, Number}
-use Rattle.pb_form.specs.Values.{number_in}
+use Rattle.pb_report.specs.Row.{value_or_none}
+use Rattle.pb_form.specs.Holds.{Number as NumberColumn, Word as WordColumn}
+use Rattle.pb_form.specs.TextLaws.{TextLaw}
+use Rattle.pb_form.specs.Value.{Number, Word}
+use Rattle.pb_form.specs.Values.{number_in, word_in}
+use Rattle.pb_form.specs.Words.{class_words, shape_words, state_words, verdict_words}
+use Rattle.pb_form.specs.Writing.{FitsIn}
+use Rattle.pb_choices.specs.Places.{IsWordTable, class_place, placed_class, placed_shape, placed_truth, placed_verdict, shape_place, truth_place, verdict_place}
 use Rattle.pb_blocks.specs.Lists.{is_among, place_of}
 
 -- ---- numbers
@@ -38,53 +40,41 @@ filled (byte ∷ text) z reads = some_byte byte text
 pub not_blank : HaveOneNumberText → (z : ℤ) → is_empty (whole_text z) ≡ false
 not_blank texts z = filled (whole_text z) z (texts.read z)
 
+-- a number that is there or isn't
+pub number_back : (o : Option ℤ) → number_in (value_or_none Number o) ≡ o
+number_back None = refl
+number_back (Some z) = refl
+
+-- ---- values that fit
+
 -- within its range
-pub record IsBetween (lo hi z : ℤ) : Type 0 where
-  pub least : lo ≤ℤ z
-  pub most : z ≤ℤ hi
+abbrev pub IsBetween : ℤ → ℤ → ℤ → Type 0
+IsBetween lo hi z = (lo ≤ℤ z) × (z ≤ℤ hi)
 
-le_true : (a b : ℤ) → a ≤ℤ b → int_le a b ≡ true
-le_true a b h = grind (arith, ints)
+pub number_fits : (lo hi : ℤ) (o : Option ℤ) → IfSome o (IsBetween lo hi) → FitsIn (NumberColumn lo hi) true (value_or_none Number o)
+number_fits lo hi None h = refl
+number_fits lo hi (Some z) h = h
 
-pub within_back : (lo hi z : ℤ) → IsBetween lo hi z → within lo hi (Some z) ≡ Some z
-within_back lo hi z h = rw (le_true lo z h.least, le_true z hi h.most) refl
+-- the word of a value of a table
+pub word_fits : {A : Type 0} (words : List (List ℕ)) (place_of : A → ℕ) (placed : ℕ → Option A) → IsWordTable words place_of placed → (value : A)
+    → FitsIn (WordColumn words) false (Word (place_of value))
+word_fits words place_of placed table value = (table.word value, refl)
 
-pub number_back : HaveOneNumberText → (key : List ℕ) (lo hi z : ℤ) → IsBetween lo hi z → field_read (column key (NumberColumn lo hi)) (whole_text z) ≡ Ok (Number z)
-number_back texts key lo hi z h = rw (texts.read z, within_back lo hi z h) refl
+-- reading it back gives the value
+pub word_back : {A : Type 0} (words : List (List ℕ)) (place_of : A → ℕ) (placed : ℕ → Option A) → IsWordTable words place_of placed → (value other : A)
+    → unwrap_or (option_and_then placed (word_in (Word (place_of value)))) other ≡ value
+word_back {A = A} words place_of placed table value other = ap (λ (o : Option A). unwrap_or o other) (table.there value)
 
--- ---- optional numbers
-
--- the text of a number, or nothing
-abbrev pub optional_text : Option ℤ → List ℕ
-optional_text None = []
-optional_text (Some z) = whole_text z
-
-pub optional_value : (takes : Holds) (o : Option ℤ) → value_text takes (optional_number o) ≡ optional_text o
-optional_value takes None = refl
-optional_value takes (Some z) = refl
-
--- the value that it says
-abbrev pub optional_said : Option ℤ → Value
-optional_said None = Missing
-optional_said (Some z) = Number z
-
-pub said_back : (o : Option ℤ) → number_in (optional_said o) ≡ o
-said_back None = refl
-said_back (Some z) = refl
-
-pub optional_blank : HaveOneNumberText → (o : Option ℤ) → is_empty (optional_text o) ≡ not (is_some o)
-optional_blank texts None = refl
-optional_blank texts (Some z) = not_blank texts z
-
-pub optional_back : HaveOneNumberText → (key : List ℕ) (lo hi : ℤ) (o : Option ℤ) → IfSome o (IsBetween lo hi)
-    → field_read (optional_column key (NumberColumn lo hi)) (optional_text o) ≡ Ok (optional_said o)
-optional_back texts key lo hi None h = refl
-optional_back texts key lo hi (Some z) h = rw (not_blank texts z, texts.read z, within_back lo hi z h) refl
+-- the laws that rows are read back by
+pub record AreWritten : Type 0 where
+  pub texts : TextLaw
+  pub numbers : HaveOneNumberText
+  pub classes : IsWordTable class_words class_place placed_class
+  pub shapes : IsWordTable shape_words shape_place placed_shape
+  pub states : IsWordTable state_words truth_place placed_truth
+  pub verdicts : IsWordTable verdict_words verdict_place placed_verdict
 
 -- ---- names
-
-pub name_back : (key text : List ℕ) → is_name text ≡ true → field_read (column key NameColumn) text ≡ Ok (Name text)
-name_back key text form = rw form refl
 
 pub same_self : (name : List ℕ) → same_name name name ≡ true
 same_self name = (bytes_decides name name).1 refl
@@ -131,13 +121,19 @@ new_from done (name ∷ names) apart = (
 -- ---- ranges
 
 pub abs_between : (most : ℕ) (z : ℤ) → unsigned_abs z ≤ most → IsBetween (neg_ℤ (pos most)) (pos most) z
-abs_between most z le = record { least = omega (arith, ints, le); most = omega (arith, ints, le) }
+abs_between most z le = (omega (arith, ints, le), omega (arith, ints, le))
 
 pub under_between : (bound : ℕ) (z : ℤ) → unsigned_abs z < bound → IsBetween (neg_ℤ (pos (bound - 1))) (pos (bound - 1)) z
 under_between bound z lt = abs_between (bound - 1) z (omega (arith, lt))
 
 pub count_between : (lo hi n : ℕ) → lo ≤ n → n ≤ hi → IsBetween (pos lo) (pos hi) (pos n)
-count_between lo hi n least most = record { least = omega (arith, ints, least); most = omega (arith, ints, most) }
+count_between lo hi n least most = (omega (arith, ints, least), omega (arith, ints, most))
+
+le_true : (a b : ℤ) → a ≤ℤ b → int_le a b ≡ true
+le_true a b h = grind (arith, ints)
+
+pub within_back : (lo hi z : ℤ) → IsBetween lo hi z → within lo hi (Some z) ≡ Some z
+within_back lo hi z h = rw (le_true lo z h.0, le_true z hi h.1) refl
 
 pub le_count : (a b : ℕ) → a ≤ b → int_le (pos a) (pos b) ≡ true
 le_count a b h = le_true (pos a) (pos b) (omega (arith, ints, h))

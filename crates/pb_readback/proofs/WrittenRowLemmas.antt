@@ -1,76 +1,48 @@
 -- When a row of each kind has no fault, and what it says.
-use Rattle.std.specs.Prelude.{◌&&◌, not, ◌==◌, nat_le, codes, bytes_eq, int_le, int_lt, Result, Ok, Err, if◌then◌else◌}
-use Rattle.std.specs.List.{list_all, list_any}
-use Rattle.std.proofs.Common.{◌≡◌, ◌∙◌, ◌≤◌, ℕ, zero, suc, ◌-◌, ℤ, pos, List, [], ◌∷◌, length, drop, Bool, true, false, Option, Some, None, refl, ap, ap₂, arith}
-use Rattle.std.proofs.lemmas.Bool.{and_from, le-leb}
+use Rattle.std.specs.Prelude.{◌&&◌, not, ◌==◌, codes, bytes_eq, int_le, int_lt, Result, Ok, if◌then◌else◌}
+use Rattle.std.specs.Result.{result_unwrap_or}
+use Rattle.std.proofs.Common.{◌≡◌, ◌∙◌, ℕ, ℤ, pos, List, [], ◌∷◌, length, Bool, true, false, Option, Some, None, refl, ap, ap₂, arith}
 use Rattle.std.proofs.lemmas.Int.{ints}
 use Rattle.pb_limits.specs.Limits.{most_nodes, most_streams}
-use Rattle.pb_rows.specs.Name.{same_name}
-use Rattle.pb_form.specs.Columns.{Column}
-use Rattle.pb_form.specs.Field.{field_read}
-use Rattle.pb_form.specs.OutputRows.{output_schema}
-use Rattle.pb_form.specs.Reading.{before, fields_read, repeated, row_read}
+use Rattle.pb_rows.specs.declared.name.Names.{Names}
+use Rattle.pb_graph.specs.declared.results.GlobalTest.{GlobalTest}
+use Rattle.pb_graph.specs.declared.results.MeasureTest.{MeasureTest}
+use Rattle.pb_graph.specs.declared.results.NodalTest.{NodalTest}
+use Rattle.pb_graph.specs.declared.results.Stage.{Stage}
+use Rattle.pb_form.specs.OutputRows.{output_columns, output_schema}
+use Rattle.pb_form.specs.Reading.{row_read}
+use Rattle.pb_form.specs.TextLaws.{TextLaw}
 use Rattle.pb_form.specs.Value.{Value}
+use Rattle.pb_form.specs.Writing.{FitEach}
 use Rattle.pb_form.specs.declared.fault.FormFault.{FormFault}
-use Rattle.pb_form.specs.declared.fault.FormFault.TheVariants as fault
 use Rattle.pb_form.specs.declared.output.OutputKind.{OutputKind}
 use Rattle.pb_form.specs.declared.output.OutputKind.TheVariants.{Report, Node, Stream, StreamBefore, Solved, Global, Nodal, Measure, End}
+use Rattle.pb_report.specs.Block.{end_row, node_row, solved_row}
+use Rattle.pb_report.specs.Row.{OutputRow, fields_of}
+use Rattle.pb_report.specs.Tests.{global_row, measure_row, nodal_row}
 use Rattle.pb_blocks.specs.declared.fault.RowFault.{RowFault}
-use Rattle.pb_blocks.specs.declared.fault.RowFault.TheVariants.{Count}
-use Rattle.pb_blocks.specs.Beside.{are_miscounted, form_fault, heading_fault, is_half, opening_by, opening_fault}
+use Rattle.pb_blocks.specs.declared.fault.RowFault.TheVariants.{Number as NumberFault, Unknown, Duplicate, Shape, Count}
+use Rattle.pb_blocks.specs.Beside.{are_miscounted, form_fault, has_bad_list, has_unknown_node, heading_fault, is_half_told, leads_to_itself, opening_fault}
 use Rattle.pb_blocks.specs.Codes.{lowest}
-use Rattle.pb_blocks.specs.Kinds.{is_row_of, kind_among}
-use Rattle.pb_blocks.specs.Lists.{is_among, is_part, is_side, is_unknown_item, items}
-use Rattle.pb_blocks.specs.Values.{number_at, values_in, values_or_none}
+use Rattle.pb_blocks.specs.Kinds.{kind_among}
+use Rattle.pb_blocks.specs.Lists.{is_among}
+use Rattle.pb_blocks.specs.Texts.{name_field}
+use Rattle.pb_blocks.specs.Values.{number_at, values_in}
 use Rattle.pb_readback.specs.declared.draft.Draft.{Draft}
-use Rattle.pb_readback.specs.Drafts.{kinds_after, kinds_next, stream_kinds, told_if, told_with, with_row}
-use Rattle.pb_readback.specs.Faults.{fault_behind, fault_beside, fault_if}
+use Rattle.pb_readback.specs.Drafts.{kinds_after, kinds_next, stream_kinds, told_with, with_row}
+use Rattle.pb_readback.specs.Faults.{fault_behind, fault_beside}
 use Rattle.pb_readback.specs.Reading.{AwaitsNodes, AwaitsStreams, HasAll}
-use Rattle.pb_readback.proofs.WrittenFieldLemmas.{is_empty}
+use Rattle.pb_readback.proofs.ReadingLemmas.{fault_if, is_row_of, opening_by, told_if}
 
 -- ---- a row reads as its values
 
--- each field reads by its column as its value
-abbrev pub EachReads : List Column → List (List ℕ) → List Value → Type 0
-EachReads [] [] [] = Unit {0}
-EachReads (column ∷ columns) (field ∷ fields) (value ∷ values) = (field_read column field ≡ Ok value) × EachReads columns fields values
-EachReads columns fields values = ⊥
-
-each_back : (columns : List Column) (fields : List (List ℕ)) (values : List Value) → EachReads columns fields values
-    → (fields_read columns fields ≡ Ok values) × (length fields ≡ length columns)
-each_back [] [] [] each = (refl, refl)
-each_back [] [] (value ∷ values) each = absurd each
-each_back [] (field ∷ fields) values each = absurd each
-each_back (column ∷ columns) [] values each = absurd each
-each_back (column ∷ columns) (field ∷ fields) [] each = absurd each
-each_back (column ∷ columns) (field ∷ fields) (value ∷ values) each =
-    let rest = each_back columns fields values each.1 in
-    (rw (each.0, rest.0) refl, ap suc rest.1)
-
-no_tail : (n : ℕ) → repeated [] [] n ≡ []
-no_tail zero = refl
-no_tail (suc n) = refl
-
--- so the row does
-pub row_back : (columns : List Column) (fields : List (List ℕ)) (values : List Value) → EachReads columns fields values
-    → row_read (record { columns = columns; tail = [] }) fields ≡ Ok values
-row_back columns fields values each =
-    let back = each_back columns fields values each in
-    let long = back.1 in
-    let whole : nat_le (length columns) (length fields) ≡ true = le-leb (length columns) (length fields) (omega (arith, long)) in
-    let none : (length fields - length columns == 0) ≡ true = grind (arith, long) in
-    let rest : fields_read (repeated [] [] (length fields - length columns)) (drop (length columns) fields) ≡ Ok [] =
-    ap (λ (all : List Column). fields_read all (drop (length columns) fields)) (no_tail (length fields - length columns)) in
-    by (nat_le (length columns) (length fields) && (length fields - length columns == 0)) (and_from _ _ whole none)
-    (fields_read columns fields) back.0 (fields_read (repeated [] [] (length fields - length columns)) (drop (length columns) fields)) rest
-  where
-    by : (b : Bool) → b ≡ true → (front : Result (List Value) FormFault) → front ≡ Ok values → (rest : Result (List Value) FormFault) → rest ≡ Ok []
-        → (if b then before front rest else Err fault.Fields) ≡ Ok values
-    by b e front f rest g = rw (e, f, g) refl
+-- a row whose values fit its columns reads as them
+pub row_back : TextLaw → (row : OutputRow) → FitEach (output_columns row.kind) row.values → row_read (output_schema row.kind) (fields_of row) ≡ Ok row.values
+row_back texts row fit = texts (output_schema row.kind) row.values fit
 
 -- and its values are these
 pub values_back : (kind : OutputKind) (fields : List (List ℕ)) (values : List Value) → row_read (output_schema kind) fields ≡ Ok values → values_in kind fields ≡ values
-values_back kind fields values read = ap values_or_none read
+values_back kind fields values read = ap (λ (r : Result (List Value) FormFault). result_unwrap_or r []) read
 
 -- ---- a row without a fault
 
@@ -128,32 +100,29 @@ may_follow last kind = false
 pub told_behind : (draft : Draft) (kind : OutputKind) (row : List (List ℕ)) → HasAll draft → kind_among (kinds_after draft.last) row ≡ Ok kind → kind_among (kinds_next draft) row ≡ Ok kind
 told_behind draft kind row all told = rw (all.0, all.1) told
 
-pub solved_after : (last : OutputKind) (k state g h dof low high : List ℕ) → may_follow last Solved ≡ true
-    → kind_among (kinds_after last) (codes "solved" ∷ k ∷ state ∷ g ∷ h ∷ dof ∷ low ∷ high ∷ []) ≡ Ok Solved
-solved_after Report k state g h dof low high follows = refl
-solved_after Node k state g h dof low high follows = refl
-solved_after Stream k state g h dof low high follows = refl
-solved_after StreamBefore k state g h dof low high follows = refl
-solved_after last k state g h dof low high follows = cc follows
+pub solved_after : (last : OutputKind) (stage : Stage) → may_follow last Solved ≡ true → kind_among (kinds_after last) (fields_of (solved_row stage)) ≡ Ok Solved
+solved_after Report stage follows = refl
+solved_after Node stage follows = refl
+solved_after Stream stage follows = refl
+solved_after StreamBefore stage follows = refl
+solved_after last stage follows = cc follows
 
-pub global_after : (last : OutputKind) (critical verdict : List ℕ) → may_follow last Global ≡ true → kind_among (kinds_after last) (codes "global" ∷ critical ∷ verdict ∷ []) ≡ Ok Global
-global_after Solved critical verdict follows = refl
-global_after last critical verdict follows = cc follows
+pub global_after : (last : OutputKind) (test : GlobalTest) → may_follow last Global ≡ true → kind_among (kinds_after last) (fields_of (global_row test)) ≡ Ok Global
+global_after Solved test follows = refl
+global_after last test follows = cc follows
 
-pub nodal_after : (last : OutputKind) (node net variance critical verdict : List ℕ) → may_follow last Nodal ≡ true
-    → kind_among (kinds_after last) (codes "nodal" ∷ node ∷ net ∷ variance ∷ critical ∷ verdict ∷ []) ≡ Ok Nodal
-nodal_after Global node net variance critical verdict follows = refl
-nodal_after Nodal node net variance critical verdict follows = refl
-nodal_after last node net variance critical verdict follows = cc follows
+pub nodal_after : (last : OutputKind) (names : Names) (test : NodalTest) → may_follow last Nodal ≡ true → kind_among (kinds_after last) (fields_of (nodal_row names test)) ≡ Ok Nodal
+nodal_after Global names test follows = refl
+nodal_after Nodal names test follows = refl
+nodal_after last names test follows = cc follows
 
-pub measure_after : (last : OutputKind) (stream low high critical verdict : List ℕ) → may_follow last Measure ≡ true
-    → kind_among (kinds_after last) (codes "measure" ∷ stream ∷ low ∷ high ∷ critical ∷ verdict ∷ []) ≡ Ok Measure
-measure_after Global stream low high critical verdict follows = refl
-measure_after Nodal stream low high critical verdict follows = refl
-measure_after Measure stream low high critical verdict follows = refl
-measure_after last stream low high critical verdict follows = cc follows
+pub measure_after : (last : OutputKind) (names : Names) (test : MeasureTest) → may_follow last Measure ≡ true → kind_among (kinds_after last) (fields_of (measure_row names test)) ≡ Ok Measure
+measure_after Global names test follows = refl
+measure_after Nodal names test follows = refl
+measure_after Measure names test follows = refl
+measure_after last names test follows = cc follows
 
-pub end_after : (last : OutputKind) (period round : List ℕ) → may_follow last End ≡ true → kind_among (kinds_after last) (codes "end" ∷ period ∷ round ∷ []) ≡ Ok End
+pub end_after : (last : OutputKind) (period : List ℕ) (round : ℕ) → may_follow last End ≡ true → kind_among (kinds_after last) (fields_of (end_row period round)) ≡ Ok End
 end_after Solved period round follows = refl
 end_after Global period round follows = refl
 end_after Nodal period round follows = refl
@@ -189,37 +158,22 @@ pub record IsNodeFine (draft : Draft) (name : List ℕ) : Type 0 where
   pub new : is_among draft.nodes name ≡ false
   pub env : ((length draft.nodes == 0) && not (bytes_eq name (codes "env"))) ≡ false
 
-pub node_beside : (draft : Draft) (name price : List ℕ) → IsNodeFine draft name → fault_beside Node draft (codes "node" ∷ name ∷ price ∷ []) ≡ None
+pub node_beside : (draft : Draft) (name : List ℕ) (price : ℤ) → IsNodeFine draft name → fault_beside Node draft (fields_of (node_row name price)) ≡ None
 node_beside draft name price h = rw (h.new, h.env) refl
 
 -- the row of a stream
-pub record IsStreamFine (draft : Draft) (name from to value variance lo hi least_lo least_hi shape side parts : List ℕ) : Type 0 where
-  pub whole_meas : is_half value variance ≡ false
-  pub whole_bounds : is_half lo hi ≡ false
-  pub whole_least : is_half least_lo least_hi ≡ false
-  pub known_from : is_among draft.nodes from ≡ true
-  pub known_to : is_among draft.nodes to ≡ true
-  pub known_side : list_any (is_unknown_item draft.nodes) (items side) ≡ false
-  pub new : is_among draft.streams name ≡ false
-  pub good_side : is_side draft.nodes (items side) ≡ true
-  pub no_side : (bytes_eq shape (codes "cycle") && not (is_empty side)) ≡ false
-  pub good_parts : list_all is_part (items parts) ≡ true
-  pub apart : same_name from to ≡ false
+pub record IsStreamFine (draft : Draft) (row : List (List ℕ)) : Type 0 where
+  pub whole : is_half_told Stream row ≡ false
+  pub known : has_unknown_node draft.nodes Stream row ≡ false
+  pub new : is_among draft.streams (name_field row) ≡ false
+  pub good : has_bad_list draft.nodes Stream row ≡ false
+  pub apart : leads_to_itself row ≡ false
 
-pub stream_beside : (draft : Draft) (name from to value variance class flow lo hi least_lo least_hi shape side parts : List ℕ)
-    → IsStreamFine draft name from to value variance lo hi least_lo least_hi shape side parts
-    → fault_beside Stream draft (codes "stream" ∷ name ∷ from ∷ to ∷ value ∷ variance ∷ class ∷ flow ∷ lo ∷ hi ∷ least_lo ∷ least_hi ∷ shape ∷ side ∷ parts ∷ []) ≡ None
-stream_beside draft name from to value variance class flow lo hi least_lo least_hi shape side parts h =
-    rw (
-      h.whole_meas,
-      h.whole_bounds,
-      h.whole_least,
-      h.known_from,
-      h.known_to,
-      h.known_side,
-      h.new,
-      h.good_side,
-      h.no_side,
-      h.good_parts,
-      h.apart,
-    ) refl
+pub stream_beside : (draft : Draft) (row : List (List ℕ)) → IsStreamFine draft row → fault_beside Stream draft row ≡ None
+stream_beside draft row h =
+    by (is_half_told Stream row) (has_unknown_node draft.nodes Stream row) (is_among draft.streams (name_field row)) (has_bad_list draft.nodes Stream row) (leads_to_itself row)
+    h.whole h.known h.new h.good h.apart
+  where
+    by : (a b c d e : Bool) → a ≡ false → b ≡ false → c ≡ false → d ≡ false → e ≡ false
+        → (if a then Some NumberFault else if b then Some Unknown else if c then Some Duplicate else if d then Some Shape else if e then Some Count else None) ≡ None
+    by a b c d e is_a is_b is_c is_d is_e = rw (is_a, is_b, is_c, is_d, is_e) refl

@@ -5,7 +5,6 @@ use Rattle.std.proofs.Common.{◌≡◌, ◌∙◌, ℕ, ◌+◌, ◌<◌, ◌�
 use Rattle.std.proofs.lemmas.Bool.{ne_eqb, lt-ltb}
 use Rattle.std.proofs.lemmas.List.{append-nil}
 use Rattle.std.proofs.Math.Seq.{get_or-append_seam}
-use Rattle.pb_rows.specs.Texts.{HaveOneNumberText}
 use Rattle.pb_rows.specs.declared.name.Names.{Names}
 use Rattle.pb_graph.specs.declared.records.Stream.{Stream}
 use Rattle.pb_graph.specs.declared.results.StreamResult.{StreamResult}
@@ -23,9 +22,9 @@ use Rattle.pb_readback.specs.declared.draft.Draft.{Draft}
 use Rattle.pb_readback.specs.Drafts.{with_row}
 use Rattle.pb_readback.specs.Faults.{first_unknown}
 use Rattle.pb_readback.specs.Written.{records_in}
-use Rattle.pb_readback.proofs.WrittenFieldLemmas.{AreNew}
+use Rattle.pb_readback.proofs.WrittenFieldLemmas.{AreNew, AreWritten}
 use Rattle.pb_readback.proofs.WrittenRowLemmas.{row_leaves, row_sound, takes_least, values_back}
-use Rattle.pb_readback.proofs.WrittenStreamLemmas.{AreKnownNames, fields_are, result_told, stream_back, stream_fields, stream_fine, stream_values, told_of}
+use Rattle.pb_readback.proofs.WrittenStreamLemmas.{AreKnownNames, result_told, stream_back, stream_fields, stream_fine, stream_values, told_of}
 use Rattle.pb_readback.proofs.WrittenBlockLemmas.{Tells, last_of, tells_more, tells_none, tells_to}
 
 -- the draft behind the rows of streams
@@ -53,29 +52,28 @@ unfinished draft lt =
     let other : (length draft.streams == draft.heading.streams) ≡ false = ne_eqb (length draft.streams) draft.heading.streams (λ e. omega (arith, e, lt)) in
     rw other refl
 
-pub streams_tell : HaveOneNumberText → (names : Names) (graph : ProcessGraph) → AreKnownNames names graph → (draft : Draft) (rest : List (List ℕ)) (streams : List Stream) (results : List StreamResult)
+pub streams_tell : AreWritten → (names : Names) (graph : ProcessGraph) → AreKnownNames names graph → (draft : Draft) (rest : List (List ℕ)) (streams : List Stream) (results : List StreamResult)
     → length rest ≡ length streams → length results ≡ length streams → AllByRecursion (IsStream graph.nodes) streams → AllByRecursion IsWithinLimits streams
     → AllByRecursion (IsResultWithin graph) results → IsAmidStreams names draft rest
     → Tells draft (records_in (rows_with (result_row names) (length draft.streams) streams results)) (behind_streams names draft rest streams results)
-streams_tell texts names graph known draft [] [] [] few many joins limits within at =
+streams_tell written names graph known draft [] [] [] few many joins limits within at =
     tells_to draft draft (behind_streams names draft [] [] []) []
     (ap₂ (λ (ns : List (List ℕ)) (p : List Stream × List StreamRow). record draft { streams = ns; graph = record draft.graph { streams = p.0 }; rows = p.1 })
     (sym (append-nil draft.streams)) (ap₂ (λ (ss : List Stream) (rs : List StreamRow). (ss, rs)) (sym (append-nil draft.graph.streams)) (sym (append-nil draft.rows))))
     (tells_none draft)
-streams_tell texts names graph known draft rest [] (result ∷ results) few many joins limits within at = absurd (omega (arith, many))
-streams_tell texts names graph known draft rest (stream ∷ streams) [] few many joins limits within at = absurd (omega (arith, many))
-streams_tell texts names graph known draft [] (stream ∷ streams) (result ∷ results) few many joins limits within at = absurd (omega (arith, few))
-streams_tell texts names graph known draft (name ∷ rest) [] results few many joins limits within at = absurd (omega (arith, few))
-streams_tell texts names graph known draft (name ∷ rest) (stream ∷ streams) (result ∷ results) few many joins limits within at =
+streams_tell written names graph known draft rest [] (result ∷ results) few many joins limits within at = absurd (omega (arith, many))
+streams_tell written names graph known draft rest (stream ∷ streams) [] few many joins limits within at = absurd (omega (arith, many))
+streams_tell written names graph known draft [] (stream ∷ streams) (result ∷ results) few many joins limits within at = absurd (omega (arith, few))
+streams_tell written names graph known draft (name ∷ rest) [] results few many joins limits within at = absurd (omega (arith, few))
+streams_tell written names graph known draft (name ∷ rest) (stream ∷ streams) (result ∷ results) few many joins limits within at =
     let i = length draft.streams in
     let whole : length names.streams ≡ i + length (name ∷ rest) = ap (λ (all : List (List ℕ)). length all) at.split ∙ length-append draft.streams (name ∷ rest) in
     let more : length (draft.streams ++ name ∷ []) ≡ i + 1 = length-append draft.streams (name ∷ []) in
     let here : name_at names.streams i ≡ name = ap (λ (all : List (List ℕ)). name_at all i) at.split ∙ get_or-append_seam draft.streams name rest [] in
     let below : i < draft.heading.streams = omega (arith, at.room) in
     let row = stream_fields names i stream result in
-    let fields = fields_are names i stream result in
     let values = stream_values names i stream result in
-    let fine = stream_fine texts draft names graph i stream result known joins.0 limits.0 within.0 (omega (arith, whole)) (record {
+    let fine = stream_fine written draft names graph i stream result known joins.0 limits.0 within.0 (omega (arith, whole)) (record {
       awaits = (at.all_nodes, lt-ltb i draft.heading.streams below);
       nodes = at.nodes;
       new = subst (λ (n : List ℕ). is_among draft.streams n ≡ false) (sym here) at.new.0;
@@ -88,7 +86,7 @@ streams_tell texts names graph known draft (name ∷ rest) (stream ∷ streams) 
       rows = draft.rows ++ told_of names result ∷ [];
     } in
     let told : said_stream draft.nodes StreamKind row values ≡ told_of names result =
-    ap (λ (nodes : List (List ℕ)). said_stream nodes StreamKind row values) at.nodes ∙ result_told names graph i stream result known within.0 in
+    ap (λ (nodes : List (List ℕ)). said_stream nodes StreamKind row values) at.nodes ∙ result_told written names graph i stream result known within.0 in
     let read : said_arc draft.nodes row values ≡ stream =
     ap (λ (nodes : List (List ℕ)). said_arc nodes row values) at.nodes ∙ stream_back names graph i stream result known joins.0 in
     let with = λ (said : List Value). record draft {
@@ -113,7 +111,7 @@ streams_tell texts names graph known draft (name ∷ rest) (stream ∷ streams) 
       new = at.new.1;
       with_least = refl;
     } in
-    let behind = streams_tell texts names graph known next rest streams results (omega (arith, few)) (omega (arith, many)) joins.1 limits.1 within.1 after in
+    let behind = streams_tell written names graph known next rest streams results (omega (arith, few)) (omega (arith, many)) joins.1 limits.1 within.1 after in
     let same : behind_streams names next rest streams results ≡ behind_streams names draft (name ∷ rest) (stream ∷ streams) (result ∷ results) =
     ap₂ (λ (ns : List (List ℕ)) (p : List Stream × List StreamRow). record draft { last = last_of StreamKind StreamKind streams; streams = ns; graph = record draft.graph { streams = p.0 }; rows = p.1 })
     (append_assoc draft.streams (name ∷ []) rest)
@@ -121,6 +119,5 @@ streams_tell texts names graph known draft (name ∷ rest) (stream ∷ streams) 
     (append_assoc draft.rows (told_of names result ∷ []) (map (told_of names) results))) in
     let all_rows = records_in (rows_with (result_row names) (i + 1) streams results) in
     let counted = subst (λ (n : ℕ). Tells next (records_in (rows_with (result_row names) n streams results)) (behind_streams names next rest streams results)) more behind in
-    subst (λ (first : List (List ℕ)). Tells draft (first ∷ all_rows) (behind_streams names draft (name ∷ rest) (stream ∷ streams) (result ∷ results))) (sym fields)
-    (tells_more draft next row all_rows (behind_streams names draft (name ∷ rest) (stream ∷ streams) (result ∷ results)) (unfinished draft below) (row_sound draft StreamKind row values fine) leaves
-    (tells_to next (behind_streams names next rest streams results) (behind_streams names draft (name ∷ rest) (stream ∷ streams) (result ∷ results)) all_rows same counted))
+    tells_more draft next row all_rows (behind_streams names draft (name ∷ rest) (stream ∷ streams) (result ∷ results)) (unfinished draft below) (row_sound draft StreamKind row values fine) leaves
+    (tells_to next (behind_streams names next rest streams results) (behind_streams names draft (name ∷ rest) (stream ∷ streams) (result ∷ results)) all_rows same counted)

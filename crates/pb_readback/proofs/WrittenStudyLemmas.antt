@@ -1,15 +1,13 @@
 -- The rows of a study read back: its blocks, and the rows between them.
-use Rattle.std.specs.Prelude.{◌==◌, ◌^◌, neg_ℤ, nat_lt, codes, if◌then◌else◌, map, All, Ok, position}
+use Rattle.std.specs.Prelude.{◌==◌, neg_ℤ, nat_lt, if◌then◌else◌, map, All, Ok, position}
 use Rattle.std.specs.List.{AllByRecursion, position_or_len}
 use Rattle.std.proofs.Common.{◌≡◌, ◌∙◌, ℕ, pos, ◌+◌, ◌≤◌, List, [], ◌∷◌, ◌++◌, length, Bool, true, false, Option, None, Some, refl, sym, ap, ap₂, subst, arith, append_assoc}
 use Rattle.std.proofs.lemmas.Bool.{le-ltb}
 use Rattle.std.proofs.lemmas.List.{map-append}
 use Rattle.std.proofs.lemmas.List.Elements.{All-from_recursion, recursion_from_All}
 use Rattle.std.proofs.lemmas.List.Sums.{position_or_len_is}
-use Rattle.pb_limits.specs.Limits.{most_gap, most_nodes, most_rounds, most_streams, most_sweeps}
+use Rattle.pb_limits.specs.Limits.{most_gap, most_nodes, most_rounds, most_streams, most_sweeps, most_wide}
 use Rattle.pb_rows.specs.Name.{is_name}
-use Rattle.pb_rows.specs.Number.{whole_text}
-use Rattle.pb_rows.specs.Texts.{HaveOneNumberText}
 use Rattle.pb_rows.specs.declared.name.Names.{Names}
 use Rattle.pb_graph.specs.declared.results.Options.{Options}
 use Rattle.pb_graph.specs.declared.results.Stage.{Stage}
@@ -18,14 +16,14 @@ use Rattle.pb_graph.specs.declared.results.Taken.{Taken}
 use Rattle.pb_graph.specs.declared.results.StreamResult.{StreamResult}
 use Rattle.pb_graph.specs.ProcessGraph.{IsProcessGraph, IsStream, IsWithinLimits, ProcessGraph}
 use Rattle.pb_graph.specs.WellFormed.{HasShapeOf, IsPrice, IsResultWithin, IsWellFormed}
-use Rattle.pb_report.specs.Block.{block_rows, end_row, node_rows, report_row, result_rows, solved_row}
+use Rattle.pb_report.specs.Block.{block_rows, end_row, node_row, report_row, result_row, solved_row}
 use Rattle.pb_report.specs.Names.{IsNamed}
 use Rattle.pb_report.specs.Row.{OutputRow, fields_of}
+use Rattle.pb_report.specs.Rows.{rows_with}
 use Rattle.pb_report.specs.Study.{round_rows, stage_rows, stop_rows, taken_row}
 use Rattle.pb_report.specs.Tests.{tests_rows}
-use Rattle.pb_form.specs.OutputRows.{output_columns, output_schema}
+use Rattle.pb_form.specs.OutputRows.{output_schema}
 use Rattle.pb_form.specs.Reading.{row_read}
-use Rattle.pb_form.specs.Value.{Value, Name, Number, Word}
 use Rattle.pb_form.specs.declared.output.OutputKind.{OutputKind}
 use Rattle.pb_form.specs.declared.output.OutputKind.TheVariants.{Report, Node, Stream, Solved, End}
 use Rattle.pb_blocks.specs.declared.rows.Heading.{Heading}
@@ -40,7 +38,7 @@ use Rattle.pb_readback.specs.Faults.{first_unknown}
 use Rattle.pb_readback.specs.Next.{AreBlocks, ArePassedOver, IsBlock, IsFound, opened}
 use Rattle.pb_readback.specs.Written.{AreBlockNames, AreOptionsWithin, HasBoundsForLeast, StudyRowsLaw, block_with, blocks_from, records_in}
 use Rattle.pb_readback.proofs.WrittenBlockLemmas.{Tells, all_nodes, behind_nodes, last_of, nodes_tell}
-use Rattle.pb_readback.proofs.WrittenFieldLemmas.{IsBetween, abs_between, count_between, le_count, name_back, new_from, number_back}
+use Rattle.pb_readback.proofs.WrittenFieldLemmas.{AreWritten, IsBetween, abs_between, count_between, le_count, new_from}
 use Rattle.pb_readback.proofs.WrittenRowLemmas.{heading_opens, may_follow, row_back, takes_least, values_back}
 use Rattle.pb_readback.proofs.WrittenStageLemmas.{behind_streams, streams_tell}
 use Rattle.pb_readback.proofs.WrittenStreamLemmas.{AreKnownNames, parts_known, result_back, told_of}
@@ -78,41 +76,32 @@ stage_heading period options round stage = record {
   sweeps = options.sweeps;
 }
 
+abbrev heading_row : List ℕ → Options → ℕ → Stage → OutputRow
+heading_row period options round stage = report_row period round stage.graph options
+
 abbrev heading_fields : List ℕ → Options → ℕ → Stage → List (List ℕ)
-heading_fields period options round stage =
-    codes "report" ∷ period ∷ whole_text (pos round) ∷ whole_text (pos stage.graph.nodes) ∷ whole_text (pos (length stage.graph.streams))
-    ∷ whole_text (pos options.gap) ∷ whole_text (pos options.sweeps) ∷ []
+heading_fields period options round stage = fields_of (heading_row period options round stage)
 
-abbrev heading_values : List ℕ → Options → ℕ → Stage → List Value
-heading_values period options round stage =
-    Word 0 ∷ Name period ∷ Number (pos round) ∷ Number (pos stage.graph.nodes) ∷ Number (pos (length stage.graph.streams)) ∷ Number (pos options.gap)
-    ∷ Number (pos options.sweeps) ∷ []
+-- a count lies within the widest numbers, since it is far smaller
+wide_between : (most n : ℕ) → most ≤ most_wide → n ≤ most → IsBetween (neg_ℤ (pos most_wide)) (pos most_wide) (pos n)
+wide_between most n small le = abs_between most_wide (pos n) (omega (arith, small, le))
 
--- a count within 2^126, since it is far smaller
-wide_between : (most n : ℕ) → most ≤ 2 ^ 126 → n ≤ most → IsBetween (neg_ℤ (pos (2 ^ 126))) (pos (2 ^ 126)) (pos n)
-wide_between most n small le = abs_between (2 ^ 126) (pos n) (omega (arith, small, le))
-
-heading_reads : HaveOneNumberText → (names : Names) (period : List ℕ) (options : Options) (round : ℕ) (stage : Stage) → IsStageToWrite names period options round stage
-    → row_read (output_schema Report) (heading_fields period options round stage) ≡ Ok (heading_values period options round stage)
-heading_reads texts names period options round stage h =
-    let nodes = stage.graph.nodes in
-    let streams = length stage.graph.streams in
-    row_back (output_columns Report) (heading_fields period options round stage) (heading_values period options round stage) (
-      refl,
+heading_reads : AreWritten → (names : Names) (period : List ℕ) (options : Options) (round : ℕ) (stage : Stage) → IsStageToWrite names period options round stage
+    → row_read (output_schema Report) (heading_fields period options round stage) ≡ Ok (heading_row period options round stage).values
+heading_reads written names period options round stage h =
+    row_back written.texts (heading_row period options round stage) (
+      (refl, refl),
       (
-        name_back (codes "period") period h.name,
+        h.name,
         (
-          number_back texts (codes "round") (pos 0) (pos most_rounds) (pos round) (count_between 0 most_rounds round (omega arith) h.greatest_round),
+          count_between 0 most_rounds round (omega arith) h.greatest_round,
           (
-            number_back texts (codes "nodes") (neg_ℤ (pos (2 ^ 126))) (pos (2 ^ 126)) (pos nodes) (wide_between most_nodes nodes (omega arith) h.graph.few_nodes),
+            wide_between most_nodes stage.graph.nodes (omega arith) h.graph.few_nodes,
             (
-              number_back texts (codes "streams") (neg_ℤ (pos (2 ^ 126))) (pos (2 ^ 126)) (pos streams) (wide_between most_streams streams (omega arith) h.graph.few_streams),
+              wide_between most_streams (length stage.graph.streams) (omega arith) h.graph.few_streams,
               (
-                number_back texts (codes "gap") (pos 1) (pos most_gap) (pos options.gap) (count_between 1 most_gap options.gap h.asked.some_gap h.asked.greatest_gap),
-                (
-                  number_back texts (codes "sweeps") (pos 0) (pos most_sweeps) (pos options.sweeps) (count_between 0 most_sweeps options.sweeps (omega arith) h.asked.greatest_sweeps),
-                  tt,
-                ),
+                count_between 1 most_gap options.gap h.asked.some_gap h.asked.greatest_gap,
+                (count_between 0 most_sweeps options.sweeps (omega arith) h.asked.greatest_sweeps, tt),
               ),
             ),
           ),
@@ -120,19 +109,19 @@ heading_reads texts names period options round stage h =
       ),
     )
 
-heading_back : HaveOneNumberText → (names : Names) (period : List ℕ) (options : Options) (round : ℕ) (stage : Stage) → IsStageToWrite names period options round stage
+heading_back : AreWritten → (names : Names) (period : List ℕ) (options : Options) (round : ℕ) (stage : Stage) → IsStageToWrite names period options round stage
     → heading_in (heading_fields period options round stage) ≡ stage_heading period options round stage
-heading_back texts names period options round stage h =
+heading_back written names period options round stage h =
     let row = heading_fields period options round stage in
-    ap (said_heading row) (values_back Report row (heading_values period options round stage) (heading_reads texts names period options round stage h))
+    ap (said_heading row) (values_back Report row (heading_row period options round stage).values (heading_reads written names period options round stage h))
 
-heading_fine : HaveOneNumberText → (names : Names) (period : List ℕ) (options : Options) (round : ℕ) (stage : Stage) → IsStageToWrite names period options round stage
+heading_fine : AreWritten → (names : Names) (period : List ℕ) (options : Options) (round : ℕ) (stage : Stage) → IsStageToWrite names period options round stage
     → opening_fault (heading_fields period options round stage) ≡ None
-heading_fine texts names period options round stage h =
-    heading_opens (heading_fields period options round stage) (heading_values period options round stage)
+heading_fine written names period options round stage h =
+    heading_opens (heading_fields period options round stage) (heading_row period options round stage).values
     (record {
       told = refl;
-      read = heading_reads texts names period options round stage h;
+      read = heading_reads written names period options round stage h;
       some_node = le_count 1 stage.graph.nodes h.graph.env;
       most_node = le_count stage.graph.nodes most_nodes h.graph.few_nodes;
       some_stream = le_count 0 (length stage.graph.streams) (omega arith);
@@ -199,8 +188,8 @@ whole_draft names period options round stage = record (behind_tests (solved_draf
 -- the rows behind the first
 abbrev body_rows : Names → List ℕ → ℕ → Stage → List OutputRow
 body_rows names period round stage =
-    node_rows names.nodes stage.prices
-    ++ (result_rows names stage.graph.streams stage.streams
+    rows_with (λ n name price. node_row name price) 0 names.nodes stage.prices
+    ++ (rows_with (result_row names) 0 stage.graph.streams stage.streams
     ++ (solved_row stage ∷ (tests_rows names stage.tests ++ end_row period round ∷ [])))
 
 behind_all : (names : Names) (period : List ℕ) (options : Options) (round : ℕ) (stage : Stage) → IsStageToWrite names period options round stage
@@ -222,9 +211,9 @@ behind_all names period options round stage h =
     by true o e = e
     by false o e = refl
 
-body_tells : HaveOneNumberText → (names : Names) (period : List ℕ) (options : Options) (round : ℕ) (stage : Stage) → IsStageToWrite names period options round stage
+body_tells : AreWritten → (names : Names) (period : List ℕ) (options : Options) (round : ℕ) (stage : Stage) → IsStageToWrite names period options round stage
     → Tells (first_draft period options round stage) (records_in (body_rows names period round stage)) (whole_draft names period options round stage)
-body_tells texts names period options round stage h =
+body_tells written names period options round stage h =
     let known = known_names names stage.graph h.all_names h.named in
     let d0 = first_draft period options round stage in
     let d1 = node_draft names period options round stage in
@@ -235,10 +224,10 @@ body_tells texts names period options round stage h =
     let behind = behind_all names period options round stage h in
     let at : IsBehindAll names d3 = record { all_nodes = behind.all_nodes; all_streams = behind.all_streams; nodes = behind.nodes; streams = behind.streams; known = behind.known } in
     let at_end : IsBehindAll names d4 = record { all_nodes = behind.all_nodes; all_streams = behind.all_streams; nodes = behind.nodes; streams = behind.streams; known = behind.known } in
-    let nodes = nodes_tell texts 0 d0 names.nodes stage.prices (h.named.nodes ∙ sym h.formed.each_price)
+    let nodes = nodes_tell written 0 d0 names.nodes stage.prices (h.named.nodes ∙ sym h.formed.each_price)
     (all_nodes names.nodes h.all_names.node_forms (new_from [] names.nodes h.all_names.nodes_differ) h.all_names.env)
     (recursion_from_All IsPrice stage.prices h.formed.prices) (omega (arith, h.named.nodes)) refl in
-    let streams = streams_tell texts names stage.graph known d1 names.streams stage.graph.streams stage.streams h.named.streams h.formed.each_stream
+    let streams = streams_tell written names stage.graph known d1 names.streams stage.graph.streams stage.streams h.named.streams h.formed.each_stream
     (recursion_from_All (IsStream stage.graph.nodes) stage.graph.streams h.graph.joins) (recursion_from_All IsWithinLimits stage.graph.streams h.graph.limits)
     (recursion_from_All (IsResultWithin stage.graph) stage.streams h.formed.results)
     (record {
@@ -251,13 +240,13 @@ body_tells texts names period options round stage h =
     }) in
     let order : may_follow d2.last Solved ≡ true =
     stream_then_solved (last_of Node Report names.nodes) stage.graph.streams (node_then_solved Report names.nodes refl) in
-    let solved = solved_tells texts names d2 stage behind order h.formed in
-    let tests = tests_tell texts names stage.graph known d3 stage.tests at h.formed.tests in
-    let ends = end_tells texts names d4 period round at_end (end_order stage.tests) h.name h.greatest_round refl refl in
+    let solved = solved_tells written names d2 stage behind order h.formed in
+    let tests = tests_tell written names stage.graph known d3 stage.tests at h.formed.tests in
+    let ends = end_tells written names d4 period round at_end (end_order stage.tests) h.name h.greatest_round refl refl in
     let tail = tells_both d3 d4 d5 (tests_rows names stage.tests) (end_row period round ∷ []) tests ends in
     let rest = tells_both d2 d3 d5 (solved_row stage ∷ []) (tests_rows names stage.tests ++ end_row period round ∷ []) solved tail in
-    let more = tells_both d1 d2 d5 (result_rows names stage.graph.streams stage.streams) (solved_row stage ∷ (tests_rows names stage.tests ++ end_row period round ∷ [])) streams rest in
-    tells_both d0 d1 d5 (node_rows names.nodes stage.prices) (result_rows names stage.graph.streams stage.streams ++ (solved_row stage ∷ (tests_rows names stage.tests ++ end_row period round ∷ []))) nodes more
+    let more = tells_both d1 d2 d5 (rows_with (result_row names) 0 stage.graph.streams stage.streams) (solved_row stage ∷ (tests_rows names stage.tests ++ end_row period round ∷ [])) streams rest in
+    tells_both d0 d1 d5 (rows_with (λ n name price. node_row name price) 0 names.nodes stage.prices) (rows_with (result_row names) 0 stage.graph.streams stage.streams ++ (solved_row stage ∷ (tests_rows names stage.tests ++ end_row period round ∷ []))) nodes more
 
 whole_back : (names : Names) (period : List ℕ) (options : Options) (round : ℕ) (stage : Stage) → IsStageToWrite names period options round stage
     → block_of (whole_draft names period options round stage) ≡ block_with names period options round stage
@@ -267,17 +256,17 @@ whole_back names period options round stage h =
     let least = recursion_from_All HasBoundsForLeast stage.streams h.least in
     ap (λ (results : List StreamResult). block_with names period options round (record stage { streams = results })) (all_back names stage.graph stage.streams known within least)
 
-block_back : HaveOneNumberText → (names : Names) (period : List ℕ) (options : Options) (round : ℕ) (stage : Stage) → IsStageToWrite names period options round stage
+block_back : AreWritten → (names : Names) (period : List ℕ) (options : Options) (round : ℕ) (stage : Stage) → IsStageToWrite names period options round stage
     → IsBlock (fields_of (report_row period round stage.graph options)) (records_in (body_rows names period round stage)) (block_with names period options round stage)
-block_back texts names period options round stage h =
+block_back written names period options round stage h =
     let first = heading_fields period options round stage in
     let rows = records_in (body_rows names period round stage) in
     let whole = whole_draft names period options round stage in
-    let heading = heading_back texts names period options round stage h in
+    let heading = heading_back written names period options round stage h in
     let tells : Tells (opened first) rows whole =
-    subst (λ (head : Heading). Tells (draft_of head) rows whole) (sym heading) (body_tells texts names period options round stage h) in
+    subst (λ (head : Heading). Tells (draft_of head) rows whole) (sym heading) (body_tells written names period options round stage h) in
     record {
-      opens = heading_fine texts names period options round stage h;
+      opens = heading_fine written names period options round stage h;
       sound = tells.sound;
       known = subst (λ (draft : Draft). first_unknown draft ≡ None) (sym tells.told) (behind_all names period options round stage h).known;
       ends = ap (λ (draft : Draft). draft.last) tells.told;
@@ -287,10 +276,10 @@ block_back texts names period options round stage h =
 -- ---- blocks among other rows
 
 -- a block behind rows that are passed over, and whatever comes behind it
-found_back : HaveOneNumberText → (names : Names) (period : List ℕ) (options : Options) (round : ℕ) (stage : Stage) → IsStageToWrite names period options round stage
+found_back : AreWritten → (names : Names) (period : List ℕ) (options : Options) (round : ℕ) (stage : Stage) → IsStageToWrite names period options round stage
     → (passed rest : List OutputRow) → ArePassedOver (records_in passed)
     → IsFound (records_in (passed ++ (block_rows names period options round stage ++ rest))) (block_with names period options round stage) (records_in rest)
-found_back texts names period options round stage h passed rest over =
+found_back written names period options round stage h passed rest over =
     let first = fields_of (report_row period round stage.graph options) in
     let body = body_rows names period round stage in
     record {
@@ -301,7 +290,7 @@ found_back texts names period options round stage h passed rest over =
           map-append fields_of passed (block_rows names period options round stage ++ rest)
           ∙ ap (λ (rows : List (List (List ℕ))). records_in passed ++ first ∷ rows) (map-append fields_of body rest);
       skipped = over;
-      whole = block_back texts names period options round stage h;
+      whole = block_back written names period options round stage h;
     }
 
 -- what is known of all stages
@@ -330,17 +319,17 @@ to_write names period options round stage all good most = record {
   least = good.least;
 }
 
-rounds_back : HaveOneNumberText → (names : Names) (period : List ℕ) (options : Options) → AreStagesToWrite names period options → (round : ℕ) (taken : List Taken) (stages : List Stage)
+rounds_back : AreWritten → (names : Names) (period : List ℕ) (options : Options) → AreStagesToWrite names period options → (round : ℕ) (taken : List Taken) (stages : List Stage)
     (rest : List OutputRow) → ArePassedOver (records_in rest) → length stages ≡ length taken → round + length stages ≤ most_rounds + 1 → AllByRecursion (IsGoodStage names) stages
     → AreBlocks (records_in (round_rows names period options round taken stages ++ rest)) (blocks_from names period options round stages)
-rounds_back texts names period options all round [] [] rest over long few good = over
-rounds_back texts names period options all round [] (stage ∷ stages) rest over long few good = absurd (omega (arith, long))
-rounds_back texts names period options all round (suspect ∷ taken) [] rest over long few good = absurd (omega (arith, long))
-rounds_back texts names period options all round (suspect ∷ taken) (stage ∷ stages) rest over long few good =
+rounds_back written names period options all round [] [] rest over long few good = over
+rounds_back written names period options all round [] (stage ∷ stages) rest over long few good = absurd (omega (arith, long))
+rounds_back written names period options all round (suspect ∷ taken) [] rest over long few good = absurd (omega (arith, long))
+rounds_back written names period options all round (suspect ∷ taken) (stage ∷ stages) rest over long few good =
     let row = taken_row names period round suspect in
     let more = round_rows names period options (round + 1) taken stages in
-    let behind = rounds_back texts names period options all (round + 1) taken stages rest over (omega (arith, long)) (omega (arith, few)) good.1 in
-    let found = found_back texts names period options round stage (to_write names period options round stage all good.0 (omega (arith, few))) (row ∷ []) (more ++ rest) refl in
+    let behind = rounds_back written names period options all (round + 1) taken stages rest over (omega (arith, long)) (omega (arith, few)) good.1 in
+    let found = found_back written names period options round stage (to_write names period options round stage all good.0 (omega (arith, few))) (row ∷ []) (more ++ rest) refl in
     let same : records_in (row ∷ (block_rows names period options round stage ++ (more ++ rest)))
     ≡ records_in (((row ∷ block_rows names period options round stage) ++ more) ++ rest) =
     ap (λ (rows : List OutputRow). records_in (row ∷ rows)) (sym (append_assoc (block_rows names period options round stage) more rest)) in (
@@ -353,14 +342,14 @@ stops_passed : (period : List ℕ) (rounds : ℕ) (stop : Option Stop) → ArePa
 stops_passed period rounds None = refl
 stops_passed period rounds (Some reason) = refl
 
-stages_back : HaveOneNumberText → (names : Names) (period : List ℕ) (options : Options) → AreStagesToWrite names period options → (taken : List Taken) (stages : List Stage)
+stages_back : AreWritten → (names : Names) (period : List ℕ) (options : Options) → AreStagesToWrite names period options → (taken : List Taken) (stages : List Stage)
     (rest : List OutputRow) → ArePassedOver (records_in rest) → length stages ≡ length taken + 1 → length stages ≤ most_rounds + 1 → AllByRecursion (IsGoodStage names) stages
     → AreBlocks (records_in (stage_rows names period options taken stages ++ rest)) (blocks_from names period options 0 stages)
-stages_back texts names period options all taken [] rest over long few good = absurd (omega (arith, long))
-stages_back texts names period options all taken (stage ∷ stages) rest over long few good =
+stages_back written names period options all taken [] rest over long few good = absurd (omega (arith, long))
+stages_back written names period options all taken (stage ∷ stages) rest over long few good =
     let more = round_rows names period options 1 taken stages in
-    let behind = rounds_back texts names period options all 1 taken stages rest over (omega (arith, long)) (omega (arith, few)) good.1 in
-    let found = found_back texts names period options 0 stage (to_write names period options 0 stage all good.0 (omega arith)) [] (more ++ rest) refl in (
+    let behind = rounds_back written names period options all 1 taken stages rest over (omega (arith, long)) (omega (arith, few)) good.1 in
+    let found = found_back written names period options 0 stage (to_write names period options 0 stage all good.0 (omega arith)) [] (more ++ rest) refl in (
       records_in (more ++ rest),
       subst (λ (rows : List OutputRow). IsFound (records_in rows) (block_with names period options 0 stage) (records_in (more ++ rest)))
           (sym (append_assoc (block_rows names period options 0 stage) more rest)) found,
@@ -382,13 +371,13 @@ good_stages names graph (stage ∷ stages) named graphs formed shapes least = (
 )
 
 -- the rows of a study read back as its stages
-pub study_back : HaveOneNumberText → StudyRowsLaw
-study_back texts names period options study h =
+pub study_back : AreWritten → StudyRowsLaw
+study_back written names period options study h =
     let formed = h.named.formed in
     let good = good_stages names h.named.graph study.stages h.named.named
     (recursion_from_All (λ (stage : Stage). IsProcessGraph stage.graph) study.stages h.graphs)
     (recursion_from_All IsWellFormed study.stages formed.stages)
     (recursion_from_All (HasShapeOf h.named.graph) study.stages formed.shapes)
     (recursion_from_All (λ (stage : Stage). All HasBoundsForLeast stage.streams) study.stages h.least) in
-    stages_back texts names period options (record { all_names = h.all_names; name = h.name; asked = h.asked }) study.taken study.stages
+    stages_back written names period options (record { all_names = h.all_names; name = h.name; asked = h.asked }) study.taken study.stages
     (stop_rows period (length study.taken) study.stop) (stops_passed period (length study.taken) study.stop) formed.between h.greatest_round good

@@ -12,7 +12,8 @@ use Rattle.pb_graph.specs.declared.results.Stage.{Stage}
 use Rattle.pb_graph.specs.declared.results.Stop.{Stop}
 use Rattle.pb_graph.specs.declared.results.Taken.{Taken}
 use Rattle.pb_graph.specs.declared.results.Tests.{Tests}
-use Rattle.pb_report.specs.Block.{block_rows, end_row, node_row, node_rows, result_row, result_rows, solved_row}
+use Rattle.pb_report.specs.Block.{block_rows, end_row, node_row, result_row, solved_row}
+use Rattle.pb_report.specs.Advice.{meter_row}
 use Rattle.pb_report.specs.Design.{class_row}
 use Rattle.pb_report.specs.History.{edit_row}
 use Rattle.pb_report.specs.Row.{OutputRow, fields_of}
@@ -47,9 +48,9 @@ test_words names (Some tests) =
 block_words : (names : Names) (period : List ℕ) (options : Options) (round : ℕ) (stage : Stage) → BeginWithWords (block_rows names period options round stage)
 block_words names period options round stage =
     let tail = words_both (tests_rows names stage.tests) (end_row period round ∷ []) (test_words names stage.tests) refl in
-    words_both (node_rows names.nodes stage.prices) (result_rows names stage.graph.streams stage.streams ++ (solved_row stage ∷ (tests_rows names stage.tests ++ end_row period round ∷ [])))
+    words_both (rows_with (λ n name price. node_row name price) 0 names.nodes stage.prices) (rows_with (result_row names) 0 stage.graph.streams stage.streams ++ (solved_row stage ∷ (tests_rows names stage.tests ++ end_row period round ∷ [])))
     (words_with (λ n name price. node_row name price) (λ n name price. refl) 0 names.nodes stage.prices)
-    (words_both (result_rows names stage.graph.streams stage.streams) (solved_row stage ∷ (tests_rows names stage.tests ++ end_row period round ∷ []))
+    (words_both (rows_with (result_row names) 0 stage.graph.streams stage.streams) (solved_row stage ∷ (tests_rows names stage.tests ++ end_row period round ∷ []))
     (words_with (result_row names) (λ i stream result. refl) 0 stage.graph.streams stage.streams) tail)
 
 round_words : (names : Names) (period : List ℕ) (options : Options) (round : ℕ) (taken : List Taken) (stages : List Stage) → BeginWithWords (round_rows names period options round taken stages)
@@ -75,6 +76,7 @@ all_words = record {
   over = λ period stream. refl;
   designs = λ names graph classes. words_with (class_row names) (λ i stream classified. refl) 0 graph.streams classes;
   histories = λ period edits. words_of edit_row (λ edit. refl) edits;
+  advices = λ names advice. words_of (meter_row names) (λ meter. refl) advice.meter;
   studies = λ names period options study.
       words_both (stage_rows names period options study.taken study.stages) (stop_rows period (length study.taken) study.stop)
       (stage_words names period options study.taken study.stages) (stop_words period (length study.taken) study.stop);

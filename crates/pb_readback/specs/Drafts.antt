@@ -1,6 +1,7 @@
 -- Statement. What the rows of a block have told so far, row by row, and of which kinds the next one may be.
-use Rattle.std.specs.Prelude.{ℕ, pos, nat_lt, List, [], ◌∷◌, ◌++◌, length, Some, None, Result, Ok, Err, if◌then◌else◌}
-use Rattle.std.specs.Option.{option_map}
+use Rattle.std.specs.Prelude.{ℕ, pos, nat_lt, List, [], ◌∷◌, ◌++◌, length, Some, None, if◌then◌else◌}
+use Rattle.std.specs.Option.{option_map, option_map_or}
+use Rattle.std.specs.Result.{result_ok}
 use Rattle.pb_form.specs.Value.{Value}
 use Rattle.pb_form.specs.declared.output.OutputKind.{OutputKind}
 use Rattle.pb_form.specs.declared.output.OutputKind.TheVariants.{Report, Node, Stream, StreamBefore, Solved, Global, Nodal, Measure, End}
@@ -8,12 +9,11 @@ use Rattle.pb_graph.specs.declared.results.MeasureTest.{MeasureTest}
 use Rattle.pb_graph.specs.declared.results.NodalTest.{NodalTest}
 use Rattle.pb_graph.specs.declared.results.Solved.TheVariants.{Unconverged}
 use Rattle.pb_graph.specs.declared.results.Tests.{Tests}
-use Rattle.pb_blocks.specs.declared.fault.RowFault.{RowFault}
 use Rattle.pb_blocks.specs.declared.rows.Heading.{Heading}
 use Rattle.pb_blocks.specs.declared.rows.Solution.{Solution}
 use Rattle.pb_blocks.specs.Kinds.{kind_among}
 use Rattle.pb_blocks.specs.Texts.{name_field}
-use Rattle.pb_blocks.specs.Values.{said_arc, said_global, said_measure, said_nodal, said_price, said_solution, said_stream, values_in}
+use Rattle.pb_blocks.specs.Values.{number_at, said_arc, said_global, said_measure, said_nodal, said_solution, said_stream, values_in}
 use Rattle.pb_readback.specs.declared.draft.Draft.{Draft}
 
 -- the solution before its row has come
@@ -37,15 +37,12 @@ draft_of heading = record {
 -- after the last stream comes how the stage was solved; after that the end, or the tests and then the end: the global test, the
 -- tests of balances, and those of measurements
 abbrev pub kinds_after : OutputKind → List OutputKind
-kinds_after Report = Solved ∷ []
-kinds_after Node = Solved ∷ []
-kinds_after Stream = Solved ∷ []
-kinds_after StreamBefore = Solved ∷ []
 kinds_after Solved = Global ∷ End ∷ []
 kinds_after Global = Nodal ∷ Measure ∷ End ∷ []
 kinds_after Nodal = Nodal ∷ Measure ∷ End ∷ []
 kinds_after Measure = Measure ∷ End ∷ []
-kinds_after last = []
+kinds_after End = []
+kinds_after last = Solved ∷ []
 
 -- all streams of a block have rows of one form, that of the first
 abbrev pub stream_kinds : OutputKind → List OutputKind
@@ -75,7 +72,7 @@ with_measure test tests = record tests { measure = tests.measure ++ test ∷ [] 
 abbrev pub with_node : List (List ℕ) → Draft → Draft
 with_node row draft = record draft {
   nodes = draft.nodes ++ name_field row ∷ [];
-  prices = draft.prices ++ said_price (values_in Node row) ∷ [];
+  prices = draft.prices ++ number_at (values_in Node row) 2 ∷ [];
 }
 
 -- what is told of one stream more, by its row in one of the two forms
@@ -103,14 +100,9 @@ added kind draft row = draft
 abbrev pub told_with : OutputKind → Draft → List (List ℕ) → Draft
 told_with kind draft row = record (added kind draft row) { last = kind }
 
--- the same of a row whose kind was asked
-abbrev pub told_if : Result OutputKind RowFault → Draft → List (List ℕ) → Draft
-told_if (Ok kind) draft row = told_with kind draft row
-told_if (Err fault) draft row = draft
-
--- what one row more tells
+-- what one row more tells, if it is of a kind that may come
 abbrev pub with_row : Draft → List (List ℕ) → Draft
-with_row draft row = told_if (kind_among (kinds_next draft) row) draft row
+with_row draft row = option_map_or (λ kind. told_with kind draft row) (result_ok (kind_among (kinds_next draft) row)) draft
 
 -- what several rows more tell
 abbrev pub with_rows : Draft → List (List (List ℕ)) → Draft

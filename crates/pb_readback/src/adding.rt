@@ -19,8 +19,8 @@ ghost use Rattle.pb_readback.specs.Reading.{IsUnderWay, MayCome};
 
 use crate::draft::Draft;
 use pb_blocks::{
-    Heading, Known, RowFault, Solution, kind_among, lowest, name_field, said_arc, said_global,
-    said_measure, said_nodal, said_price, said_solution, said_stream,
+    Heading, Known, RowFault, Solution, kind_among, lowest, name_field, number, said_arc,
+    said_global, said_measure, said_nodal, said_solution, said_stream,
 };
 use pb_form::{Fields, OutputKind, Values, output_schema, read};
 use pb_graph::{Graph, List, MeasureTest, NodalTest, Solved, Tests};
@@ -130,7 +130,7 @@ impl Draft {
         ensures { OnOk result (self.new ≡ with_node fields.now self.old) }
     {
         self.nodes.add(name_field(fields))?;
-        self.prices.push(said_price(values))
+        self.prices.push(number(values, 2))
     }
 
     // Adds a stream with its ends, and what its row tells beside them.

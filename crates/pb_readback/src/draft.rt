@@ -53,14 +53,12 @@ fn kinds_after(last: OutputKind) -> &'static [OutputKind]
     ensures { result.now ≡ kinds_after last }
 {
     match last {
-        OutputKind::Report | OutputKind::Node | OutputKind::Stream | OutputKind::StreamBefore => {
-            &[OutputKind::Solved]
-        }
         OutputKind::Solved => &[OutputKind::Global, OutputKind::End],
         OutputKind::Global | OutputKind::Nodal => {
             &[OutputKind::Nodal, OutputKind::Measure, OutputKind::End]
         }
         OutputKind::Measure => &[OutputKind::Measure, OutputKind::End],
-        _ => &[],
+        OutputKind::End => &[],
+        _ => &[OutputKind::Solved],
     }
 }

@@ -1,7 +1,12 @@
 // The faults of a row of a block beside those of its form.
 
-ghost use Rattle.std.specs.Prelude.{◌≡◌};
-ghost use Rattle.pb_readback.specs.Faults.{fault_beside, is_duplicate, is_loop, is_misshapen, is_other_env, is_own_end, is_unknown};
+ghost use Rattle.std.specs.Prelude.{◌≡◌, ◌&&◌, None, Some, if◌then◌else◌};
+ghost use Rattle.pb_form.specs.declared.output.OutputKind.TheVariants.{Node};
+ghost use Rattle.pb_rows.specs.Name.{same_name};
+ghost use Rattle.pb_blocks.specs.Beside.{is_round};
+ghost use Rattle.pb_blocks.specs.Texts.{name_field};
+ghost use Rattle.pb_blocks.specs.declared.fault.RowFault.TheVariants.{Unknown};
+ghost use Rattle.pb_readback.specs.Faults.{fault_beside, stream_fault};
 
 use crate::draft::Draft;
 use pb_blocks::{
@@ -15,86 +20,61 @@ impl Draft {
     pub(crate) fn fault_beside(&self, kind: OutputKind, fields: &Fields) -> Option<RowFault>
         ensures { result ≡ fault_beside kind self.now fields.now }
     {
-        if is_half_told(kind, fields) {
-            Some(RowFault::Number)
-        } else if self.is_unknown(kind, fields) {
-            Some(RowFault::Unknown)
-        } else if self.is_duplicate(kind, fields) {
+        match kind {
+            OutputKind::Node => self.node_fault(fields),
+            OutputKind::Stream | OutputKind::StreamBefore => self.stream_fault(kind, fields),
+            OutputKind::Nodal => unknown_unless(self.nodes.has(name_field(fields))),
+            OutputKind::Measure => unknown_unless(self.streams.has(name_field(fields))),
+            OutputKind::End => unknown_unless(self.is_own_end(fields)),
+            _ => None,
+        }
+    }
+
+    // That of a node: its name came before, or the first one isn't the environment.
+    fn node_fault(&self, fields: &Fields) -> Option<RowFault>
+        ensures { result ≡ fault_beside Node self.now fields.now }
+    {
+        if self.nodes.has(name_field(fields)) {
             Some(RowFault::Duplicate)
-        } else if self.is_misshapen(kind, fields) {
-            Some(RowFault::Shape)
-        } else if is_loop(kind, fields) {
-            Some(RowFault::Count)
-        } else if self.is_other_env(kind, fields) {
+        } else if self.nodes.len() == 0 && !is_word(name_field(fields), b"env") {
             Some(RowFault::Env)
         } else {
             None
         }
     }
 
-    // Whether a stream's row names what is no node of the block, a test what is no node or no stream of it, or an end another block.
-    fn is_unknown(&self, kind: OutputKind, fields: &Fields) -> bool
-        ensures { result ≡ is_unknown kind self.now fields.now }
+    // That of a stream.
+    fn stream_fault(&self, kind: OutputKind, fields: &Fields) -> Option<RowFault>
+        ensures { result ≡ stream_fault kind self.now fields.now }
     {
-        match kind {
-            OutputKind::Stream | OutputKind::StreamBefore => {
-                has_unknown_node(&self.nodes, kind, fields)
-            }
-            OutputKind::Nodal => !self.nodes.has(name_field(fields)),
-            OutputKind::Measure => !self.streams.has(name_field(fields)),
-            OutputKind::End => !self.is_own_end(fields),
-            _ => false,
+        if is_half_told(kind, fields) {
+            Some(RowFault::Number)
+        } else if has_unknown_node(&self.nodes, kind, fields) {
+            Some(RowFault::Unknown)
+        } else if self.streams.has(name_field(fields)) {
+            Some(RowFault::Duplicate)
+        } else if has_bad_list(&self.nodes, kind, fields) {
+            Some(RowFault::Shape)
+        } else if leads_to_itself(fields) {
+            Some(RowFault::Count)
+        } else {
+            None
         }
     }
 
     // Whether an end has the block's period and round.
     fn is_own_end(&self, fields: &Fields) -> bool
-        ensures { result ≡ is_own_end self.now fields.now }
+        ensures { result ≡ (same_name (name_field fields.now) self.now.heading.period
+            && is_round fields.now self.now.heading.round) }
     {
         is_word(name_field(fields), self.heading.period.bytes())
             && is_round(fields, self.heading.round)
     }
-
-    // Whether the name of a node or of a stream came before.
-    fn is_duplicate(&self, kind: OutputKind, fields: &Fields) -> bool
-        ensures { result ≡ is_duplicate kind self.now fields.now }
-    {
-        match kind {
-            OutputKind::Node => self.nodes.has(name_field(fields)),
-            OutputKind::Stream | OutputKind::StreamBefore => self.streams.has(name_field(fields)),
-            _ => false,
-        }
-    }
-
-    // Whether a stream's side isn't one, a cycle has a side, or its parts aren't signs with names.
-    fn is_misshapen(&self, kind: OutputKind, fields: &Fields) -> bool
-        ensures { result ≡ is_misshapen kind self.now fields.now }
-    {
-        match kind {
-            OutputKind::Stream | OutputKind::StreamBefore => {
-                has_bad_list(&self.nodes, kind, fields)
-            }
-            _ => false,
-        }
-    }
-
-    // Whether the first node isn't the environment.
-    fn is_other_env(&self, kind: OutputKind, fields: &Fields) -> bool
-        ensures { result ≡ is_other_env kind self.now fields.now }
-    {
-        match kind {
-            OutputKind::Node => self.nodes.len() == 0 && !is_word(name_field(fields), b"env"),
-            _ => false,
-        }
-    }
 }
 
-// Whether a stream leads from a node to itself.
-fn is_loop(kind: OutputKind, fields: &Fields) -> bool
-    ensures { result ≡ is_loop kind fields.now }
+// What a test names, or an end ends, is unknown unless it is known.
+fn unknown_unless(known: bool) -> Option<RowFault>
+    ensures { result ≡ if known then None else Some Unknown }
 {
-    match kind {
-        OutputKind::Stream | OutputKind::StreamBefore => leads_to_itself(fields),
-        _ => false,
-    }
+    if known { None } else { Some(RowFault::Unknown) }
 }

@@ -2,6 +2,8 @@
 
 ghost use Rattle.pb_readback.specs.Written.{PassedRowsLaw, RowTextLaw, RowWordsLaw, StudyRowsLaw, StudyTextLaw};
 
+use pb_choices::word_tables_law;
+use pb_form::text_law;
 use pb_rows::{number_text_law, written_rows_law};
 
 /// The law that the rows of a study, as they are written in CSV, read back as its stages: one block for each, in order, with the
@@ -9,10 +11,12 @@ use pb_rows::{number_text_law, written_rows_law};
 pub fn study_rows_law()
     ensures { StudyRowsLaw }
 {
+    text_law();
+    word_tables_law();
     number_text_law();
 }
 
-/// The law that the rows of refusals, of reports that can't be made, of designs and of histories are passed over.
+/// The law that the rows of refusals, of reports that can't be made, of designs, of histories and of advices are passed over.
 pub fn passed_rows_law()
     ensures { PassedRowsLaw }
 {}

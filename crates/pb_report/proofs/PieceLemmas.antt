@@ -1,6 +1,6 @@
 -- Texts made piece by piece: what is written joined to what is left is the whole.
 use Rattle.std.specs.List.{flat_map}
-use Rattle.std.proofs.Common.{◌≡◌, ◌∙◌, ℕ, ◌+◌, ◌<◌, ◌==◌, List, [], ◌∷◌, ◌++◌, length, get_or, drop, Bool, true, false, codes, refl, sym, ap, append_assoc, arith}
+use Rattle.std.proofs.Common.{◌≡◌, ◌∙◌, ℕ, zero, suc, ◌+◌, ◌<◌, ◌≤◌, ◌==◌, List, [], ◌∷◌, ◌++◌, length, get_or, drop, Bool, true, false, codes, refl, sym, ap, append_assoc, append-nil, arith}
 use Rattle.std.proofs.lemmas.Bool.{ne_eqb}
 use Rattle.pb_integers.proofs.Lists.{drop_next}
 use Rattle.pb_report.specs.Certificate.{spaced, names_in}
@@ -21,6 +21,28 @@ pub rest_more : {A : Type 0} (text : A → List ℕ) (xs : List A) (i : ℕ) (d 
 rest_more text xs i d lt =
     let later : ((i + 1) == 0) ≡ false = ne_eqb (i + 1) 0 (λ e. absurd (omega (arith, e))) in
     rw (later, drop_next xs i d lt) (rest_cons text (i == 0) (get_or xs i d) (drop (i + 1) xs))
+
+-- one more piece is written
+pub piece_more : {A : Type 0} (text : A → List ℕ) (whole done : List ℕ) (xs : List A) (i : ℕ) (d : A) → i < length xs → whole ≡ done ++ rest_of text (i == 0) (drop i xs)
+    → whole ≡ (done ++ (gap_before (i == 0) ++ text (get_or xs i d))) ++ rest_of text ((i + 1) == 0) (drop (i + 1) xs)
+piece_more text whole done xs i d lt so_far =
+    let rest = rest_of text ((i + 1) == 0) (drop (i + 1) xs) in
+    so_far ∙ ap (λ (t : List ℕ). done ++ t) (rest_more text xs i d lt) ∙ sym (append_assoc done (gap_before (i == 0) ++ text (get_or xs i d)) rest)
+
+none_left : {A : Type 0} (xs : List A) (i : ℕ) → length xs ≤ i → drop i xs ≡ []
+none_left [] zero le = refl
+none_left [] (suc i) le = refl
+none_left (x ∷ xs) zero le = absurd (omega (arith, le))
+none_left (x ∷ xs) (suc i) le = none_left xs i (omega (arith, le))
+
+-- all pieces are written
+pub pieces_done : {A : Type 0} (text : A → List ℕ) (whole done : List ℕ) (xs : List A) (i : ℕ) → length xs ≤ i → whole ≡ done ++ rest_of text (i == 0) (drop i xs) → done ≡ whole
+pieces_done {A = A} text whole done xs i le so_far =
+    sym (so_far ∙ ap (λ (left : List A). done ++ rest_of text (i == 0) left) (none_left xs i le) ∙ ap (λ (t : List ℕ). done ++ t) (none (i == 0)) ∙ append-nil done)
+  where
+    none : (first : Bool) → rest_of text first [] ≡ []
+    none true = refl
+    none false = refl
 
 -- the names in a side from place n on, where node n is in the side, and where it isn't
 names_inside : (side : List Bool) (nodes : List (List ℕ)) (n : ℕ) → n < length side → n < length nodes → get_or side n false ≡ true

@@ -1,5 +1,5 @@
 -- Statement. The block of a stage: what frames it, its nodes, its streams, and how it was solved.
-use Rattle.std.specs.Prelude.{ℕ, ℤ, pos, List, [], ◌∷◌, ◌++◌, Option, length, option_map}
+use Rattle.std.specs.Prelude.{ℕ, ℤ, pos, List, [], ◌∷◌, ◌++◌, Option, length}
 use Rattle.std.specs.Option.{option_and}
 use Rattle.pb_rows.specs.declared.name.Names.{Names}
 use Rattle.pb_form.specs.Value.{Value, Name, Number, Word}
@@ -15,7 +15,7 @@ use Rattle.pb_graph.specs.WellFormed.{sweeps_of}
 use Rattle.pb_report.specs.Certificate.{certificate_values}
 use Rattle.pb_report.specs.Names.{name_at}
 use Rattle.pb_choices.specs.Places.{class_place, gap_met, truth_place}
-use Rattle.pb_report.specs.Row.{OutputRow, optional_number, row_of}
+use Rattle.pb_report.specs.Row.{OutputRow, row_of, value_or_none}
 use Rattle.pb_report.specs.Rows.{rows_with}
 use Rattle.pb_report.specs.Tests.{tests_rows}
 
@@ -35,45 +35,27 @@ end_row period round = row_of kind.End (Name period ∷ Number (pos round) ∷ [
 abbrev pub node_row : List ℕ → ℤ → OutputRow
 node_row name price = row_of kind.Node (Name name ∷ Number price ∷ [])
 
--- the rows of the nodes
-abbrev pub node_rows : List (List ℕ) → List ℤ → List OutputRow
-node_rows names prices = rows_with (λ n name price. node_row name price) 0 names prices
-
--- the measured value of a stream and its variance, if it is measured
-abbrev pub measured_value : Stream → Value
-measured_value stream = optional_number (option_map (λ (meas : Meas). meas.value) stream.meas)
-
-abbrev pub measured_variance : Stream → Value
-measured_variance stream = optional_number (option_map (λ (meas : Meas). meas.variance) stream.meas)
-
 -- the ends of bounds, if there are any
 abbrev pub low_end : Option Bounds → Value
-low_end bounds = optional_number (option_map (λ (bounds : Bounds). bounds.lo) bounds)
+low_end bounds = value_or_none (λ (bounds : Bounds). Number bounds.lo) bounds
 
 abbrev pub high_end : Option Bounds → Value
-high_end bounds = optional_number (option_map (λ (bounds : Bounds). bounds.hi) bounds)
+high_end bounds = value_or_none (λ (bounds : Bounds). Number bounds.hi) bounds
 
 -- the least bounds that are written of a stream: of one without bounds none are
 abbrev pub written_least : StreamResult → Option Bounds
 written_least result = option_and result.bounds result.least
 
--- The values of the stream at a place, with those of its certificate: its name and those of its ends, what was measured, its class,
--- its reconciled flow, the bounds of the flow, and those in every least vector.
-abbrev pub result_values : Names → ℕ → Stream → StreamResult → List Value → List Value
-result_values names id stream result certificate =
-    Name (name_at names.streams id) ∷ Name (name_at names.nodes stream.from) ∷ Name (name_at names.nodes stream.to)
-    ∷ measured_value stream ∷ measured_variance stream ∷ Word (class_place result.classified.class) ∷ Number result.flow
-    ∷ low_end result.bounds ∷ high_end result.bounds ∷ low_end (written_least result) ∷ high_end (written_least result)
-    ∷ certificate
-
--- the row of the stream at a place with its result: at the end the certificate of its class
+-- The row of the stream at a place with its result: its name and those of its ends, what was measured with its variance, its class,
+-- its reconciled flow, the bounds of the flow, those in every least vector, and the certificate of its class.
 abbrev pub result_row : Names → ℕ → Stream → StreamResult → OutputRow
 result_row names id stream result =
-    row_of kind.Stream (result_values names id stream result (certificate_values names result.classified.witness))
-
--- the rows of the streams
-abbrev pub result_rows : Names → List Stream → List StreamResult → List OutputRow
-result_rows names streams results = rows_with (result_row names) 0 streams results
+    row_of kind.Stream
+    (Name (name_at names.streams id) ∷ Name (name_at names.nodes stream.from) ∷ Name (name_at names.nodes stream.to)
+    ∷ value_or_none (λ (meas : Meas). Number meas.value) stream.meas
+    ∷ value_or_none (λ (meas : Meas). Number meas.variance) stream.meas ∷ Word (class_place result.classified.class)
+    ∷ Number result.flow ∷ low_end result.bounds ∷ high_end result.bounds ∷ low_end (written_least result)
+    ∷ high_end (written_least result) ∷ certificate_values names result.classified.witness)
 
 -- how the stage was solved: the sweeps done and whether the gap was met, its two numbers, the degrees of freedom, and the
 -- bounds of the weighted squares
@@ -81,12 +63,12 @@ abbrev pub solved_row : Stage → OutputRow
 solved_row stage =
     row_of kind.Solved
     (Number (pos (sweeps_of stage.solved)) ∷ Word (truth_place (gap_met stage.solved)) ∷ Number (pos stage.g)
-    ∷ Number (pos stage.h) ∷ Number (pos stage.dof) ∷ Number stage.low ∷ optional_number stage.high ∷ [])
+    ∷ Number (pos stage.h) ∷ Number (pos stage.dof) ∷ Number stage.low ∷ value_or_none Number stage.high ∷ [])
 
 -- the block of a stage
 abbrev pub block_rows : Names → List ℕ → Options → ℕ → Stage → List OutputRow
 block_rows names period options round stage =
     report_row period round stage.graph options
-    ∷ (node_rows names.nodes stage.prices
-    ++ (result_rows names stage.graph.streams stage.streams
+    ∷ (rows_with (λ n name price. node_row name price) 0 names.nodes stage.prices
+    ++ (rows_with (result_row names) 0 stage.graph.streams stage.streams
     ++ (solved_row stage ∷ (tests_rows names stage.tests ++ end_row period round ∷ []))))

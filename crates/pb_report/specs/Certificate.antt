@@ -1,5 +1,5 @@
 -- Statement. A certificate as values of a row: its shape, its side and its parts.
-use Rattle.std.specs.Prelude.{ℕ, ℤ, pos, negsuc, Bool, true, false, List, [], ◌∷◌, ◌++◌, codes}
+use Rattle.std.specs.Prelude.{ℕ, pos, int_le, Bool, true, false, List, [], ◌∷◌, ◌++◌, codes, if◌then◌else◌}
 use Rattle.std.specs.List.{join_by}
 use Rattle.pb_rows.specs.declared.name.Names.{Names}
 use Rattle.pb_graph.specs.declared.records.Member.{Member}
@@ -12,10 +12,9 @@ use Rattle.pb_choices.specs.Places.{shape_place, witness_shape}
 
 -- the names of the nodes in a side, in order of nodes
 abbrev pub names_in : List Bool → List (List ℕ) → List (List ℕ)
-names_in [] names = []
-names_in (inside ∷ side) [] = []
 names_in (true ∷ side) (name ∷ names) = name ∷ names_in side names
 names_in (false ∷ side) (name ∷ names) = names_in side names
+names_in side names = []
 
 -- texts with one space between
 abbrev pub spaced : {A : Type 0} → (A → List ℕ) → List A → List ℕ
@@ -26,23 +25,17 @@ abbrev pub side_text : List (List ℕ) → Witness → List ℕ
 side_text nodes (Cut side members) = spaced (λ name. name) (names_in side nodes)
 side_text nodes (Cycle steps) = []
 
--- `+` before the name of a stream that enters the side, `-` before one that leaves it
-abbrev pub sign_text : ℤ → List ℕ
-sign_text (pos n) = codes "+"
-sign_text (negsuc n) = codes "-"
+-- a part: `+` or `-`, and the name of a stream
+abbrev pub part_text : List (List ℕ) → Bool → ℕ → List ℕ
+part_text streams positive stream = (if positive then codes "+" else codes "-") ++ name_at streams stream
 
--- a member of a cut
+-- a member of a cut: `-` before a stream that leaves the side, `+` before one that enters it
 abbrev pub member_text : List (List ℕ) → Member → List ℕ
-member_text streams member = sign_text member.sign ++ name_at streams member.stream
+member_text streams member = part_text streams (int_le (pos 0) member.sign) member.stream
 
--- `+` before the name of a stream that is taken along its arrow, `-` before one that is taken against it
-abbrev pub direction_text : Bool → List ℕ
-direction_text true = codes "+"
-direction_text false = codes "-"
-
--- a step of a cycle
+-- a step of a cycle: `+` before a stream that is taken along its arrow, `-` before one that is taken against it
 abbrev pub step_text : List (List ℕ) → Step → List ℕ
-step_text streams step = direction_text step.forward ++ name_at streams step.stream
+step_text streams step = part_text streams step.forward step.stream
 
 -- the members of a cut, or the steps of a cycle
 abbrev pub parts_text : List (List ℕ) → Witness → List ℕ

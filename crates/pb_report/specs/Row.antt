@@ -1,8 +1,9 @@
 -- Statement. A row of the output: its kind, and a value for each column of its kind.
-use Rattle.std.specs.Prelude.{ℕ, ℤ, List, ◌∷◌, Option, Some, None}
+use Rattle.std.specs.Prelude.{ℕ, List, ◌∷◌, Option}
+use Rattle.std.specs.Option.{option_map_or}
 use Rattle.pb_form.specs.OutputRows.{output_columns}
 use Rattle.pb_form.specs.Texts.{texts_of}
-use Rattle.pb_form.specs.Value.{Value, Missing, Number, Word}
+use Rattle.pb_form.specs.Value.{Value, Missing, Word}
 use Rattle.pb_form.specs.declared.output.OutputKind.{OutputKind}
 
 -- a kind, and the values of its columns, of which the first is the kind's word
@@ -14,10 +15,9 @@ pub record OutputRow : Type 0 where
 abbrev pub row_of : OutputKind → List Value → OutputRow
 row_of kind values = record { kind = kind; values = Word 0 ∷ values }
 
--- a number, or nothing if there is none
-abbrev pub optional_number : Option ℤ → Value
-optional_number None = Missing
-optional_number (Some value) = Number value
+-- the value of an item, or nothing if there is none
+abbrev pub value_or_none : {A : Type 0} → (A → Value) → Option A → Value
+value_or_none value item = option_map_or value item Missing
 
 -- the fields of a row: the text of each value
 abbrev pub fields_of : OutputRow → List (List ℕ)

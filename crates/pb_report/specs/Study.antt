@@ -21,11 +21,10 @@ taken_row names period round taken =
 
 -- the rounds from this one on: each time the suspect, and the block of the stage without it
 abbrev pub round_rows : Names → List ℕ → Options → ℕ → List Taken → List Stage → List OutputRow
-round_rows names period options round [] stages = []
-round_rows names period options round (suspect ∷ taken) [] = []
 round_rows names period options round (suspect ∷ taken) (stage ∷ stages) =
     (taken_row names period round suspect ∷ block_rows names period options round stage)
     ++ round_rows names period options (round + 1) taken stages
+round_rows names period options round taken stages = []
 
 -- the first block, which is round 0, and the rounds after it
 abbrev pub stage_rows : Names → List ℕ → Options → List Taken → List Stage → List OutputRow

@@ -8,7 +8,7 @@ use Rattle.pb_graph.specs.declared.results.StreamResult.{StreamResult}
 use Rattle.pb_graph.specs.declared.results.Stage.{Stage}
 use Rattle.pb_graph.specs.WellFormed.{sweeps_of}
 use Rattle.pb_choices.specs.Places.{class_place, gap_met, truth_place}
-use Rattle.pb_report.specs.Row.{OutputRow, optional_number, row_of}
+use Rattle.pb_report.specs.Row.{OutputRow, row_of, value_or_none}
 
 -- how many streams are of a class
 abbrev pub class_count : Class → List StreamResult → ℕ
@@ -28,4 +28,4 @@ summary_row made_number streams rows stage =
     (Number (pos made_number) ∷ Number (pos streams) ∷ Number (pos rows) ∷ class_counted Observable stage.streams
     ∷ class_counted Unobservable stage.streams ∷ class_counted Redundant stage.streams ∷ class_counted Nonredundant stage.streams
     ∷ Number (pos stage.dof) ∷ Word (truth_place (gap_met stage.solved)) ∷ Number (pos (sweeps_of stage.solved))
-    ∷ Number stage.low ∷ optional_number stage.high ∷ [])
+    ∷ Number stage.low ∷ value_or_none Number stage.high ∷ [])

@@ -9,24 +9,24 @@ use Rattle.pb_graph.specs.declared.results.MeasureTest.{MeasureTest}
 use Rattle.pb_graph.specs.declared.results.Tests.{Tests}
 use Rattle.pb_report.specs.Names.{name_at}
 use Rattle.pb_choices.specs.Places.{verdict_place}
-use Rattle.pb_report.specs.Row.{OutputRow, optional_number, row_of}
+use Rattle.pb_report.specs.Row.{OutputRow, row_of, value_or_none}
 
 -- the global test: the critical value, and the verdict
 abbrev pub global_row : GlobalTest → OutputRow
-global_row test = row_of kind.Global (optional_number test.critical ∷ Word (verdict_place test.verdict) ∷ [])
+global_row test = row_of kind.Global (value_or_none Number test.critical ∷ Word (verdict_place test.verdict) ∷ [])
 
 -- the test of a balance: the node, the net flow, its variance, the critical value, and the verdict
 abbrev pub nodal_row : Names → NodalTest → OutputRow
 nodal_row names test =
     row_of kind.Nodal
-    (Name (name_at names.nodes test.node) ∷ Number test.net ∷ Number test.variance ∷ optional_number test.critical
+    (Name (name_at names.nodes test.node) ∷ Number test.net ∷ Number test.variance ∷ value_or_none Number test.critical
     ∷ Word (verdict_place test.verdict) ∷ [])
 
 -- the test of a measurement: the stream, the bounds of the drop, the critical value, and the verdict
 abbrev pub measure_row : Names → MeasureTest → OutputRow
 measure_row names test =
     row_of kind.Measure
-    (Name (name_at names.streams test.stream) ∷ Number test.low ∷ optional_number test.high ∷ optional_number test.critical
+    (Name (name_at names.streams test.stream) ∷ Number test.low ∷ value_or_none Number test.high ∷ value_or_none Number test.critical
     ∷ Word (verdict_place test.verdict) ∷ [])
 
 -- the rows of the tests, if tests were made

@@ -1,15 +1,19 @@
 // The block of a stage: what frames it, its nodes, its streams, and how it was solved.
 
-ghost use Rattle.std.specs.Prelude.{◌≡◌, ◌<◌, ◌∷◌, [], length, All, OnOk};
+ghost use Rattle.std.specs.Prelude.{◌≡◌, ◌<◌, ◌∷◌, [], ℕ, ℤ, List, length, All, OnOk};
 ghost use Rattle.pb_form.specs.Given.{value_as};
 ghost use Rattle.pb_form.specs.Holds.{Holds};
+ghost use Rattle.pb_form.specs.Value.{Number};
+ghost use Rattle.pb_graph.specs.declared.records.Meas.{Meas};
 ghost use Rattle.pb_graph.specs.ProcessGraph.{IsStream};
 ghost use Rattle.pb_graph.specs.WellFormed.{IsResultWithin, IsWellFormed, IsWitnessWithin, sweeps_of};
-ghost use Rattle.pb_report.specs.Block.{block_rows, end_row, high_end, low_end, measured_value, measured_variance, node_row, node_rows, report_row, result_row, result_rows, result_values, solved_row, written_least};
+ghost use Rattle.pb_report.specs.Block.{block_rows, end_row, high_end, low_end, node_row, report_row, result_row, solved_row, written_least};
+ghost use Rattle.pb_report.specs.Certificate.{certificate_values};
 ghost use Rattle.pb_report.specs.Given.{given_certificate, given_row};
 ghost use Rattle.pb_report.specs.Names.{IsNamed};
 ghost use Rattle.pb_report.specs.Output.{AddsRows};
-ghost use Rattle.pb_report.specs.Row.{row_of};
+ghost use Rattle.pb_report.specs.Row.{value_or_none};
+ghost use Rattle.pb_report.specs.Rows.{rows_with};
 
 use crate::certificate::Certificate;
 use crate::output::Output;
@@ -17,7 +21,7 @@ use crate::values::optional_number;
 use crate::verdicts::write_tests;
 use pb_choices::{class_place, gap_met, shape_place, truth_place};
 use pb_form::{OutputKind, Value};
-use pb_graph::{Bounds, Graph, List, Options, Solved, Stage, Stream, StreamResult};
+use pb_graph::{Bounds, Graph, List, Meas, Options, Solved, Stage, Stream, StreamResult};
 use pb_rows::{Name, NameList, Names};
 use std::alloc::AllocError;
 
@@ -79,7 +83,8 @@ fn end_values<'a>(period: &'a Name, round: usize) -> [Value<'a>; 3]
 // Writes the rows of the nodes with their prices.
 fn write_nodes(names: &NameList, prices: &List<i128>, output: &mut Output) -> Result<(), AllocError>
     requires { length prices.now ≡ length names.now }
-    ensures { OnOk result (AddsRows output.old output.new (node_rows names.now prices.now)) }
+    ensures { OnOk result (AddsRows output.old output.new
+        (rows_with (λ (n : ℕ) (name : List ℕ) (price : ℤ). node_row name price) 0 names.now prices.now)) }
 {
     for (node, name) in names.as_slice().iter().enumerate() {
         output.push(OutputKind::Node, &node_values(name, prices.at(node)))?;
@@ -108,7 +113,7 @@ fn write_results(
     requires each { length results.now ≡ length graph.now.streams }
     requires within { All (IsResultWithin graph.now) results.now }
     ensures { OnOk result (AddsRows output.old output.new
-        (result_rows names.now graph.now.streams results.now)) }
+        (rows_with (result_row names.now) 0 graph.now.streams results.now)) }
 {
     for (id, stream) in graph.streams().iter().enumerate() {
         write_result(names, graph, id, stream, results.at(id), output)?;
@@ -148,8 +153,10 @@ fn result_values<'a>(
     requires place { id < length names.now.streams }
     requires from { stream.now.from < length names.now.nodes }
     requires to { stream.now.to < length names.now.nodes }
-    ensures { given_row OutputKind.Stream result ≡ row_of OutputKind.Stream
-        (result_values names.now id stream.now result_of.now (given_certificate certificate.now)) }
+    requires shows { given_certificate certificate.now
+        ≡ certificate_values names.now result_of.now.classified.witness }
+    ensures { given_row OutputKind.Stream result
+        ≡ result_row names.now id stream.now result_of.now }
 {
     let least = written_least(result_of);
     [
@@ -157,8 +164,8 @@ fn result_values<'a>(
         Value::Text(names.streams.at(id).as_str()),
         Value::Text(names.nodes.at(stream.from as usize).as_str()),
         Value::Text(names.nodes.at(stream.to as usize).as_str()),
-        measured_value(stream),
-        measured_variance(stream),
+        measured_value(stream.meas),
+        measured_variance(stream.meas),
         Value::Word(class_place(result_of.classified.class)),
         Value::Number(result_of.flow),
         low_end(result_of.bounds),
@@ -171,28 +178,42 @@ fn result_values<'a>(
     ]
 }
 
-fn measured_value(stream: &Stream) -> Value<'static>
-    ensures { (takes : Holds) → value_as takes result ≡ measured_value stream.now }
+fn measured_value(meas: Option<Meas>) -> Value<'static>
+    ensures { (takes : Holds) → value_as takes result
+        ≡ value_or_none (λ (meas : Meas). Number meas.value) meas }
 {
-    optional_number(stream.meas.map(|meas| meas.value))
+    match meas {
+        Some(meas) => Value::Number(meas.value),
+        None => Value::Missing,
+    }
 }
 
-fn measured_variance(stream: &Stream) -> Value<'static>
-    ensures { (takes : Holds) → value_as takes result ≡ measured_variance stream.now }
+fn measured_variance(meas: Option<Meas>) -> Value<'static>
+    ensures { (takes : Holds) → value_as takes result
+        ≡ value_or_none (λ (meas : Meas). Number meas.variance) meas }
 {
-    optional_number(stream.meas.map(|meas| meas.variance))
+    match meas {
+        Some(meas) => Value::Number(meas.variance),
+        None => Value::Missing,
+    }
 }
 
 fn low_end(bounds: Option<Bounds>) -> Value<'static>
     ensures { (takes : Holds) → value_as takes result ≡ low_end bounds }
 {
-    optional_number(bounds.map(|bounds| bounds.lo))
+    match bounds {
+        Some(bounds) => Value::Number(bounds.lo),
+        None => Value::Missing,
+    }
 }
 
 fn high_end(bounds: Option<Bounds>) -> Value<'static>
     ensures { (takes : Holds) → value_as takes result ≡ high_end bounds }
 {
-    optional_number(bounds.map(|bounds| bounds.hi))
+    match bounds {
+        Some(bounds) => Value::Number(bounds.hi),
+        None => Value::Missing,
+    }
 }
 
 // The least bounds that are written of a stream: of one without bounds none are.

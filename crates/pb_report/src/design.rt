@@ -4,12 +4,13 @@ ghost use Rattle.std.specs.Prelude.{◌≡◌, ◌<◌, ◌∷◌, [], length, A
 ghost use Rattle.pb_graph.specs.declared.records.Classified.{Classified};
 ghost use Rattle.pb_graph.specs.ProcessGraph.{IsStream};
 ghost use Rattle.pb_graph.specs.WellFormed.{IsWitnessWithin};
-ghost use Rattle.pb_report.specs.Design.{class_row, class_rows, class_values, design_rows, graph_row};
+ghost use Rattle.pb_report.specs.Certificate.{certificate_values};
+ghost use Rattle.pb_report.specs.Design.{class_row, design_rows, graph_row};
 ghost use Rattle.pb_report.specs.Form.{AppendsRows};
 ghost use Rattle.pb_report.specs.Given.{given_certificate, given_row};
 ghost use Rattle.pb_report.specs.Names.{IsNamed};
 ghost use Rattle.pb_report.specs.Output.{AddsRows};
-ghost use Rattle.pb_report.specs.Row.{row_of};
+ghost use Rattle.pb_report.specs.Rows.{rows_with};
 
 use crate::certificate::Certificate;
 use crate::form::Form;
@@ -66,7 +67,7 @@ fn write_classes(
     requires within { All
         (λ (classified : Classified). IsWitnessWithin graph.now classified.witness) classes.now }
     ensures { OnOk result (AddsRows output.old output.new
-        (class_rows names.now graph.now.streams classes.now)) }
+        (rows_with (class_row names.now) 0 graph.now.streams classes.now)) }
 {
     for (id, stream) in graph.streams().iter().enumerate() {
         write_class(names, graph, id, stream, classes.at(id), output)?;
@@ -105,8 +106,10 @@ fn class_values<'a>(
     requires place { id < length names.now.streams }
     requires from { stream.now.from < length names.now.nodes }
     requires to { stream.now.to < length names.now.nodes }
-    ensures { given_row OutputKind.Class result ≡ row_of OutputKind.Class
-        (class_values names.now id stream.now classified.now (given_certificate certificate.now)) }
+    requires shows { given_certificate certificate.now
+        ≡ certificate_values names.now classified.now.witness }
+    ensures { given_row OutputKind.Class result
+        ≡ class_row names.now id stream.now classified.now }
 {
     [
         Value::Word(0),

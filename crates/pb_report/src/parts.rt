@@ -1,6 +1,6 @@
 // The side and the parts of a certificate, as texts.
 
-ghost use Rattle.std.specs.Prelude.{◌≡◌, ◌<◌, ◌++◌, [], length, string_bytes, All, IfOk, OnOk};
+ghost use Rattle.std.specs.Prelude.{◌≡◌, ◌<◌, ◌++◌, [], length, string_bytes, codes, int_le, pos, All, IfOk, OnOk, if◌then◌else◌};
 ghost use Rattle.pb_graph.specs.declared.records.Member.{Member};
 ghost use Rattle.pb_graph.specs.declared.records.Step.{Step};
 ghost use Rattle.pb_report.specs.Pieces.{gap_before};
@@ -39,8 +39,8 @@ pub fn members_text(
 {
     let mut text = String::new(alloc);
     for (i, member) in members.iter().enumerate() {
-        let sign = if member.sign < 0 { "-" } else { "+" };
-        add_piece(&mut text, i == 0, sign, streams.at(member.stream as usize))?;
+        let name = streams.at(member.stream as usize);
+        add_part(&mut text, i == 0, enters(member), name)?;
     }
     Ok(text)
 }
@@ -52,18 +52,30 @@ pub fn steps_text(alloc: Global, streams: &NameList, steps: &[Step]) -> Result<S
 {
     let mut text = String::new(alloc);
     for (i, step) in steps.iter().enumerate() {
-        let direction = if step.forward { "+" } else { "-" };
-        add_piece(
-            &mut text,
-            i == 0,
-            direction,
-            streams.at(step.stream as usize),
-        )?;
+        let name = streams.at(step.stream as usize);
+        add_part(&mut text, i == 0, step.forward, name)?;
     }
     Ok(text)
 }
 
-// Appends a piece of a list: a mark and a name, behind a space unless it is the first.
+// Whether a member of a cut enters the side.
+fn enters(member: &Member) -> bool
+    ensures { result ≡ int_le (pos 0) member.now.sign }
+{
+    member.sign >= 0
+}
+
+// Appends a part: a sign and a name, after a space unless it is the first.
+fn add_part(text: &mut String, first: bool, positive: bool, name: &Name) -> Result<(), AllocError>
+    ensures { OnOk result
+        (string_bytes text.new ≡ string_bytes text.old
+        ++ (gap_before first ++ ((if positive then codes "+" else codes "-") ++ name.now))) }
+{
+    let sign = if positive { "+" } else { "-" };
+    add_piece(text, first, sign, name)
+}
+
+// Appends a piece of a list: a mark and a name, after a space unless it is the first.
 fn add_piece(text: &mut String, first: bool, mark: &str, name: &Name) -> Result<(), AllocError>
     ensures { OnOk result
         (string_bytes text.new

@@ -1,5 +1,5 @@
 use Rattle.std.proofs.Common.{◌≡◌, drop}
-use Rattle.pb_report.specs.Block.{result_row, result_rows}
+use Rattle.pb_report.specs.Block.{result_row}
 use Rattle.pb_report.specs.Output.{IsUnderWay}
 use Rattle.pb_report.specs.Rows.{rows_with}
 use Rattle.pb_report.proofs.block.write_results.Given as goal
@@ -7,5 +7,5 @@ use Rattle.pb_report.proofs.block.write_results.Given as goal
 abbrev pub invariant-loop-id : goal.invariant-loop-id
 invariant-loop-id l = record {
   streams : l.stream-items ≡ l.graph.streams;
-  way : IsUnderWay l.fn.output l.output (result_rows l.names l.graph.streams l.results) (rows_with (result_row l.names) l.id (drop l.id l.graph.streams) (drop l.id l.results));
+  way : IsUnderWay l.fn.output l.output (rows_with (result_row l.names) 0 l.graph.streams l.results) (rows_with (result_row l.names) l.id (drop l.id l.graph.streams) (drop l.id l.results));
 }
