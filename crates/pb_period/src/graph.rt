@@ -205,13 +205,7 @@ fn served_stream(book: &Book, part: &OnDays, days: Days, j: u32, arc: &Arc) -> S
 }
 
 // What some days measured of an arc with these days of service.
-fn measured(
-    book: &Book,
-    days: Days,
-    service: Option<Service>,
-    j: u32,
-    arc: &Arc,
-) -> Option<Meas>
+fn measured(book: &Book, days: Days, service: Option<Service>, j: u32, arc: &Arc) -> Option<Meas>
     requires days { AreDays days }
     requires place { slice_get (arcs_of (declared_of book.now)) j ≡ Some arc.now }
     requires base { IsArcBase arc.now.kind arc.now.base }
@@ -224,13 +218,7 @@ fn measured(
 }
 
 // What the facts say of an arc on some days, where it has these days of service.
-fn amount_of(
-    book: &Book,
-    days: Days,
-    service: Option<Service>,
-    j: u32,
-    arc: &Arc,
-) -> Option<Amount>
+fn amount_of(book: &Book, days: Days, service: Option<Service>, j: u32, arc: &Arc) -> Option<Amount>
     requires days { AreDays days }
     requires place { slice_get (arcs_of (declared_of book.now)) j ≡ Some arc.now }
     ensures value { result ≡ amount_of (declared_of book.now) (live_facts (facts_of book.now)) days
