@@ -1,20 +1,24 @@
 -- Statement. Rows that were accepted, one behind the other, and what follows of them.
-use Rattle.std.specs.Prelude.{◌≡◌, ℕ, false, List, take, All, None, Some, slice_get}
+use Rattle.std.specs.Prelude.{◌≡◌, ℕ, true, false, List, take, All, None, Some, slice_get}
 use Rattle.pb_facts.specs.Fact.{IsInRange}
 use Rattle.pb_facts.specs.declared.facts.KeptFact.{KeptFact}
 use Rattle.pb_site.specs.declared.declared.Declared.{Declared}
 use Rattle.pb_kinds.specs.declared.rows.Effect.{Effect}
 use Rattle.pb_kinds.specs.Ranges.{IsEffectInRange}
+use Rattle.pb_kinds.specs.Versions.{may_do}
 use Rattle.pb_book.specs.declared.rows.Period.{Period}
 use Rattle.pb_book.specs.declared.rows.StoredRow.{StoredRow}
 use Rattle.pb_book.specs.Apart.{AreApart}
 use Rattle.pb_book.specs.Ranges.{IsPeriod}
 use Rattle.pb_book.specs.Refusals.{is_outside_table, refusal_of}
+use Rattle.pb_book.specs.Rows.{version_at}
 
--- a row may join the stored ones: there is no cause to refuse it, and its numbers and days lie in their ranges
+-- a row may join the stored ones: there is no cause to refuse it, its numbers and days lie in their ranges, and a row of the session may
+-- do it by its version
 pub record IsAcceptable (rows : List StoredRow) (effect : Effect) : Type 0 where
   pub no_cause : refusal_of rows effect ≡ None
   pub in_range : IsEffectInRange effect
+  pub may : may_do (version_at rows) effect ≡ true
 
 -- Each stored row was acceptable behind those before it.
 abbrev pub AreAccepted : List StoredRow → Type 0

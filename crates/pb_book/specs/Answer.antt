@@ -17,7 +17,7 @@ use Rattle.pb_book.specs.declared.answer.Refused.TheVariants.{Kind, Fields, BadN
 use Rattle.pb_book.specs.declared.rows.StoredRow.{StoredRow}
 use Rattle.pb_book.specs.Costs.{refusal_of_costs}
 use Rattle.pb_book.specs.Refusals.{refusal_of}
-use Rattle.pb_book.specs.Rows.{declared_of, period_place, with_row}
+use Rattle.pb_book.specs.Rows.{declared_of, period_place, version_at, with_row}
 
 -- the numbers of the causes in the output
 abbrev pub code_of : Refusal → ℕ
@@ -86,7 +86,7 @@ answer_if rows costs (Err fault) = Refused (cause_of fault)
 
 -- The answer to a record, behind these stored rows. Empty fields at its end don't count.
 abbrev pub answer_of : List StoredRow → List (List ℕ) → Answer
-answer_of rows fields = answer_if rows (named_costs fields) (request_in fields)
+answer_of rows fields = answer_if rows (named_costs fields) (request_in (version_at rows) fields)
 
 -- what the book says of an answer
 abbrev pub said_of : Answer → Result Accepted NotAccepted

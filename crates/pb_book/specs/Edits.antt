@@ -1,6 +1,7 @@
 -- Statement. The rows that close a period, come late, change a fact or strike it, and the periods that they touch.
 use Rattle.std.specs.Prelude.{ℕ, Bool, true, false, List, filter, Option, slice_get}
 use Rattle.std.specs.Option.{option_map_or}
+use Rattle.pb_facts.specs.declared.fact.Fact.{Fact}
 use Rattle.pb_facts.specs.declared.facts.KeptFact.{KeptFact}
 use Rattle.pb_kinds.specs.declared.rows.Effect.{Effect}
 use Rattle.pb_kinds.specs.declared.rows.Effect.TheVariants.{Books, Edits, Closes}
@@ -8,7 +9,7 @@ use Rattle.pb_book.specs.declared.rows.Period.{Period}
 use Rattle.pb_book.specs.declared.rows.StoredRow.{StoredRow}
 use Rattle.pb_book.specs.Apart.{is_named}
 use Rattle.pb_book.specs.Rows.{facts_of, periods_of}
-use Rattle.pb_book.specs.TakenOut.{takes_out}
+use Rattle.pb_book.specs.TakenOut.{takes_out, touching_of}
 
 -- a row edits the books: it closes a period, comes late, changes a fact or strikes it
 abbrev pub is_edit : Effect → Bool
@@ -22,23 +23,23 @@ abbrev pub edits_of : List StoredRow → List StoredRow
 edits_of rows = filter (λ (stored : StoredRow). is_edit stored.effect) rows
 
 -- An edit touches a period: a closing its own, a late fact, a change and a strike those that they take out.
-abbrev pub edit_touches : List KeptFact → Effect → Period → Bool
-edit_touches kept (Closes name) period = is_named name period
-edit_touches kept effect period = takes_out kept effect period
+abbrev pub edit_touches : (Fact → Period → Bool) → List KeptFact → Effect → Period → Bool
+edit_touches touching kept (Closes name) period = is_named name period
+edit_touches touching kept effect period = takes_out touching kept effect period
 
 -- so does the edit that a row is, if it is there
-abbrev pub row_touches : List KeptFact → Period → Option StoredRow → Bool
-row_touches kept period row =
-    option_map_or (λ (stored : StoredRow). edit_touches kept stored.effect period) row false
+abbrev pub row_touches : (Fact → Period → Bool) → List KeptFact → Period → Option StoredRow → Bool
+row_touches touching kept period row =
+    option_map_or (λ (stored : StoredRow). edit_touches touching kept stored.effect period) row false
 
 -- the edit at a place touches the period at a place
 abbrev pub touches_at : List StoredRow → ℕ → ℕ → Bool
 touches_at rows e i =
     let edit = slice_get (edits_of rows) e in
-    option_map_or (λ (period : Period). row_touches (facts_of rows) period edit)
+    option_map_or (λ (period : Period). row_touches (touching_of rows) (facts_of rows) period edit)
     (slice_get (periods_of rows) i) false
 
 -- The history of a period: the edits that touch it, in the order of their records.
 abbrev pub history_of : List StoredRow → Period → List StoredRow
 history_of rows period =
-    filter (λ (stored : StoredRow). edit_touches (facts_of rows) stored.effect period) (edits_of rows)
+    filter (λ (stored : StoredRow). edit_touches (touching_of rows) (facts_of rows) stored.effect period) (edits_of rows)

@@ -8,8 +8,12 @@ use Rattle.pb_strap.specs.Table.{volume_of}
 use Rattle.pb_site.specs.declared.declared.ArcKind.{ArcKind}
 use Rattle.pb_site.specs.declared.declared.ArcKind.TheVariants.{Metered, Batch, Tank}
 use Rattle.pb_site.specs.declared.declared.Declared.{Declared}
-use Rattle.pb_site.specs.declared.declared.Declared.TheVariants.{CritGlobal, CritNodal, CritMeasure}
-use Rattle.pb_site.specs.Site.{kind_of, table_of}
+use Rattle.pb_site.specs.declared.declared.Declared.TheVariants.{Version2, Tank as TankRow, Stream as StreamRow, CritGlobal, CritNodal, CritMeasure}
+use Rattle.pb_site.specs.declared.declared.Service.{Service}
+use Rattle.pb_site.specs.declared.declared.Version.{Version}
+use Rattle.pb_site.specs.declared.declared.Version.TheVariants.{One, Two}
+use Rattle.pb_site.specs.Service.{is_eve, is_in_service_on, is_in_service_throughout}
+use Rattle.pb_site.specs.Site.{kind_of, table_of, version_of}
 use Rattle.pb_site.specs.Faults.{is_unknown as is_unknown_declared, is_duplicate as is_duplicate_declared, is_out_of_order as is_out_of_order_declared, is_mismatch as is_mismatch_declared, is_full as is_full_declared}
 use Rattle.pb_facts.specs.declared.fact.Change.{Change}
 use Rattle.pb_facts.specs.declared.fact.Fact.{Fact}
@@ -27,7 +31,7 @@ use Rattle.pb_book.specs.declared.rows.Period.{Period}
 use Rattle.pb_book.specs.declared.rows.StoredRow.{StoredRow}
 use Rattle.pb_book.specs.Apart.{is_named, shares_a_day}
 use Rattle.pb_book.specs.Rows.{declared_of, facts_of, periods_of}
-use Rattle.pb_book.specs.Touching.{some_closed, touches_closed}
+use Rattle.pb_book.specs.Touching.{is_closed_in_service, service_of, some_closed, touches_closed, touches_in}
 
 -- the kind of the stream, or of the tank, that a fact names, if one is declared
 abbrev pub kind_of_fact : List Declared → Fact → Option ArcKind
@@ -90,27 +94,41 @@ is_mismatch declared kept periods (Books fact late) =
 is_mismatch declared kept periods (Edits id (edits.Change change) reason) = list_any (is_misfit id change) kept
 is_mismatch declared kept periods effect = false
 
--- a unit, a tank, a point of its table or a stream
+-- a unit, a boundary, a tank, a point of its table or a stream
 abbrev pub is_of_plant : Declared → Bool
+is_of_plant Version2 = false
 is_of_plant (CritGlobal dof value) = false
 is_of_plant (CritNodal value) = false
 is_of_plant (CritMeasure value) = false
 is_of_plant declared = true
 
--- Sealed: a part of the plant, once some period is closed
-abbrev pub is_sealed : List Period → Effect → Bool
-is_sealed periods (Declares declared) = is_of_plant declared && some_closed periods
-is_sealed periods effect = false
+-- a tank or a stream that is in service on a day of a closed period
+abbrev pub serves_closed : List Period → Declared → Bool
+serves_closed periods (TankRow name base service) = list_any (is_closed_in_service service) periods
+serves_closed periods (StreamRow name from to kind base service) = list_any (is_closed_in_service service) periods
+serves_closed periods declared = false
+
+-- in version 1 a part of the plant, once some period is closed; in version 2 a tank or a stream that is in service on a day of a closed
+-- period
+abbrev pub is_sealed_by : Version → List Period → Declared → Bool
+is_sealed_by One periods declared = is_of_plant declared && some_closed periods
+is_sealed_by Two periods declared = serves_closed periods declared
+
+-- Sealed: a declaration that comes too late for a closed period
+abbrev pub is_sealed : Version → List Period → Effect → Bool
+is_sealed version periods (Declares declared) = is_sealed_by version periods declared
+is_sealed version periods effect = false
 
 -- the period of this name is closed
 abbrev pub is_closed_named : List ℕ → Period → Bool
 is_closed_named name period = period.closed && is_named name period
 
 -- Closed: a fact that touches a closed period and doesn't come as a late one; a second closing
-abbrev pub is_closed : List Period → Effect → Bool
-is_closed periods (Books fact late) = not late && list_any (touches_closed fact) periods
-is_closed periods (Closes name) = list_any (is_closed_named name) periods
-is_closed periods effect = false
+abbrev pub is_closed : Version → List Declared → List Period → Effect → Bool
+is_closed version declared periods (Books fact late) =
+    not late && list_any (touches_closed (touches_in version declared) fact) periods
+is_closed version declared periods (Closes name) = list_any (is_closed_named name) periods
+is_closed version declared periods effect = false
 
 -- a dip whose level is outside the table of its tank
 abbrev pub is_outside_table : List Declared → Fact → Bool
@@ -123,35 +141,45 @@ abbrev pub is_moved_outside : List Declared → List ℕ → Change → KeptFact
 is_moved_outside declared id change kept =
     is_live_with id kept && is_outside_table declared (changed change kept.fact)
 
--- Range: a period of more than 100 days, a transfer of more than 366, a level outside the tank's table
-abbrev pub is_out_of_range : List Declared → List KeptFact → Effect → Bool
-is_out_of_range declared kept (Opens name first last) =
+-- a reading of a day on which its stream, of which this is the service, isn't in service, a transfer that has such a day, or a dip of a
+-- tank that is neither in service on its day nor from the next one on
+abbrev pub is_out_of_service : Option Service → Fact → Bool
+is_out_of_service service (Reading id stream day grams variance) = not (is_in_service_on service day)
+is_out_of_service service (Transfer id stream first last grams variance) = not (is_in_service_throughout service first last)
+is_out_of_service service (Dip id tank day mm density variance) = not (is_in_service_on service day || is_eve service day)
+
+-- Range: a period of more than 100 days, a fact of a day out of service, a transfer of more than 366 days, a level outside the tank's
+-- table
+abbrev pub is_out_of_range : Version → List Declared → List KeptFact → Effect → Bool
+is_out_of_range version declared kept (Opens name first last) =
     int_le (pos most_days_of_period) (last -ℤ first)
-is_out_of_range declared kept (Books fact late) = is_too_long fact || is_outside_table declared fact
-is_out_of_range declared kept (Edits id (edits.Change change) reason) =
+is_out_of_range version declared kept (Books fact late) =
+    is_out_of_service (service_of version declared fact) fact || (is_too_long fact || is_outside_table declared fact)
+is_out_of_range version declared kept (Edits id (edits.Change change) reason) =
     list_any (is_moved_outside declared id change) kept
-is_out_of_range declared kept effect = false
+is_out_of_range version declared kept effect = false
 
 -- Full: as many as there may be
-abbrev pub is_full : List Declared → List KeptFact → List Period → Effect → Bool
-is_full declared kept periods (Declares row) = is_full_declared declared row
-is_full declared kept periods (Opens name first last) = nat_le most_periods (length periods)
-is_full declared kept periods (Books fact late) = is_full_fact kept
-is_full declared kept periods effect = false
+abbrev pub is_full : Version → List Declared → List KeptFact → List Period → Effect → Bool
+is_full version declared kept periods (Declares row) = is_full_declared version declared row
+is_full version declared kept periods (Opens name first last) = nat_le most_periods (length periods)
+is_full version declared kept periods (Books fact late) = is_full_fact kept
+is_full version declared kept periods effect = false
 
--- The first of these causes that holds of a row, behind what is declared, the facts and the periods.
-abbrev pub refusal_behind : List Declared → List KeptFact → List Period → Effect → Option Refused
-refusal_behind declared kept periods effect =
+-- The first of these causes that holds of a row of a session of a version, behind what is declared, the facts and the periods.
+abbrev pub refusal_behind : Version → List Declared → List KeptFact → List Period → Effect → Option Refused
+refusal_behind version declared kept periods effect =
     if is_unknown declared kept periods effect then Some Unknown
     else if is_duplicate declared kept periods effect then Some Duplicate
     else if is_out_of_order declared effect then Some Order
     else if is_mismatch declared kept periods effect then Some Mismatch
-    else if is_sealed periods effect then Some Sealed
-    else if is_closed periods effect then Some Closed
-    else if is_out_of_range declared kept effect then Some Range
-    else if is_full declared kept periods effect then Some Full
+    else if is_sealed version periods effect then Some Sealed
+    else if is_closed version declared periods effect then Some Closed
+    else if is_out_of_range version declared kept effect then Some Range
+    else if is_full version declared kept periods effect then Some Full
     else None
 
 -- The first cause to refuse a row behind the stored ones.
 abbrev pub refusal_of : List StoredRow → Effect → Option Refused
-refusal_of rows effect = refusal_behind (declared_of rows) (facts_of rows) (periods_of rows) effect
+refusal_of rows effect =
+    refusal_behind (version_of (declared_of rows)) (declared_of rows) (facts_of rows) (periods_of rows) effect

@@ -2,6 +2,8 @@
 use Rattle.std.specs.Prelude.{ℕ, ℤ, false, true, List, [], ◌∷◌, ◌++◌, map, filter_map, position, Option, Some, None, if◌then◌else◌}
 use Rattle.std.specs.List.{fold}
 use Rattle.pb_site.specs.declared.declared.Declared.{Declared}
+use Rattle.pb_site.specs.declared.declared.Version.{Version}
+use Rattle.pb_site.specs.Site.{version_of}
 use Rattle.pb_facts.specs.declared.fact.Fact.{Fact}
 use Rattle.pb_facts.specs.declared.facts.KeptFact.{KeptFact}
 use Rattle.pb_facts.specs.Changes.{amended, struck}
@@ -24,6 +26,11 @@ declaration_in effect = None
 -- the declarations among the stored rows, in order
 abbrev pub declared_of : List StoredRow → List Declared
 declared_of rows = filter_map (λ (stored : StoredRow). declaration_in stored.effect) rows
+
+-- the version of the session, which it has once a row is stored
+abbrev pub version_at : List StoredRow → Option Version
+version_at [] = None
+version_at (stored ∷ rows) = Some (version_of (declared_of (stored ∷ rows)))
 
 -- a period that nothing has closed
 abbrev pub open_period : List ℕ → ℤ → ℤ → Period

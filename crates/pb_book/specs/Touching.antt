@@ -1,38 +1,64 @@
 -- Statement. Which periods a fact touches.
-use Rattle.std.specs.Prelude.{ℤ, pos, ◌-ℤ◌, ◌&&◌, ◌||◌, Bool, List}
+use Rattle.std.specs.Prelude.{ℤ, ◌&&◌, ◌||◌, Bool, List, Option}
 use Rattle.std.specs.List.{list_any}
 use Rattle.std.specs.Ordering.{int_eq}
+use Rattle.pb_site.specs.declared.declared.Declared.{Declared}
+use Rattle.pb_site.specs.declared.declared.Service.{Service}
+use Rattle.pb_site.specs.declared.declared.Version.{Version}
+use Rattle.pb_site.specs.Service.{day_of_closing, day_of_opening, is_in_service_within}
+use Rattle.pb_site.specs.Site.{service_in}
 use Rattle.pb_facts.specs.declared.fact.Fact.{Fact}
 use Rattle.pb_facts.specs.declared.fact.Fact.TheVariants.{Reading, Transfer, Dip}
 use Rattle.pb_book.specs.declared.rows.Period.{Period}
 use Rattle.pb_book.specs.Apart.{shares_a_day}
 
--- a day is the last of a period, or the one before its first
-abbrev pub is_boundary_of : ℤ → Period → Bool
-is_boundary_of day period = int_eq day period.last || int_eq day (period.first -ℤ pos 1)
+-- at the end of a day the content of a tank, of which this is the service, opens or closes in a period
+abbrev pub is_boundary_of : Option Service → ℤ → Period → Bool
+is_boundary_of service day period =
+    int_eq day (day_of_closing service period.last) || int_eq day (day_of_opening service period.first)
 
--- A reading touches the period that has its day, a transfer each that has a day in common with it, and a dip, which
--- tells the content at the end of its day, one where that day is the last or the one before the first.
-abbrev pub touches : Fact → Period → Bool
-touches (Reading id stream day grams variance) period = shares_a_day day day period
-touches (Transfer id stream first last grams variance) period = shares_a_day first last period
-touches (Dip id tank day mm density variance) period = is_boundary_of day period
+-- a dip, which tells the content at the end of its day, is of a tank that is in service on some day of a period, and its content opens
+-- or closes there at the end of that day
+abbrev pub dip_touches : Option Service → ℤ → Period → Bool
+dip_touches service day period =
+    is_in_service_within service period.first period.last && is_boundary_of service day period
+
+-- A reading touches the period that has its day, a transfer each that has a day in common with it, and a dip each in which it tells the
+-- first or the last content; this is the service of the stream or tank that the fact names.
+abbrev pub touches : Option Service → Fact → Period → Bool
+touches service (Reading id stream day grams variance) period = shares_a_day day day period
+touches service (Transfer id stream first last grams variance) period = shares_a_day first last period
+touches service (Dip id tank day mm density variance) period = dip_touches service day period
+
+-- the service of the stream or tank that a fact names
+abbrev pub service_of : Version → List Declared → Fact → Option Service
+service_of version declared (Reading id stream day grams variance) = service_in version declared stream
+service_of version declared (Transfer id stream first last grams variance) = service_in version declared stream
+service_of version declared (Dip id tank day mm density variance) = service_in version declared tank
+
+-- a fact touches a period, in a session of a version with these declarations
+abbrev pub touches_in : Version → List Declared → Fact → Period → Bool
+touches_in version declared fact period = touches (service_of version declared fact) fact period
 
 -- a fact touches a period that is closed
-abbrev pub touches_closed : Fact → Period → Bool
-touches_closed fact period = period.closed && touches fact period
+abbrev pub touches_closed : (Fact → Period → Bool) → Fact → Period → Bool
+touches_closed touching fact period = period.closed && touching fact period
 
 -- a closed period has a day from the first to the last one
 abbrev pub has_closed_day : ℤ → ℤ → Period → Bool
 has_closed_day first last period = period.closed && shares_a_day first last period
 
--- a day is the last of a closed period
-abbrev pub ends_closed : ℤ → Period → Bool
-ends_closed day period = period.closed && int_eq day period.last
+-- something of this service is in service on some day of a period that is closed
+abbrev pub is_closed_in_service : Option Service → Period → Bool
+is_closed_in_service service period = period.closed && is_in_service_within service period.first period.last
 
--- a day is the last of a closed period, or the one before its first
-abbrev pub is_closed_boundary : ℤ → Period → Bool
-is_closed_boundary day period = period.closed && is_boundary_of day period
+-- a dip of a tank of this service touches a period that is closed
+abbrev pub dip_touches_closed : Option Service → ℤ → Period → Bool
+dip_touches_closed service day period = period.closed && dip_touches service day period
+
+-- so does one of a closed period that has a day
+abbrev pub dip_touches_closed_on : Option Service → ℤ → ℤ → Period → Bool
+dip_touches_closed_on service day on period = dip_touches_closed service day period && shares_a_day on on period
 
 -- some period is closed
 abbrev pub some_closed : List Period → Bool

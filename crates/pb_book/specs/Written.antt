@@ -1,13 +1,15 @@
 -- Statement. Records that write rows, as a file has them.
-use Rattle.std.specs.Prelude.{◌≡◌, ℕ, List, [], ◌∷◌, ◌++◌, Option, Some, None, Ok}
+use Rattle.std.specs.Prelude.{◌≡◌, ℕ, true, List, [], ◌∷◌, ◌++◌, Option, Some, None, Ok}
 use Rattle.pb_rows.specs.Records.{without_trailing_empty}
+use Rattle.pb_site.specs.declared.declared.Version.{Version}
 use Rattle.pb_kinds.specs.declared.rows.Effect.{Effect}
 use Rattle.pb_kinds.specs.declared.rows.Request.TheVariants.{Store}
 use Rattle.pb_kinds.specs.Requests.{request_in}
+use Rattle.pb_kinds.specs.Versions.{may_do}
 
--- a record asks that this be stored, and no empty field stands at its end
+-- a record asks that this be stored, in each session whose rows may do it, and no empty field stands at its end
 pub record WritesRow (fields : List (List ℕ)) (effect : Effect) : Type 0 where
-  pub asks : request_in fields ≡ Ok (Store effect)
+  pub asks : (version : Option Version) → may_do version effect ≡ true → request_in version fields ≡ Ok (Store effect)
   pub filled : without_trailing_empty fields ≡ fields
 
 -- each record writes its row, and there are no others

@@ -2,12 +2,15 @@
 
 ghost use Rattle.std.specs.Prelude.{◌≡◌, ◌≢◌, ◌<◌, ◌≤◌, [], length, All, Err, Ok, IfOk, OnOk, OnErr, slice_get, Some, false, true};
 ghost use Rattle.pb_limits.specs.Limits.{most_periods};
+ghost use Rattle.pb_rows.specs.Date.{IsDay};
+ghost use Rattle.pb_site.specs.Site.{version_of};
 ghost use Rattle.pb_facts.specs.Facts.{NoRepeats};
 ghost use Rattle.pb_kinds.specs.declared.rows.Effect.TheVariants.{Books, Closes, Declares, Edits, Opens};
 ghost use Rattle.pb_kinds.specs.declared.rows.Request.TheVariants.{Advise as AskedAdvise};
 ghost use Rattle.pb_kinds.specs.Costs.{IsMeterCost, named_costs};
 ghost use Rattle.pb_kinds.specs.Ranges.{IsEffectInRange, IsRequestInRange};
 ghost use Rattle.pb_kinds.specs.Requests.{request_in};
+ghost use Rattle.pb_kinds.specs.Versions.{may_ask, may_do};
 ghost use Rattle.pb_book.specs.declared.answer.Accepted.TheVariants.{Advise, Stored};
 ghost use Rattle.pb_book.specs.declared.answer.NotAccepted.TheVariants.{NoMemory};
 ghost use Rattle.pb_book.specs.Accepted.{AreAccepted, AreInTables, IsAcceptable};
@@ -18,7 +21,8 @@ ghost use Rattle.pb_book.specs.Edits.{edit_touches, edits_of, touches_at};
 ghost use Rattle.pb_book.specs.Plain.{plain_rows};
 ghost use Rattle.pb_book.specs.Ranges.{IsPeriod};
 ghost use Rattle.pb_book.specs.Refusals.{refusal_of};
-ghost use Rattle.pb_book.specs.Rows.{declared_of, facts_of, period_place, periods_of, with_row};
+ghost use Rattle.pb_book.specs.Rows.{declared_of, facts_of, period_place, periods_of, version_at, with_row};
+ghost use Rattle.pb_book.specs.Touching.{touches_in};
 ghost use Rattle.pb_book.specs.TakenOut.{last_row, takes_out, touched_at, touches_by_id};
 ghost use Rattle.pb_book.specs.Written.{WriteRows};
 
@@ -30,11 +34,11 @@ use crate::periods::Periods;
 use crate::plain::plain_records;
 use crate::rows::{Edited, Part, Period, Place, StoredRow};
 use crate::shelves::row_at;
-use crate::touching::touches;
+use crate::touching::touches_in;
 use pb_facts::{Fact, Facts};
 use pb_kinds::{Edit, Effect, NamedCosts, Request, read_request};
 use pb_rows::{Name, Reason, Row, Rows};
-use pb_site::{Declared, Site};
+use pb_site::{Declared, Site, Version};
 use std::alloc::{AllocError, Global};
 use std::collections::HashMap;
 use std::marker::Model;
@@ -92,10 +96,22 @@ impl Book {
         ensures stored { result ≢ Err NoMemory → self.new ≡ after self.old at row.now }
         ensures unchanged { result ≡ Err NoMemory → self.new ≡ self.old }
         ensures no_repeats { result ≡ Ok Stored → NoRepeats (facts_of self.new) }
+        ensures accepted { AreAccepted self.new }
     {
-        match read_request(row) {
+        match read_request(self.version(), row) {
             Ok(request) => self.answer(at, row, &request),
             Err(fault) => Err(NotAccepted::Refused(Refused::from(fault))),
+        }
+    }
+
+    /// The version of the session; `None` while no row is stored.
+    pub fn version(&self) -> Option<Version>
+        ensures { result ≡ version_at self.now }
+    {
+        if self.places.is_empty() {
+            None
+        } else {
+            Some(self.site.version())
         }
     }
 
@@ -173,7 +189,9 @@ impl Book {
         ensures { result ≡ touches_at self.now e i }
     {
         match self.edit(e) {
-            Some(edit) => edit_touches(&self.facts, &edit.effect, &self.periods.at(i)),
+            Some(edit) => {
+                edit_touches(&self.site, &self.facts, &edit.effect, &self.periods.at(i))
+            },
             None => false,
         }
     }
@@ -186,7 +204,7 @@ impl Book {
         ensures { result ≡ touched_at self.now i }
     {
         match self.last_row() {
-            Some(row) => takes_out(&self.facts, &row.effect, &self.periods.at(i)),
+            Some(row) => takes_out(&self.site, &self.facts, &row.effect, &self.periods.at(i)),
             None => false,
         }
     }
@@ -236,8 +254,9 @@ impl Book {
 
     // Answers what a record asks.
     fn answer(&mut self, at: u32, row: &Row, request: &Request) -> Result<Accepted, NotAccepted>
-        requires asked { request_in row.now ≡ Ok request.now }
+        requires asked { request_in (version_at self.old) row.now ≡ Ok request.now }
         requires in_range { IsRequestInRange request.now }
+        requires may { may_ask (version_at self.old) request.now ≡ true }
         ensures answer { result ≢ Err NoMemory
             → result ≡ said_of (answer_to self.old (named_costs row.now) request.now) }
         ensures stored { result ≢ Err NoMemory → self.new
@@ -263,7 +282,7 @@ impl Book {
 
     // Says whether there is a cause to refuse the costs that a record names.
     fn advise(&self, row: &Row) -> Result<Accepted, NotAccepted>
-        requires { request_in row.now ≡ Ok AskedAdvise }
+        requires { request_in (version_at self.now) row.now ≡ Ok AskedAdvise }
         ensures { result ≢ Err NoMemory → result ≡ said_of (advise_or_refused
             (refusal_of_costs (declared_of self.now) (named_costs row.now))) }
     {
@@ -276,7 +295,8 @@ impl Book {
 
     // Stores a row, or says why it is refused.
     fn store(&mut self, at: u32, effect: &Effect) -> Result<Accepted, NotAccepted>
-        requires { IsEffectInRange effect.now }
+        requires in_range { IsEffectInRange effect.now }
+        requires may { may_do (version_at self.old) effect.now ≡ true }
         ensures answer { result ≢ Err NoMemory
             → result ≡ said_of (stored_or_refused effect.now (refusal_of self.old effect.now)) }
         ensures stored { result ≢ Err NoMemory → self.new
@@ -439,34 +459,40 @@ impl Book {
 }
 
 // Whether a row takes out a period, by what it does; that a period begins or is closed takes out none.
-fn takes_out(facts: &Facts, effect: &Effect, period: &Period) -> bool
-    ensures { result ≡ takes_out facts.now effect.now period.now }
+fn takes_out(site: &Site, facts: &Facts, effect: &Effect, period: &Period) -> bool
+    requires { IsDay period.now.first }
+    ensures { result ≡ takes_out (touches_in (version_of site.now) site.now) facts.now effect.now
+        period.now }
 {
     match effect {
         Effect::Declares(_) => true,
         Effect::Opens { .. } => false,
-        Effect::Books { fact, .. } => touches(fact, period),
-        Effect::Edits { id, .. } => touches_by_id(facts, id, period),
+        Effect::Books { fact, .. } => touches_in(site, fact, period),
+        Effect::Edits { id, .. } => touches_by_id(site, facts, id, period),
         Effect::Closes(_) => false,
     }
 }
 
 // Whether an edit touches a period, by what it does.
-fn edit_touches(facts: &Facts, effect: &Effect, period: &Period) -> bool
-    ensures { result ≡ edit_touches facts.now effect.now period.now }
+fn edit_touches(site: &Site, facts: &Facts, effect: &Effect, period: &Period) -> bool
+    requires { IsDay period.now.first }
+    ensures { result ≡ edit_touches (touches_in (version_of site.now) site.now) facts.now effect.now
+        period.now }
 {
     match effect {
         Effect::Closes(name) => *name == period.name,
-        _ => takes_out(facts, effect, period),
+        _ => takes_out(site, facts, effect, period),
     }
 }
 
 // Whether the fact of an id, struck or not, touches a period.
-fn touches_by_id(facts: &Facts, id: &Name, period: &Period) -> bool
-    ensures { result ≡ touches_by_id facts.now id.now period.now }
+fn touches_by_id(site: &Site, facts: &Facts, id: &Name, period: &Period) -> bool
+    requires { IsDay period.now.first }
+    ensures { result ≡ touches_by_id (touches_in (version_of site.now) site.now) facts.now id.now
+        period.now }
 {
     match facts.place_of(id) {
-        Some(place) => touches(&facts.kept(place).fact, period),
+        Some(place) => touches_in(site, &facts.kept(place).fact, period),
         None => false,
     }
 }

@@ -5,24 +5,31 @@ ghost use Rattle.std.specs.List.{list_any};
 ghost use Rattle.pb_facts.specs.Changes.{changed, fits};
 ghost use Rattle.pb_facts.specs.Fact.{IsInRange};
 ghost use Rattle.pb_site.specs.declared.declared.ArcKind.{ArcKind};
+ghost use Rattle.pb_site.specs.declared.declared.Version.TheVariants.{One};
+ghost use Rattle.pb_site.specs.Site.{version_of};
 ghost use Rattle.pb_kinds.specs.declared.rows.Effect.TheVariants.{Books, Closes, Declares, Edits, Opens};
 ghost use Rattle.pb_kinds.specs.Ranges.{IsEffectInRange};
 ghost use Rattle.pb_book.specs.Causes.{cause_of_change, cause_of_edit};
-ghost use Rattle.pb_book.specs.Refusals.{is_closed, is_of_other_kind, is_of_plant, is_outside_table, kind_of_fact, names_other, refusal_behind};
+ghost use Rattle.pb_book.specs.Refusals.{is_of_other_kind, is_of_plant, is_out_of_service, is_outside_table, is_sealed_by, kind_of_fact, names_other, refusal_behind, serves_closed};
+ghost use Rattle.pb_book.specs.Touching.{touches, touches_closed};
 
 use crate::answer::Refused;
 use crate::periods::Periods;
+use crate::touching::service_of;
 use pb_facts::{Change, Fact, FactFault, Facts};
 use pb_kinds::{Edit, Effect};
 use pb_limits::{MOST_DAYS_OF_PERIOD, MOST_PERIODS};
 use pb_rows::Name;
-use pb_site::{ArcKind, Declared, Site, SiteFault};
+use pb_site::{
+    ArcKind, Declared, Service, Site, SiteFault, Version, is_eve, is_in_service_on,
+    is_in_service_throughout,
+};
 
 /// The first cause to refuse a row, after what is declared, the facts and the periods; `None` exactly if
 /// there is none.
 pub fn judge(site: &Site, facts: &Facts, periods: &Periods, effect: &Effect) -> Option<Refused>
     requires { IsEffectInRange effect.now }
-    ensures { result ≡ refusal_behind site.now facts.now periods.now effect.now }
+    ensures { result ≡ refusal_behind (version_of site.now) site.now facts.now periods.now effect.now }
 {
     match effect {
         Effect::Declares(declared) => judge_declaration(site, periods, declared),
@@ -33,11 +40,12 @@ pub fn judge(site: &Site, facts: &Facts, periods: &Periods, effect: &Effect) -> 
     }
 }
 
-// The first cause to refuse a declaration: that some period is closed comes before that there are too many.
+// The first cause to refuse a declaration: that it comes too late for a closed period comes before that there are too many.
 fn judge_declaration(site: &Site, periods: &Periods, declared: &Declared) -> Option<Refused>
-    ensures { result ≡ refusal_behind site.now [] periods.now (Declares declared.now) }
+    ensures { result
+        ≡ refusal_behind (version_of site.now) site.now [] periods.now (Declares declared.now) }
 {
-    let sealed = is_of_plant(declared) && periods.some_closed();
+    let sealed = is_sealed(site.version(), periods, declared);
     match site.judge(declared) {
         Some(SiteFault::Unknown) => Some(Refused::Unknown),
         Some(SiteFault::Duplicate) => Some(Refused::Duplicate),
@@ -52,20 +60,43 @@ fn judge_declaration(site: &Site, periods: &Periods, declared: &Declared) -> Opt
     }
 }
 
-// Whether it is a unit, a tank, a point of its table or a stream.
+// Whether a declaration comes too late for a closed period.
+fn is_sealed(version: Version, periods: &Periods, declared: &Declared) -> bool
+    ensures { result ≡ is_sealed_by version periods.now declared.now }
+{
+    match version {
+        Version::One => is_of_plant(declared) && periods.some_closed(),
+        Version::Two => serves_closed(periods, declared),
+    }
+}
+
+// Whether it is a tank or a stream that is in service on a day of a closed period.
+fn serves_closed(periods: &Periods, declared: &Declared) -> bool
+    ensures { result ≡ serves_closed periods.now declared.now }
+{
+    match declared {
+        Declared::Tank { service, .. } => periods.closed_in_service(*service),
+        Declared::Stream { service, .. } => periods.closed_in_service(*service),
+        _ => false,
+    }
+}
+
+// Whether it is a unit, a boundary, a tank, a point of its table or a stream.
 fn is_of_plant(declared: &Declared) -> bool
     ensures { result ≡ is_of_plant declared.now }
 {
     match declared {
-        Declared::CritGlobal { .. } | Declared::CritNodal { .. } | Declared::CritMeasure { .. } =>
-            false,
+        Declared::Version2
+        | Declared::CritGlobal { .. }
+        | Declared::CritNodal { .. }
+        | Declared::CritMeasure { .. } => false,
         _ => true,
     }
 }
 
 // The first cause to refuse a period.
 fn judge_period(periods: &Periods, name: &Name, first: i32, last: i32) -> Option<Refused>
-    ensures { result ≡ refusal_behind [] [] periods.now (Opens name.now first last) }
+    ensures { result ≡ refusal_behind One [] [] periods.now (Opens name.now first last) }
 {
     if periods.has_name(name) {
         Some(Refused::Duplicate)
@@ -91,9 +122,11 @@ fn judge_fact(
     late: bool,
 ) -> Option<Refused>
     requires { IsInRange fact.now }
-    ensures { result ≡ refusal_behind site.now facts.now periods.now (Books fact.now late) }
+    ensures { result ≡ refusal_behind (version_of site.now) site.now facts.now periods.now
+        (Books fact.now late) }
 {
     let kind = kind_of_fact(site, fact);
+    let service = service_of(site, fact);
     if names_other(fact, kind) {
         return Some(Refused::Unknown);
     }
@@ -104,9 +137,12 @@ fn judge_fact(
         Some(Refused::Order)
     } else if is_of_other_kind(fact, kind) {
         Some(Refused::Mismatch)
-    } else if is_closed(periods, fact, late) {
+    } else if !late && periods.touches_closed(service, fact) {
         Some(Refused::Closed)
-    } else if fault == Some(FactFault::Range) || is_outside_table(site, fact) {
+    } else if is_out_of_service(service, fact)
+        || fault == Some(FactFault::Range)
+        || is_outside_table(site, fact)
+    {
         Some(Refused::Range)
     } else if fault == Some(FactFault::Full) {
         Some(Refused::Full)
@@ -115,17 +151,21 @@ fn judge_fact(
     }
 }
 
-// Whether a fact touches a closed period and doesn't come as a late one.
-fn is_closed(periods: &Periods, fact: &Fact, late: bool) -> bool
-    requires { IsInRange fact.now }
-    ensures { result ≡ is_closed periods.now (Books fact.now late) }
+// Whether a fact has a day on which what it names isn't in service, or a dip is neither of such a day nor of the one before the first.
+fn is_out_of_service(service: Option<Service>, fact: &Fact) -> bool
+    ensures { result ≡ is_out_of_service service fact.now }
 {
-    !late && periods.touches_closed(fact)
+    match fact {
+        Fact::Reading { day, .. } => !is_in_service_on(service, *day),
+        Fact::Transfer { first, last, .. } => !is_in_service_throughout(service, *first, *last),
+        Fact::Dip { day, .. } => !is_in_service_on(service, *day) && !is_eve(service, *day),
+    }
 }
 
 // The first cause to refuse an edit of the fact of an id.
 fn judge_edit(site: &Site, facts: &Facts, id: &Name, edit: &Edit) -> Option<Refused>
-    ensures { result ≡ refusal_behind site.now facts.now [] (Edits id.now edit.now []) }
+    ensures { result
+        ≡ refusal_behind One site.now facts.now [] (Edits id.now edit.now []) }
 {
     match facts.find(id) {
         Some(place) => cause_of_edit(site, &facts.kept(place).fact, edit),
@@ -158,7 +198,7 @@ fn cause_of_change(site: &Site, fact: &Fact, change: &Change) -> Option<Refused>
 
 // The first cause to refuse a closing.
 fn judge_closing(periods: &Periods, name: &Name) -> Option<Refused>
-    ensures { result ≡ refusal_behind [] [] periods.now (Closes name.now) }
+    ensures { result ≡ refusal_behind One [] [] periods.now (Closes name.now) }
 {
     if !periods.has_name(name) {
         Some(Refused::Unknown)

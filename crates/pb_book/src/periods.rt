@@ -1,8 +1,7 @@
 // The periods of a book.
 
-ghost use Rattle.std.specs.Prelude.{◌≡◌, ◌<◌, ◌≤◌, ◌∷◌, ◌++◌, [], length, map, false, Some, OnOk, OnErr, position, slice_get};
+ghost use Rattle.std.specs.Prelude.{◌≡◌, ◌<◌, ◌≤◌, ◌∷◌, ◌++◌, [], length, map, false, true, Some, OnOk, OnErr, position, slice_get};
 ghost use Rattle.std.specs.List.{list_any};
-ghost use Rattle.std.specs.Ordering.{int_eq};
 ghost use Rattle.indexmap.specs.IndexSet as set;
 ghost use Rattle.pb_limits.specs.Limits.{most_periods};
 ghost use Rattle.pb_site.specs.Faults.{is_among};
@@ -11,13 +10,15 @@ ghost use Rattle.pb_book.specs.Kept.{FindsLast, HasBegin, SameBegins};
 ghost use Rattle.pb_book.specs.Ranges.{IsPeriod};
 ghost use Rattle.pb_book.specs.Refusals.{is_closed_named};
 ghost use Rattle.pb_book.specs.Rows.{closed_if_named};
-ghost use Rattle.pb_book.specs.Touching.{ends_closed, has_closed_day, is_closed_boundary, some_closed, touches_closed};
+ghost use Rattle.pb_book.specs.Touching.{dip_touches_closed, dip_touches_closed_on, has_closed_day, is_closed_in_service, some_closed, touches, touches_closed};
 ghost use Rattle.pb_facts.specs.Fact.{IsDay, IsInRange};
 
 use crate::rows::Period;
+use crate::touching::dip_touches;
 use indexmap::IndexSet;
 use pb_facts::Fact;
 use pb_rows::Name;
+use pb_site::Service;
 use std::alloc::{AllocError, Global};
 use std::collections::BTreeMap;
 use std::marker::Model;
@@ -121,15 +122,25 @@ impl Periods {
         }
     }
 
-    /// Whether a fact touches a closed period.
-    pub fn touches_closed(&self, fact: &Fact) -> bool
+    /// Whether a fact of what is in service on these days touches a closed period.
+    pub fn touches_closed(&self, service: Option<Service>, fact: &Fact) -> bool
         requires { IsInRange fact.now }
-        ensures { result ≡ list_any (touches_closed fact.now) self.now }
+        ensures { result ≡ list_any (touches_closed (touches service) fact.now) self.now }
     {
         match fact {
             Fact::Reading { day, .. } => self.has_closed_day_within(*day, *day),
             Fact::Transfer { first, last, .. } => self.has_closed_day_within(*first, *last),
-            Fact::Dip { day, .. } => self.has_closed_boundary(*day),
+            Fact::Dip { day, .. } => self.dip_touches_closed(service, *day),
+        }
+    }
+
+    /// Whether what is in service on these days is so on some day of a closed period.
+    pub fn closed_in_service(&self, service: Option<Service>) -> bool
+        ensures { result ≡ list_any (is_closed_in_service service) self.now }
+    {
+        match service {
+            None => self.some_closed(),
+            Some(service) => self.has_closed_day_within(service.since, service.until),
         }
     }
 
@@ -143,21 +154,24 @@ impl Periods {
         }
     }
 
-    // Whether a day is the last of a closed period, or the one before its first.
-    fn has_closed_boundary(&self, day: i32) -> bool
+    // Whether a dip of a tank that is in service on these days touches a closed period: such a period has the day of the dip or the
+    // next one.
+    fn dip_touches_closed(&self, service: Option<Service>, day: i32) -> bool
         requires { IsDay day }
-        ensures { result ≡ list_any (is_closed_boundary day) self.now }
+        ensures { result ≡ list_any (dip_touches_closed service day) self.now }
     {
-        self.ends_closed(day) || self.closes.contains_key(&(day + 1))
+        self.dip_touches_last(service, day, day) || self.dip_touches_last(service, day, day + 1)
     }
 
-    // Whether a day is the last of a closed period: of those that begin by then it is the last, since no two share
-    // a day.
-    fn ends_closed(&self, day: i32) -> bool
-        ensures { result ≡ list_any (ends_closed day) self.now }
+    // Whether it touches the last closed period that begins by another day. No other closed period has that day.
+    fn dip_touches_last(&self, service: Option<Service>, day: i32, by: i32) -> bool
+        ensures only { result ≡ true
+            → list_any (dip_touches_closed service day) self.now ≡ true }
+        ensures each { list_any (dip_touches_closed_on service day by) self.now ≡ true
+            → result ≡ true }
     {
-        match begun_by(&self.closes, day) {
-            Some(place) => is_day(day, self.periods[place as usize].last),
+        match begun_by(&self.closes, by) {
+            Some(place) => dip_touches(service, day, &self.periods[place as usize]),
             None => false,
         }
     }
@@ -197,13 +211,6 @@ impl Periods {
         self.periods.push_reserved(period);
         Ok(())
     }
-}
-
-// Whether two days are one.
-fn is_day(day: i32, other: i32) -> bool
-    ensures { result ≡ int_eq day other }
-{
-    day == other
 }
 
 // The place of the last period that begins by a day.

@@ -1,34 +1,66 @@
 // Which periods a fact touches.
 
-ghost use Rattle.std.specs.Prelude.{◌≡◌, ◌-ℤ◌, pos};
+ghost use Rattle.std.specs.Prelude.{◌≡◌};
+ghost use Rattle.pb_rows.specs.Date.{IsDay};
+ghost use Rattle.pb_site.specs.Site.{version_of};
 ghost use Rattle.pb_book.specs.Apart.{shares_a_day};
-ghost use Rattle.pb_book.specs.Touching.{is_boundary_of, touches};
+ghost use Rattle.pb_book.specs.Touching.{dip_touches, is_boundary_of, service_of, touches, touches_in};
 
 use crate::rows::Period;
 use pb_facts::Fact;
+use pb_site::{Service, Site, closing_day, is_in_service_within, opening_day};
 
-// Whether a fact touches a period: a reading where it has its day, a transfer where they have a day in common, and a
-// dip where its day is the last of the period or the one before the first.
-pub(crate) fn touches(fact: &Fact, period: &Period) -> bool
-    ensures { result ≡ touches fact.now period.now }
+// Whether a fact touches a period.
+pub(crate) fn touches_in(site: &Site, fact: &Fact, period: &Period) -> bool
+    requires { IsDay period.now.first }
+    ensures { result ≡ touches_in (version_of site.now) site.now fact.now period.now }
+{
+    touches(service_of(site, fact), fact, period)
+}
+
+// The days on which the stream or tank that a fact names is in service.
+pub(crate) fn service_of(site: &Site, fact: &Fact) -> Option<Service>
+    ensures { result ≡ service_of (version_of site.now) site.now fact.now }
+{
+    match fact {
+        Fact::Reading { stream, .. } => site.service_of(stream),
+        Fact::Transfer { stream, .. } => site.service_of(stream),
+        Fact::Dip { tank, .. } => site.service_of(tank),
+    }
+}
+
+// Whether a fact of what is in service on these days touches a period: a reading if it has its day, a transfer if they have a day in
+// common, and a dip if the content of its tank opens or closes there at the end of its day.
+fn touches(service: Option<Service>, fact: &Fact, period: &Period) -> bool
+    requires { IsDay period.now.first }
+    ensures { result ≡ touches service fact.now period.now }
 {
     match fact {
         Fact::Reading { day, .. } => shares_a_day(*day, *day, period),
         Fact::Transfer { first, last, .. } => shares_a_day(*first, *last, period),
-        Fact::Dip { day, .. } => is_boundary_of(*day, period),
+        Fact::Dip { day, .. } => dip_touches(service, *day, period),
     }
 }
 
 // Whether a period has a day from the first to the last one.
-fn shares_a_day(first: i32, last: i32, period: &Period) -> bool
+pub(crate) fn shares_a_day(first: i32, last: i32, period: &Period) -> bool
     ensures { result ≡ shares_a_day first last period.now }
 {
     first <= period.last && period.first <= last
 }
 
-// Whether a day is the last of a period, or the one before its first.
-fn is_boundary_of(day: i32, period: &Period) -> bool
-    ensures { result ≡ is_boundary_of day period.now }
+// Whether a dip of a tank that is in service on these days touches a period.
+pub(crate) fn dip_touches(service: Option<Service>, day: i32, period: &Period) -> bool
+    requires { IsDay period.now.first }
+    ensures { result ≡ dip_touches service day period.now }
 {
-    day == period.last || i64::from(day) == i64::from(period.first) - 1
+    is_in_service_within(service, period.first, period.last) && is_boundary_of(service, day, period)
+}
+
+// Whether at the end of a day the content of a tank opens or closes in a period.
+fn is_boundary_of(service: Option<Service>, day: i32, period: &Period) -> bool
+    requires { IsDay period.now.first }
+    ensures { result ≡ is_boundary_of service day period.now }
+{
+    day == closing_day(service, period.last) || day == opening_day(service, period.first)
 }

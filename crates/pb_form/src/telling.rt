@@ -51,7 +51,7 @@ fn untold(schemas: &[Schema], fields: &Fields) -> FormFault
 }
 
 // Whether a record has the words and the number of fields of a schema.
-fn is_of(schema: &Schema, fields: &Fields) -> bool
+pub(crate) fn is_of(schema: &Schema, fields: &Fields) -> bool
     ensures { result ≡ is_of fields.now (schema_seen schema.now) }
 {
     has_count(schema, fields.len()) && agrees(schema.columns, fields)

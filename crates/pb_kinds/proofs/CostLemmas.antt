@@ -1,5 +1,5 @@
 -- The pairs of a record that asks for an advice.
-use Rattle.std.specs.Prelude.{All, map, unwrap_or, slice_get, slice_index_or, Some, Result, Ok, Err, if◌then◌else◌}
+use Rattle.std.specs.Prelude.{All, map, unwrap_or, slice_get, slice_index_or, None, Some, Result, Ok, Err, if◌then◌else◌}
 use Rattle.std.proofs.Common.{◌≡◌, ◌∙◌, ◌<◌, ◌≤◌, ◌+◌, ◌*◌, ◌/◌, ◌-◌, ℕ, zero, suc, Bool, true, false, List, [], ◌∷◌, length, drop, length-drop, refl, sym, ap, ap₂, subst, ℤ, pos, Option, FitsSigned, of_z, to_z, arith}
 use mir.Syntax.{w64}
 use Rattle.std.proofs.lemmas.Int.{ints, to_z-of_z}
@@ -12,7 +12,8 @@ use Rattle.pb_form.specs.Holds as holds
 use Rattle.pb_form.specs.Laws.{FittingLaw}
 use Rattle.pb_form.specs.Values.{number_in}
 use Rattle.pb_form.specs.Reading.{before, fields_read, has_count, joined, one_read, repeated, row_read, tail_read}
-use Rattle.pb_form.specs.SessionRows.{cost_columns, most_meter_cost, session_schema, session_told}
+use Rattle.pb_form.specs.SessionRows.{cost_columns, kinds_of_version_1, most_meter_cost, session_schema, session_told}
+use Rattle.pb_form.specs.Telling.{is_of}
 use Rattle.pb_form.specs.Value.{Value}
 use Rattle.pb_form.specs.Writing.{FitEach}
 use Rattle.pb_form.specs.Seen.{column_seen, schema_seen}
@@ -21,18 +22,26 @@ use Rattle.pb_form.specs.declared.fault.FormFault.{FormFault}
 use Rattle.pb_form.specs.declared.fault.FormFault.TheVariants as fault
 use Rattle.pb_form.specs.declared.session.SessionKind.{SessionKind}
 use Rattle.pb_form.specs.declared.session.SessionKind.TheVariants as kind
+use Rattle.pb_site.specs.declared.declared.Declared.TheVariants.{Version2}
+use Rattle.pb_site.specs.declared.declared.Version.{Version}
 use Rattle.pb_kinds.specs.declared.costs.NamedCost.{NamedCost}
 use Rattle.pb_kinds.specs.declared.rows.Request.{Request}
 use Rattle.pb_kinds.specs.declared.rows.Request.TheVariants.{Advise}
 use Rattle.pb_kinds.specs.Costs.{IsMeterCost, costs_by, costs_in, named_costs}
 use Rattle.pb_kinds.specs.Laws.{NamedCostsLaw}
-use Rattle.pb_kinds.specs.Requests.{asked_by, name_there, number_there, request_by, request_if, request_in, request_of}
+use Rattle.pb_kinds.specs.Requests.{asked_by, asked_in, declares, kinds_of, name_there, number_there, request_by, request_if, request_in, request_of}
 use Rattle.pb_kinds.specs.There.{ArePairs, IsNameThere, IsNumberThere, pairs_read}
 use Rattle.pb_kinds.proofs.ThereLemmas.{name_is, number_is}
 
 -- ---- a record that asks for an advice
 
 is_advise : (it : SessionKind) (values : List Value) → request_of it values ≡ Advise → it ≡ kind.Advise
+is_advise kind.Version values is = cc is
+is_advise kind.Boundary values is = cc is
+is_advise kind.TankInService values is = cc is
+is_advise kind.MeteredInService values is = cc is
+is_advise kind.BatchInService values is = cc is
+is_advise kind.PlainInService values is = cc is
 is_advise kind.Unit values is = cc is
 is_advise kind.Tank values is = cc is
 is_advise kind.Strap values is = cc is
@@ -74,10 +83,10 @@ tail_says schema values fields reads = by (has_count schema (length fields)) rea
     by false is = absurd (cc is)
 
 -- it has a field, and the others are pairs
-pub advise_read : (fields : List (List ℕ)) → request_in fields ≡ Ok Advise
+pub advise_read : (version : Option Version) (fields : List (List ℕ)) → request_in version fields ≡ Ok Advise
     → (1 ≤ length (without_trailing_empty fields)) × ((others : List Value) × (tail_read (session_schema kind.Advise) (without_trailing_empty fields) ≡ Ok others))
 unfolding request_in
-advise_read fields asks = by (without_trailing_empty fields) asks
+advise_read version fields asks = at version asks
   where
     by_values : (filled : List (List ℕ)) (it : SessionKind) (read : Result (List Value) FormFault) → row_read (session_schema it) filled ≡ read → request_by it read ≡ Ok Advise
         → (others : List Value) × (tail_read (session_schema kind.Advise) filled ≡ Ok others)
@@ -92,10 +101,20 @@ advise_read fields asks = by (without_trailing_empty fields) asks
     by_kind filled (Ok it) asks = by_values filled it (row_read (session_schema it) filled) refl asks
     by_kind filled (Err bad) asks = absurd (cc asks)
 
-    by : (filled : List (List ℕ)) → asked_by filled ≡ Ok Advise
+    by : (kinds : List SessionKind) (filled : List (List ℕ)) → asked_by kinds filled ≡ Ok Advise
         → (1 ≤ length filled) × ((others : List Value) × (tail_read (session_schema kind.Advise) filled ≡ Ok others))
-    by [] asks = absurd (cc asks)
-    by (field ∷ filled) asks = (omega arith, by_kind (field ∷ filled) (session_told (field ∷ filled)) asks)
+    by kinds [] asks = absurd (cc asks)
+    by kinds (field ∷ filled) asks = (omega arith, by_kind (field ∷ filled) (session_told kinds (field ∷ filled)) asks)
+
+    first : (says : Bool) (filled : List (List ℕ)) → (if says then Ok (declares Version2) else asked_by kinds_of_version_1 filled) ≡ Ok Advise
+        → (1 ≤ length filled) × ((others : List Value) × (tail_read (session_schema kind.Advise) filled ≡ Ok others))
+    first true filled asks = absurd (cc asks)
+    first false filled asks = by kinds_of_version_1 filled asks
+
+    at : (version : Option Version) → asked_in version (without_trailing_empty fields) ≡ Ok Advise
+        → (1 ≤ length (without_trailing_empty fields)) × ((others : List Value) × (tail_read (session_schema kind.Advise) (without_trailing_empty fields) ≡ Ok others))
+    at None asks = first (is_of (without_trailing_empty fields) (session_schema kind.Version)) (without_trailing_empty fields) asks
+    at (Some version) asks = by (kinds_of version) (without_trailing_empty fields) asks
 
 -- the fields after the word are those of the tail
 pub after_word : (filled : List (List ℕ)) → pairs_read (drop 1 filled) ≡ tail_read (session_schema kind.Advise) filled
@@ -295,8 +314,8 @@ all_in_range law (suc (suc n)) (a ∷ (b ∷ pairs)) values count says =
     subst (λ (v : List Value). All IsCostInRange (costs_in v)) (sym parts.all) (All-cons IsCostInRange _ (costs_in parts.others) first rest)
 
 pub named_in_range : FittingLaw → NamedCostsLaw
-named_in_range law fields asks =
+named_in_range law version fields asks =
     let filled = without_trailing_empty fields in
-    let tail = (advise_read fields asks).1 in
+    let tail = (advise_read version fields asks).1 in
     let reads : pairs_read (drop 1 filled) ≡ Ok tail.0 = after_word filled ∙ tail.1 in
     subst (λ (costs : List NamedCost). All IsCostInRange costs) (sym (ap costs_by tail.1)) (all_in_range law (length (drop 1 filled)) (drop 1 filled) tail.0 refl reads)

@@ -1,9 +1,8 @@
 // The costs of meters that an `advise` row names.
 
-ghost use Rattle.std.specs.Prelude.{◌≡◌, ◌<◌, length, slice_get, Ok, Some};
-ghost use Rattle.pb_kinds.specs.declared.rows.Request.TheVariants.{Advise};
+ghost use Rattle.std.specs.Prelude.{◌≡◌, ◌<◌, length, slice_get, Some};
 ghost use Rattle.pb_kinds.specs.Costs.{IsMeterCost, named_costs};
-ghost use Rattle.pb_kinds.specs.Requests.{request_in};
+ghost use Rattle.pb_kinds.specs.Requests.{AsksAdvice};
 
 use crate::there::{long_there, name_there};
 use pb_form::{Fields, SessionKind, read_columns, session_schema};
@@ -40,7 +39,7 @@ impl<'a> Model for NamedCosts<'a> {
 impl<'a> NamedCosts<'a> {
     /// The costs that a record names. It asks for an advice.
     pub fn of(row: &'a Row) -> NamedCosts<'a>
-        requires { request_in row.now ≡ Ok Advise }
+        requires { AsksAdvice row.now }
         ensures { result ≡ named_costs row.now }
     {
         let pairs = Fields::filled(row).skip(1);

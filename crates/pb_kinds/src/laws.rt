@@ -4,7 +4,8 @@ ghost use Rattle.pb_kinds.specs.Laws.{AskingLaw, NamedCostsLaw, StoredLaw};
 
 use pb_form::{fitting_law, one_kind_law};
 
-/// The law that the numbers and days of what a record asks to be stored lie in their ranges, and that its names are of the form.
+/// The law that the numbers and days of what a record asks to be stored lie in their ranges, that its names are of the form, and that
+/// a row of a session of the version may do it.
 pub fn stored_law()
     ensures { StoredLaw }
 {
@@ -18,7 +19,8 @@ pub fn named_costs_law()
     fitting_law();
 }
 
-/// The law that a record which writes values by the schema of a kind asks what they ask in a row of this kind.
+/// The law that a record which writes values by the schema of a kind asks what they ask in a row of this kind, in each session that has
+/// rows of it.
 pub fn asking_law()
     ensures { AskingLaw }
 {

@@ -1,33 +1,35 @@
--- What a site keeps stays right where a declaration joins the others.
+-- What a site keeps stays right if a declaration joins the others.
 use Rattle.std.specs.Prelude.{◌||◌, ◌==◌, is_some, if◌then◌else◌, filter_map}
 use Rattle.std.specs.Option.{option_map}
 use Rattle.std.specs.Cmp.Lexicographic.{bytes_decides}
 use Rattle.std.specs.List.{cons_option}
-use Rattle.std.proofs.Common.{◌≡◌, ◌∙◌, ◌+◌, ◌<◌, ◌≤◌, ℕ, suc, ℤ, List, [], ◌∷◌, ◌++◌, length, get_or, All, Bool, true, false, Option, Some, None, slice_get, codes, refl, sym, ap, ap₂, subst, arith, inl, inr, length-append}
+use Rattle.std.proofs.Common.{◌≡◌, ◌∙◌, ◌+◌, ◌<◌, ◌≤◌, ℕ, suc, ℤ, List, [], ◌∷◌, ◌++◌, drop, length, get_or, All, Bool, true, false, Option, Some, None, slice_get, codes, refl, sym, ap, ap₂, subst, arith, inl, inr, length-append}
 use Rattle.std.proofs.lemmas.Bool.{cases_Bool, eqb-false, eqb-true, or_parts}
 use Rattle.std.proofs.lemmas.List.{append-nil}
 use Rattle.std.proofs.lemmas.List.Elements.{All-append, All-cons, All-nil, All-weaker, filter_map-append}
 use Rattle.std.proofs.lemmas.List.Folds.{list_any-append, list_any_at}
 use Rattle.std.proofs.lemmas.List.Quantifiers.{all_pairs_push}
-use Rattle.pb_limits.specs.Limits.{most_nodes, most_streams}
+use Rattle.pb_limits.specs.Limits.{most_boundaries, most_nodes, most_streams}
 use Rattle.pb_rows.specs.Name.{same_name}
 use Rattle.pb_strap.specs.declared.strap.Point.{Point}
 use Rattle.pb_site.specs.declared.declared.Arc.{Arc}
 use Rattle.pb_site.specs.declared.declared.ArcKind.TheVariants.{Tank as TankArc}
 use Rattle.pb_site.specs.declared.declared.Declared.{Declared}
-use Rattle.pb_site.specs.declared.declared.Declared.TheVariants.{Unit as UnitRow, Tank, Strap, Stream, CritGlobal, CritNodal, CritMeasure}
+use Rattle.pb_site.specs.declared.declared.Declared.TheVariants.{Version2, Unit as UnitRow, Boundary, Tank, Strap, Stream, CritGlobal, CritNodal, CritMeasure}
 use Rattle.pb_site.specs.declared.index.Index.{Index}
-use Rattle.pb_site.specs.Row.{IsInRange, arc_in, arc_kind, declared_name, declares_tank, global_value, measure_value, nodal_value, node_at, node_name, point_of}
-use Rattle.pb_site.specs.Site.{AreDistinct, HasDistinctNames, IsArc, arcs_of, global_of, is_tank, measure_of, nodal_of, node_names, points_of, table_of}
-use Rattle.pb_site.specs.Faults.{is_among, is_node}
-use Rattle.pb_site.specs.Laws.{IsPlant, PlantLaw}
-use Rattle.pb_site.specs.Kept.{IsKept, Notes, SameIndex, arc_name, nodes_in, table_with, value_with}
-use Rattle.pb_site.proofs.FaultLemmas.{IsFine, arc_names-are, both, fine, free, no_name, no_tank, not_false, room_arcs, room_nodes, same_self, same_sym}
-use Rattle.pb_site.proofs.LookUpLemmas.{any_place, place_is, place_last, place_more}
+use Rattle.pb_site.specs.Row.{IsInRange, arc_in, arc_kind, boundary_name, declared_name, declares_tank, global_value, is_among, measure_value, nodal_value, node_at, node_name, point_of, says_version_2}
+use Rattle.pb_site.specs.Site.{AreDistinct, HasDistinctNames, IsArc, arcs_of, boundary_names, global_of, is_tank, measure_of, nodal_of, node_names, points_of, table_of, version_of}
+use Rattle.pb_site.specs.Faults.{is_node, is_taken}
+use Rattle.pb_site.specs.Laws.{GrowthLaw, IsPlant, PlantLaw}
+use Rattle.pb_site.specs.Kept.{IsKept, Notes, SameIndex, arc_name, nodes_in, table_with, value_with, version_with}
+use Rattle.pb_site.proofs.FaultLemmas.{IsFine, arc_names_of, both, fine, free, no_name, no_tank, no_version, not_false, room_arcs, room_boundaries, room_nodes, same_self, same_sym}
+use Rattle.pb_site.proofs.LookUpLemmas.{node_is, node_last, node_stays, node_within}
 
 -- an index that gives the same is kept
 pub kept_same : (declared : List Declared) (old new : Index) → IsKept declared old → SameIndex old new → IsKept declared new
 kept_same declared old new kept same = record {
+  version = same.version ∙ kept.version;
+  boundaries = same.boundaries ∙ kept.boundaries;
   nodes = same.nodes ∙ kept.nodes;
   arc_names = same.arc_names ∙ kept.arc_names;
   arcs = same.arcs ∙ kept.arcs;
@@ -39,9 +41,33 @@ kept_same declared old new kept same = record {
   no_points = kept.no_points;
 }
 
+-- ---- the version
+
+version_more : (declared : List Declared) (row : Declared) → IsFine declared row → version_of (declared ++ row ∷ []) ≡ version_with row (version_of declared)
+version_more [] Version2 good = refl
+version_more [] row good = refl
+version_more (first ∷ declared) Version2 good = cc good.new
+version_more (Version2 ∷ declared) row good = refl
+version_more (first ∷ declared) row good = refl
+
+-- a declaration that doesn't say the version leaves it
+version_stays : (declared : List Declared) (row : Declared) → says_version_2 row ≡ false → version_of (declared ++ row ∷ []) ≡ version_of declared
+version_stays [] Version2 silent = cc silent
+version_stays [] row silent = refl
+version_stays (Version2 ∷ declared) row silent = refl
+version_stays (first ∷ declared) row silent = refl
+
+-- only the first declaration says the version
+once_more : (declared : List Declared) (row : Declared) → IsFine declared row → All (λ (row : Declared). says_version_2 row ≡ false) (drop 1 declared)
+    → All (λ (row : Declared). says_version_2 row ≡ false) (drop 1 (declared ++ row ∷ []))
+once_more [] row good once = All-nil (λ (row : Declared). says_version_2 row ≡ false)
+once_more (first ∷ declared) row good once =
+    let silent = λ (row : Declared). says_version_2 row ≡ false in
+    All-append silent declared (row ∷ []) once (All-cons silent row [] (no_version first declared row good) (All-nil silent))
+
 -- ---- critical values
 
--- the first value behind one more declaration, where none stands before one that declares a value
+-- the first value after one more declaration, if none stands before one that declares a value
 value_more : (f : Declared → Option ℤ) (declared : List Declared) (row : Declared) → (is_some (f row) ≡ true → slice_get (filter_map f declared) 0 ≡ None)
     → slice_get (filter_map f (declared ++ row ∷ [])) 0 ≡ value_with (f row) (slice_get (filter_map f declared) 0)
 value_more f declared row fresh = ap (λ (values : List ℤ). slice_get values 0) (filter_map-append f declared (row ∷ [])) ∙ by (f row) (filter_map f declared) fresh
@@ -84,7 +110,7 @@ table_more declared row name good nothing =
   where
     by : (row : Declared) → IsFine declared row
         → (if is_tank declared name || is_tank (row ∷ []) name then Some (points_of declared name ++ points_of (row ∷ []) name) else None) ≡ table_with row name (table_of declared name)
-    by (Tank n base) good = elim (cases_Bool (same_name n name)) [
+    by (Tank n base service) good = elim (cases_Bool (same_name n name)) [
       | inl same ↦
           let here = (bytes_decides n name).0 same in
           let untaken = no_tank declared n (free declared n good.new).arcs in
@@ -132,37 +158,57 @@ among_last names name = rw (list_any-append (same_name name) names (name ∷ [])
     or_true true = refl
     or_true false = refl
 
--- the nodes of an arc stay where more nodes come behind
-same_arcs : (nodes more : List (List ℕ)) (declared : List Declared) → All (IsArc (length nodes)) (filter_map (arc_in nodes) declared)
-    → filter_map (arc_in (nodes ++ more)) declared ≡ filter_map (arc_in nodes) declared
-same_arcs nodes more [] joined = refl
-same_arcs nodes more (Tank name base ∷ declared) joined =
-    let arc : ℕ → Arc = λ from. record { name = name; from = from; to = 0; kind = TankArc; base = base } in
-    let right = joined 0 (arc 0) (omega arith) in
-    let rest = same_arcs nodes more declared (λ k d lt. joined (suc k) d (omega (arith, lt))) in
-    ap₂ (λ (from : ℕ) (arcs : List Arc). arc from ∷ arcs) (place_more (same_name name) nodes more right.begins) rest
-same_arcs nodes more (Stream name from to kind base ∷ declared) joined =
-    let arc : ℕ → ℕ → Arc = λ from to. record { name = name; from = from; to = to; kind = arc_kind kind; base = base } in
-    let right = joined 0 (arc 0 0) (omega arith) in
-    let rest = same_arcs nodes more declared (λ k d lt. joined (suc k) d (omega (arith, lt))) in
-    let begins = place_more (same_name from) nodes more right.begins in
-    let ends = place_more (same_name to) nodes more right.ends in
-    ap (λ (n : ℕ). arc n (node_at (nodes ++ more) to) ∷ filter_map (arc_in (nodes ++ more)) declared) begins
-    ∙ ap₂ (λ (n : ℕ) (arcs : List Arc). arc (node_at nodes from) n ∷ arcs) ends rest
-same_arcs nodes more (row ∷ declared) joined = same_arcs nodes more declared joined
+-- no boundary has the name of a node
+boundaries_apart : (declared : List Declared) (row : Declared) → IsFine declared row → (name : List ℕ) → is_among (filter_map boundary_name (row ∷ [])) name ≡ true
+    → is_among (node_names declared) name ≡ false
+boundaries_apart declared (Boundary new) good name there = elim (cases_Bool (same_name name new)) [
+  | inl same ↦ subst (λ (n : List ℕ). is_among (node_names declared) n ≡ false) (sym ((bytes_decides name new).0 same)) (free declared new good.new).node
+  | inr apart ↦ cc (rw apart at there)
+]
+boundaries_apart declared row good name there = cc there
 
-nodes_more : (declared : List Declared) (row : Declared) → node_names (declared ++ row ∷ []) ≡ node_names declared ++ filter_map node_name (row ∷ [])
+-- the nodes of an arc stay if there are more nodes and boundaries
+same_arcs : (boundaries more nodes others : List (List ℕ)) (declared : List Declared) → ((name : List ℕ) → is_among more name ≡ true → is_among nodes name ≡ false)
+    → All (IsArc (length nodes)) (filter_map (arc_in boundaries nodes) declared) → filter_map (arc_in (boundaries ++ more) (nodes ++ others)) declared ≡ filter_map (arc_in boundaries nodes) declared
+same_arcs boundaries more nodes others [] apart joined = refl
+same_arcs boundaries more nodes others (Tank name base service ∷ declared) apart joined =
+    let arc : ℕ → Arc = λ from. record { name = name; from = from; to = 0; kind = TankArc; base = base; service = service } in
+    let right = joined 0 (arc 0) (omega arith) in
+    let rest = same_arcs boundaries more nodes others declared apart (λ k d lt. joined (suc k) d (omega (arith, lt))) in
+    ap₂ (λ (from : ℕ) (arcs : List Arc). arc from ∷ arcs) (node_stays boundaries more nodes others name right.begins (apart name)) rest
+same_arcs boundaries more nodes others (Stream name from to kind base service ∷ declared) apart joined =
+    let arc : ℕ → ℕ → Arc = λ from to. record { name = name; from = from; to = to; kind = arc_kind kind; base = base; service = service } in
+    let right = joined 0 (arc 0 0) (omega arith) in
+    let rest = same_arcs boundaries more nodes others declared apart (λ k d lt. joined (suc k) d (omega (arith, lt))) in
+    let begins = node_stays boundaries more nodes others from right.begins (apart from) in
+    let ends = node_stays boundaries more nodes others to right.ends (apart to) in
+    ap (λ (n : ℕ). arc n (node_at (boundaries ++ more) (nodes ++ others) to) ∷ filter_map (arc_in (boundaries ++ more) (nodes ++ others)) declared) begins
+    ∙ ap₂ (λ (n : ℕ) (arcs : List Arc). arc (node_at boundaries nodes from) n ∷ arcs) ends rest
+same_arcs boundaries more nodes others (row ∷ declared) apart joined = same_arcs boundaries more nodes others declared apart joined
+
+pub nodes_more : (declared : List Declared) (row : Declared) → node_names (declared ++ row ∷ []) ≡ node_names declared ++ filter_map node_name (row ∷ [])
 nodes_more declared row = ap (λ (names : List (List ℕ)). codes "env" ∷ names) (filter_map-append node_name declared (row ∷ []))
 
-arcs_more : (declared : List Declared) (row : Declared) → All (IsArc (length (node_names declared))) (arcs_of declared)
-    → arcs_of (declared ++ row ∷ []) ≡ arcs_of declared ++ filter_map (arc_in (node_names declared ++ filter_map node_name (row ∷ []))) (row ∷ [])
-arcs_more declared row joined =
-    let more = filter_map node_name (row ∷ []) in
-    ap (λ (nodes : List (List ℕ)). filter_map (arc_in nodes) (declared ++ row ∷ [])) (nodes_more declared row)
-    ∙ filter_map-append (arc_in (node_names declared ++ more)) declared (row ∷ [])
-    ∙ ap (λ (arcs : List Arc). arcs ++ filter_map (arc_in (node_names declared ++ more)) (row ∷ [])) (same_arcs (node_names declared) more declared joined)
+boundaries_more : (declared : List Declared) (row : Declared) → boundary_names (declared ++ row ∷ []) ≡ boundary_names declared ++ filter_map boundary_name (row ∷ [])
+boundaries_more declared row = filter_map-append boundary_name declared (row ∷ [])
 
--- an arc stays right where there are more nodes
+-- the arc of one more declaration
+abbrev new_arcs : List Declared → Declared → List Arc
+new_arcs declared row =
+    filter_map (arc_in (boundary_names declared ++ filter_map boundary_name (row ∷ [])) (node_names declared ++ filter_map node_name (row ∷ []))) (row ∷ [])
+
+arcs_more : (declared : List Declared) (row : Declared) → IsFine declared row → All (IsArc (length (node_names declared))) (arcs_of declared)
+    → arcs_of (declared ++ row ∷ []) ≡ arcs_of declared ++ new_arcs declared row
+arcs_more declared row good joined =
+    let more = filter_map boundary_name (row ∷ []) in
+    let others = filter_map node_name (row ∷ []) in
+    let boundaries = boundary_names declared ++ more in
+    let nodes = node_names declared ++ others in
+    ap₂ (λ (b n : List (List ℕ)). filter_map (arc_in b n) (declared ++ row ∷ [])) (boundaries_more declared row) (nodes_more declared row)
+    ∙ filter_map-append (arc_in boundaries nodes) declared (row ∷ [])
+    ∙ ap (λ (arcs : List Arc). arcs ++ new_arcs declared row) (same_arcs (boundary_names declared) more (node_names declared) others declared (boundaries_apart declared row good) joined)
+
+-- an arc stays right if there are more nodes
 arc_more : (nodes more : ℕ) (arc : Arc) → IsArc nodes arc → IsArc (nodes + more) arc
 arc_more nodes more arc right = record {
   begins = omega (arith, right.begins);
@@ -173,32 +219,39 @@ arc_more nodes more arc right = record {
 
 -- the arc of a new declaration leads from a node to another one
 new_arc : (declared : List Declared) (row : Declared) → IsFine declared row → IsInRange row
-    → All (IsArc (length (node_names declared ++ filter_map node_name (row ∷ [])))) (filter_map (arc_in (node_names declared ++ filter_map node_name (row ∷ []))) (row ∷ []))
-new_arc declared (Tank name base) good ranges =
+    → All (IsArc (length (node_names declared ++ filter_map node_name (row ∷ [])))) (new_arcs declared row)
+new_arc declared (Tank name base service) good ranges =
+    let boundaries = boundary_names declared ++ [] in
     let nodes = node_names declared ++ name ∷ [] in
-    let from : node_at nodes name ≡ length (node_names declared) = place_last (node_names declared) name (free declared name good.new).node in
+    let is_free = free declared name good.new in
+    let outside : is_among boundaries name ≡ false = rw (append-nil (boundary_names declared)) is_free.boundary in
+    let from : node_at boundaries nodes name ≡ length (node_names declared) = node_last boundaries (node_names declared) name outside is_free.node in
     let long = length-append (node_names declared) (name ∷ []) in
-    let arc : Arc = record { name = name; from = node_at nodes name; to = 0; kind = TankArc; base = base } in
+    let arc : Arc = record { name = name; from = node_at boundaries nodes name; to = 0; kind = TankArc; base = base; service = service } in
     let right : IsArc (length nodes) arc = record {
       begins = omega (arith, from, long);
       ends = omega (arith, long);
       apart = λ same. absurd (omega (arith, from, same));
-      limits = ranges;
+      limits = ranges.0;
     } in
     All-cons (IsArc (length nodes)) arc [] right (All-nil (IsArc (length nodes)))
-new_arc declared (Stream name from to kind base) good ranges =
+new_arc declared (Stream name from to kind base service) good ranges =
+    let boundaries = boundary_names declared in
     let nodes = node_names declared in
     let known = both (is_node declared from) (is_node declared to) good.known in
-    let arc : Arc = record { name = name; from = node_at nodes from; to = node_at nodes to; kind = arc_kind kind; base = base } in
-    let apart : (node_at nodes from == node_at nodes to) ≡ false = rw (place_is nodes from known.0, place_is nodes to known.1) at good.matching in
+    let begins = node_at boundaries nodes from in
+    let ends = node_at boundaries nodes to in
+    let arc : Arc = record { name = name; from = begins; to = ends; kind = arc_kind kind; base = base; service = service } in
+    let apart : (begins == ends) ≡ false = rw (node_is boundaries nodes from known.0, node_is boundaries nodes to known.1) at good.matching in
     let right : IsArc (length nodes) arc = record {
-      begins = any_place (same_name from) nodes known.0;
-      ends = any_place (same_name to) nodes known.1;
-      apart = eqb-false (node_at nodes from) (node_at nodes to) apart;
-      limits = ranges;
+      begins = node_within boundaries nodes from (omega arith) known.0;
+      ends = node_within boundaries nodes to (omega arith) known.1;
+      apart = eqb-false begins ends apart;
+      limits = ranges.0;
     } in
-    subst (λ (names : List (List ℕ)). All (IsArc (length names)) (filter_map (arc_in names) (Stream name from to kind base ∷ []))) (sym (append-nil nodes))
-    (All-cons (IsArc (length nodes)) arc [] right (All-nil (IsArc (length nodes))))
+    let one = All-cons (IsArc (length nodes)) arc [] right (All-nil (IsArc (length nodes))) in
+    subst (λ (b : List (List ℕ)). All (IsArc (length (nodes ++ []))) (filter_map (arc_in b (nodes ++ [])) (Stream name from to kind base service ∷ []))) (sym (append-nil boundaries))
+    (subst (λ (n : List (List ℕ)). All (IsArc (length n)) (filter_map (arc_in boundaries n) (Stream name from to kind base service ∷ []))) (sym (append-nil nodes)) one)
 new_arc declared row good ranges = All-nil (IsArc _)
 
 joined_more : (declared : List Declared) (row : Declared) → IsFine declared row → IsInRange row → All (IsArc (length (node_names declared))) (arcs_of declared)
@@ -208,13 +261,13 @@ joined_more declared row good ranges joined =
     let nodes = node_names declared ++ more in
     let long = length-append (node_names declared) more in
     let before = All-weaker (IsArc (length (node_names declared))) (IsArc (length (node_names declared) + length more)) (arc_more (length (node_names declared)) (length more)) (arcs_of declared) joined in
-    let whole = All-append (IsArc (length nodes)) (arcs_of declared) (filter_map (arc_in nodes) (row ∷ [])) (subst (λ (n : ℕ). All (IsArc n) (arcs_of declared)) (sym long) before) (new_arc declared row good ranges) in
+    let whole = All-append (IsArc (length nodes)) (arcs_of declared) (new_arcs declared row) (subst (λ (n : ℕ). All (IsArc n) (arcs_of declared)) (sym long) before) (new_arc declared row good ranges) in
     subst (λ (names : List (List ℕ)). All (IsArc (length names)) (arcs_of (declared ++ row ∷ []))) (sym (nodes_more declared row))
-    (subst (λ (arcs : List Arc). All (IsArc (length nodes)) arcs) (sym (arcs_more declared row joined)) whole)
+    (subst (λ (arcs : List Arc). All (IsArc (length nodes)) arcs) (sym (arcs_more declared row good joined)) whole)
 
 -- ---- names
 
--- where no item passes, the item at each place fails
+-- if no item passes, the item at each place fails
 absent : (names : List (List ℕ)) (name : List ℕ) → is_among names name ≡ false → (k : ℕ) (d : List ℕ) → k < length names → same_name (get_or names k d) name ≡ false
 absent names name none k d within = elim (cases_Bool (same_name name (get_or names k d))) [
   | inl same ↦ cc (sym none ∙ list_any_at (same_name name) names k d within same)
@@ -230,34 +283,36 @@ distinct_same names apart = subst AreDistinct (sym (append-nil names)) apart
 
 nodes_distinct : (declared : List Declared) (row : Declared) → IsFine declared row → AreDistinct (node_names declared) → AreDistinct (node_names declared ++ filter_map node_name (row ∷ []))
 nodes_distinct declared (UnitRow name) good apart = distinct_push (node_names declared) name apart (free declared name good.new).node
-nodes_distinct declared (Tank name base) good apart = distinct_push (node_names declared) name apart (free declared name good.new).node
+nodes_distinct declared (Tank name base service) good apart = distinct_push (node_names declared) name apart (free declared name good.new).node
 nodes_distinct declared row good apart = distinct_same (node_names declared) apart
 
 arcs_distinct : (declared : List Declared) (row : Declared) → IsFine declared row → AreDistinct (filter_map arc_name declared)
     → AreDistinct (filter_map arc_name declared ++ filter_map arc_name (row ∷ []))
-arcs_distinct declared (Tank name base) good apart = distinct_push (filter_map arc_name declared) name apart (free declared name good.new).arcs
-arcs_distinct declared (Stream name from to kind base) good apart = distinct_push (filter_map arc_name declared) name apart (free declared name good.new).arcs
+arcs_distinct declared (Tank name base service) good apart = distinct_push (filter_map arc_name declared) name apart (free declared name good.new).arcs
+arcs_distinct declared (Stream name from to kind base service) good apart = distinct_push (filter_map arc_name declared) name apart (free declared name good.new).arcs
 arcs_distinct declared row good apart = distinct_same (filter_map arc_name declared) apart
 
 -- a name that isn't taken is new among all
-new_name : (declared : List Declared) (name : List ℕ) → is_among (filter_map node_name declared) name ≡ false → is_among (filter_map arc_name declared) name ≡ false → same_name name (codes "env") ≡ false
-    → is_among (codes "env" ∷ filter_map declared_name declared) name ≡ false
-new_name declared name nodes arcs env = rw (env) (no_name declared name nodes arcs)
+new_name : (declared : List Declared) (name : List ℕ) → is_taken declared name ≡ false → is_among (codes "env" ∷ filter_map declared_name declared) name ≡ false
+new_name declared name untaken =
+    let is_free = free declared name untaken in
+    rw (is_free.env) (no_name declared name is_free.nodes is_free.boundary is_free.arcs)
 
 all_distinct : (declared : List Declared) (row : Declared) → IsFine declared row → AreDistinct (codes "env" ∷ filter_map declared_name declared)
     → AreDistinct ((codes "env" ∷ filter_map declared_name declared) ++ filter_map declared_name (row ∷ []))
-all_distinct declared (UnitRow name) good apart = let new = free declared name good.new in distinct_push (codes "env" ∷ filter_map declared_name declared) name apart (new_name declared name new.nodes new.arcs new.env)
-all_distinct declared (Tank name base) good apart = let new = free declared name good.new in distinct_push (codes "env" ∷ filter_map declared_name declared) name apart (new_name declared name new.nodes new.arcs new.env)
-all_distinct declared (Stream name from to kind base) good apart = let new = free declared name good.new in distinct_push (codes "env" ∷ filter_map declared_name declared) name apart (new_name declared name new.nodes new.arcs new.env)
+all_distinct declared (UnitRow name) good apart = distinct_push (codes "env" ∷ filter_map declared_name declared) name apart (new_name declared name good.new)
+all_distinct declared (Boundary name) good apart = distinct_push (codes "env" ∷ filter_map declared_name declared) name apart (new_name declared name good.new)
+all_distinct declared (Tank name base service) good apart = distinct_push (codes "env" ∷ filter_map declared_name declared) name apart (new_name declared name good.new)
+all_distinct declared (Stream name from to kind base service) good apart = distinct_push (codes "env" ∷ filter_map declared_name declared) name apart (new_name declared name good.new)
 all_distinct declared row good apart = distinct_same (codes "env" ∷ filter_map declared_name declared) apart
 
 distinct_more : (declared : List Declared) (row : Declared) → IsFine declared row → HasDistinctNames declared → HasDistinctNames (declared ++ row ∷ [])
 distinct_more declared row good apart =
     let last = row ∷ [] in
-    let arcs = subst AreDistinct (arc_names-are (node_names declared) declared) apart.arcs in
+    let arcs = subst AreDistinct (arc_names_of declared) apart.arcs in
     record {
       nodes = subst AreDistinct (sym (nodes_more declared row)) (nodes_distinct declared row good apart.nodes);
-      arcs = subst AreDistinct (sym (arc_names-are (node_names (declared ++ last)) (declared ++ last) ∙ filter_map-append arc_name declared last)) (arcs_distinct declared row good arcs);
+      arcs = subst AreDistinct (sym (arc_names_of (declared ++ last) ∙ filter_map-append arc_name declared last)) (arcs_distinct declared row good arcs);
       all = subst AreDistinct (sym (ap (λ (names : List (List ℕ)). codes "env" ∷ names) (filter_map-append declared_name declared last))) (all_distinct declared row good apart.all);
     }
 
@@ -265,28 +320,37 @@ distinct_more declared row good apart =
 
 plant_more : (declared : List Declared) (row : Declared) → IsPlant declared → IsFine declared row → IsInRange row → IsPlant (declared ++ row ∷ [])
 plant_more declared row plant good ranges =
-    let more = filter_map node_name (row ∷ []) in
-    let arcs = filter_map (arc_in (node_names declared ++ more)) (row ∷ []) in
+    let more = filter_map boundary_name (row ∷ []) in
+    let others = filter_map node_name (row ∷ []) in
+    let arcs = new_arcs declared row in
+    let room = room_arcs declared row (boundary_names declared ++ more) (node_names declared ++ others) good plant.few_arcs in
     record {
       ranges = All-append IsInRange declared (row ∷ []) plant.ranges (All-cons IsInRange row [] ranges (All-nil IsInRange));
       distinct = distinct_more declared row good plant.distinct;
       joined = joined_more declared row good ranges plant.joined;
       few_nodes = subst (λ (names : List (List ℕ)). length names ≤ most_nodes) (sym (nodes_more declared row))
-          (subst (λ (n : ℕ). n ≤ most_nodes) (sym (length-append (node_names declared) more)) (room_nodes declared row good plant.few_nodes));
-      few_arcs = subst (λ (all : List Arc). length all ≤ most_streams) (sym (arcs_more declared row plant.joined))
-          (subst (λ (n : ℕ). n ≤ most_streams) (sym (length-append (arcs_of declared) arcs)) (room_arcs declared row (node_names declared ++ more) good plant.few_arcs));
+          (subst (λ (n : ℕ). n ≤ most_nodes) (sym (length-append (node_names declared) others)) (room_nodes declared row good plant.few_nodes));
+      few_boundaries = subst (λ (names : List (List ℕ)). length names ≤ most_boundaries) (sym (boundaries_more declared row))
+          (subst (λ (n : ℕ). n ≤ most_boundaries) (sym (length-append (boundary_names declared) more)) (room_boundaries declared row good plant.few_boundaries));
+      few_arcs = subst (λ (all : List Arc). length all ≤ most_streams) (sym (arcs_more declared row good plant.joined))
+          (subst (λ (n : ℕ). n ≤ most_streams) (sym (length-append (arcs_of declared) arcs)) room);
+      version = once_more declared row good plant.version;
     }
 
 pub kept_more : (declared : List Declared) (old new : Index) (row : Declared) → IsKept declared old → Notes old new row → IsFine declared row → IsInRange row → IsKept (declared ++ row ∷ []) new
 kept_more declared old new row kept notes good ranges =
     let last = row ∷ [] in
+    let boundaries : new.boundaries.keys ≡ boundary_names declared ++ filter_map boundary_name last = notes.boundaries ∙ ap (λ (names : List (List ℕ)). names ++ filter_map boundary_name last) kept.boundaries in
     let nodes : new.nodes.keys ≡ filter_map node_name (declared ++ last) = notes.nodes ∙ ap (λ (names : List (List ℕ)). names ++ filter_map node_name last) kept.nodes ∙ sym (filter_map-append node_name declared last) in
     let in_new : nodes_in new ≡ node_names declared ++ filter_map node_name last = ap (λ (names : List (List ℕ)). codes "env" ∷ names) nodes ∙ nodes_more declared row in
     record {
+      version = notes.version ∙ ap (version_with row) kept.version ∙ sym (version_more declared row good);
+      boundaries = boundaries ∙ sym (boundaries_more declared row);
       nodes = nodes;
-      arc_names = notes.arc_names ∙ ap (λ (names : List (List ℕ)). names ++ filter_map arc_name last) (kept.arc_names ∙ arc_names-are (node_names declared) declared)
-          ∙ sym (filter_map-append arc_name declared last) ∙ sym (arc_names-are (node_names (declared ++ last)) (declared ++ last));
-      arcs = notes.arcs ∙ ap₂ (λ (arcs : List Arc) (names : List (List ℕ)). arcs ++ filter_map (arc_in names) last) kept.arcs in_new ∙ sym (arcs_more declared row kept.plant.joined);
+      arc_names = notes.arc_names ∙ ap (λ (names : List (List ℕ)). names ++ filter_map arc_name last) (kept.arc_names ∙ arc_names_of declared)
+          ∙ sym (filter_map-append arc_name declared last) ∙ sym (arc_names_of (declared ++ last));
+      arcs = notes.arcs ∙ ap (λ (arcs : List Arc). arcs ++ filter_map (arc_in new.boundaries.keys (nodes_in new)) last) kept.arcs
+          ∙ ap₂ (λ (b n : List (List ℕ)). arcs_of declared ++ filter_map (arc_in b n) last) boundaries in_new ∙ sym (arcs_more declared row good kept.plant.joined);
       straps = λ name. notes.straps name ∙ ap (table_with row name) (kept.straps name) ∙ sym (table_more declared row name good kept.no_points);
       global = λ dof. notes.global dof ∙ ap (value_with (global_value dof row)) (kept.global dof) ∙ sym (value_more (global_value dof) declared row (fresh_global declared row dof good));
       nodal = notes.nodal ∙ ap (value_with (nodal_value row)) kept.nodal ∙ sym (value_more nodal_value declared row (fresh_nodal declared row good));
@@ -295,11 +359,19 @@ kept_more declared old new row kept notes good ranges =
       no_points = λ name undeclared. none_more declared row name good kept.no_points undeclared;
     }
 
--- ---- the law of the plant
+-- ---- laws of the plant
 
 pub plant_law : PlantLaw
 plant_law = (
-  record { ranges = All-nil IsInRange; distinct = record { nodes = one (codes "env"); arcs = none; all = one (codes "env") }; joined = All-nil (IsArc 1); few_nodes = omega arith; few_arcs = omega arith },
+  record {
+    ranges = All-nil IsInRange;
+    distinct = record { nodes = one (codes "env"); arcs = none; all = one (codes "env") };
+    joined = All-nil (IsArc 1);
+    few_nodes = omega arith;
+    few_boundaries = omega arith;
+    few_arcs = omega arith;
+    version = All-nil (λ (row : Declared). says_version_2 row ≡ false);
+  },
   λ declared row plant ranges no_fault. plant_more declared row plant (fine declared row no_fault) ranges,
 )
   where
@@ -308,3 +380,14 @@ plant_law = (
 
     one : (name : List ℕ) → AreDistinct (name ∷ [])
     one name = λ i j d before within. absurd (omega (arith, before, within))
+
+pub growth_law : GrowthLaw
+growth_law declared row plant no_fault =
+    let good = fine declared row no_fault in
+    let last = row ∷ [] in
+    record {
+      nodes = nodes_more declared row;
+      arcs = arcs_more declared row good plant.joined
+          ∙ ap₂ (λ (b n : List (List ℕ)). arcs_of declared ++ filter_map (arc_in b n) last) (sym (boundaries_more declared row)) (sym (nodes_more declared row));
+      version = version_stays declared row;
+    }

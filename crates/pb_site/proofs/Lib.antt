@@ -1,3 +1,5 @@
+mod DaysLemmas
 mod FaultLemmas
 mod KeptLemmas
 mod LookUpLemmas
+mod PartLemmas

@@ -1,10 +1,11 @@
 -- Nodes, arcs and tables, as they are looked up.
-use Rattle.std.specs.Prelude.{◌||◌, find, filter_map, map, option_and_then, position}
+use Rattle.std.specs.Prelude.{◌||◌, find, filter_map, if◌then◌else◌, map, option_and_then, position}
 use Rattle.std.specs.List.{list_any, position_or_len}
-use Rattle.std.specs.Option.{IsSome, option_map}
+use Rattle.std.specs.Option.{IsSome}
 use Rattle.std.proofs.Common.{◌≡◌, ◌≢◌, ◌∙◌, ℕ, zero, suc, ◌<◌, List, [], ◌∷◌, ◌++◌, length, get_or, slice_get, Bool, true, false, true≢false, Option, Some, None, codes, refl, sym, ap, subst, arith, inl, inr, length-append}
 use Rattle.std.proofs.lemmas.Bool.{cases_Bool, lt-ltb, or_parts}
 use Rattle.std.proofs.lemmas.List.{get_or-map, length-map}
+use Rattle.std.proofs.lemmas.List.Folds.{list_any-append}
 use Rattle.std.proofs.lemmas.List.Quantifiers.{position-Some}
 use Rattle.std.proofs.lemmas.Option.{slice_get-get_or}
 use Rattle.pb_rows.specs.Name.{same_name}
@@ -17,10 +18,9 @@ use Rattle.pb_site.specs.declared.declared.ArcKind.TheVariants.{Tank as TankArc}
 use Rattle.pb_site.specs.declared.declared.Declared.{Declared}
 use Rattle.pb_site.specs.declared.declared.Declared.TheVariants.{Tank, Stream}
 use Rattle.pb_site.specs.declared.index.Index.{Index}
-use Rattle.pb_site.specs.Row.{arc_in, arc_kind, node_at}
-use Rattle.pb_site.specs.Site.{IsArc, arcs_of, is_tank, node_names, points_of, table_of, table_of_arc, table_of_kind}
-use Rattle.pb_site.specs.Faults.{is_among}
-use Rattle.pb_site.specs.Kept.{IsKept}
+use Rattle.pb_site.specs.Row.{arc_in, arc_kind, is_among, node_at}
+use Rattle.pb_site.specs.Site.{IsArc, arcs_of, boundary_names, is_tank, node_names, points_of, table_of, table_of_arc, table_of_kind}
+use Rattle.pb_site.specs.Kept.{IsKept, has_node, node_by, nodes_in}
 use Rattle.pb_site.proofs.FaultLemmas.{same_self}
 
 -- ---- places of names
@@ -33,7 +33,15 @@ any_place test (x ∷ xs) some = elim (cases_Bool (test x)) [
   | inr later ↦ let rest = any_place test xs (rw later at some) in rw later (omega (arith, rest))
 ]
 
--- which it keeps where more names come behind
+-- and a name that has a place is among them
+pub place_any : {A : Type 0} (test : A → Bool) (xs : List A) → position_or_len test xs < length xs → list_any test xs ≡ true
+place_any test [] within = absurd (omega (arith, within))
+place_any test (x ∷ xs) within = elim (cases_Bool (test x)) [
+  | inl here ↦ rw here refl
+  | inr later ↦ rw later (place_any test xs (omega (arith, rw later at within)))
+]
+
+-- which it keeps if more names come after them
 pub place_more : {A : Type 0} (test : A → Bool) (xs more : List A) → position_or_len test xs < length xs → position_or_len test (xs ++ more) ≡ position_or_len test xs
 place_more test [] more within = absurd (omega (arith, within))
 place_more test (x ∷ xs) more within = elim (cases_Bool (test x)) [
@@ -41,37 +49,67 @@ place_more test (x ∷ xs) more within = elim (cases_Bool (test x)) [
   | inr later ↦ let rest = place_more test xs more (omega (arith, rw later at within)) in rw (later, rest) refl
 ]
 
--- the place of a new name behind the others
-pub place_last : (names : List (List ℕ)) (name : List ℕ) → is_among names name ≡ false → node_at (names ++ name ∷ []) name ≡ length names
+-- the place of a new name after the others
+pub place_last : (names : List (List ℕ)) (name : List ℕ) → is_among names name ≡ false → position_or_len (same_name name) (names ++ name ∷ []) ≡ length names
 place_last [] name absent = rw (same_self name) refl
 place_last (n ∷ names) name absent =
     let parts = or_parts (same_name name n) (is_among names name) absent in
     let rest = place_last names name parts.1 in
     rw (parts.0, rest) (omega arith)
 
--- the node of a tank that is declared last
-pub last_node : (keys names : List (List ℕ)) (name : List ℕ) → names ≡ keys ++ name ∷ [] → is_among (codes "env" ∷ keys) name ≡ false → length names ≡ node_at (codes "env" ∷ names) name
-last_node keys names name grown absent =
-    let at = place_last (codes "env" ∷ keys) name absent in
-    let long = length-append keys (name ∷ []) in
-    rw grown (omega (arith, at, long))
-
-pub place_is : (names : List (List ℕ)) (name : List ℕ) → is_among names name ≡ true → position (same_name name) names ≡ Some (node_at names name)
+pub place_is : (names : List (List ℕ)) (name : List ℕ) → is_among names name ≡ true → position (same_name name) names ≡ Some (position_or_len (same_name name) names)
 place_is names name there =
     let within = any_place (same_name name) names there in
     rw (lt-ltb (position_or_len (same_name name) names) (length names) within) refl
 
-pub some_place : (names : List (List ℕ)) (name : List ℕ) (place : Option ℕ) → place ≡ position (same_name name) names → is_among names name ≡ true → IsSome place
-some_place names name place is there = rw (is, place_is names name there) refl
+-- ---- nodes of names
 
-abbrev number_in : Option ℕ → ℕ
-number_in None = 0
-number_in (Some n) = n
+-- the node of a new name after the others
+pub node_last : (boundaries names : List (List ℕ)) (name : List ℕ) → is_among boundaries name ≡ false → is_among names name ≡ false
+    → node_at boundaries (names ++ name ∷ []) name ≡ length names
+node_last boundaries names name inside absent = rw inside (place_last names name absent)
 
--- what `unwrap` gives of a place is the place
-pub the_place : (names : List (List ℕ)) (name : List ℕ) (place : Option ℕ) (node : ℕ) → place ≡ position (same_name name) names → is_among names name ≡ true → place ≡ Some node
-    → node ≡ node_at names name
-the_place names name place node is there found = ap number_in (sym found ∙ is ∙ place_is names name there)
+-- the node of a tank that is declared last
+pub last_node : (boundaries keys names : List (List ℕ)) (name : List ℕ) → names ≡ keys ++ name ∷ []
+    → (is_among boundaries name || is_among (codes "env" ∷ keys) name) ≡ false → length names ≡ node_at boundaries (codes "env" ∷ names) name
+last_node boundaries keys names name grown absent =
+    let parts = or_parts (is_among boundaries name) (is_among (codes "env" ∷ keys) name) absent in
+    let at = node_last boundaries (codes "env" ∷ keys) name parts.0 parts.1 in
+    let long = length-append keys (name ∷ []) in
+    rw grown (omega (arith, at, long))
+
+-- a name that is among them has its node
+pub node_is : (boundaries names : List (List ℕ)) (name : List ℕ) → (is_among boundaries name || is_among names name) ≡ true
+    → (if is_among boundaries name then Some 0 else position (same_name name) names) ≡ Some (node_at boundaries names name)
+node_is boundaries names name there = elim (cases_Bool (is_among boundaries name)) [
+  | inl outside ↦ rw outside refl
+  | inr inside ↦ rw inside (place_is names name (rw inside at there))
+]
+
+-- which is one of them
+pub node_within : (boundaries names : List (List ℕ)) (name : List ℕ) → 0 < length names → (is_among boundaries name || is_among names name) ≡ true
+    → node_at boundaries names name < length names
+node_within boundaries names name some there = elim (cases_Bool (is_among boundaries name)) [
+  | inl outside ↦ rw outside some
+  | inr inside ↦ rw inside (any_place (same_name name) names (rw inside at there))
+]
+
+-- and stays it if there are more, of which no boundary has the name of a node
+pub node_stays : (boundaries more names others : List (List ℕ)) (name : List ℕ) → node_at boundaries names name < length names
+    → (is_among more name ≡ true → is_among names name ≡ false) → node_at (boundaries ++ more) (names ++ others) name ≡ node_at boundaries names name
+node_stays boundaries more names others name within apart = elim (cases_Bool (is_among boundaries name)) [
+  | inl outside ↦ rw (list_any-append (same_name name) boundaries more, outside) refl
+  | inr inside ↦
+      let here : position_or_len (same_name name) names < length names = rw inside at within in
+      let there : is_among names name ≡ true = place_any (same_name name) names here in
+      elim (cases_Bool (is_among more name)) [
+        | inl new ↦ absurd (true≢false (sym there ∙ apart new))
+        | inr old ↦ rw (list_any-append (same_name name) boundaries more, inside, old) (place_more (same_name name) names others here)
+      ]
+]
+
+pub some_node : (index : Index) (name : List ℕ) (found : Option ℕ) → found ≡ node_by index name → has_node index name ≡ true → IsSome found
+some_node index name found is there = rw (is, node_is index.boundaries.keys (nodes_in index) name there) refl
 
 -- ---- tables
 
@@ -105,14 +143,14 @@ not_tank Batch = λ e. cc e
 not_tank Plain = λ e. cc e
 
 -- an arc of the kind of a tank is a declared tank's
-pub tank_arc : (nodes : List (List ℕ)) (declared : List Declared) (j : ℕ) (arc : Arc) → slice_get (filter_map (arc_in nodes) declared) j ≡ Some arc → arc.kind ≡ TankArc
+pub tank_arc : (boundaries nodes : List (List ℕ)) (declared : List Declared) (j : ℕ) (arc : Arc) → slice_get (filter_map (arc_in boundaries nodes) declared) j ≡ Some arc → arc.kind ≡ TankArc
     → is_tank declared arc.name ≡ true
-tank_arc nodes [] j arc at is = cc at
-tank_arc nodes (Tank name base ∷ declared) zero arc at is = let e : name ≡ arc.name = ap name_in at in rw (e, same_self arc.name) refl
-tank_arc nodes (Tank name base ∷ declared) (suc j) arc at is = rw (tank_arc nodes declared j arc at is) (or_true (same_name name arc.name))
-tank_arc nodes (Stream name from to kind base ∷ declared) zero arc at is = absurd (not_tank kind (ap kind_in at ∙ is))
-tank_arc nodes (Stream name from to kind base ∷ declared) (suc j) arc at is = tank_arc nodes declared j arc at is
-tank_arc nodes (row ∷ declared) j arc at is = tank_arc nodes declared j arc at is
+tank_arc boundaries nodes [] j arc at is = cc at
+tank_arc boundaries nodes (Tank name base service ∷ declared) zero arc at is = let e : name ≡ arc.name = ap name_in at in rw (e, same_self arc.name) refl
+tank_arc boundaries nodes (Tank name base service ∷ declared) (suc j) arc at is = rw (tank_arc boundaries nodes declared j arc at is) (or_true (same_name name arc.name))
+tank_arc boundaries nodes (Stream name from to kind base service ∷ declared) zero arc at is = absurd (not_tank kind (ap kind_in at ∙ is))
+tank_arc boundaries nodes (Stream name from to kind base service ∷ declared) (suc j) arc at is = tank_arc boundaries nodes declared j arc at is
+tank_arc boundaries nodes (row ∷ declared) j arc at is = tank_arc boundaries nodes declared j arc at is
 
 -- ---- arcs
 
@@ -143,7 +181,7 @@ no_table declared j arc at other = rw (at.here) (by arc.kind other)
 pub arc_table : (declared : List Declared) (j : ℕ) (arc : Arc) (table : Option (List Point)) → IsAt declared j arc → arc.kind ≡ TankArc
     → table ≡ table_of declared arc.name → table ≡ option_and_then (table_of_arc declared) (slice_get (arcs_of declared) j)
 arc_table declared j arc table at tank is =
-    let known = tank_arc (node_names declared) declared j arc at.here tank in
+    let known = tank_arc (boundary_names declared) (node_names declared) declared j arc at.here tank in
     rw (at.here, tank) (is ∙ (rw known refl))
 
 -- ---- the kind of the arc of a name
@@ -157,26 +195,25 @@ find_at test (x ∷ xs) (suc i) d within before here =
     let rest = find_at test xs i d (omega (arith, within)) (λ k lt. before (suc k) (omega (arith, lt))) here in
     rw not_first rest
 
--- the kind of the arc at the place of its name
-pub kind_at : (arcs : List Arc) (name : List ℕ) (i : ℕ) (d : Arc) → position (same_name name) (map (λ (arc : Arc). arc.name) arcs) ≡ Some i
-    → Some (get_or arcs i d).kind ≡ option_map (λ (arc : Arc). arc.kind) (find (λ (arc : Arc). same_name name arc.name) arcs)
-kind_at arcs name i d at =
+-- the arc at the place of its name
+pub arc_at : (arcs : List Arc) (name : List ℕ) (i : ℕ) (d : Arc) → position (same_name name) (map (λ (arc : Arc). arc.name) arcs) ≡ Some i
+    → Some (get_or arcs i d) ≡ find (λ (arc : Arc). same_name name arc.name) arcs
+arc_at arcs name i d at =
     let named = λ (arc : Arc). arc.name in
     let place = position-Some (same_name name) (map named arcs) i d.name at in
     let within : i < length arcs = rw (length-map arcs named) at place.0 in
-    let found = find_at (λ (arc : Arc). same_name name arc.name) arcs i d within
+    sym (find_at (λ (arc : Arc). same_name name arc.name) arcs i d within
     (λ k lt. ap (same_name name) (sym (get_or-map named arcs k d d.name (omega (arith, lt, within)))) ∙ place.2 k lt)
-    (ap (same_name name) (sym (get_or-map named arcs i d d.name within)) ∙ place.1) in
-    sym (ap (λ (o : Option Arc). option_map (λ (arc : Arc). arc.kind) o) found)
+    (ap (same_name name) (sym (get_or-map named arcs i d d.name within)) ∙ place.1))
 
 -- and its place is one of the arcs'
-pub kind_within : (arcs : List Arc) (name : List ℕ) (i : ℕ) → position (same_name name) (map (λ (arc : Arc). arc.name) arcs) ≡ Some i → i < length arcs
-kind_within arcs name i at = let place = position-Some (same_name name) (map (λ (arc : Arc). arc.name) arcs) i [] at in rw (length-map arcs (λ (arc : Arc). arc.name)) at place.0
+pub arc_within : (arcs : List Arc) (name : List ℕ) (i : ℕ) → position (same_name name) (map (λ (arc : Arc). arc.name) arcs) ≡ Some i → i < length arcs
+arc_within arcs name i at = let place = position-Some (same_name name) (map (λ (arc : Arc). arc.name) arcs) i [] at in rw (length-map arcs (λ (arc : Arc). arc.name)) at place.0
 
--- no arc has the name where it has no place
-pub no_kind : (arcs : List Arc) (name : List ℕ) → None ≡ position (same_name name) (map (λ (arc : Arc). arc.name) arcs)
-    → None ≡ option_map (λ (arc : Arc). arc.kind) (find (λ (arc : Arc). same_name name arc.name) arcs)
-no_kind arcs name none = sym (ap (λ (o : Option Arc). option_map (λ (arc : Arc). arc.kind) o) (by arcs (absent (map (λ (arc : Arc). arc.name) arcs) none)))
+-- no arc has the name if it has no place
+pub no_arc : (arcs : List Arc) (name : List ℕ) → None ≡ position (same_name name) (map (λ (arc : Arc). arc.name) arcs)
+    → None ≡ find (λ (arc : Arc). same_name name arc.name) arcs
+no_arc arcs name none = sym (by arcs (absent (map (λ (arc : Arc). arc.name) arcs) none))
   where
     absent : (names : List (List ℕ)) → None ≡ position (same_name name) names → is_among names name ≡ false
     absent names none = elim (cases_Bool (is_among names name)) [

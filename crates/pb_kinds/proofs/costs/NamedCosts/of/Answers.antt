@@ -6,12 +6,12 @@ use Rattle.pb_kinds.proofs.costs.NamedCosts.of.Goals as goal
 
 pub skip-pairs-requires : goal.skip-pairs-requires
 skip-pairs-requires c =
-    let some = (advise_read c.args.row.now c.requires).0 in
+    let some = (advise_read c.requires.version c.args.row.now c.requires.asks).0 in
     omega (arith, some, ap length c.filled.ensures)
 
 pub invariant_of-result : goal.invariant_of-result
 invariant_of-result c =
-    let tail = (advise_read c.args.row.now c.requires).1 in
+    let tail = (advise_read c.requires.version c.args.row.now c.requires.asks).1 in
     record {
       values = tail.0;
       read = ap pairs_read (c.skip-pairs.ensures ∙ ap (drop 1) c.filled.ensures) ∙ after_word (without_trailing_empty c.args.row.now) ∙ tail.1;

@@ -9,10 +9,12 @@ use Rattle.pb_book.specs.declared.answer.Accepted.TheVariants.{Advise}
 use Rattle.pb_kinds.specs.Costs.{named_costs}
 use Rattle.pb_book.specs.Answer.{Answer, Refused, Says, after, after_answer, answer_of, is_refused, said_of}
 use Rattle.pb_session.specs.declared.kept.KeptStudy.{KeptStudy}
+use Rattle.pb_session.specs.Closed.{LeavesClosed}
 use Rattle.pb_session.specs.Keeping.{IsKeeping, IsKeptStudy, held_of, left_by}
 use Rattle.pb_session.specs.Kept.{Held, Keeps, KeepsAccepted, KeepsBy, most_kept, reported_after}
 use Rattle.pb_session.specs.Session.{AddsBy, Adds, SessionState, state_after}
 use Rattle.pb_session.proofs.KeepingLemmas.{keeps_by, left_few, left_kept, left_other, reported_still, said, said_ok, state_with}
+use Rattle.pb_session.proofs.ClosedLemmas.{leaves_closed, none_joined}
 use Rattle.pb_session.proofs.KeptLemmas.{periods_in}
 use Rattle.pb_session.proofs.RowLemmas.{accepted_adds, accepted_is, advice_is, answers, of_periods, refused_is, unchanged_by}
 use Rattle.pb_session.proofs.session.Session.row.Goals as goal
@@ -57,7 +59,7 @@ invariant_of-self c =
     let answer = answer_of state.rows c.args.row.now in
     let left = c.drop_touched.ensures in
     let studies = left_kept c.untouched_law.ensures state rows c.args.at answer accepted kept said_is (said state.rows c.args.row.now) (c.accept.ensures.stored sure)
-    (λ stored. c.accept.ensures.no_repeats (c.in-Ok.is ∙ ap (λ (a : Accepted). said_ok a) stored)) c.self.invariant.studies in
+    (λ stored. (c.accept.ensures.accepted, c.accept.ensures.no_repeats (c.in-Ok.is ∙ ap (λ (a : Accepted). said_ok a) stored))) c.self.invariant.studies in
     record {
       options = c.self.invariant.options;
       studies = subst (AllByRecursion (IsKeptStudy (state_with state rows))) (sym left) studies;
@@ -134,6 +136,14 @@ returns-in_ok-write-in-Ok-clause-kept c =
     keeps_by state rows c.args.at answer accepted kept after said_is (said state.rows c.args.row.now) (c.accept.ensures.stored sure) keeps in
     subst (λ (h : Held). Keeps h.state h.kept c.args.at c.args.row.now after) c.self.view_is here
 
+pub returns-in_ok-write-in-Ok-clause-closed : goal.returns-in_ok-write-in-Ok-clause-closed
+returns-in_ok-write-in-Ok-clause-closed c =
+    let state : SessionState = record { options = c.self.inside.options; form = c.self.inside.form; rows = c.self.inside.book } in
+    let at = c.args.at in
+    let rows_is : c.write.new.self.state.rows ≡ c.accept.new.self = ap (λ (s : SessionState). s.rows) c.in_ok-write-in-Ok.ensures.state in
+    let here = leaves_closed c.closed_graphs_law.ensures state.rows c.accept.new.self at c.accept.ensures.accepted in
+    subst (λ (h : Held). LeavesClosed h.state.rows at c.write.new.self.state.rows) c.self.view_is (subst (LeavesClosed state.rows at) (sym rows_is) here)
+
 pub returns-in_ok-write-in-Ok-clause-reported : goal.returns-in_ok-write-in-Ok-clause-reported
 returns-in_ok-write-in-Ok-clause-reported c =
     let state : SessionState = record { options = c.self.inside.options; form = c.self.inside.form; rows = c.self.inside.book } in
@@ -170,6 +180,8 @@ returns-in_ok-refuse-in-Err-Refused c =
       stored = subst (λ (h : Held). new.state ≡ state_after h.state c.args.at c.args.row.now) c.self.view_is stored;
       kept = subst (λ (h : Held). Keeps h.state h.kept c.args.at c.args.row.now new.kept) c.self.view_is keeps;
       reported = subst (λ (h : Held). new.reported ≡ reported_after h.state h.reported (answer_of h.state.rows c.args.row.now)) c.self.view_is reports;
+      closed = subst (λ (h : Held). LeavesClosed h.state.rows c.args.at c.accept.new.self) c.self.view_is
+          (none_joined state.rows c.accept.new.self c.args.at (rows_stay ∙ ap (after_answer state.rows c.args.at) answer_is));
       err = tt;
       err_out = tt;
     }
