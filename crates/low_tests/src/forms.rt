@@ -2,7 +2,7 @@
 
 use pb_form::{
     Column, Fields, FormFault, Holds, OutputKind, Schema, SessionKind, Value, output_schema, read,
-    read_columns, session_kind, session_schema, write, write_json,
+    read_columns, kind_of_version_1, session_schema, write, write_json,
 };
 use pb_rows::{Name, Records, Row};
 use std::alloc::{AllocError, Global};
@@ -43,7 +43,7 @@ fn tells_kinds(rt: HostRuntime) -> Result<(), Fail> {
     for (line, kind) in table {
         let row = record_of(rt.alloc(), line)?;
         assert_eq!(rt;
-            session_kind(&Fields::filled(&row)),
+            kind_of_version_1(&Fields::filled(&row)),
             kind,
             "the kind of {line:?}"
         );

@@ -13,13 +13,15 @@ use Rattle.pb_form.specs.declared.fault.FormFault.{FormFault}
 use Rattle.pb_kinds.specs.declared.rows.Request.{Request}
 use Rattle.pb_kinds.specs.declared.rows.Request.TheVariants as asked
 use Rattle.pb_book.specs.Accepted.{AreAccepted, IsAcceptable}
-use Rattle.pb_book.specs.Answer.{after, after_answer, answer_if, history_or_refused, report_or_refused, stored_or_refused}
+use Rattle.pb_book.specs.Answer.{advise_or_refused, after, after_answer, answer_if, history_or_refused, report_or_refused, stored_or_refused}
+use Rattle.pb_kinds.specs.Costs.{named_costs}
 use Rattle.pb_kinds.specs.Laws.{StoredLaw}
+use Rattle.pb_book.specs.Costs.{refusal_of_costs}
 use Rattle.pb_kinds.specs.Ranges.{IsEffectInRange}
 use Rattle.pb_book.specs.Refusals.{refusal_of}
 use Rattle.pb_kinds.specs.Requests.{request_in}
 use Rattle.pb_book.specs.declared.rows.StoredRow.{StoredRow}
-use Rattle.pb_book.specs.Rows.{period_place}
+use Rattle.pb_book.specs.Rows.{declared_of, period_place}
 
 the_same : {X : Type 0} (a b : X) → Some a ≡ Some b → a ≡ b
 the_same a b is = ap (λ o. Rattle.std.specs.Prelude.unwrap_or o a) is
@@ -60,13 +62,18 @@ accepted_after law rows at fields right = by (request_in fields) (λ effect is. 
     told (Some place) = right
     told None = right
 
-    by : (request : Result Request FormFault) → ((effect : Effect) → request ≡ Ok (asked.Store effect) → IsEffectInRange effect) → AreAccepted (after_answer rows at (answer_if rows request))
+    advised : (cause : Option Refusal) → AreAccepted (after_answer rows at (advise_or_refused cause))
+    advised (Some cause) = right
+    advised None = right
+
+    by : (request : Result Request FormFault) → ((effect : Effect) → request ≡ Ok (asked.Store effect) → IsEffectInRange effect) → AreAccepted (after_answer rows at (answer_if rows (named_costs fields) request))
     by (Err fault) range = right
     by (Ok asked.Blank) range = right
     by (Ok (asked.Store effect)) range = stored_then effect (range effect refl) (refusal_of rows effect) refl
     by (Ok asked.Design) range = right
     by (Ok (asked.Report name)) range = reported (period_place rows name)
     by (Ok (asked.History name)) range = told (period_place rows name)
+    by (Ok asked.Advise) range = advised (refusal_of_costs (declared_of rows) (named_costs fields))
 
 -- all rows, one behind the other: what holds of no row and stays where one joins the others
 grown : (P : List StoredRow → Type 0) → ((rows : List StoredRow) (stored : StoredRow) → P rows → IsAcceptable rows stored.effect → P (rows ++ stored ∷ []))

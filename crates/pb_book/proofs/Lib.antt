@@ -9,6 +9,7 @@ mod NameLemmas
 mod NamedLemmas
 mod OriginalLemmas
 mod PeriodLemmas
+mod CostLemmas
 mod PlainLemmas
 mod RecordLemmas
 mod TakenOutLemmas

@@ -16,14 +16,16 @@ use Rattle.pb_kinds.specs.declared.rows.Effect.TheVariants.{Declares, Opens, Boo
 use Rattle.pb_kinds.specs.declared.rows.Request.{Request}
 use Rattle.pb_kinds.specs.declared.rows.Request.TheVariants as asked
 use Rattle.pb_kinds.specs.Effects.{declared_names, effect_names}
+use Rattle.pb_kinds.specs.Costs.{named_costs}
 use Rattle.pb_kinds.specs.Laws.{StoredLaw}
 use Rattle.pb_kinds.specs.Ranges.{IsEffectInRange}
 use Rattle.pb_kinds.specs.Requests.{request_in}
 use Rattle.pb_book.specs.declared.answer.Refused.{Refused}
 use Rattle.pb_book.specs.declared.rows.Period.{Period}
 use Rattle.pb_book.specs.declared.rows.StoredRow.{StoredRow}
-use Rattle.pb_book.specs.Answer.{after, after_answer, answer_if, history_or_refused, report_or_refused, stored_or_refused}
+use Rattle.pb_book.specs.Answer.{advise_or_refused, after, after_answer, answer_if, history_or_refused, report_or_refused, stored_or_refused}
 use Rattle.pb_book.specs.Apart.{is_named}
+use Rattle.pb_book.specs.Costs.{refusal_of_costs}
 use Rattle.pb_book.specs.Named.{AreNamed, HaveNames, NamedLaw, RangesLaw}
 use Rattle.pb_book.specs.Refusals.{refusal_of}
 use Rattle.pb_book.specs.Rows.{closed, closed_if_named, open_period, declaration_in, declared_of, period_place, periods_after}
@@ -48,14 +50,19 @@ after_named law rows at fields named = by (request_in fields) (λ effect is. law
     told (Some place) = named
     told None = named
 
+    advised : (cause : Option Refused) → HaveNames (after_answer rows at (advise_or_refused cause))
+    advised (Some cause) = named
+    advised None = named
+
     by : (request : Result Request FormFault) → ((effect : Effect) → request ≡ Ok (asked.Store effect) → list_all is_name (effect_names effect) ≡ true)
-        → HaveNames (after_answer rows at (answer_if rows request))
+        → HaveNames (after_answer rows at (answer_if rows (named_costs fields) request))
     by (Err fault) is = named
     by (Ok asked.Blank) is = named
     by (Ok (asked.Store effect)) is = stored_then effect (is effect refl) (refusal_of rows effect)
     by (Ok asked.Design) is = named
     by (Ok (asked.Report name)) is = reported (period_place rows name)
     by (Ok (asked.History name)) is = told (period_place rows name)
+    by (Ok asked.Advise) is = advised (refusal_of_costs (declared_of rows) (named_costs fields))
 
 -- ---- what follows
 

@@ -2,19 +2,22 @@
 use Rattle.std.specs.Prelude.{ℕ, Bool, true, false, List, Option, Some, None, Result, Ok, Err}
 use Rattle.pb_form.specs.declared.fault.FormFault.{FormFault}
 use Rattle.pb_form.specs.declared.fault.FormFault.TheVariants as fault
+use Rattle.pb_kinds.specs.declared.costs.NamedCost.{NamedCost}
 use Rattle.pb_kinds.specs.declared.rows.Effect.{Effect}
 use Rattle.pb_kinds.specs.declared.rows.Request.{Request}
 use Rattle.pb_kinds.specs.declared.rows.Request.TheVariants as asked
+use Rattle.pb_kinds.specs.Costs.{named_costs}
 use Rattle.pb_kinds.specs.Requests.{request_in}
 use Rattle.pb_book.specs.declared.answer.Accepted.{Accepted}
-use Rattle.pb_book.specs.declared.answer.Accepted.TheVariants.{Blank, Stored as StoredAccepted, Design, Report, History}
+use Rattle.pb_book.specs.declared.answer.Accepted.TheVariants.{Blank, Stored as StoredAccepted, Design, Report, History, Advise}
 use Rattle.pb_book.specs.declared.answer.NotAccepted.{NotAccepted}
 use Rattle.pb_book.specs.declared.answer.NotAccepted.TheVariants.{Refused as NotAcceptedFor}
 use Rattle.pb_book.specs.declared.answer.Refused.{Refused as Refusal}
 use Rattle.pb_book.specs.declared.answer.Refused.TheVariants.{Kind, Fields, BadName, Number, Date, Unknown, Duplicate, Order, Mismatch, Sealed, Closed, Range, Full}
 use Rattle.pb_book.specs.declared.rows.StoredRow.{StoredRow}
+use Rattle.pb_book.specs.Costs.{refusal_of_costs}
 use Rattle.pb_book.specs.Refusals.{refusal_of}
-use Rattle.pb_book.specs.Rows.{period_place, with_row}
+use Rattle.pb_book.specs.Rows.{declared_of, period_place, with_row}
 
 -- the numbers of the causes in the output
 abbrev pub code_of : Refusal → ℕ
@@ -62,22 +65,28 @@ abbrev pub history_or_refused : Option ℕ → Answer
 history_or_refused (Some period) = Says (History period)
 history_or_refused None = Refused Unknown
 
--- the answer to a request
-abbrev pub answer_to : List StoredRow → Request → Answer
-answer_to rows asked.Blank = Says Blank
-answer_to rows (asked.Store effect) = stored_or_refused effect (refusal_of rows effect)
-answer_to rows asked.Design = Says Design
-answer_to rows (asked.Report period) = report_or_refused (period_place rows period)
-answer_to rows (asked.History period) = history_or_refused (period_place rows period)
+-- an advice is at costs that there is no cause to refuse
+abbrev pub advise_or_refused : Option Refusal → Answer
+advise_or_refused (Some cause) = Refused cause
+advise_or_refused None = Says Advise
+
+-- the answer to a request, by the costs that its record names
+abbrev pub answer_to : List StoredRow → List NamedCost → Request → Answer
+answer_to rows costs asked.Blank = Says Blank
+answer_to rows costs (asked.Store effect) = stored_or_refused effect (refusal_of rows effect)
+answer_to rows costs asked.Design = Says Design
+answer_to rows costs (asked.Report period) = report_or_refused (period_place rows period)
+answer_to rows costs (asked.History period) = history_or_refused (period_place rows period)
+answer_to rows costs asked.Advise = advise_or_refused (refusal_of_costs (declared_of rows) costs)
 
 -- the answer to a request, or to a record that has a fault
-abbrev pub answer_if : List StoredRow → Result Request FormFault → Answer
-answer_if rows (Ok request) = answer_to rows request
-answer_if rows (Err fault) = Refused (cause_of fault)
+abbrev pub answer_if : List StoredRow → List NamedCost → Result Request FormFault → Answer
+answer_if rows costs (Ok request) = answer_to rows costs request
+answer_if rows costs (Err fault) = Refused (cause_of fault)
 
 -- The answer to a record, behind these stored rows. Empty fields at its end don't count.
 abbrev pub answer_of : List StoredRow → List (List ℕ) → Answer
-answer_of rows fields = answer_if rows (request_in fields)
+answer_of rows fields = answer_if rows (named_costs fields) (request_in fields)
 
 -- what the book says of an answer
 abbrev pub said_of : Answer → Result Accepted NotAccepted

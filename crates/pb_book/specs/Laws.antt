@@ -1,8 +1,11 @@
 -- Statement. Laws of the book.
-use Rattle.std.specs.Prelude.{ℕ, List, []}
+use Rattle.std.specs.Prelude.{◌≡◌, ℕ, List, [], All}
+use Rattle.pb_kinds.specs.Costs.{IsMeterCost, named_costs}
+use Rattle.pb_book.specs.declared.answer.Accepted.TheVariants.{Advise}
 use Rattle.pb_book.specs.declared.rows.StoredRow.{StoredRow}
 use Rattle.pb_book.specs.Accepted.{AreAccepted, AreConsistent}
-use Rattle.pb_book.specs.Answer.{after}
+use Rattle.pb_book.specs.Answer.{Says, after, answer_of}
+use Rattle.pb_book.specs.Costs.{meter_costs}
 use Rattle.pb_book.specs.Rows.{declared_of, facts_of, periods_of}
 
 -- the rows of a session were accepted, whatever its records; and what follows of that
@@ -12,3 +15,9 @@ pub record AcceptedLaw : Type 0 where
       → AreAccepted (after rows at fields)
   pub consistent : (rows : List StoredRow) → AreAccepted rows
       → AreConsistent (declared_of rows) (facts_of rows) (periods_of rows)
+
+-- Each number that a meter costs by a record that is accepted as one that asks for an advice is what a meter may cost.
+abbrev pub MeterCostsLaw : Type 0
+MeterCostsLaw =
+    (rows : List StoredRow) (fields : List (List ℕ)) → answer_of rows fields ≡ Says Advise
+    → All IsMeterCost (meter_costs (declared_of rows) (named_costs fields))

@@ -6,6 +6,7 @@ pub mod TakenOut
 pub mod Edits
 pub mod Ranges
 pub mod Refusals
+pub mod Costs
 pub mod Answer
 pub mod Accepted
 pub mod Named

@@ -19,6 +19,8 @@ pub enum Accepted {
     Report(u32),
     /// The history of the period at this place is asked for.
     History(u32),
+    /// The cheapest metering of the declared plant is asked for, at the costs that the record names.
+    Advise,
 }
 
 /// Why a record is refused, in the order in which the causes are asked for.
@@ -40,7 +42,7 @@ pub enum Refused {
     Duplicate,
     /// A level or volume that falls, or a first day after the last.
     Order,
-    /// A stream from a node to itself, a fact of another kind, or a day in two periods.
+    /// A stream from a node to itself, a fact of another kind, a cost of a stream that isn't plain, or a day in two periods.
     Mismatch,
     /// A unit, a tank, a point of a table or a stream, once some period is closed.
     Sealed,

@@ -1,15 +1,19 @@
 // The book of accepted rows.
 
-ghost use Rattle.std.specs.Prelude.{◌≡◌, ◌≢◌, ◌<◌, ◌≤◌, [], length, Err, Ok, IfOk, OnOk, OnErr, slice_get, Some, false, true};
+ghost use Rattle.std.specs.Prelude.{◌≡◌, ◌≢◌, ◌<◌, ◌≤◌, [], length, All, Err, Ok, IfOk, OnOk, OnErr, slice_get, Some, false, true};
 ghost use Rattle.pb_limits.specs.Limits.{most_periods};
 ghost use Rattle.pb_facts.specs.Facts.{NoRepeats};
 ghost use Rattle.pb_kinds.specs.declared.rows.Effect.TheVariants.{Books, Closes, Declares, Edits, Opens};
+ghost use Rattle.pb_kinds.specs.declared.rows.Request.TheVariants.{Advise as AskedAdvise};
+ghost use Rattle.pb_kinds.specs.Costs.{IsMeterCost, named_costs};
 ghost use Rattle.pb_kinds.specs.Ranges.{IsEffectInRange, IsRequestInRange};
-ghost use Rattle.pb_book.specs.declared.answer.Accepted.TheVariants.{Stored};
+ghost use Rattle.pb_kinds.specs.Requests.{request_in};
+ghost use Rattle.pb_book.specs.declared.answer.Accepted.TheVariants.{Advise, Stored};
 ghost use Rattle.pb_book.specs.declared.answer.NotAccepted.TheVariants.{NoMemory};
 ghost use Rattle.pb_book.specs.Accepted.{AreAccepted, AreInTables, IsAcceptable};
-ghost use Rattle.pb_book.specs.Answer.{after, after_answer, answer_of, answer_to, said_of, stored_or_refused};
+ghost use Rattle.pb_book.specs.Answer.{Says, advise_or_refused, after, after_answer, answer_of, answer_to, said_of, stored_or_refused};
 ghost use Rattle.pb_book.specs.Apart.{AreApart};
+ghost use Rattle.pb_book.specs.Costs.{meter_costs, refusal_of_costs};
 ghost use Rattle.pb_book.specs.Edits.{edit_touches, edits_of, touches_at};
 ghost use Rattle.pb_book.specs.Plain.{plain_rows};
 ghost use Rattle.pb_book.specs.Ranges.{IsPeriod};
@@ -19,6 +23,7 @@ ghost use Rattle.pb_book.specs.TakenOut.{last_row, takes_out, touched_at, touche
 ghost use Rattle.pb_book.specs.Written.{WriteRows};
 
 use crate::answer::{Accepted, NotAccepted, Refused};
+use crate::costs::{judge_costs, meter_costs};
 use crate::judge::judge;
 use crate::originals::keep_original;
 use crate::periods::Periods;
@@ -27,7 +32,7 @@ use crate::rows::{Edited, Part, Period, Place, StoredRow};
 use crate::shelves::row_at;
 use crate::touching::touches;
 use pb_facts::{Fact, Facts};
-use pb_kinds::{Edit, Effect, Request, read_request};
+use pb_kinds::{Edit, Effect, NamedCosts, Request, read_request};
 use pb_rows::{Name, Reason, Row, Rows};
 use pb_site::{Declared, Site};
 use std::alloc::{AllocError, Global};
@@ -80,7 +85,7 @@ impl Book {
     }
 
     /// Takes the record with the number `at`, counted from 1: it is refused with the first cause that holds, or it joins the
-    /// book, or it asks for a design, a report or a history. After a refusal the book is as it was. After a row was stored no
+    /// book, or it asks for a design, a report, a history or an advice. After a refusal the book is as it was. After a row was stored no
     /// two facts have one id.
     pub fn accept(&mut self, at: u32, row: &Row) -> Result<Accepted, NotAccepted>
         ensures answer { result ≢ Err NoMemory → result ≡ said_of (answer_of self.old row.now) }
@@ -89,7 +94,7 @@ impl Book {
         ensures no_repeats { result ≡ Ok Stored → NoRepeats (facts_of self.new) }
     {
         match read_request(row) {
-            Ok(request) => self.answer(at, &request),
+            Ok(request) => self.answer(at, row, &request),
             Err(fault) => Err(NotAccepted::Refused(Refused::from(fault))),
         }
     }
@@ -186,6 +191,17 @@ impl Book {
         }
     }
 
+    /// What a meter on each stream and tank of the plant costs by a record that is accepted as one that asks for an advice: a plain
+    /// stream costs what the record names, else 1, and any other, which has meters, 0.
+    pub fn costs(&self, alloc: Global, row: &Row) -> Result<Vec<i64>, AllocError>
+        requires { answer_of self.now row.now ≡ Says Advise }
+        ensures value { IfOk result (λ costs.
+            costs.items ≡ meter_costs (declared_of self.now) (named_costs row.now)) }
+        ensures within { IfOk result (λ costs. All IsMeterCost costs.items) }
+    {
+        meter_costs(alloc, self.site(), &NamedCosts::of(row))
+    }
+
     /// The plain rows as records: the declarations, periods and critical values in order, and then the live facts with
     /// their last values. None of them is refused, and a report after them is the one after the book's rows. Refused
     /// alone when out of memory.
@@ -219,11 +235,13 @@ impl Book {
     }
 
     // Answers what a record asks.
-    fn answer(&mut self, at: u32, request: &Request) -> Result<Accepted, NotAccepted>
-        requires { IsRequestInRange request.now }
-        ensures answer { result ≢ Err NoMemory → result ≡ said_of (answer_to self.old request.now) }
-        ensures stored { result ≢ Err NoMemory
-            → self.new ≡ after_answer self.old at (answer_to self.old request.now) }
+    fn answer(&mut self, at: u32, row: &Row, request: &Request) -> Result<Accepted, NotAccepted>
+        requires asked { request_in row.now ≡ Ok request.now }
+        requires in_range { IsRequestInRange request.now }
+        ensures answer { result ≢ Err NoMemory
+            → result ≡ said_of (answer_to self.old (named_costs row.now) request.now) }
+        ensures stored { result ≢ Err NoMemory → self.new
+            ≡ after_answer self.old at (answer_to self.old (named_costs row.now) request.now) }
         ensures unchanged { result ≡ Err NoMemory → self.new ≡ self.old }
         ensures no_repeats { result ≡ Ok Stored → NoRepeats (facts_of self.new) }
     {
@@ -239,6 +257,20 @@ impl Book {
                 Some(period) => Ok(Accepted::History(period)),
                 None => Err(NotAccepted::Refused(Refused::Unknown)),
             },
+            Request::Advise => self.advise(row),
+        }
+    }
+
+    // Says whether there is a cause to refuse the costs that a record names.
+    fn advise(&self, row: &Row) -> Result<Accepted, NotAccepted>
+        requires { request_in row.now ≡ Ok AskedAdvise }
+        ensures { result ≢ Err NoMemory → result ≡ said_of (advise_or_refused
+            (refusal_of_costs (declared_of self.now) (named_costs row.now))) }
+    {
+        let named = NamedCosts::of(row);
+        match judge_costs(*self.places.allocator(), self.site(), &named)? {
+            Some(cause) => Err(NotAccepted::from(cause)),
+            None => Ok(Accepted::Advise),
         }
     }
 

@@ -1,12 +1,12 @@
 // Laws of the book.
 
-ghost use Rattle.pb_book.specs.Laws.{AcceptedLaw};
+ghost use Rattle.pb_book.specs.Laws.{AcceptedLaw, MeterCostsLaw};
 ghost use Rattle.pb_book.specs.Live.{LiveLaw};
 ghost use Rattle.pb_book.specs.Named.{NamedLaw, RangesLaw};
 ghost use Rattle.pb_book.specs.Plain.{PlainLaw};
 ghost use Rattle.pb_book.specs.TakenOut.{TouchedLaw};
 
-use pb_kinds::stored_law;
+use pb_kinds::{named_costs_law, stored_law};
 
 /// The law that the rows of a session were accepted one after the other, whatever its records; and that then no
 /// two periods share a name or a day, and each dip lies in its tank's table, which may have grown since.
@@ -44,3 +44,10 @@ pub fn named_law()
 pub fn ranges_law()
     ensures { RangesLaw }
 {}
+
+/// The law that what meters cost by a record that is accepted as one that asks for an advice is what meters may cost.
+pub fn meter_costs_law()
+    ensures { MeterCostsLaw }
+{
+    named_costs_law();
+}

@@ -5,6 +5,7 @@
 
 mod answer;
 mod book;
+mod costs;
 mod judge;
 mod laws;
 mod originals;
@@ -16,5 +17,7 @@ mod touching;
 
 pub use answer::{Accepted, NotAccepted, Refused};
 pub use book::Book;
-pub use laws::{accepted_law, live_law, named_law, plain_law, ranges_law, touched_law};
+pub use laws::{
+    accepted_law, live_law, meter_costs_law, named_law, plain_law, ranges_law, touched_law,
+};
 pub use rows::{Period, StoredRow};

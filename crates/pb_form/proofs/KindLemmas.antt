@@ -1,11 +1,12 @@
 -- A record is of one kind: no two schemas of a table have their words and their number of fields in common.
-use Rattle.std.specs.Prelude.{◌&&◌, ◌||◌, ◌==◌, bytes_eq, nat_lt, not, position, slice_get, Some, Option, Result, Ok, Err, if◌then◌else◌}
+use Rattle.std.specs.Prelude.{◌&&◌, ◌||◌, ◌==◌, bytes_eq, filter, map, nat_lt, not, position, slice_get, Some, Option, Result, Ok, Err, if◌then◌else◌}
 use Rattle.std.specs.List.{list_all, prefix_len}
 use Rattle.std.specs.Option.{option_map}
-use Rattle.std.proofs.Common.{◌≡◌, ◌∙◌, ◌<◌, ◌≤◌, ◌-◌, ℕ, zero, suc, Bool, true, false, List, [], ◌∷◌, length, drop, length-drop, refl, sym, ap, subst, arith, inl, inr}
-use Rattle.std.proofs.lemmas.Bool.{and_parts, cases_Bool, ne_eqb}
+use Rattle.std.proofs.Common.{◌≡◌, ◌∙◌, ◌<◌, ◌≤◌, ◌⊎◌, ◌+◌, ◌-◌, ℕ, zero, suc, Bool, true, false, List, [], ◌∷◌, length, drop, length-drop, get_or, take, refl, sym, ap, subst, arith, inl, inr}
+use Rattle.std.proofs.lemmas.Bool.{and_parts, cases_Bool, cases_lt, ne_eqb}
 use Rattle.std.proofs.lemmas.Bool.Decides.{nat_tests}
-use Rattle.std.proofs.lemmas.Option.{slice_get-map}
+use Rattle.std.proofs.lemmas.List.{drop-map, get_or-drop, take_all}
+use Rattle.std.proofs.lemmas.Option.{slice_get-get_or, slice_get-map}
 use Rattle.std.proofs.lemmas.Slice.Eq.{bytes_eq-Decides}
 use Rattle.pb_rows.specs.Records.{without_trailing_empty}
 use Rattle.pb_form.proofs.PartsLemmas.{IsRead, has_columns, just_count, parts_of, read_parts}
@@ -15,9 +16,11 @@ use Rattle.pb_form.specs.Field.{field_read, found, held_in}
 use Rattle.pb_form.specs.Holds as holds
 use Rattle.pb_form.specs.Laws.{OneKindLaw}
 use Rattle.pb_form.specs.Reading.{fields_read, has_count, repeated, row_read}
-use Rattle.pb_form.specs.SessionRows.{kind_at, kind_in, session_columns, session_kinds, session_schema, session_schemas, session_tail, session_told}
-use Rattle.pb_form.specs.Telling.{agrees, has_word, is_of, told_at}
+use Rattle.pb_form.specs.SessionRows.{is_of_version_1, is_of_version_2, kind_at, kind_in, kinds_of_version_1, kinds_of_version_2, session_columns, session_kinds, session_schema, session_schemas, session_tail, session_told}
+use Rattle.pb_form.specs.Seen.{schema_seen}
+use Rattle.pb_form.specs.Telling.{agrees, has_word, is_of, schema_told, told_at}
 use Rattle.pb_form.specs.Value.{Value, Word}
+use Rattle.pb_form.specs.declared.column.Schema as coded
 use Rattle.pb_form.specs.declared.fault.FormFault.{FormFault}
 use Rattle.pb_form.specs.declared.fault.FormFault.TheVariants as fault
 use Rattle.pb_form.specs.declared.session.SessionKind.{SessionKind}
@@ -290,36 +293,73 @@ schema_filled schema values fields ends turns read = by schema.tail (length (dro
 
 -- the place of a kind
 place_in : (it : SessionKind) → (i : ℕ) × (slice_get session_kinds i ≡ Some it)
-place_in kind.Unit = (0, refl)
-place_in kind.Tank = (1, refl)
-place_in kind.Strap = (2, refl)
-place_in kind.StreamMetered = (3, refl)
-place_in kind.StreamBatch = (4, refl)
-place_in kind.StreamPlain = (5, refl)
-place_in kind.Period = (6, refl)
-place_in kind.CriticalGlobal = (7, refl)
-place_in kind.CriticalNodal = (8, refl)
-place_in kind.CriticalMeasure = (9, refl)
-place_in kind.Reading = (10, refl)
-place_in kind.Transfer = (11, refl)
-place_in kind.Dip = (12, refl)
-place_in kind.LateReading = (13, refl)
-place_in kind.LateTransfer = (14, refl)
-place_in kind.LateDip = (15, refl)
-place_in kind.AmendAmount = (16, refl)
-place_in kind.AmendLevel = (17, refl)
-place_in kind.Strike = (18, refl)
-place_in kind.Close = (19, refl)
-place_in kind.Design = (20, refl)
-place_in kind.Report = (21, refl)
-place_in kind.History = (22, refl)
-place_in kind.Advise = (23, refl)
+place_in kind.Version = (0, refl)
+place_in kind.Boundary = (1, refl)
+place_in kind.TankInService = (2, refl)
+place_in kind.MeteredInService = (3, refl)
+place_in kind.BatchInService = (4, refl)
+place_in kind.PlainInService = (5, refl)
+place_in kind.Unit = (6, refl)
+place_in kind.Tank = (7, refl)
+place_in kind.Strap = (8, refl)
+place_in kind.StreamMetered = (9, refl)
+place_in kind.StreamBatch = (10, refl)
+place_in kind.StreamPlain = (11, refl)
+place_in kind.Period = (12, refl)
+place_in kind.CriticalGlobal = (13, refl)
+place_in kind.CriticalNodal = (14, refl)
+place_in kind.CriticalMeasure = (15, refl)
+place_in kind.Reading = (16, refl)
+place_in kind.Transfer = (17, refl)
+place_in kind.Dip = (18, refl)
+place_in kind.LateReading = (19, refl)
+place_in kind.LateTransfer = (20, refl)
+place_in kind.LateDip = (21, refl)
+place_in kind.AmendAmount = (22, refl)
+place_in kind.AmendLevel = (23, refl)
+place_in kind.Strike = (24, refl)
+place_in kind.Close = (25, refl)
+place_in kind.Design = (26, refl)
+place_in kind.Report = (27, refl)
+place_in kind.History = (28, refl)
+place_in kind.Advise = (29, refl)
 
-session_differ : all_differ session_schemas ≡ true
-session_differ = refl
+-- the schemas of the kinds from a place on
+pub schemas_from : (schemas : List coded.Schema) (start : ℕ) → map schema_seen schemas ≡ session_schemas
+    → map schema_seen (take (length schemas - start) (drop start schemas)) ≡ map session_schema (drop start session_kinds)
+schemas_from schemas start same =
+    ap (map schema_seen) (take_all (length schemas - start) (drop start schemas) (omega (arith, length-drop start schemas)))
+    ∙ sym (drop-map schema_seen start schemas) ∙ ap (drop start) same ∙ drop-map session_schema start session_kinds
 
-session_firm : list_all has_firm_columns session_schemas ≡ true
-session_firm = refl
+-- the kind that they tell
+pub kind_from_told : (start place : ℕ) (fields : List (List ℕ)) → schema_told (map session_schema (drop start session_kinds)) fields ≡ Ok place
+    → start + place < length session_kinds → session_told (drop start session_kinds) fields ≡ Ok (get_or session_kinds (start + place) kind.Version)
+unfolding session_told
+kind_from_told start place fields told within =
+    let there : place < length (drop start session_kinds) = omega (arith, length-drop start session_kinds, within) in
+    ap (kind_in (drop start session_kinds)) told ∙ ap kind_at (slice_get-get_or (drop start session_kinds) place kind.Version there)
+    ∙ ap (λ (it : SessionKind). (let told_kind : Result SessionKind FormFault = Ok it in told_kind)) (get_or-drop start session_kinds place kind.Version)
+
+-- or why there is none
+pub no_kind_told : (start : ℕ) (fields : List (List ℕ)) (bad : FormFault) → schema_told (map session_schema (drop start session_kinds)) fields ≡ Err bad
+    → session_told (drop start session_kinds) fields ≡ Err bad
+unfolding session_told
+no_kind_told start fields bad told = ap (kind_in (drop start session_kinds)) told
+
+-- what passes a test has a place among all that do
+place_kept : {X : Type 0} (p : X → Bool) (xs : List X) (i : ℕ) (x : X) → slice_get xs i ≡ Some x → p x ≡ true → (j : ℕ) × (slice_get (filter p xs) j ≡ Some x)
+place_kept p [] i x at is = cc at
+place_kept p (y ∷ xs) zero x at is =
+    let same : y ≡ x = cc at in
+    let passes : p y ≡ true = ap p same ∙ is in
+    (0, rw passes at)
+place_kept p (y ∷ xs) (suc i) x at is =
+    let rest = place_kept p xs i x at is in
+    by (p y) refl rest
+  where
+    by : (b : Bool) → p y ≡ b → (j : ℕ) × (slice_get (filter p xs) j ≡ Some x) → (j : ℕ) × (slice_get (if b then y ∷ filter p xs else filter p xs) j ≡ Some x)
+    by true e rest = (suc rest.0, rest.1)
+    by false e rest = rest
 
 session_ends : list_all (λ (it : SessionKind). ends_filled (session_columns it)) session_kinds ≡ true
 session_ends = refl
@@ -327,14 +367,53 @@ session_ends = refl
 session_turns : list_all (λ (it : SessionKind). list_all is_filled (session_tail it)) session_kinds ≡ true
 session_turns = refl
 
-told : (it : SessionKind) (values : List Value) (fields : List (List ℕ)) → row_read (session_schema it) fields ≡ Ok values → session_told fields ≡ Ok it
+session_firm : list_all (λ (it : SessionKind). list_all is_firm (session_columns it)) session_kinds ≡ true
+session_firm = refl
+
+-- the kinds that a session has, of which no two have their words and their number of fields in common
+record AreKinds (kinds : List SessionKind) : Type 0 where
+  apart : all_differ (map session_schema kinds) ≡ true
+  firm : list_all has_firm_columns (map session_schema kinds) ≡ true
+
+kinds_1 : AreKinds kinds_of_version_1
+kinds_1 = record { apart = refl; firm = refl }
+
+kinds_2 : AreKinds kinds_of_version_2
+kinds_2 = record { apart = refl; firm = refl }
+
+told : (kinds : List SessionKind) (it : SessionKind) (values : List Value) (fields : List (List ℕ)) → AreKinds kinds → (i : ℕ) × (slice_get kinds i ≡ Some it)
+    → row_read (session_schema it) fields ≡ Ok values → session_told kinds fields ≡ Ok it
 unfolding session_told
-told it values fields reads =
-    let at = place_in it in
-    let schema_there : slice_get session_schemas at.0 ≡ Some (session_schema it) =
-    slice_get-map session_schema session_kinds at.0 ∙ ap (λ (o : Option SessionKind). option_map session_schema o) at.1 in
-    let place = place_told session_schemas at.0 (session_schema it) values fields session_differ session_firm schema_there reads in
-    ap (λ (o : Option ℕ). kind_in (told_at session_schemas fields o)) place ∙ ap kind_at at.1
+told kinds it values fields are at reads =
+    let schema_there : slice_get (map session_schema kinds) at.0 ≡ Some (session_schema it) =
+    slice_get-map session_schema kinds at.0 ∙ ap (λ (o : Option SessionKind). option_map session_schema o) at.1 in
+    let place = place_told (map session_schema kinds) at.0 (session_schema it) values fields are.apart are.firm schema_there reads in
+    ap (λ (o : Option ℕ). kind_in kinds (told_at (map session_schema kinds) fields o)) place ∙ ap kind_at at.1
+
+-- two kinds of one record have one place
+schema_at : (it : SessionKind) (i : ℕ) → slice_get session_kinds i ≡ Some it → slice_get session_schemas i ≡ Some (session_schema it)
+schema_at it i at = slice_get-map session_schema session_kinds i ∙ ap (λ (o : Option SessionKind). option_map session_schema o) at
+
+session_differ : all_differ session_schemas ≡ true
+session_differ = refl
+
+same_kind : (fields : List (List ℕ)) (a b : SessionKind) → is_of fields (session_schema a) ≡ true → is_of fields (session_schema b) ≡ true → a ≡ b
+same_kind fields a b one other =
+    let x = place_in a in
+    let y = place_in b in
+    by x.0 x.1 y.0 y.1 (cases_lt x.0 y.0) (cases_lt y.0 x.0)
+  where
+    by : (i : ℕ) → slice_get session_kinds i ≡ Some a → (j : ℕ) → slice_get session_kinds j ≡ Some b → (i < j) ⊎ (j ≤ i) → (j < i) ⊎ (i ≤ j) → a ≡ b
+    by i at j there (inl lt) after =
+        absurd (cc (sym (differ_at session_schemas i j (session_schema a) (session_schema b) session_differ lt (schema_at a i at) (schema_at b j there))
+        ∙ of_both (session_schema a) (session_schema b) fields one other))
+    by i at j there (inr ge) (inl gt) =
+        absurd (cc (sym (differ_at session_schemas j i (session_schema b) (session_schema a) session_differ gt (schema_at b j there) (schema_at a i at))
+        ∙ of_both (session_schema b) (session_schema a) fields other one))
+    by i at j there (inr ge) (inr le) =
+        let same : i ≡ j = omega (arith, ge, le) in
+        let both : (let a_there : Option SessionKind = Some a in a_there) ≡ Some b = sym at ∙ ap (slice_get session_kinds) same ∙ there in
+        cc both
 
 pub one_kind : OneKindLaw
 one_kind it values fields reads =
@@ -342,4 +421,12 @@ one_kind it values fields reads =
     let read = read_parts (session_schema it) values fields reads in
     let ends = passes_at (λ (it : SessionKind). ends_filled (session_columns it)) session_kinds at.0 it session_ends at.1 in
     let turns = passes_at (λ (it : SessionKind). list_all is_filled (session_tail it)) session_kinds at.0 it session_turns at.1 in
-    record { told = told it values fields reads; filled = schema_filled (session_schema it) values fields ends turns read }
+    let firm = passes_at (λ (it : SessionKind). list_all is_firm (session_columns it)) session_kinds at.0 it session_firm at.1 in
+    let is : is_of fields (session_schema it) ≡ true = rw (read.counts, words_read (session_columns it) values fields firm read.says) refl in
+    record {
+      is = is;
+      only = λ other there. same_kind fields other it there is;
+      told_1 = λ has. told kinds_of_version_1 it values fields kinds_1 (place_kept is_of_version_1 session_kinds at.0 it at.1 has) reads;
+      told_2 = λ has. told kinds_of_version_2 it values fields kinds_2 (place_kept is_of_version_2 session_kinds at.0 it at.1 has) reads;
+      filled = schema_filled (session_schema it) values fields ends turns read;
+    }

@@ -1,9 +1,10 @@
 -- The schema of a kind stands at the kind's place.
 use Rattle.std.specs.Prelude.{◌&&◌, map, nat_le, slice_get, Some}
 use Rattle.std.specs.List.{list_all}
-use Rattle.std.proofs.Common.{◌≡◌, ◌∙◌, ◌≤◌, ℕ, zero, suc, Bool, true, false, List, [], ◌∷◌, length, get_or, refl, sym, ap, arith}
+use Rattle.std.proofs.Common.{◌≡◌, ◌∙◌, ◌<◌, ◌≤◌, ℕ, zero, suc, Bool, true, false, List, [], ◌∷◌, length, get_or, refl, sym, ap, arith}
 use Rattle.std.proofs.lemmas.Bool.Decides.{nat_tests}
 use Rattle.std.proofs.lemmas.List.{length-map}
+use Rattle.std.proofs.lemmas.Option.{slice_get_within}
 use Rattle.pb_form.specs.Columns.{Schema}
 use Rattle.pb_form.specs.Seen.{column_seen, schema_seen}
 use Rattle.pb_form.specs.declared.column.Schema as coded
@@ -20,6 +21,13 @@ seen_at schema_of (schema ∷ schemas) (first ∷ kinds) zero kind d same at =
 seen_at schema_of (schema ∷ schemas) (first ∷ kinds) (suc place) kind d same at =
     let rest : map schema_seen schemas ≡ map schema_of kinds = cc in
     seen_at schema_of schemas kinds place kind d rest at
+
+-- that place is one of the schemas
+pub within_seen : {K : Type 0} (schema_of : K → Schema) (schemas : List coded.Schema) (kinds : List K) (place : ℕ) (kind : K)
+    → map schema_seen schemas ≡ map schema_of kinds → slice_get kinds place ≡ Some kind → place < length schemas
+within_seen schema_of schemas kinds place kind same at =
+    let within = slice_get_within kinds place kind at in
+    omega (arith, within, ap length same, length-map schemas schema_seen, length-map kinds schema_of)
 
 -- what passes at each of several passes at each place of them
 pub passes_at : {K : Type 0} (test : K → Bool) (kinds : List K) (place : ℕ) (kind : K) → list_all test kinds ≡ true → slice_get kinds place ≡ Some kind → test kind ≡ true

@@ -1,8 +1,9 @@
 -- Statement. Records that write values: there is one, and only one, its values fit, and it is of one kind.
-use Rattle.std.specs.Prelude.{◌≡◌, ℕ, List, [], Ok}
+use Rattle.std.specs.Prelude.{◌≡◌, ℕ, true, List, [], Ok}
 use Rattle.pb_rows.specs.Records.{without_trailing_empty}
 use Rattle.pb_form.specs.Columns.{Schema}
-use Rattle.pb_form.specs.SessionRows.{session_schema, session_told}
+use Rattle.pb_form.specs.SessionRows.{is_of_version_1, is_of_version_2, kinds_of_version_1, kinds_of_version_2, session_schema, session_told}
+use Rattle.pb_form.specs.Telling.{is_of}
 use Rattle.pb_form.specs.Value.{Value}
 use Rattle.pb_form.specs.Writing.{FitEach, Writes}
 use Rattle.pb_form.specs.declared.session.SessionKind.{SessionKind}
@@ -15,9 +16,12 @@ OneRecordLaw = (schema : Schema) (values : List Value) (a b : List (List ℕ)) �
 abbrev pub FittingLaw : Type 0
 FittingLaw = (schema : Schema) (values : List Value) (fields : List (List ℕ)) → Writes schema values fields → FitEach schema.columns values
 
--- a record is of a kind of a session, and no empty field stands at its end
+-- a record is of a kind and of no other one, also among the kinds of a version that has it, and no empty field stands at its end
 pub record IsOfKind (kind : SessionKind) (fields : List (List ℕ)) : Type 0 where
-  pub told : session_told fields ≡ Ok kind
+  pub is : is_of fields (session_schema kind) ≡ true
+  pub only : (other : SessionKind) → is_of fields (session_schema other) ≡ true → other ≡ kind
+  pub told_1 : is_of_version_1 kind ≡ true → session_told kinds_of_version_1 fields ≡ Ok kind
+  pub told_2 : is_of_version_2 kind ≡ true → session_told kinds_of_version_2 fields ≡ Ok kind
   pub filled : without_trailing_empty fields ≡ fields
 
 -- A record that has values by the schema of a kind is of this kind: no two kinds have their words and their number of fields in common,

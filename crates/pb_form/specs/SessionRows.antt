@@ -1,5 +1,5 @@
 -- Statement. The rows of a session: the columns of each kind.
-use Rattle.std.specs.Prelude.{ℕ, ◌^◌, pos, neg_ℤ, List, [], ◌∷◌, Option, Some, None, Result, Ok, Err, codes, map, slice_get}
+use Rattle.std.specs.Prelude.{ℕ, ◌^◌, pos, neg_ℤ, Bool, true, false, List, [], ◌∷◌, ◌++◌, Option, Some, None, Result, Ok, Err, codes, filter, map, slice_get}
 use Rattle.pb_limits.specs.Limits.{most_critical, most_density, most_freedom, most_grams, most_level, most_row_variance, most_volume}
 use Rattle.pb_form.specs.Columns.{Column, Schema, column, word_column}
 use Rattle.pb_form.specs.Holds.{Holds, Name, Reason, Number, Date}
@@ -58,6 +58,10 @@ stream_columns word base =
     word_column (codes "row") (codes "stream") ∷ column (codes "name") Name ∷ column (codes "from") Name ∷ column (codes "to") Name
     ∷ word_column (codes "word") word ∷ column (codes "base") base ∷ []
 
+-- the first and the last day on which a tank or a stream is in service
+abbrev pub service_columns : List Column
+service_columns = column (codes "since") Date ∷ column (codes "until") Date ∷ []
+
 -- the columns of a fact behind its word
 abbrev pub reading_columns : List Column
 reading_columns =
@@ -80,6 +84,13 @@ late_columns word columns = word_column (codes "row") (codes "late") ∷ word_co
 
 -- The columns of each kind.
 abbrev pub session_columns : SessionKind → List Column
+session_columns kind.Version = word_column (codes "row") (codes "version") ∷ word_column (codes "number") (codes "2") ∷ []
+session_columns kind.Boundary = word_column (codes "row") (codes "boundary") ∷ column (codes "name") Name ∷ []
+session_columns kind.TankInService =
+    word_column (codes "row") (codes "tank") ∷ column (codes "name") Name ∷ column (codes "base") base_variance ∷ service_columns
+session_columns kind.MeteredInService = stream_columns (codes "metered") base_variance ++ service_columns
+session_columns kind.BatchInService = stream_columns (codes "batch") base_variance ++ service_columns
+session_columns kind.PlainInService = stream_columns (codes "plain") no_variance ++ service_columns
 session_columns kind.Unit = word_column (codes "row") (codes "unit") ∷ column (codes "name") Name ∷ []
 session_columns kind.Tank =
     word_column (codes "row") (codes "tank") ∷ column (codes "name") Name ∷ column (codes "base") base_variance ∷ []
@@ -137,7 +148,8 @@ session_schema kind = record { columns = session_columns kind; tail = session_ta
 -- all kinds
 abbrev pub session_kinds : List SessionKind
 session_kinds =
-    kind.Unit ∷ kind.Tank ∷ kind.Strap ∷ kind.StreamMetered ∷ kind.StreamBatch ∷ kind.StreamPlain ∷ kind.Period
+    kind.Version ∷ kind.Boundary ∷ kind.TankInService ∷ kind.MeteredInService ∷ kind.BatchInService ∷ kind.PlainInService
+    ∷ kind.Unit ∷ kind.Tank ∷ kind.Strap ∷ kind.StreamMetered ∷ kind.StreamBatch ∷ kind.StreamPlain ∷ kind.Period
     ∷ kind.CriticalGlobal ∷ kind.CriticalNodal ∷ kind.CriticalMeasure ∷ kind.Reading ∷ kind.Transfer ∷ kind.Dip
     ∷ kind.LateReading ∷ kind.LateTransfer ∷ kind.LateDip ∷ kind.AmendAmount ∷ kind.AmendLevel ∷ kind.Strike ∷ kind.Close
     ∷ kind.Design ∷ kind.Report ∷ kind.History ∷ kind.Advise ∷ []
@@ -146,16 +158,38 @@ session_kinds =
 abbrev pub session_schemas : List Schema
 session_schemas = map session_schema session_kinds
 
--- the kind at a place among all kinds
+-- a session of version 2 has rows of this kind; the record that makes a session one of version 2 is of none that it then has
+abbrev pub is_of_version_2 : SessionKind → Bool
+is_of_version_2 kind.Version = false
+is_of_version_2 kind = true
+
+-- a session of version 1 has rows of this kind: it has no boundaries and no dates of service
+abbrev pub is_of_version_1 : SessionKind → Bool
+is_of_version_1 kind.Version = false
+is_of_version_1 kind.Boundary = false
+is_of_version_1 kind.TankInService = false
+is_of_version_1 kind.MeteredInService = false
+is_of_version_1 kind.BatchInService = false
+is_of_version_1 kind.PlainInService = false
+is_of_version_1 kind = true
+
+-- the kinds of a session of either version
+abbrev pub kinds_of_version_1 : List SessionKind
+kinds_of_version_1 = filter is_of_version_1 session_kinds
+
+abbrev pub kinds_of_version_2 : List SessionKind
+kinds_of_version_2 = filter is_of_version_2 session_kinds
+
+-- the kind at a place among some kinds
 abbrev pub kind_at : Option SessionKind → Result SessionKind FormFault
 kind_at (Some kind) = Ok kind
 kind_at None = Err fault.Kind
 
--- the kind of a schema that a row is of
-abbrev pub kind_in : Result ℕ FormFault → Result SessionKind FormFault
-kind_in (Ok place) = kind_at (slice_get session_kinds place)
-kind_in (Err fault) = Err fault
+-- the kind, among some kinds, of a schema that a row is of
+abbrev pub kind_in : List SessionKind → Result ℕ FormFault → Result SessionKind FormFault
+kind_in kinds (Ok place) = kind_at (slice_get kinds place)
+kind_in kinds (Err fault) = Err fault
 
--- The kind of a row of a session, or why it has none.
-unfoldable pub session_told : List (List ℕ) → Result SessionKind FormFault
-session_told fields = kind_in (schema_told session_schemas fields)
+-- The kind of a row of a session that has rows of these kinds, or why it has none.
+unfoldable pub session_told : List SessionKind → List (List ℕ) → Result SessionKind FormFault
+session_told kinds fields = kind_in kinds (schema_told (map session_schema kinds) fields)

@@ -30,7 +30,10 @@ pub use output::{
     OutputKind, output_json, output_record, output_schema, output_schemas, output_word_law,
 };
 pub use reading::{read, read_columns};
-pub use session::{SessionKind, session_kind, session_record, session_schema, session_schemas};
+pub use session::{
+    SessionKind, is_of_kind, kind_of_version_1, kind_of_version_2, session_record, session_schema,
+    session_schemas,
+};
 pub use telling::tell;
 pub use texts::text_law;
 pub use value::{ROOM, Value, Values};

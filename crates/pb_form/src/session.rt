@@ -1,17 +1,19 @@
 // The rows of a session: the columns of each kind.
 
-ghost use Rattle.std.specs.Prelude.{◌≡◌, ◌≤◌, length, map, slice_get, IfOk};
+ghost use Rattle.std.specs.Prelude.{◌≡◌, ◌<◌, ◌≤◌, drop, length, map, slice_get, IfOk};
 ghost use Rattle.pb_form.specs.Given.{values_as};
 ghost use Rattle.pb_form.specs.Laws.{IsOfKind};
 ghost use Rattle.pb_form.specs.Seen.{schema_seen};
-ghost use Rattle.pb_form.specs.SessionRows.{session_columns, session_kinds, session_schema, session_schemas, session_told};
+ghost use Rattle.pb_form.specs.SessionRows.{kinds_of_version_1, kinds_of_version_2, session_columns, session_kinds, session_schema, session_schemas, session_told};
+ghost use Rattle.pb_form.specs.Telling.{is_of};
+ghost use Rattle.pb_form.specs.Texts.{texts_of};
 ghost use Rattle.pb_form.specs.Writing.{FitEach, Writes};
 
 use crate::column::{Column, Holds, Schema};
 use crate::fault::FormFault;
 use crate::fields::Fields;
 use crate::table::{column, number, schema, word};
-use crate::telling::tell;
+use crate::telling::{is_of, tell};
 use crate::value::{ROOM, Value};
 use crate::writing::write;
 use pb_limits::{
@@ -21,9 +23,16 @@ use pb_limits::{
 use pb_rows::Row;
 use std::alloc::{AllocError, Global};
 
-/// The kinds of the rows of a session.
+/// The kinds of the rows of a session. The record of the first one makes it a session of version 2, which has the next ones beside
+/// those of version 1: from `Unit` on.
 #[derive(Clone, Copy, PartialEq, Eq, Debug)]
 pub enum SessionKind {
+    Version,
+    Boundary,
+    TankInService,
+    MeteredInService,
+    BatchInService,
+    PlainInService,
     Unit,
     Tank,
     Strap,
@@ -51,7 +60,13 @@ pub enum SessionKind {
 }
 
 // The kinds in the order of their schemas.
-static KINDS: [SessionKind; 24] = [
+static KINDS: [SessionKind; 30] = [
+    SessionKind::Version,
+    SessionKind::Boundary,
+    SessionKind::TankInService,
+    SessionKind::MeteredInService,
+    SessionKind::BatchInService,
+    SessionKind::PlainInService,
     SessionKind::Unit,
     SessionKind::Tank,
     SessionKind::Strap,
@@ -77,6 +92,11 @@ static KINDS: [SessionKind; 24] = [
     SessionKind::History,
     SessionKind::Advise,
 ];
+
+// The places of the first kind of version 2 and of the first one of version 1.
+const FIRST_OF_VERSION_2: usize = 1;
+
+const FIRST_OF_VERSION_1: usize = 6;
 
 // The greatest cost of a meter, in whatever unit.
 pub(crate) const MOST_METER_COST: i128 = 1_000_000_000_000;
@@ -123,8 +143,45 @@ const FIRST: Column = column!("first", Holds::Date);
 
 const LAST: Column = column!("last", Holds::Date);
 
+const SINCE: Column = column!("since", Holds::Date);
+
+const UNTIL: Column = column!("until", Holds::Date);
+
 // The schemas of all kinds, in their order.
-static SCHEMAS: [Schema; 24] = [
+static SCHEMAS: [Schema; 30] = [
+    schema!(word!("row", "version"), word!("number", "2")),
+    schema!(word!("row", "boundary"), NAME),
+    schema!(word!("row", "tank"), NAME, BASE, SINCE, UNTIL),
+    schema!(
+        word!("row", "stream"),
+        NAME,
+        FROM,
+        TO,
+        word!("word", "metered"),
+        BASE,
+        SINCE,
+        UNTIL
+    ),
+    schema!(
+        word!("row", "stream"),
+        NAME,
+        FROM,
+        TO,
+        word!("word", "batch"),
+        BASE,
+        SINCE,
+        UNTIL
+    ),
+    schema!(
+        word!("row", "stream"),
+        NAME,
+        FROM,
+        TO,
+        word!("word", "plain"),
+        NO_BASE,
+        SINCE,
+        UNTIL
+    ),
     schema!(word!("row", "unit"), NAME),
     schema!(word!("row", "tank"), NAME, BASE),
     schema!(word!("row", "strap"), TANK, MM, ML),
@@ -237,20 +294,44 @@ fn place_of(kind: SessionKind) -> usize
     kind as usize
 }
 
-/// The kind of a record of a session, or `Kind` or `Fields`.
-pub fn session_kind(fields: &Fields) -> Result<SessionKind, FormFault>
-    ensures { result ≡ session_told fields.now }
+/// The kind of a record of a session of version 1, or `Kind` or `Fields`.
+pub fn kind_of_version_1(fields: &Fields) -> Result<SessionKind, FormFault>
+    ensures { result ≡ session_told kinds_of_version_1 fields.now }
 {
-    let place = tell(session_schemas(), fields)?;
-    Ok(KINDS[place])
+    kind_from(FIRST_OF_VERSION_1, fields)
 }
 
-/// The record of a kind that writes values, one a column: it reads back as them, it is of this kind, and no empty field stands at its
-/// end.
+/// The kind of a record of a session of version 2, or `Kind` or `Fields`.
+pub fn kind_of_version_2(fields: &Fields) -> Result<SessionKind, FormFault>
+    ensures { result ≡ session_told kinds_of_version_2 fields.now }
+{
+    kind_from(FIRST_OF_VERSION_2, fields)
+}
+
+// The kind of a record among those from a place on, or `Kind` or `Fields`.
+fn kind_from(start: usize, fields: &Fields) -> Result<SessionKind, FormFault>
+    requires { start < length session_kinds }
+    ensures { result ≡ session_told (drop start session_kinds) fields.now }
+{
+    let place = tell(&session_schemas()[start..], fields)?;
+    Ok(KINDS[start + place])
+}
+
+/// Whether a record has the words and the number of fields of a kind.
+pub fn is_of_kind(kind: SessionKind, fields: &Fields) -> bool
+    ensures { result ≡ is_of fields.now (session_schema kind) }
+{
+    is_of(session_schema(kind), fields)
+}
+
+/// The record of a kind that writes values, one a column: their texts. It reads back as them, it is of this kind, and no empty field
+/// stands at its end.
 pub fn session_record(alloc: Global, kind: SessionKind, values: &[Value]) -> Result<Row, AllocError>
     requires each { length values.now ≡ length (session_columns kind) }
     requires fit { FitEach (session_columns kind) (values_as (session_columns kind) values.now) }
     ensures value { IfOk result (Writes (session_schema kind)
+        (values_as (session_columns kind) values.now)) }
+    ensures fields { IfOk result (λ row. row ≡ texts_of (session_columns kind)
         (values_as (session_columns kind) values.now)) }
     ensures kind { IfOk result (IsOfKind kind) }
 {

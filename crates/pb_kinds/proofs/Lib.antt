@@ -1,4 +1,6 @@
 mod ThereLemmas
 mod RangeLemmas
+mod VersionLemmas
 mod RequestLemmas
+mod CostLemmas
 mod WrittenLemmas

@@ -7,6 +7,7 @@ use Rattle.pb_limits.specs.Limits.{most_grams, most_freedom}
 use Rattle.pb_limits.specs.Ranges.{IsGrams}
 use Rattle.pb_rows.specs.Date.{IsDay}
 use Rattle.pb_rows.specs.Name.{is_name}
+use Rattle.pb_site.specs.Service.{IsService}
 use Rattle.pb_facts.specs.Fact.{IsInRange as IsFactInRange}
 use Rattle.pb_form.specs.Columns.{Column, column}
 use Rattle.pb_form.specs.Holds as holds
@@ -19,7 +20,7 @@ use Rattle.pb_kinds.specs.declared.rows.Request.{Request}
 use Rattle.pb_kinds.specs.declared.rows.Request.TheVariants.{Store}
 use Rattle.pb_kinds.specs.Effects.{effect_names}
 use Rattle.pb_kinds.specs.Ranges.{IsRequestInRange}
-use Rattle.pb_kinds.specs.Requests.{day_there, dip_from, name_there, number_there, reading_from, request_of, transfer_from}
+use Rattle.pb_kinds.specs.Requests.{day_there, dip_from, name_there, number_there, reading_from, request_of, service_from, transfer_from}
 use Rattle.pb_kinds.proofs.ThereLemmas.{day_is, fit_after, name_is, number_is}
 
 -- ---- by the column at a place
@@ -47,6 +48,13 @@ named : (columns : List Column) (values : List Value) (at place sum : ℕ) (key 
 named columns values at place sum key fit same has =
     let it = name_is columns values at place sum key fit same has in
     rw it.is it.form
+
+service : (columns : List Column) (values : List Value) (at : ℕ) (since until : List ℕ) → FitEach columns values → slice_get columns at ≡ Some (column since holds.Date)
+    → slice_get columns (at + 1) ≡ Some (column until holds.Date) → IsService (service_from values at)
+service columns values at since until fit begins ends = record {
+  since = day columns values 0 at at since fit (omega arith) begins;
+  until = day columns values 0 (at + 1) (at + 1) until fit (omega arith) ends;
+}
 
 -- no variance
 zero_is : (z : ℤ) → (pos 0 ≤ℤ z) × (z ≤ℤ pos 0) → z ≡ pos 0
@@ -84,16 +92,34 @@ dip_in_range values at fit = (
 -- ---- what a row of a kind asks
 
 pub asked_in_range : (it : SessionKind) (values : List Value) → FitEach (session_columns it) values → IsRequestInRange (request_of it values)
+asked_in_range kind.Version values fit = tt
+asked_in_range kind.Boundary values fit = tt
+asked_in_range kind.TankInService values fit = (
+  between (session_columns kind.TankInService) values 0 2 2 _ _ _ fit refl refl,
+  service (session_columns kind.TankInService) values 3 _ _ fit refl refl,
+)
+asked_in_range kind.MeteredInService values fit = (
+  between (session_columns kind.MeteredInService) values 0 5 5 _ _ _ fit refl refl,
+  service (session_columns kind.MeteredInService) values 6 _ _ fit refl refl,
+)
+asked_in_range kind.BatchInService values fit = (
+  between (session_columns kind.BatchInService) values 0 5 5 _ _ _ fit refl refl,
+  service (session_columns kind.BatchInService) values 6 _ _ fit refl refl,
+)
+asked_in_range kind.PlainInService values fit = (
+  zero_is (number_there values 5) (between (session_columns kind.PlainInService) values 0 5 5 _ _ _ fit refl refl),
+  service (session_columns kind.PlainInService) values 6 _ _ fit refl refl,
+)
 asked_in_range kind.Unit values fit = tt
-asked_in_range kind.Tank values fit = between (session_columns kind.Tank) values 0 2 2 _ _ _ fit refl refl
+asked_in_range kind.Tank values fit = (between (session_columns kind.Tank) values 0 2 2 _ _ _ fit refl refl, tt)
 asked_in_range kind.Strap values fit = (
   between (session_columns kind.Strap) values 0 2 2 _ _ _ fit refl refl,
   between (session_columns kind.Strap) values 0 3 3 _ _ _ fit refl refl,
 )
-asked_in_range kind.StreamMetered values fit = between (session_columns kind.StreamMetered) values 0 5 5 _ _ _ fit refl refl
-asked_in_range kind.StreamBatch values fit = between (session_columns kind.StreamBatch) values 0 5 5 _ _ _ fit refl refl
+asked_in_range kind.StreamMetered values fit = (between (session_columns kind.StreamMetered) values 0 5 5 _ _ _ fit refl refl, tt)
+asked_in_range kind.StreamBatch values fit = (between (session_columns kind.StreamBatch) values 0 5 5 _ _ _ fit refl refl, tt)
 asked_in_range kind.StreamPlain values fit =
-    zero_is (number_there values 5) (between (session_columns kind.StreamPlain) values 0 5 5 _ _ _ fit refl refl)
+    (zero_is (number_there values 5) (between (session_columns kind.StreamPlain) values 0 5 5 _ _ _ fit refl refl), tt)
 asked_in_range kind.Period values fit = (
   day (session_columns kind.Period) values 0 2 2 _ fit refl refl,
   day (session_columns kind.Period) values 0 3 3 _ fit refl refl,
@@ -123,6 +149,7 @@ asked_in_range kind.Close values fit = tt
 asked_in_range kind.Design values fit = tt
 asked_in_range kind.Report values fit = tt
 asked_in_range kind.History values fit = tt
+asked_in_range kind.Advise values fit = tt
 
 -- ---- names
 
@@ -156,6 +183,12 @@ names_from columns values at id of fit a b =
     two_names (name_there values at) (name_there values (at + 1)) (named columns values at 0 at id fit (omega arith) a) (named columns values at 1 (at + 1) of fit refl b)
 
 pub asked_named : (it : SessionKind) (values : List Value) → FitEach (session_columns it) values → list_all is_name (stored_names (request_of it values)) ≡ true
+asked_named kind.Version values fit = refl
+asked_named kind.Boundary values fit = name_one (session_columns kind.Boundary) values _ fit refl
+asked_named kind.TankInService values fit = name_one (session_columns kind.TankInService) values _ fit refl
+asked_named kind.MeteredInService values fit = stream_names (session_columns kind.MeteredInService) values _ _ _ fit refl refl refl
+asked_named kind.BatchInService values fit = stream_names (session_columns kind.BatchInService) values _ _ _ fit refl refl refl
+asked_named kind.PlainInService values fit = stream_names (session_columns kind.PlainInService) values _ _ _ fit refl refl refl
 asked_named kind.Unit values fit = name_one (session_columns kind.Unit) values _ fit refl
 asked_named kind.Tank values fit = name_one (session_columns kind.Tank) values _ fit refl
 asked_named kind.Strap values fit = name_one (session_columns kind.Strap) values _ fit refl
@@ -179,3 +212,4 @@ asked_named kind.Close values fit = name_one (session_columns kind.Close) values
 asked_named kind.Design values fit = refl
 asked_named kind.Report values fit = refl
 asked_named kind.History values fit = refl
+asked_named kind.Advise values fit = refl

@@ -1,7 +1,7 @@
 -- Statement. The names that an effect has.
 use Rattle.std.specs.Prelude.{ℕ, List, [], ◌∷◌}
 use Rattle.pb_site.specs.declared.declared.Declared.{Declared}
-use Rattle.pb_site.specs.declared.declared.Declared.TheVariants.{Unit as UnitDeclared, Tank, Strap, Stream, CritGlobal, CritNodal, CritMeasure}
+use Rattle.pb_site.specs.declared.declared.Declared.TheVariants.{Version2, Unit as UnitDeclared, Boundary, Tank, Strap, Stream, CritGlobal, CritNodal, CritMeasure}
 use Rattle.pb_facts.specs.declared.fact.Fact.{Fact}
 use Rattle.pb_facts.specs.declared.fact.Fact.TheVariants.{Reading, Transfer, Dip}
 use Rattle.pb_kinds.specs.declared.rows.Effect.{Effect}
@@ -9,10 +9,12 @@ use Rattle.pb_kinds.specs.declared.rows.Effect.TheVariants.{Declares, Opens, Boo
 
 -- the names in a declaration
 abbrev pub declared_names : Declared → List (List ℕ)
+declared_names Version2 = []
 declared_names (UnitDeclared name) = name ∷ []
-declared_names (Tank name base) = name ∷ []
+declared_names (Boundary name) = name ∷ []
+declared_names (Tank name base service) = name ∷ []
 declared_names (Strap tank mm ml) = tank ∷ []
-declared_names (Stream name from to kind base) = name ∷ from ∷ to ∷ []
+declared_names (Stream name from to kind base service) = name ∷ from ∷ to ∷ []
 declared_names (CritGlobal dof value) = []
 declared_names (CritNodal value) = []
 declared_names (CritMeasure value) = []

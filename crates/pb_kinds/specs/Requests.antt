@@ -1,17 +1,21 @@
 -- Statement. What a record asks, or the first fault of its fields.
-use Rattle.std.specs.Prelude.{ℕ, ◌+◌, ℤ, pos, Bool, true, false, List, [], Result, Ok, Err, unsigned_abs, unwrap_or}
+use Rattle.std.specs.Prelude.{◌≡◌, ℕ, ◌+◌, ℤ, pos, Bool, true, false, List, [], Option, Some, None, Result, Ok, Err, if◌then◌else◌, unsigned_abs, unwrap_or}
 use Rattle.pb_rows.specs.Records.{without_trailing_empty}
 use Rattle.pb_form.specs.Reading.{row_read}
-use Rattle.pb_form.specs.SessionRows.{session_schema, session_told}
+use Rattle.pb_form.specs.SessionRows.{kinds_of_version_1, kinds_of_version_2, session_schema, session_told}
+use Rattle.pb_form.specs.Telling.{is_of}
 use Rattle.pb_form.specs.Value.{Value}
 use Rattle.pb_form.specs.Values.{day_in, name_in, number_in, reason_in, value_at}
 use Rattle.pb_form.specs.declared.fault.FormFault.{FormFault}
 use Rattle.pb_form.specs.declared.session.SessionKind.{SessionKind}
 use Rattle.pb_form.specs.declared.session.SessionKind.TheVariants as kind
 use Rattle.pb_site.specs.declared.declared.Declared.{Declared}
-use Rattle.pb_site.specs.declared.declared.Declared.TheVariants.{Unit as UnitDeclared, Tank, Strap, Stream, CritGlobal, CritNodal, CritMeasure}
+use Rattle.pb_site.specs.declared.declared.Declared.TheVariants.{Version2, Unit as UnitDeclared, Boundary, Tank, Strap, Stream, CritGlobal, CritNodal, CritMeasure}
 use Rattle.pb_site.specs.declared.declared.Kind.{Kind}
 use Rattle.pb_site.specs.declared.declared.Kind.TheVariants.{Metered, Batch, Plain}
+use Rattle.pb_site.specs.declared.declared.Service.{Service}
+use Rattle.pb_site.specs.declared.declared.Version.{Version}
+use Rattle.pb_site.specs.declared.declared.Version.TheVariants.{One, Two}
 use Rattle.pb_facts.specs.declared.fact.Change.TheVariants.{Amount, Level}
 use Rattle.pb_facts.specs.declared.fact.Fact.{Fact}
 use Rattle.pb_facts.specs.declared.fact.Fact.TheVariants.{Reading, Transfer, Dip}
@@ -19,7 +23,7 @@ use Rattle.pb_kinds.specs.declared.rows.Edit.{Edit}
 use Rattle.pb_kinds.specs.declared.rows.Edit.TheVariants.{Change, Strike}
 use Rattle.pb_kinds.specs.declared.rows.Effect.TheVariants.{Declares, Opens, Books, Edits, Closes}
 use Rattle.pb_kinds.specs.declared.rows.Request.{Request}
-use Rattle.pb_kinds.specs.declared.rows.Request.TheVariants.{Blank, Store, Design, Report, History}
+use Rattle.pb_kinds.specs.declared.rows.Request.TheVariants.{Blank, Store, Design, Report, History, Advise}
 
 -- the name, the reason, the number or the day that stands at a place of a row's values; each column holds what its place is asked for
 abbrev pub name_there : List Value → ℕ → List ℕ
@@ -34,9 +38,14 @@ number_there values place = unwrap_or (value_at number_in values place) (pos 0)
 abbrev pub day_there : List Value → ℕ → ℤ
 day_there values place = unwrap_or (value_at day_in values place) (pos 0)
 
--- a stream of a kind
-abbrev pub stream_of : Kind → List Value → Declared
-stream_of sort values = Stream (name_there values 1) (name_there values 2) (name_there values 3) sort (number_there values 5)
+-- a service of which the first day stands at a place and the last one at the next
+abbrev pub service_from : List Value → ℕ → Service
+service_from values at = record { since = day_there values at; until = day_there values (at + 1) }
+
+-- a stream of a kind, in service on every day or by a service
+abbrev pub stream_of : Kind → Option Service → List Value → Declared
+stream_of sort service values =
+    Stream (name_there values 1) (name_there values 2) (name_there values 3) sort (number_there values 5) service
 
 -- a fact whose columns begin at a place: behind the word of its kind, or behind `late` and that word
 abbrev pub reading_from : List Value → ℕ → Fact
@@ -68,12 +77,19 @@ books late fact = Store (Books fact late)
 
 -- What a record of a kind asks, by its values, of which the first is the kind's word.
 abbrev pub request_of : SessionKind → List Value → Request
+request_of kind.Version values = declares Version2
+request_of kind.Boundary values = declares (Boundary (name_there values 1))
+request_of kind.TankInService values =
+    declares (Tank (name_there values 1) (number_there values 2) (Some (service_from values 3)))
+request_of kind.MeteredInService values = declares (stream_of Metered (Some (service_from values 6)) values)
+request_of kind.BatchInService values = declares (stream_of Batch (Some (service_from values 6)) values)
+request_of kind.PlainInService values = declares (stream_of Plain (Some (service_from values 6)) values)
 request_of kind.Unit values = declares (UnitDeclared (name_there values 1))
-request_of kind.Tank values = declares (Tank (name_there values 1) (number_there values 2))
+request_of kind.Tank values = declares (Tank (name_there values 1) (number_there values 2) None)
 request_of kind.Strap values = declares (Strap (name_there values 1) (number_there values 2) (number_there values 3))
-request_of kind.StreamMetered values = declares (stream_of Metered values)
-request_of kind.StreamBatch values = declares (stream_of Batch values)
-request_of kind.StreamPlain values = declares (stream_of Plain values)
+request_of kind.StreamMetered values = declares (stream_of Metered None values)
+request_of kind.StreamBatch values = declares (stream_of Batch None values)
+request_of kind.StreamPlain values = declares (stream_of Plain None values)
 request_of kind.Period values = Store (Opens (name_there values 1) (day_there values 2) (day_there values 3))
 request_of kind.CriticalGlobal values = declares (CritGlobal (unsigned_abs (number_there values 2)) (number_there values 3))
 request_of kind.CriticalNodal values = declares (CritNodal (number_there values 2))
@@ -92,6 +108,7 @@ request_of kind.Close values = Store (Closes (name_there values 1))
 request_of kind.Design values = Design
 request_of kind.Report values = Report (name_there values 1)
 request_of kind.History values = History (name_there values 1)
+request_of kind.Advise values = Advise
 
 -- the request of values that were read, or their fault
 abbrev pub request_by : SessionKind → Result (List Value) FormFault → Result Request FormFault
@@ -103,11 +120,28 @@ abbrev pub request_if : Result SessionKind FormFault → List (List ℕ) → Res
 request_if (Ok kind) fields = request_by kind (row_read (session_schema kind) fields)
 request_if (Err fault) fields = Err fault
 
--- what the fields of a record up to the last one that isn't empty ask
-abbrev pub asked_by : List (List ℕ) → Result Request FormFault
-asked_by [] = Ok Blank
-asked_by fields = request_if (session_told fields) fields
+-- the kinds of the rows of a session of a version
+abbrev pub kinds_of : Version → List SessionKind
+kinds_of One = kinds_of_version_1
+kinds_of Two = kinds_of_version_2
 
--- What a record asks, or its first fault: that of its kind, or that of its fields. Empty fields at its end don't count.
-unfoldable pub request_in : List (List ℕ) → Result Request FormFault
-request_in fields = asked_by (without_trailing_empty fields)
+-- what the fields of a record up to the last one that isn't empty ask, in a session that has rows of these kinds
+abbrev pub asked_by : List SessionKind → List (List ℕ) → Result Request FormFault
+asked_by kinds [] = Ok Blank
+asked_by kinds fields = request_if (session_told kinds fields) fields
+
+-- the same in a session of a version, and in one of which no row is stored yet: then the version may be said, and else it is 1
+abbrev pub asked_in : Option Version → List (List ℕ) → Result Request FormFault
+asked_in None fields =
+    if is_of fields (session_schema kind.Version) then Ok (declares Version2) else asked_by kinds_of_version_1 fields
+asked_in (Some version) fields = asked_by (kinds_of version) fields
+
+-- What a record asks in a session of a version, or its first fault: that of its kind, or that of its fields. The session has no
+-- version before its first row is stored. Empty fields at the record's end don't count.
+unfoldable pub request_in : Option Version → List (List ℕ) → Result Request FormFault
+request_in version fields = asked_in version (without_trailing_empty fields)
+
+-- a record asks for an advice, in a session of some version
+pub record AsksAdvice (fields : List (List ℕ)) : Type 0 where
+  pub version : Option Version
+  pub asks : request_in version fields ≡ Ok Advise

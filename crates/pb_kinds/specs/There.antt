@@ -1,17 +1,22 @@
 -- Inside. What stands at a place of a row's values, and what a record writes.
-use Rattle.std.specs.Prelude.{◌≡◌, ◌≤ℤ◌, ◌^◌, ◌-◌, ℕ, ℤ, pos, neg_ℤ, true, List, Ok, Some}
+use Rattle.std.specs.Prelude.{◌≡◌, ◌≤ℤ◌, ◌^◌, ◌-◌, ◌/◌, ◌<◌, ℕ, ℤ, pos, neg_ℤ, true, List, [], length, Option, Result, Ok, Some}
 use Rattle.pb_rows.specs.Date.{IsDay}
 use Rattle.pb_rows.specs.Name.{is_name}
 use Rattle.pb_rows.specs.Records.{without_trailing_empty}
+use Rattle.pb_form.specs.Reading.{fields_read, repeated}
+use Rattle.pb_form.specs.SessionRows.{cost_columns}
 use Rattle.pb_form.specs.Value.{Value}
 use Rattle.pb_form.specs.Values.{day_in, name_in, number_in, reason_in, value_at}
+use Rattle.pb_form.specs.declared.fault.FormFault.{FormFault}
 use Rattle.pb_form.specs.declared.session.SessionKind.{SessionKind}
-use Rattle.pb_form.specs.declared.session.SessionKind.TheVariants.{StreamMetered, StreamBatch, StreamPlain}
+use Rattle.pb_form.specs.declared.session.SessionKind.TheVariants.{BatchInService, MeteredInService, PlainInService, StreamBatch, StreamMetered, StreamPlain}
 use Rattle.pb_site.specs.declared.declared.Kind.{Kind}
 use Rattle.pb_site.specs.declared.declared.Kind.TheVariants.{Metered, Batch, Plain}
+use Rattle.pb_site.specs.declared.declared.Version.{Version}
 use Rattle.pb_kinds.specs.declared.rows.Effect.{Effect}
 use Rattle.pb_kinds.specs.declared.rows.Request.TheVariants.{Store}
 use Rattle.pb_kinds.specs.Requests.{request_in}
+use Rattle.pb_kinds.specs.Versions.{may_do}
 
 -- a name
 pub record IsNameThere (values : List Value) (place : ℕ) : Type 0 where
@@ -41,13 +46,30 @@ pub record IsNumberThere (lo hi : ℤ) (values : List Value) (place : ℕ) : Typ
 abbrev pub IsLongThere : List Value → ℕ → Type 0
 IsLongThere values place = IsNumberThere (neg_ℤ (pos (2 ^ 63))) (pos (2 ^ 63 - 1)) values place
 
--- a record asks that this effect be stored, and no empty field stands at its end
+-- a record asks that this effect be stored, in each session whose rows may do it, and no empty field stands at its end
 pub record WritesEffect (effect : Effect) (fields : List (List ℕ)) : Type 0 where
-  pub asks : request_in fields ≡ Ok (Store effect)
+  pub asks : (version : Option Version) → may_do version effect ≡ true → request_in version fields ≡ Ok (Store effect)
   pub filled : without_trailing_empty fields ≡ fields
+
+-- what fields say that are pairs of a stream and a cost
+abbrev pub pairs_read : List (List ℕ) → Result (List Value) FormFault
+pairs_read pairs = fields_read (repeated cost_columns [] (length pairs)) pairs
+
+-- n pairs, each a name and a cost
+pub record ArePairs (pairs : List (List ℕ)) (n : ℕ) : Type 0 where
+  pub values : List Value
+  pub read : pairs_read pairs ≡ Ok values
+  pub half : n ≡ length pairs / 2
+  pub few : length pairs < 2 ^ 64
 
 -- the kind of the row of a stream
 abbrev pub stream_kind : Kind → SessionKind
 stream_kind Metered = StreamMetered
 stream_kind Batch = StreamBatch
 stream_kind Plain = StreamPlain
+
+-- the kind of the row of a stream with days of service
+abbrev pub served_stream_kind : Kind → SessionKind
+served_stream_kind Metered = MeteredInService
+served_stream_kind Batch = BatchInService
+served_stream_kind Plain = PlainInService

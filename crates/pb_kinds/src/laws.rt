@@ -1,17 +1,26 @@
 // Laws of what records ask.
 
-ghost use Rattle.pb_kinds.specs.Laws.{AskingLaw, StoredLaw};
+ghost use Rattle.pb_kinds.specs.Laws.{AskingLaw, NamedCostsLaw, StoredLaw};
 
 use pb_form::{fitting_law, one_kind_law};
 
-/// The law that the numbers and days of what a record asks to be stored lie in their ranges, and that its names are of the form.
+/// The law that the numbers and days of what a record asks to be stored lie in their ranges, that its names are of the form, and that
+/// a row of a session of the version may do it.
 pub fn stored_law()
     ensures { StoredLaw }
 {
     fitting_law();
 }
 
-/// The law that a record which writes values by the schema of a kind asks what they ask in a row of this kind.
+/// The law that each cost which a record names that asks for an advice is what a meter may cost.
+pub fn named_costs_law()
+    ensures { NamedCostsLaw }
+{
+    fitting_law();
+}
+
+/// The law that a record which writes values by the schema of a kind asks what they ask in a row of this kind, in each session that has
+/// rows of it.
 pub fn asking_law()
     ensures { AskingLaw }
 {

@@ -5,6 +5,7 @@
 //! arm of `write_effect`, if it is stored.
 #![tactic(auto)]
 
+mod costs;
 mod facts;
 mod laws;
 mod reading;
@@ -12,7 +13,8 @@ mod rows;
 mod there;
 mod writing;
 
-pub use laws::{asking_law, stored_law};
+pub use costs::{NamedCost, NamedCosts};
+pub use laws::{asking_law, named_costs_law, stored_law};
 pub use reading::read_request;
 pub use rows::{Edit, Effect, Request};
 pub use writing::write_effect;

@@ -1,34 +1,72 @@
 // What a record asks, by the table of kinds.
 
-ghost use Rattle.std.specs.Prelude.{◌≡◌, IfOk};
-ghost use Rattle.pb_form.specs.SessionRows.{session_columns};
+ghost use Rattle.std.specs.Prelude.{◌≡◌, ◌≤◌, IfOk, None};
+ghost use Rattle.pb_form.specs.SessionRows.{session_columns, session_told};
 ghost use Rattle.pb_form.specs.Writing.{FitEach};
 ghost use Rattle.pb_form.specs.declared.session.SessionKind.TheVariants as kinds;
 ghost use Rattle.pb_kinds.specs.Ranges.{IsRequestInRange};
-ghost use Rattle.pb_kinds.specs.Requests.{books, declares, request_in, request_of, stream_of};
+ghost use Rattle.pb_kinds.specs.Requests.{asked_by, asked_in, books, declares, kinds_of, request_in, request_of, service_from, stream_of};
 ghost use Rattle.pb_kinds.specs.There.{IsNameThere};
 
 use crate::facts::{dip_from, reading_from, transfer_from};
 use crate::rows::{Edit, Effect, Request};
 use crate::there::{day_there, dof_there, long_there, name_there, number_there, reason_there};
 use pb_facts::{Change, Fact};
-use pb_form::{Fields, FormFault, SessionKind, Values, read, session_kind, session_schema};
+use pb_form::{
+    Fields, FormFault, SessionKind, Values, is_of_kind, kind_of_version_1, kind_of_version_2, read,
+    session_schema,
+};
 use pb_rows::Row;
-use pb_site::{Declared, Kind};
+use pb_site::{Declared, Kind, Service, Version};
 
-/// What a record asks, or the first fault of its fields. Empty fields at its end don't count.
-pub fn read_request(row: &Row) -> Result<Request, FormFault>
-    ensures value { result ≡ request_in row.now }
+/// What a record asks in a session of a version, or the first fault of its fields. Without a version no row is stored yet: the record
+/// may say the version, and else it is read as one of version 1. Empty fields at its end don't count.
+pub fn read_request(version: Option<Version>, row: &Row) -> Result<Request, FormFault>
+    ensures value { result ≡ request_in version row.now }
     ensures in_range { IfOk result IsRequestInRange }
 {
     let fields = Fields::filled(row);
+    match version {
+        None => read_first(&fields),
+        Some(version) => read_fields(version, &fields),
+    }
+}
+
+// What fields ask before a row is stored.
+fn read_first(fields: &Fields) -> Result<Request, FormFault>
+    ensures value { result ≡ asked_in None fields.now }
+    ensures in_range { IfOk result IsRequestInRange }
+{
+    if is_of_kind(SessionKind::Version, fields) {
+        Ok(declares(Declared::Version2))
+    } else {
+        read_fields(Version::One, fields)
+    }
+}
+
+// What fields ask in a session of a version.
+#[inline(always)]
+fn read_fields(version: Version, fields: &Fields) -> Result<Request, FormFault>
+    ensures value { result ≡ asked_by (kinds_of version) fields.now }
+    ensures in_range { IfOk result IsRequestInRange }
+{
     if fields.len() == 0 {
         return Ok(Request::Blank);
     }
-    let kind = session_kind(&fields)?;
-    match &read(session_schema(kind), &fields) {
+    let kind = kind_of(version, fields)?;
+    match &read(session_schema(kind), fields) {
         Ok(values) => Ok(request_of(kind, values)),
         Err(fault) => Err(*fault),
+    }
+}
+
+// The kind of a record of a session of a version.
+fn kind_of(version: Version, fields: &Fields) -> Result<SessionKind, FormFault>
+    ensures { result ≡ session_told (kinds_of version) fields.now }
+{
+    match version {
+        Version::One => kind_of_version_1(fields),
+        Version::Two => kind_of_version_2(fields),
     }
 }
 
@@ -39,12 +77,22 @@ fn request_of(kind: SessionKind, values: &Values) -> Request
     ensures { result ≡ request_of kind values.now }
 {
     match kind {
+        SessionKind::Version => declares(Declared::Version2),
+        SessionKind::Boundary => boundary(values),
+        SessionKind::TankInService => tank_in_service(values),
+        SessionKind::MeteredInService => stream(
+            Kind::Metered,
+            Some(service_from(values, 6)),
+            values,
+        ),
+        SessionKind::BatchInService => stream(Kind::Batch, Some(service_from(values, 6)), values),
+        SessionKind::PlainInService => stream(Kind::Plain, Some(service_from(values, 6)), values),
         SessionKind::Unit => unit(values),
         SessionKind::Tank => tank(values),
         SessionKind::Strap => strap(values),
-        SessionKind::StreamMetered => stream(Kind::Metered, values),
-        SessionKind::StreamBatch => stream(Kind::Batch, values),
-        SessionKind::StreamPlain => stream(Kind::Plain, values),
+        SessionKind::StreamMetered => stream(Kind::Metered, None, values),
+        SessionKind::StreamBatch => stream(Kind::Batch, None, values),
+        SessionKind::StreamPlain => stream(Kind::Plain, None, values),
         SessionKind::Period => period(values),
         SessionKind::CriticalGlobal => critical_global(values),
         SessionKind::CriticalNodal => critical_nodal(values),
@@ -62,6 +110,7 @@ fn request_of(kind: SessionKind, values: &Values) -> Request
         SessionKind::Design => Request::Design,
         SessionKind::Report => Request::Report(name_there(values, 1)),
         SessionKind::History => Request::History(name_there(values, 1)),
+        SessionKind::Advise => Request::Advise,
     }
 }
 
@@ -77,6 +126,16 @@ fn books(late: bool, fact: Fact) -> Request
     ensures { result ≡ books late fact }
 {
     Request::Store(Effect::Books { fact, late })
+}
+
+// `boundary,NAME`
+fn boundary(values: &Values) -> Request
+    requires { FitEach (session_columns kinds.Boundary) values.now }
+    ensures { result ≡ request_of kinds.Boundary values.now }
+{
+    declares(Declared::Boundary {
+        name: name_there(values, 1),
+    })
 }
 
 // `unit,NAME`
@@ -97,7 +156,31 @@ fn tank(values: &Values) -> Request
     declares(Declared::Tank {
         name: name_there(values, 1),
         base: number_there(values, 2),
+        service: None,
     })
+}
+
+// `tank,NAME,BASEVAR,SINCE,UNTIL`
+fn tank_in_service(values: &Values) -> Request
+    requires { FitEach (session_columns kinds.TankInService) values.now }
+    ensures { result ≡ request_of kinds.TankInService values.now }
+{
+    declares(Declared::Tank {
+        name: name_there(values, 1),
+        base: number_there(values, 2),
+        service: Some(service_from(values, 3)),
+    })
+}
+
+// `SINCE,UNTIL` from a place on
+fn service_from(values: &Values, at: usize) -> Service
+    requires { at ≤ 6 }
+    ensures { result ≡ service_from values.now at }
+{
+    Service {
+        since: day_there(values, at),
+        until: day_there(values, at + 1),
+    }
 }
 
 // `strap,TANK,MM,ML`
@@ -112,12 +195,12 @@ fn strap(values: &Values) -> Request
     })
 }
 
-// `stream,NAME,FROM,TO,KIND,BASEVAR`, of a kind that its word says
-fn stream(kind: Kind, values: &Values) -> Request
+// `stream,NAME,FROM,TO,KIND,BASEVAR`, of a kind that its word says, and perhaps `SINCE,UNTIL` after that
+fn stream(kind: Kind, service: Option<Service>, values: &Values) -> Request
     requires name { IsNameThere values.now 1 }
     requires from { IsNameThere values.now 2 }
     requires to { IsNameThere values.now 3 }
-    ensures { result ≡ declares (stream_of kind values.now) }
+    ensures { result ≡ declares (stream_of kind service values.now) }
 {
     declares(Declared::Stream {
         name: name_there(values, 1),
@@ -125,6 +208,7 @@ fn stream(kind: Kind, values: &Values) -> Request
         to: name_there(values, 3),
         kind,
         base: number_there(values, 5),
+        service,
     })
 }
 

@@ -7,7 +7,7 @@ use pb_site::Declared;
 /// What a stored row does.
 #[derive(Clone, Copy)]
 pub enum Effect {
-    /// A unit, a tank, a point of its table, a stream or a critical value is declared.
+    /// A unit, a boundary, a tank, a point of its table, a stream or a critical value is declared, or that the session is of version 2.
     Declares(Declared),
     /// A period begins to exist, from its first day to its last one, both included, as days since 1970-01-01.
     Opens {
@@ -49,4 +49,6 @@ pub enum Request {
     Report(Name),
     /// The history of the period of this name.
     History(Name),
+    /// The cheapest metering of the declared plant, at the costs that the record names.
+    Advise,
 }

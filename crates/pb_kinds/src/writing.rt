@@ -1,19 +1,22 @@
 // Effects written as records, by the table of kinds.
 
-ghost use Rattle.std.specs.Prelude.{◌≡◌, ◌≤◌, IfOk, Ok};
+ghost use Rattle.std.specs.Prelude.{◌≡◌, ◌≤◌, IfOk, None, Ok, Option, Some, true};
 ghost use Rattle.pb_limits.specs.Limits.{most_freedom};
 ghost use Rattle.pb_limits.specs.Ranges.{IsBaseVariance, IsCriticalValue, IsDensity, IsGrams, IsLevel, IsVariance, IsVolume};
 ghost use Rattle.pb_rows.specs.Date.{IsDay};
 ghost use Rattle.pb_rows.specs.Records.{without_trailing_empty};
 ghost use Rattle.pb_site.specs.Row.{IsArcBase, IsInRange as IsDeclaredInRange, arc_kind};
+ghost use Rattle.pb_site.specs.Service.{IsService};
 ghost use Rattle.pb_site.specs.declared.declared.Declared.TheVariants as site;
+ghost use Rattle.pb_site.specs.declared.declared.Version.{Version};
 ghost use Rattle.pb_facts.specs.Changes.{IsChangeInRange};
 ghost use Rattle.pb_facts.specs.Fact.{IsInRange as IsFactInRange};
 ghost use Rattle.pb_facts.specs.declared.fact.Change.TheVariants as changes;
 ghost use Rattle.pb_facts.specs.declared.fact.Fact.TheVariants as facts;
 ghost use Rattle.pb_kinds.specs.Ranges.{IsEditInRange, IsEffectInRange};
 ghost use Rattle.pb_kinds.specs.Requests.{request_in};
-ghost use Rattle.pb_kinds.specs.There.{WritesEffect, stream_kind};
+ghost use Rattle.pb_kinds.specs.There.{WritesEffect, served_stream_kind, stream_kind};
+ghost use Rattle.pb_kinds.specs.Versions.{may_do};
 ghost use Rattle.pb_kinds.specs.declared.rows.Edit.TheVariants as edits;
 ghost use Rattle.pb_kinds.specs.declared.rows.Effect.TheVariants.{Books, Closes, Declares, Edits, Opens};
 ghost use Rattle.pb_kinds.specs.declared.rows.Request.TheVariants.{Store};
@@ -22,13 +25,15 @@ use crate::rows::{Edit, Effect};
 use pb_facts::{Change, Fact};
 use pb_form::{SessionKind, Value, session_record};
 use pb_rows::{Name, Reason, Row};
-use pb_site::{Declared, Kind};
+use pb_site::{Declared, Kind, Service};
 use std::alloc::{AllocError, Global};
 
-/// The record of an effect: what it asks is to store this effect, and no empty field stands at its end.
+/// The record of an effect: in each session whose rows may do it, what it asks is to store this effect, and no empty field stands at
+/// its end.
 pub fn write_effect(alloc: Global, effect: &Effect) -> Result<Row, AllocError>
     requires { IsEffectInRange effect.now }
-    ensures asks { IfOk result (λ row. request_in row ≡ Ok (Store effect.now)) }
+    ensures asks { IfOk result (λ row. (version : Option Version) → may_do version effect.now ≡ true
+        → request_in version row ≡ Ok (Store effect.now)) }
     ensures filled { IfOk result (λ row. without_trailing_empty row ≡ row) }
 {
     match effect {
@@ -46,8 +51,17 @@ fn declaration(alloc: Global, declared: &Declared) -> Result<Row, AllocError>
     ensures { IfOk result (WritesEffect (Declares declared.now)) }
 {
     match declared {
+        Declared::Version2 => version(alloc),
         Declared::Unit { name } => unit(alloc, name),
-        Declared::Tank { name, base } => tank(alloc, name, *base),
+        Declared::Boundary { name } => boundary(alloc, name),
+        Declared::Tank {
+            name,
+            base,
+            service,
+        } => match service {
+            None => tank(alloc, name, *base),
+            Some(service) => tank_in_service(alloc, name, *base, service),
+        },
         Declared::Strap { tank, mm, ml } => strap(alloc, tank, *mm, *ml),
         Declared::Stream {
             name,
@@ -55,7 +69,11 @@ fn declaration(alloc: Global, declared: &Declared) -> Result<Row, AllocError>
             to,
             kind,
             base,
-        } => stream(alloc, name, from, to, *kind, *base),
+            service,
+        } => match service {
+            None => stream(alloc, name, from, to, *kind, *base),
+            Some(service) => stream_in_service(alloc, name, from, to, *kind, *base, service),
+        },
         Declared::CritGlobal { dof, value } => critical_global(alloc, *dof, *value),
         Declared::CritNodal { value } => critical_nodal(alloc, *value),
         Declared::CritMeasure { value } => critical_measure(alloc, *value),
@@ -94,6 +112,28 @@ fn booking(alloc: Global, fact: &Fact, late: bool) -> Result<Row, AllocError>
     }
 }
 
+// `version,2`
+fn version(alloc: Global) -> Result<Row, AllocError>
+    ensures { IfOk result (WritesEffect (Declares site.Version2)) }
+{
+    session_record(
+        alloc,
+        SessionKind::Version,
+        &[Value::Word(0), Value::Word(0)],
+    )
+}
+
+// `boundary,NAME`
+fn boundary(alloc: Global, name: &Name) -> Result<Row, AllocError>
+    ensures { IfOk result (WritesEffect (Declares (site.Boundary name.now))) }
+{
+    session_record(
+        alloc,
+        SessionKind::Boundary,
+        &[Value::Word(0), Value::name(name)],
+    )
+}
+
 // `unit,NAME`
 fn unit(alloc: Global, name: &Name) -> Result<Row, AllocError>
     ensures { IfOk result (WritesEffect (Declares (site.Unit name.now))) }
@@ -108,12 +148,37 @@ fn unit(alloc: Global, name: &Name) -> Result<Row, AllocError>
 // `tank,NAME,BASEVAR`
 fn tank(alloc: Global, name: &Name, base: i128) -> Result<Row, AllocError>
     requires { IsBaseVariance base }
-    ensures { IfOk result (WritesEffect (Declares (site.Tank name.now base))) }
+    ensures { IfOk result (WritesEffect (Declares (site.Tank name.now base None))) }
 {
     session_record(
         alloc,
         SessionKind::Tank,
         &[Value::Word(0), Value::name(name), Value::Number(base)],
+    )
+}
+
+// `tank,NAME,BASEVAR,SINCE,UNTIL`
+fn tank_in_service(
+    alloc: Global,
+    name: &Name,
+    base: i128,
+    service: &Service,
+) -> Result<Row, AllocError>
+    requires base { IsBaseVariance base }
+    requires service { IsService service.now }
+    ensures { IfOk result
+        (WritesEffect (Declares (site.Tank name.now base (Some service.now)))) }
+{
+    session_record(
+        alloc,
+        SessionKind::TankInService,
+        &[
+            Value::Word(0),
+            Value::name(name),
+            Value::Number(base),
+            Value::Day(service.since),
+            Value::Day(service.until),
+        ],
     )
 }
 
@@ -146,7 +211,7 @@ fn stream<'a>(
 ) -> Result<Row, AllocError>
     requires { IsArcBase (arc_kind kind) base }
     ensures { IfOk result
-        (WritesEffect (Declares (site.Stream name.now from.now to.now kind base))) }
+        (WritesEffect (Declares (site.Stream name.now from.now to.now kind base None))) }
 {
     session_record(
         alloc,
@@ -160,6 +225,48 @@ fn stream<'a>(
             Value::Number(base),
         ],
     )
+}
+
+// `stream,NAME,FROM,TO,KIND,BASEVAR,SINCE,UNTIL`
+fn stream_in_service<'a>(
+    alloc: Global,
+    name: &'a Name,
+    from: &'a Name,
+    to: &'a Name,
+    kind: Kind,
+    base: i128,
+    service: &Service,
+) -> Result<Row, AllocError>
+    requires base { IsArcBase (arc_kind kind) base }
+    requires service { IsService service.now }
+    ensures { IfOk result (WritesEffect
+        (Declares (site.Stream name.now from.now to.now kind base (Some service.now)))) }
+{
+    session_record(
+        alloc,
+        served_stream_kind(kind),
+        &[
+            Value::Word(0),
+            Value::name(name),
+            Value::name(from),
+            Value::name(to),
+            Value::Word(0),
+            Value::Number(base),
+            Value::Day(service.since),
+            Value::Day(service.until),
+        ],
+    )
+}
+
+// The kind of the row of a stream with days of service.
+fn served_stream_kind(kind: Kind) -> SessionKind
+    ensures { result ≡ served_stream_kind kind }
+{
+    match kind {
+        Kind::Metered => SessionKind::MeteredInService,
+        Kind::Batch => SessionKind::BatchInService,
+        Kind::Plain => SessionKind::PlainInService,
+    }
 }
 
 // The kind of the row of a stream.

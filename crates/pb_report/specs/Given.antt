@@ -1,5 +1,8 @@
--- Inside. Rows and certificates as the code gives them.
-use Rattle.std.specs.Prelude.{List, [], ◌∷◌, string_bytes}
+-- Inside. Rows, certificates and meters as the code gives them.
+use Rattle.std.specs.Prelude.{List, [], ◌∷◌, ◌<◌, All, length, string_bytes}
+use Rattle.pb_rows.specs.declared.name.Names.{Names}
+use Rattle.pb_graph.specs.declared.records.Step.{Step}
+use Rattle.pb_advise.specs.declared.advice.Meter.{Meter}
 use Rattle.pb_form.specs.Given.{values_as}
 use Rattle.pb_form.specs.OutputRows.{output_columns}
 use Rattle.pb_form.specs.Value as value
@@ -18,3 +21,8 @@ given_row kind values = record { kind = kind; values = values_as (output_columns
 abbrev pub given_certificate : Certificate → List value.Value
 given_certificate certificate =
     Word (shape_place certificate.shape) ∷ Items (string_bytes certificate.side) ∷ Items (string_bytes certificate.parts) ∷ []
+
+-- a meter speaks of streams that have names
+pub record IsNamedMeter (names : Names) (meter : Meter) : Type 0 where
+  pub stream : meter.stream < length names.streams
+  pub steps : All (λ (step : Step). step.stream < length names.streams) meter.steps

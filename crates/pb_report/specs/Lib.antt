@@ -7,6 +7,7 @@ pub mod Refusal
 pub mod Over
 pub mod Certificate
 pub mod Design
+pub mod Advice
 pub mod Tests
 pub mod Block
 pub mod Study

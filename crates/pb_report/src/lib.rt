@@ -1,9 +1,10 @@
-//! The rows of a session's output: refused records, the classes of a design, reports, histories of periods, and summaries.
+//! The rows of a session's output: refused records, the classes of a design, advices, reports, histories of periods, and summaries.
 //!
 //! Each call appends whole rows to `out`, in a form. After want of memory `out` is as it was.
 //! A row is a kind and its values, one for each column of the kind; pb_form has the columns, and one function writes rows in a form.
 #![tactic(auto)]
 
+mod advice;
 mod block;
 mod certificate;
 mod design;
@@ -18,6 +19,7 @@ mod summary;
 mod values;
 mod verdicts;
 
+pub use advice::write_advice;
 pub use design::write_design;
 pub use form::{Form, write_row};
 pub use history::{

@@ -19,7 +19,10 @@ use Rattle.pb_kinds.specs.declared.rows.Request.TheVariants as asked
 use Rattle.pb_kinds.specs.declared.rows.Effect.{Effect}
 use Rattle.pb_book.specs.declared.rows.Period.{Period}
 use Rattle.pb_book.specs.Accepted.{AreAccepted}
-use Rattle.pb_book.specs.Answer.{Answer, Refused, Says, Stored, after_answer, answer_if, answer_of, history_or_refused, is_refused, report_or_refused, stored_or_refused}
+use Rattle.pb_kinds.specs.declared.costs.NamedCost.{NamedCost}
+use Rattle.pb_kinds.specs.Costs.{named_costs}
+use Rattle.pb_book.specs.Costs.{refusal_of_costs}
+use Rattle.pb_book.specs.Answer.{Answer, Refused, Says, Stored, advise_or_refused, after_answer, answer_if, answer_of, history_or_refused, is_refused, report_or_refused, stored_or_refused}
 use Rattle.pb_book.specs.Apart.{is_named}
 use Rattle.pb_book.specs.Plain.{ArePlain, PlainLaw, numbered, opened, plain_rows, plain_stored}
 use Rattle.pb_book.specs.Refusals.{refusal_of}
@@ -56,7 +59,7 @@ seam done more stored accepted =
 
 stored_answer : (rows : List StoredRow) (fields : List (List ℕ)) (effect : Effect) → WritesRow fields effect → refusal_of rows effect ≡ None → answer_of rows fields ≡ Stored effect
 stored_answer rows fields effect writes none =
-    ap (λ (r : Result Request FormFault). answer_if rows r) writes.asks ∙ ap (λ (o : Option Refusal). stored_or_refused effect o) none
+    ap (λ (r : Result Request FormFault). answer_if rows (named_costs fields) r) writes.asks ∙ ap (λ (o : Option Refusal). stored_or_refused effect o) none
 
 -- none of these records is refused, none adds a text, and so they end
 record StoreAll (state : SessionState) (at : ℕ) (records : List (List (List ℕ))) (end : SessionState) : Type 0 where
@@ -81,13 +84,13 @@ store_one state next end at fields effect records answer after_is rest =
     record {
       none = ap₂ (λ (a b : Bool). a || b) (ap is_refused answer) (ap (λ (s : SessionState). refuses_some s (at + 1) records) after_is ∙ rest.none);
       to = λ tail text (first, others, adds, texts, whole).
-          let empty : first ≡ [] = subst (λ (a : Answer). AddsBy state at a first) answer adds in
+          let empty : first ≡ [] = subst (λ (a : Answer). AddsBy state at (named_costs fields) a first) answer adds in
           let same : text ≡ others = whole ∙ ap (λ (t : List ℕ). t ++ others) empty in
           let moved = rest.to tail others (subst (λ (s : SessionState). IsSessionText s (at + 1) (records ++ tail) others) after_is texts) in
           subst (λ (n : ℕ). IsSessionText end n tail text) here (subst (λ (t : List ℕ). IsSessionText end ((at + 1) + length records) tail t) (sym same) moved);
       back = λ tail text is.
           let moved = rest.back tail text (subst (λ (n : ℕ). IsSessionText end n tail text) (sym here) is) in
-          ([], text, subst (λ (a : Answer). AddsBy state at a []) (sym answer) refl, subst (λ (s : SessionState). IsSessionText s (at + 1) (records ++ tail) text) (sym after_is) moved, refl);
+          ([], text, subst (λ (a : Answer). AddsBy state at (named_costs fields) a []) (sym answer) refl, subst (λ (s : SessionState). IsSessionText s (at + 1) (records ++ tail) text) (sym after_is) moved, refl);
     }
 
 store_all : (state : SessionState) (at : ℕ) (records : List (List (List ℕ))) (effects : List Effect) → AreAccepted (state.rows ++ numbered at effects) → WriteRows records effects
@@ -135,14 +138,19 @@ not_told : (place : Option ℕ) (i : ℕ) → history_or_refused place ≡ Says 
 not_told (Some place) i is = cc is
 not_told None i is = cc is
 
-report_answer : (rows plain : List StoredRow) (i : ℕ) (request : Result Request FormFault) → periods_of plain ≡ map opened (periods_of rows) → answer_if rows request ≡ Says (Report i)
-    → answer_if plain request ≡ Says (Report i)
-report_answer rows plain i (Ok asked.Blank) same is = cc is
-report_answer rows plain i (Ok (asked.Store effect)) same is = absurd (not_said effect (refusal_of rows effect) i is)
-report_answer rows plain i (Ok asked.Design) same is = cc is
-report_answer rows plain i (Ok (asked.Report name)) same is = ap report_or_refused (same_place rows plain name same) ∙ is
-report_answer rows plain i (Ok (asked.History name)) same is = absurd (not_told (period_place rows name) i is)
-report_answer rows plain i (Err fault) same is = cc is
+not_advised : (cause : Option Refusal) (i : ℕ) → advise_or_refused cause ≡ Says (Report i) → ⊥
+not_advised (Some cause) i is = cc is
+not_advised None i is = cc is
+
+report_answer : (rows plain : List StoredRow) (i : ℕ) (costs : List NamedCost) (request : Result Request FormFault) → periods_of plain ≡ map opened (periods_of rows)
+    → answer_if rows costs request ≡ Says (Report i) → answer_if plain costs request ≡ Says (Report i)
+report_answer rows plain i costs (Ok asked.Blank) same is = cc is
+report_answer rows plain i costs (Ok (asked.Store effect)) same is = absurd (not_said effect (refusal_of rows effect) i is)
+report_answer rows plain i costs (Ok asked.Design) same is = cc is
+report_answer rows plain i costs (Ok (asked.Report name)) same is = ap report_or_refused (same_place rows plain name same) ∙ is
+report_answer rows plain i costs (Ok (asked.History name)) same is = absurd (not_told (period_place rows name) i is)
+report_answer rows plain i costs (Ok asked.Advise) same is = absurd (not_advised (refusal_of_costs (declared_of rows) costs) i is)
+report_answer rows plain i costs (Err fault) same is = cc is
 
 -- the study of a graph asks the declarations alone
 report_as : (state : SessionState) (rows other : List StoredRow) (names : Names) (period : List ℕ) (graph : ProcessGraph) (text : List ℕ) → declared_of rows ≡ declared_of other
@@ -189,19 +197,19 @@ found_plain rows plain i are = ap (λ (ps : List Period). slice_get ps i) are.pe
 adds_to : (state : SessionState) (plain : List StoredRow) (at after i : ℕ) (report : List (List ℕ)) (text : List ℕ) → ArePlain state.rows plain → HaveSameGraphs state.rows plain
     → answer_of state.rows report ≡ Says (Report i) → Adds state at report text → Adds (with_rows state plain) after report text
 adds_to state plain at after i report text are graphs is adds =
-    let here = subst (λ (a : Answer). AddsBy state at a text) is adds in
+    let here = subst (λ (a : Answer). AddsBy state at (named_costs report) a text) is adds in
     let there = reports_to state plain (slice_get (periods_of state.rows) i) text are graphs here in
-    let other = report_answer state.rows plain i (request_in report) are.periods is in
-    subst (λ (a : Answer). AddsBy (with_rows state plain) after a text) (sym other)
+    let other = report_answer state.rows plain i (named_costs report) (request_in report) are.periods is in
+    subst (λ (a : Answer). AddsBy (with_rows state plain) after (named_costs report) a text) (sym other)
     (subst (λ (found : Option Period). Reports (with_rows state plain) found text) (sym (found_plain state.rows plain i are)) there)
 
 adds_back : (state : SessionState) (plain : List StoredRow) (at after i : ℕ) (report : List (List ℕ)) (text : List ℕ) → ArePlain state.rows plain → HaveSameGraphs state.rows plain
     → answer_of state.rows report ≡ Says (Report i) → Adds (with_rows state plain) after report text → Adds state at report text
 adds_back state plain at after i report text are graphs is adds =
-    let other = report_answer state.rows plain i (request_in report) are.periods is in
-    let there = subst (λ (a : Answer). AddsBy (with_rows state plain) after a text) other adds in
+    let other = report_answer state.rows plain i (named_costs report) (request_in report) are.periods is in
+    let there = subst (λ (a : Answer). AddsBy (with_rows state plain) after (named_costs report) a text) other adds in
     let here = subst (λ (found : Option Period). Reports (with_rows state plain) found text) (found_plain state.rows plain i are) there in
-    subst (λ (a : Answer). AddsBy state at a text) (sym is) (reports_back state plain (slice_get (periods_of state.rows) i) text are graphs here)
+    subst (λ (a : Answer). AddsBy state at (named_costs report) a text) (sym is) (reports_back state plain (slice_get (periods_of state.rows) i) text are graphs here)
 
 -- ---- the edited file
 

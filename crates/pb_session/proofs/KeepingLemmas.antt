@@ -25,7 +25,7 @@ use Rattle.pb_site.specs.declared.declared.Declared.{Declared}
 use Rattle.pb_site.specs.Site.{HasDistinctNames}
 use Rattle.pb_facts.specs.Facts.{NoRepeats}
 use Rattle.pb_book.specs.declared.answer.Accepted.{Accepted}
-use Rattle.pb_book.specs.declared.answer.Accepted.TheVariants.{Blank, Stored as StoredAccepted, Design, Report, History}
+use Rattle.pb_book.specs.declared.answer.Accepted.TheVariants.{Blank, Stored as StoredAccepted, Design, Report, History, Advise}
 use Rattle.pb_book.specs.declared.answer.NotAccepted.{NotAccepted}
 use Rattle.pb_book.specs.declared.answer.Refused.{Refused as Refusal}
 use Rattle.pb_form.specs.declared.fault.FormFault.{FormFault}
@@ -34,7 +34,10 @@ use Rattle.pb_kinds.specs.declared.rows.Request.TheVariants as asked
 use Rattle.pb_kinds.specs.declared.rows.Effect.{Effect}
 use Rattle.pb_kinds.specs.declared.rows.Effect.TheVariants.{Declares, Opens, Books, Edits, Closes}
 use Rattle.pb_book.specs.declared.rows.Period.{Period}
-use Rattle.pb_book.specs.Answer.{Answer, Refused, Says, Stored, after_answer, answer_if, answer_of, answer_to, history_or_refused, report_or_refused, said_of, stored_or_refused}
+use Rattle.pb_kinds.specs.declared.costs.NamedCost.{NamedCost}
+use Rattle.pb_kinds.specs.Costs.{named_costs}
+use Rattle.pb_book.specs.Costs.{refusal_of_costs}
+use Rattle.pb_book.specs.Answer.{Answer, Refused, Says, Stored, advise_or_refused, after_answer, answer_if, answer_of, answer_to, history_or_refused, report_or_refused, said_of, stored_or_refused}
 use Rattle.pb_book.specs.Apart.{is_named}
 use Rattle.pb_book.specs.Refusals.{refusal_of}
 use Rattle.pb_kinds.specs.Requests.{request_in}
@@ -203,6 +206,7 @@ left_same StoredAccepted rows kept said = absurd said
 left_same Design rows kept said = refl
 left_same (Report i) rows kept said = refl
 left_same (History i) rows kept said = refl
+left_same Advise rows kept said = refl
 
 -- what the book says of a record that it takes
 abbrev pub said_ok : Accepted → Result Accepted NotAccepted
@@ -215,6 +219,7 @@ left_other StoredAccepted rows kept other = absurd (other refl)
 left_other Design rows kept other = refl
 left_other (Report i) rows kept other = refl
 left_other (History i) rows kept other = refl
+left_other Advise rows kept other = refl
 
 same_accepted : (a b : Accepted) → said_ok a ≡ said_ok b → a ≡ b
 same_accepted a b is = cc is
@@ -241,6 +246,7 @@ left_few Blank rows kept few = few
 left_few Design rows kept few = few
 left_few (Report i) rows kept few = few
 left_few (History i) rows kept few = few
+left_few Advise rows kept few = few
 
 -- the periods that are kept behind an accepted record are those that are kept behind the record
 pub keeps_by : (state : SessionState) (new : List StoredRow) (at : ℕ) (answer : Answer) (accepted : Accepted) (kept : List KeptStudy) (after : List ℕ) → said_ok accepted ≡ said_of answer
@@ -280,19 +286,24 @@ said_history : (found : Option ℕ) → IsSaid (history_or_refused found)
 said_history (Some i) = tt
 said_history None = tt
 
-said_to : (rows : List StoredRow) (request : Request) → IsSaid (answer_to rows request)
-said_to rows asked.Blank = tt
-said_to rows (asked.Store effect) = said_stored effect (refusal_of rows effect)
-said_to rows asked.Design = tt
-said_to rows (asked.Report name) = said_report (period_place rows name)
-said_to rows (asked.History name) = said_history (period_place rows name)
+said_advise : (cause : Option Refusal) → IsSaid (advise_or_refused cause)
+said_advise (Some cause) = tt
+said_advise None = tt
 
-said_if : (rows : List StoredRow) (request : Result Request FormFault) → IsSaid (answer_if rows request)
-said_if rows (Ok request) = said_to rows request
-said_if rows (Err fault) = tt
+said_to : (rows : List StoredRow) (costs : List NamedCost) (request : Request) → IsSaid (answer_to rows costs request)
+said_to rows costs asked.Blank = tt
+said_to rows costs (asked.Store effect) = said_stored effect (refusal_of rows effect)
+said_to rows costs asked.Design = tt
+said_to rows costs (asked.Report name) = said_report (period_place rows name)
+said_to rows costs (asked.History name) = said_history (period_place rows name)
+said_to rows costs asked.Advise = said_advise (refusal_of_costs (declared_of rows) costs)
+
+said_if : (rows : List StoredRow) (costs : List NamedCost) (request : Result Request FormFault) → IsSaid (answer_if rows costs request)
+said_if rows costs (Ok request) = said_to rows costs request
+said_if rows costs (Err fault) = tt
 
 pub said : (rows : List StoredRow) (fields : List (List ℕ)) → IsSaid (answer_of rows fields)
-said rows fields = said_if rows (request_in fields)
+said rows fields = said_if rows (named_costs fields) (request_in fields)
 
 -- ---- behind a report
 

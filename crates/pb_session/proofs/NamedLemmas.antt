@@ -3,9 +3,14 @@ use Rattle.std.proofs.Common.{◌≡◌, ◌∙◌, ◌<◌, ℕ, List, length, 
 use Rattle.std.proofs.lemmas.List.{length-map}
 use Rattle.pb_graph.specs.ProcessGraph.{ProcessGraph}
 use Rattle.pb_graph.specs.declared.records.Meas.{Meas}
+use Rattle.std.specs.Prelude.{All}
+use Rattle.pb_advise.specs.Choice.{AreCosts}
 use Rattle.pb_site.specs.declared.declared.Arc.{Arc}
 use Rattle.pb_site.specs.Site.{HasDistinctNames, arc_names, arcs_of, names_of}
+use Rattle.pb_kinds.specs.declared.costs.NamedCost.{NamedCost}
 use Rattle.pb_book.specs.declared.rows.StoredRow.{StoredRow}
+use Rattle.pb_kinds.specs.Costs.{IsMeterCost}
+use Rattle.pb_book.specs.Costs.{cost_of_arc, meter_costs}
 use Rattle.pb_book.specs.Rows.{declared_of}
 use Rattle.pb_period.specs.declared.days.Days.{Days}
 use Rattle.pb_period.specs.declared.graph.Assembly.{Assembly}
@@ -15,6 +20,16 @@ use Rattle.pb_session.specs.Session.{AreNamesOf}
 as_many : (measure : Arc → Option Meas) (rows : List StoredRow) → length (arc_names (declared_of rows)) ≡ length (graph_with measure rows).streams
 as_many measure rows =
     length-map (arcs_of (declared_of rows)) (λ (arc : Arc). arc.name) ∙ sym (length-map (arcs_of (declared_of rows)) (stream_with measure))
+
+-- what meters cost is one number a stream
+costs_each : (measure : Arc → Option Meas) (rows : List StoredRow) (costs : List NamedCost) → length (meter_costs (declared_of rows) costs) ≡ length (graph_with measure rows).streams
+costs_each measure rows costs =
+    length-map (arcs_of (declared_of rows)) (cost_of_arc costs) ∙ sym (length-map (arcs_of (declared_of rows)) (stream_with measure))
+
+-- each of them is what a meter may cost
+pub costs_are : (measure : Arc → Option Meas) (rows : List StoredRow) (costs : List NamedCost) → All IsMeterCost (meter_costs (declared_of rows) costs)
+    → AreCosts (graph_with measure rows) (meter_costs (declared_of rows) costs)
+costs_are measure rows costs within = record { each = costs_each measure rows costs; within = within }
 
 -- of a graph with whatever measurements
 pub names_are : (measure : Arc → Option Meas) (rows : List StoredRow) → HasDistinctNames (declared_of rows)

@@ -8,16 +8,19 @@ use Rattle.pb_book.specs.declared.answer.Refused.{Refused as Refusal}
 use Rattle.pb_book.specs.declared.answer.NotAccepted.{NotAccepted}
 use Rattle.pb_book.specs.declared.answer.NotAccepted.TheVariants.{Refused as NotAcceptedFor}
 use Rattle.pb_book.specs.declared.answer.Accepted.{Accepted}
-use Rattle.pb_book.specs.declared.answer.Accepted.TheVariants.{Stored as StoredAccepted}
+use Rattle.pb_book.specs.declared.answer.Accepted.TheVariants.{Advise, Stored as StoredAccepted}
 use Rattle.pb_form.specs.declared.fault.FormFault.{FormFault}
 use Rattle.pb_kinds.specs.declared.rows.Request.{Request}
 use Rattle.pb_kinds.specs.declared.rows.Request.TheVariants as asked
 use Rattle.pb_book.specs.Apart.{is_named}
 use Rattle.pb_book.specs.declared.rows.StoredRow.{StoredRow}
-use Rattle.pb_book.specs.Rows.{period_place, periods_of}
+use Rattle.pb_book.specs.Rows.{declared_of, period_place, periods_of}
 use Rattle.pb_kinds.specs.Requests.{request_in}
+use Rattle.pb_kinds.specs.declared.costs.NamedCost.{NamedCost}
+use Rattle.pb_kinds.specs.Costs.{named_costs}
+use Rattle.pb_book.specs.Costs.{refusal_of_costs}
 use Rattle.pb_book.specs.Refusals.{refusal_of}
-use Rattle.pb_book.specs.Answer.{Answer, Refused, Says, Stored, after_answer, answer_if, answer_of, answer_to, history_or_refused, is_refused, report_or_refused, said_of, stored_or_refused}
+use Rattle.pb_book.specs.Answer.{Answer, Refused, Says, Stored, advise_or_refused, after_answer, answer_if, answer_of, answer_to, history_or_refused, is_refused, report_or_refused, said_of, stored_or_refused}
 use Rattle.pb_session.specs.Session.{AddsAccepted, AddsBy, SessionState}
 use Rattle.pb_session.specs.Accepted.{IsOfPeriods}
 
@@ -38,12 +41,12 @@ same_accepted : (a b : Accepted) → said_ok a ≡ said_ok b → a ≡ b
 same_accepted a b is = cc is
 
 -- what an accepted record adds, behind it, is what its answer adds
-pub accepted_adds : (state new : SessionState) (at : ℕ) (answer : Answer) (accepted : Accepted) (text : List ℕ) → said_ok accepted ≡ said_of answer
-    → new ≡ record { options = state.options; form = state.form; rows = after_answer state.rows at answer } → AddsAccepted new accepted text → AddsBy state at answer text
-accepted_adds state new at (Refused cause) accepted text is new_is adds = cc is
-accepted_adds state new at (Stored effect) accepted text is new_is adds = subst (λ (a : Accepted). AddsAccepted new a text) (same_accepted accepted StoredAccepted is) adds
-accepted_adds state new at (Says said) accepted text is new_is adds =
-    subst (λ (s : SessionState). AddsAccepted s said text) new_is (subst (λ (a : Accepted). AddsAccepted new a text) (same_accepted accepted said is) adds)
+pub accepted_adds : (state new : SessionState) (at : ℕ) (costs : List NamedCost) (answer : Answer) (accepted : Accepted) (text : List ℕ) → said_ok accepted ≡ said_of answer
+    → new ≡ record { options = state.options; form = state.form; rows = after_answer state.rows at answer } → AddsAccepted new costs accepted text → AddsBy state at costs answer text
+accepted_adds state new at costs (Refused cause) accepted text is new_is adds = cc is
+accepted_adds state new at costs (Stored effect) accepted text is new_is adds = subst (λ (a : Accepted). AddsAccepted new costs a text) (same_accepted accepted StoredAccepted is) adds
+accepted_adds state new at costs (Says said) accepted text is new_is adds =
+    subst (λ (s : SessionState). AddsAccepted s costs said text) new_is (subst (λ (a : Accepted). AddsAccepted new costs a text) (same_accepted accepted said is) adds)
 
 -- the answer to a record asks for a report or a history of a period that there is
 abbrev pub AnswersOf : List StoredRow → Answer → Type 0
@@ -79,19 +82,24 @@ stores_of : (rows : List StoredRow) (effect : Effect) (cause : Option Refusal) �
 stores_of rows effect (Some cause) = tt
 stores_of rows effect None = tt
 
-answers_to : (rows : List StoredRow) (request : Request) → AnswersOf rows (answer_to rows request)
-answers_to rows asked.Blank = tt
-answers_to rows (asked.Store effect) = stores_of rows effect (refusal_of rows effect)
-answers_to rows asked.Design = tt
-answers_to rows (asked.Report name) = reports_of rows (period_place rows name) (found_within name (periods_of rows) (period_place rows name) refl)
-answers_to rows (asked.History name) = histories_of rows (period_place rows name) (found_within name (periods_of rows) (period_place rows name) refl)
+advises_of : (rows : List StoredRow) (cause : Option Refusal) → AnswersOf rows (advise_or_refused cause)
+advises_of rows (Some cause) = tt
+advises_of rows None = tt
 
-answers_if : (rows : List StoredRow) (request : Result Request FormFault) → AnswersOf rows (answer_if rows request)
-answers_if rows (Err fault) = tt
-answers_if rows (Ok request) = answers_to rows request
+answers_to : (rows : List StoredRow) (costs : List NamedCost) (request : Request) → AnswersOf rows (answer_to rows costs request)
+answers_to rows costs asked.Blank = tt
+answers_to rows costs (asked.Store effect) = stores_of rows effect (refusal_of rows effect)
+answers_to rows costs asked.Design = tt
+answers_to rows costs (asked.Report name) = reports_of rows (period_place rows name) (found_within name (periods_of rows) (period_place rows name) refl)
+answers_to rows costs (asked.History name) = histories_of rows (period_place rows name) (found_within name (periods_of rows) (period_place rows name) refl)
+answers_to rows costs asked.Advise = advises_of rows (refusal_of_costs (declared_of rows) costs)
+
+answers_if : (rows : List StoredRow) (costs : List NamedCost) (request : Result Request FormFault) → AnswersOf rows (answer_if rows costs request)
+answers_if rows costs (Err fault) = tt
+answers_if rows costs (Ok request) = answers_to rows costs request
 
 pub answers : (rows : List StoredRow) (fields : List (List ℕ)) → AnswersOf rows (answer_of rows fields)
-answers rows fields = answers_if rows (request_in fields)
+answers rows fields = answers_if rows (named_costs fields) (request_in fields)
 
 -- an accepted record that stores nothing leaves the rows as they were
 pub unchanged_by : (rows : List StoredRow) (at : ℕ) (answer : Answer) (accepted : Accepted) → said_ok accepted ≡ said_of answer
@@ -108,3 +116,9 @@ pub refused_is : (answer : Answer) (cause : Refusal) → said_err cause ≡ said
 refused_is (Refused other) cause is = ap Refused (sym (same_refusal cause other is))
 refused_is (Stored effect) cause is = cc is
 refused_is (Says said) cause is = cc is
+
+-- a record of which the book says that it asks for an advice has that answer, and leaves the rows as they were
+pub advice_is : (rows new : List StoredRow) (at : ℕ) (answer : Answer) → said_ok Advise ≡ said_of answer → new ≡ after_answer rows at answer → (answer ≡ Says Advise) × (new ≡ rows)
+advice_is rows new at (Refused cause) is is_new = cc is
+advice_is rows new at (Stored effect) is is_new = absurd (cc is)
+advice_is rows new at (Says said) is is_new = (ap Says (sym (same_accepted Advise said is)), is_new)

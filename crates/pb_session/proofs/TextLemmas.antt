@@ -3,11 +3,16 @@ use Rattle.std.proofs.Common.{◌≡◌, ◌∙◌, ℕ, ◌+◌, List, [], ◌�
 use Rattle.pb_graph.specs.declared.records.Classified.{Classified}
 use Rattle.pb_graph.specs.ProcessGraph.{ProcessGraph}
 use Rattle.pb_classify.specs.Laws.{OneClassificationLaw}
+use Rattle.pb_advise.specs.declared.advice.Advice.{Advice}
+use Rattle.pb_advise.specs.Laws.{OneAdviceLaw}
 use Rattle.pb_graph.specs.declared.results.Study.{Study}
 use Rattle.pb_elim.specs.Laws.{OneStudyLaw}
 use Rattle.pb_site.specs.Site.{names_of}
+use Rattle.pb_kinds.specs.declared.costs.NamedCost.{NamedCost}
+use Rattle.pb_kinds.specs.Costs.{named_costs}
+use Rattle.pb_book.specs.Costs.{meter_costs}
 use Rattle.pb_book.specs.declared.answer.Accepted.{Accepted}
-use Rattle.pb_book.specs.declared.answer.Accepted.TheVariants.{Blank, Stored as StoredAccepted, Design, Report, History}
+use Rattle.pb_book.specs.declared.answer.Accepted.TheVariants.{Blank, Stored as StoredAccepted, Design, Report, History, Advise}
 use Rattle.pb_book.specs.declared.rows.Period.{Period}
 use Rattle.pb_book.specs.Rows.{declared_of, periods_of}
 use Rattle.pb_book.specs.Answer.{Answer, Refused, Says, Stored, answer_of}
@@ -16,6 +21,7 @@ use Rattle.pb_period.specs.declared.graph.Assembly.{Assembly}
 use Rattle.pb_period.specs.declared.graph.Assembly.TheVariants.{Over, NoMemory}
 use Rattle.pb_period.specs.PeriodGraph.{assembly_of, design_graph, period_names}
 use Rattle.pb_report.specs.Form.{text_in}
+use Rattle.pb_report.specs.Advice.{advice_rows}
 use Rattle.pb_report.specs.Design.{design_rows}
 use Rattle.pb_report.specs.Study.{study_rows}
 use Rattle.pb_session.specs.Criticals.{critical_of}
@@ -38,27 +44,31 @@ history_text : (state : SessionState) (period : Option Period) (one other : List
 history_text state (Some period) one other a b = a ∙ sym b
 history_text state None one other a b = absurd a
 
-accepted_text : OneClassificationLaw → OneStudyLaw → (state : SessionState) (accepted : Accepted) (one other : List ℕ)
-    → AddsAccepted state accepted one → AddsAccepted state accepted other → one ≡ other
-accepted_text law studies state Blank one other a b = a ∙ sym b
-accepted_text law studies state StoredAccepted one other a b = a ∙ sym b
-accepted_text law studies state Design one other a b =
+accepted_text : OneClassificationLaw → OneAdviceLaw → OneStudyLaw → (state : SessionState) (costs : List NamedCost) (accepted : Accepted) (one other : List ℕ)
+    → AddsAccepted state costs accepted one → AddsAccepted state costs accepted other → one ≡ other
+accepted_text law advices studies state costs Blank one other a b = a ∙ sym b
+accepted_text law advices studies state costs StoredAccepted one other a b = a ∙ sym b
+accepted_text law advices studies state costs Design one other a b =
     let text : List Classified → List ℕ = λ classes. text_in state.form (design_rows (names_of (declared_of state.rows)) (design_graph state.rows) classes) in
     a.rows ∙ ap text (law (design_graph state.rows) a.classes b.classes a.are b.are) ∙ sym b.rows
-accepted_text law studies state (Report i) one other a b = report_text studies state (slice_get (periods_of state.rows) i) one other a b
-accepted_text law studies state (History i) one other a b = history_text state (slice_get (periods_of state.rows) i) one other a b
+accepted_text law advices studies state costs (Report i) one other a b = report_text studies state (slice_get (periods_of state.rows) i) one other a b
+accepted_text law advices studies state costs (History i) one other a b = history_text state (slice_get (periods_of state.rows) i) one other a b
+accepted_text law advices studies state costs Advise one other a b =
+    let text : Advice → List ℕ = λ advice. text_in state.form (advice_rows (names_of (declared_of state.rows)) advice) in
+    a.rows ∙ ap text (advices (design_graph state.rows) (meter_costs (declared_of state.rows) costs) a.advice b.advice a.is_advice b.is_advice) ∙ sym b.rows
 
-answer_text : OneClassificationLaw → OneStudyLaw → (state : SessionState) (at : ℕ) (answer : Answer) (one other : List ℕ) → AddsBy state at answer one → AddsBy state at answer other → one ≡ other
-answer_text law studies state at (Refused cause) one other a b = a ∙ sym b
-answer_text law studies state at (Stored row) one other a b = a ∙ sym b
-answer_text law studies state at (Says accepted) one other a b = accepted_text law studies state accepted one other a b
+answer_text : OneClassificationLaw → OneAdviceLaw → OneStudyLaw → (state : SessionState) (at : ℕ) (costs : List NamedCost) (answer : Answer) (one other : List ℕ)
+    → AddsBy state at costs answer one → AddsBy state at costs answer other → one ≡ other
+answer_text law advices studies state at costs (Refused cause) one other a b = a ∙ sym b
+answer_text law advices studies state at costs (Stored row) one other a b = a ∙ sym b
+answer_text law advices studies state at costs (Says accepted) one other a b = accepted_text law advices studies state costs accepted one other a b
 
-pub record_text : OneClassificationLaw → OneStudyLaw → OneTextLaw
-record_text law studies state at fields one other a b = answer_text law studies state at (answer_of state.rows fields) one other a b
+pub record_text : OneClassificationLaw → OneAdviceLaw → OneStudyLaw → OneTextLaw
+record_text law advices studies state at fields one other a b = answer_text law advices studies state at (named_costs fields) (answer_of state.rows fields) one other a b
 
-pub session_text : OneClassificationLaw → OneStudyLaw → OneSessionTextLaw
-session_text law studies state at [] one other a b = a ∙ sym b
-session_text law studies state at (fields ∷ records) one other (first, rest, adds, more, whole) (first2, rest2, adds2, more2, whole2) =
-    let same_first = record_text law studies state at fields first first2 adds adds2 in
-    let same_rest = session_text law studies (state_after state at fields) (at + 1) records rest rest2 more more2 in
+pub session_text : OneClassificationLaw → OneAdviceLaw → OneStudyLaw → OneSessionTextLaw
+session_text law advices studies state at [] one other a b = a ∙ sym b
+session_text law advices studies state at (fields ∷ records) one other (first, rest, adds, more, whole) (first2, rest2, adds2, more2, whole2) =
+    let same_first = record_text law advices studies state at fields first first2 adds adds2 in
+    let same_rest = session_text law advices studies (state_after state at fields) (at + 1) records rest rest2 more more2 in
     whole ∙ ap (λ (t : List ℕ). t ++ rest) same_first ∙ ap (λ (t : List ℕ). first2 ++ t) same_rest ∙ sym whole2

@@ -1,19 +1,25 @@
 -- Statement. The output of a session.
-use Rattle.std.specs.Prelude.{◌≡◌, ℕ, ◌+◌, Bool, ◌||◌, false, List, [], ◌∷◌, ◌++◌, Option, Some, None, slice_get, All, Result, Ok, Err, codes}
+use Rattle.std.specs.Prelude.{◌≡◌, ℕ, ℤ, ◌+◌, Bool, ◌||◌, false, List, [], ◌∷◌, ◌++◌, Option, Some, None, slice_get, All, Result, Ok, Err, codes}
 use Rattle.pb_rows.specs.declared.name.Names.{Names}
 use Rattle.pb_graph.specs.declared.records.Classified.{Classified}
 use Rattle.pb_graph.specs.declared.results.Options.{Options}
 use Rattle.pb_graph.specs.declared.results.Study.{Study}
 use Rattle.pb_graph.specs.ProcessGraph.{ProcessGraph, IsProcessGraph}
 use Rattle.pb_classify.specs.Classification.{IsClassification}
+use Rattle.pb_advise.specs.declared.advice.Advice.{Advice}
+use Rattle.pb_advise.specs.Choice.{AreCosts}
+use Rattle.pb_advise.specs.Advice.{IsAdvice, IsCheapest}
 use Rattle.pb_elim.specs.Study.{IsStudyOf}
 use Rattle.pb_elim.specs.Certified.{IsCertifiedStage, HasLeastThroughout, TestsEachRedundant}
 use Rattle.pb_site.specs.Site.{AreDistinct, names_of}
+use Rattle.pb_kinds.specs.declared.costs.NamedCost.{NamedCost}
+use Rattle.pb_kinds.specs.Costs.{named_costs}
 use Rattle.pb_book.specs.declared.answer.Accepted.{Accepted}
-use Rattle.pb_book.specs.declared.answer.Accepted.TheVariants.{Blank, Stored as StoredAccepted, Design, Report, History}
+use Rattle.pb_book.specs.declared.answer.Accepted.TheVariants.{Blank, Stored as StoredAccepted, Design, Report, History, Advise}
 use Rattle.pb_book.specs.declared.rows.Period.{Period}
 use Rattle.pb_book.specs.declared.rows.StoredRow.{StoredRow}
 use Rattle.pb_book.specs.Rows.{declared_of, periods_of}
+use Rattle.pb_book.specs.Costs.{meter_costs}
 use Rattle.pb_book.specs.Answer.{Answer, Refused, Says, Stored, after, answer_of, code_of, is_refused}
 use Rattle.pb_period.specs.Days.{days_of}
 use Rattle.pb_period.specs.declared.graph.Assembly.{Assembly}
@@ -26,6 +32,7 @@ use Rattle.pb_report.specs.Form.{text_in}
 use Rattle.pb_report.specs.Row.{OutputRow}
 use Rattle.pb_report.specs.Names.{IsNamed, name_at}
 use Rattle.pb_report.specs.Refusal.{refused_row}
+use Rattle.pb_report.specs.Advice.{advice_rows}
 use Rattle.pb_report.specs.Design.{design_rows}
 use Rattle.pb_report.specs.Over.{over_row}
 use Rattle.pb_report.specs.Study.{study_rows}
@@ -54,6 +61,18 @@ pub record IsDesign (state : SessionState) (names : Names) (graph : ProcessGraph
   pub classes : List Classified
   pub are : IsClassification graph classes
   pub rows : IsTextOf state (design_rows names graph classes) text
+
+-- A text is the advice for a graph, of which a meter on each stream costs this: the rows of its cheapest metering, by the names of the
+-- streams. The advised choice suffices, no choice that suffices costs less, and each stream of it has a cycle whose other streams stay
+-- unmeasured and cost no less.
+pub record IsAdviceText (state : SessionState) (names : Names) (graph : ProcessGraph) (costs : List ℤ) (text : List ℕ) : Type 0 where
+  pub limits : IsProcessGraph graph
+  pub named : AreNamesOf names graph
+  pub each_costs : AreCosts graph costs
+  pub advice : Advice
+  pub is_advice : IsAdvice graph costs advice
+  pub cheapest : IsCheapest graph costs advice
+  pub rows : IsTextOf state (advice_rows names advice) text
 
 -- A text is the report of a period of this name, of which this is the graph: the rows of the study of the graph by the critical values
 -- of the stored rows, each stage of which is certified, has least bounds at each stream that has bounds, and has the tests of its
@@ -85,24 +104,26 @@ abbrev pub Tells : SessionState → Option Period → List ℕ → Type 0
 Tells state (Some period) text = IsTextOf state (told_history state.rows period) text
 Tells state None text = ⊥
 
--- the text that an accepted record adds
-abbrev pub AddsAccepted : SessionState → Accepted → List ℕ → Type 0
-AddsAccepted state Blank text = text ≡ []
-AddsAccepted state StoredAccepted text = text ≡ []
-AddsAccepted state Design text = IsDesign state (names_of (declared_of state.rows)) (design_graph state.rows) text
-AddsAccepted state (Report i) text = Reports state (slice_get (periods_of state.rows) i) text
-AddsAccepted state (History i) text = Tells state (slice_get (periods_of state.rows) i) text
+-- the text that an accepted record adds, by the costs that it names
+abbrev pub AddsAccepted : SessionState → List NamedCost → Accepted → List ℕ → Type 0
+AddsAccepted state costs Blank text = text ≡ []
+AddsAccepted state costs StoredAccepted text = text ≡ []
+AddsAccepted state costs Design text = IsDesign state (names_of (declared_of state.rows)) (design_graph state.rows) text
+AddsAccepted state costs (Report i) text = Reports state (slice_get (periods_of state.rows) i) text
+AddsAccepted state costs (History i) text = Tells state (slice_get (periods_of state.rows) i) text
+AddsAccepted state costs Advise text =
+    IsAdviceText state (names_of (declared_of state.rows)) (design_graph state.rows) (meter_costs (declared_of state.rows) costs) text
 
 -- the text that an answer to the record with this number adds
-abbrev pub AddsBy : SessionState → ℕ → Answer → List ℕ → Type 0
-AddsBy state at (Refused cause) text = IsTextOf state (refused_row at (code_of cause) ∷ []) text
-AddsBy state at (Stored row) text = text ≡ []
-AddsBy state at (Says accepted) text = AddsAccepted state accepted text
+abbrev pub AddsBy : SessionState → ℕ → List NamedCost → Answer → List ℕ → Type 0
+AddsBy state at costs (Refused cause) text = IsTextOf state (refused_row at (code_of cause) ∷ []) text
+AddsBy state at costs (Stored row) text = text ≡ []
+AddsBy state at costs (Says accepted) text = AddsAccepted state costs accepted text
 
 -- The text that a record adds to the output: a refused one its row, `design` the rows of the design, `report` those of the report,
--- `history` those of the history.
+-- `history` those of the history, `advise` those of the advice.
 abbrev pub Adds : SessionState → ℕ → List (List ℕ) → List ℕ → Type 0
-Adds state at fields text = AddsBy state at (answer_of state.rows fields) text
+Adds state at fields text = AddsBy state at (named_costs fields) (answer_of state.rows fields) text
 
 -- a session that has stored nothing
 abbrev pub new_session : Options → Form → SessionState

@@ -4,28 +4,33 @@ ghost use Rattle.pb_session.specs.Edited.{EditedFileLaw};
 ghost use Rattle.pb_session.specs.KeptLaws.{FewKeptLaw, KeptTextLaw, OneKeptLaw, SomeKeptLaw};
 ghost use Rattle.pb_session.specs.Laws.{CriticalsLaw, OneTextLaw, OneSessionTextLaw, SomeTextLaw, SomeSessionTextLaw};
 
-use pb_book::{accepted_law, plain_law, ranges_law};
+use pb_advise::{cheapest_law, one_advice_law, some_advice_law};
+use pb_book::{accepted_law, meter_costs_law, plain_law, ranges_law};
 use pb_classify::{one_classification_law, some_classification_law};
 use pb_elim::{certified_law, least_throughout_law, one_study_law, some_study_law, tested_law};
 use pb_period::{graphs_law, plain_graphs_law};
 
 /// The law that what a record adds to the output is one text, and so is the output of a session: the classes of a design and
-/// their certificates leave no choice, and neither does the study of a graph.
+/// their certificates leave no choice, and neither does the advice for a graph at its costs, nor the study of a graph.
 pub fn one_text_law()
     ensures of_a_record { OneTextLaw }
     ensures of_a_session { OneSessionTextLaw }
 {
     one_classification_law();
+    one_advice_law();
     one_study_law();
 }
 
 /// The law that each record adds some text to the output, and that each session has some text: accepted rows make process
-/// graphs, and each of them has classes with certificates, and a study.
+/// graphs, and each of them has classes with certificates, an advice at any costs, and a study.
 pub fn some_text_law()
     ensures of_a_record { SomeTextLaw }
     ensures of_a_session { SomeSessionTextLaw }
 {
     some_classification_law();
+    some_advice_law();
+    cheapest_law();
+    meter_costs_law();
     some_study_law();
     certified_law();
     least_throughout_law();

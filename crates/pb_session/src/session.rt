@@ -1,8 +1,10 @@
 // The state of a session.
 
 ghost use Rattle.std.specs.Prelude.{◌≡◌, ◌≢◌, ◌<◌, ◌≤◌, ◌↔◌, ◌∷◌, [], None, length, slice_get, option_map, OnOk, OnErr, IfErr, IfOk, IfSome, IsSome, IsTrue, Contains, Err};
-ghost use Rattle.pb_book.specs.declared.answer.Accepted.TheVariants.{Design, Stored};
-ghost use Rattle.pb_book.specs.Answer.{code_of};
+ghost use Rattle.pb_book.specs.declared.answer.Accepted.TheVariants.{Advise, Design, Stored};
+ghost use Rattle.pb_book.specs.Answer.{Says, code_of};
+ghost use Rattle.pb_kinds.specs.Costs.{named_costs};
+ghost use Rattle.pb_advise.specs.Choice.{AreCosts};
 ghost use Rattle.pb_report.specs.Refusal.{refused_row};
 ghost use Rattle.pb_book.specs.Rows.{periods_of};
 
@@ -10,12 +12,15 @@ use crate::classes::{Classes, classes_in, copied, renew};
 use crate::criticals::declared_critical;
 use crate::history::{told_edits, told_period};
 use crate::kept::{KeptStudy, drop_study, drop_touched, place_of, settle};
+use pb_advise::advise;
 use pb_book::{Accepted, Book, NotAccepted, Refused};
 use pb_classify::{alike_law, classify};
 use pb_elim::{least_throughout_law, stage, study_classed, tested_law};
 use pb_graph::{Classified, Graph, List, Options, Stage, Study};
 use pb_period::{Assembly, assemble, design, period_names, untouched_law};
-use pb_report::{Form, write_design, write_history, write_over, write_refused, write_study};
+use pb_report::{
+    Form, write_advice, write_design, write_history, write_over, write_refused, write_study,
+};
 use pb_rows::{Name, Names, Row};
 use std::alloc::{AllocError, Global};
 use std::marker::Model;
@@ -68,7 +73,7 @@ impl Session {
     ghost use Rattle.pb_session.specs.FirstStage.{Begins, IsFirstStage, TellsAStream};
     ghost use Rattle.pb_session.specs.Keeping.{IsRenewal, IsReportedAt, IsReportedOf, KeepsAlike};
     ghost use Rattle.pb_session.specs.Kept.{IsKeptAt, Keeps, KeepsAccepted, KeepsReportOf, most_kept, reported_after, reported_behind, reported_of};
-    ghost use Rattle.pb_session.specs.Session.{Adds, AddsAccepted, AreNamesOf, IsDesign, IsReport, IsTextOf, Reports, Tells, state_after};
+    ghost use Rattle.pb_session.specs.Session.{Adds, AddsAccepted, AreNamesOf, IsAdviceText, IsDesign, IsReport, IsTextOf, Reports, Tells, state_after};
 
     /// A session that has stored nothing.
     pub fn new(alloc: Global, options: Options, form: Form) -> Session
@@ -140,7 +145,7 @@ impl Session {
             Ok(accepted) => {
                 untouched_law();
                 drop_touched(&mut self.kept, &self.book, accepted);
-                self.write(accepted, out)?;
+                self.write(accepted, row, out)?;
                 Ok(false)
             }
             Err(NotAccepted::Refused(cause)) => {
@@ -187,10 +192,17 @@ impl Session {
     }
 
     // Appends what an accepted record adds, and keeps what a report leaves.
-    fn write(&mut self, accepted: Accepted, out: &mut Vec<u8>) -> Result<(), AllocError>
-        requires { IsOfPeriods self.old.state.rows accepted }
+    fn write(
+        &mut self,
+        accepted: Accepted,
+        row: &Row,
+        out: &mut Vec<u8>,
+    ) -> Result<(), AllocError>
+        requires periods { IsOfPeriods self.old.state.rows accepted }
+        requires advised { accepted ≡ Advise
+            → answer_of self.old.state.rows row.now ≡ Says Advise }
         ensures ok { OnOk result (AppendsText
-            (AddsAccepted self.old.state accepted) out.old out.new) }
+            (AddsAccepted self.old.state (named_costs row.now) accepted) out.old out.new) }
         ensures state { OnOk result (self.new.state ≡ self.old.state) }
         ensures kept { OnOk result
             (KeepsAccepted self.old.state self.old.kept accepted self.new.kept) }
@@ -206,13 +218,14 @@ impl Session {
             Accepted::Design => self.write_design(out),
             Accepted::Report(i) => self.write_report(i, out),
             Accepted::History(i) => self.write_history(i, out),
+            Accepted::Advise => self.write_advice(row, out),
         }
     }
 
     // Appends the rows of the design of what is stored.
     fn write_design(&self, out: &mut Vec<u8>) -> Result<(), AllocError>
         ensures ok { OnOk result (AppendsText
-            (AddsAccepted self.now.state Design) out.old out.new) }
+            (AddsAccepted self.now.state [] Design) out.old out.new) }
         ensures err { OnErr result (KeepsText out.old out.new) }
     {
         let names = self.book.site().names()?;
@@ -235,6 +248,39 @@ impl Session {
     {
         let classes = classify(self.alloc, graph)?;
         write_design(self.alloc, names, graph, &classes, self.form, out)
+    }
+
+    // Appends the rows of the cheapest metering of what is stored, at the costs that a record names.
+    fn write_advice(&self, row: &Row, out: &mut Vec<u8>) -> Result<(), AllocError>
+        requires { answer_of self.now.state.rows row.now ≡ Says Advise }
+        ensures ok { OnOk result (AppendsText
+            (AddsAccepted self.now.state (named_costs row.now) Advise) out.old out.new) }
+        ensures err { OnErr result (KeepsText out.old out.new) }
+    {
+        let names = self.book.site().names()?;
+        let costs = self.book.costs(self.alloc, row)?;
+        let graph = design(self.alloc, &self.book)?;
+        self.write_meters(&names, &graph, &costs, out)
+    }
+
+    // Appends the rows of the cheapest metering of a graph, of which a meter on each stream costs this and whose nodes and streams have
+    // these names.
+    fn write_meters(
+        &self,
+        names: &Names,
+        graph: &Graph,
+        costs: &[i64],
+        out: &mut Vec<u8>,
+    ) -> Result<(), AllocError>
+        requires names { AreNamesOf names.now graph.now }
+        requires limits { IsProcessGraph graph.now }
+        requires costs { AreCosts graph.now costs.now }
+        ensures ok { OnOk result (AppendsText
+            (IsAdviceText self.now.state names.now graph.now costs.now) out.old out.new) }
+        ensures err { OnErr result (KeepsText out.old out.new) }
+    {
+        let advice = advise(self.alloc, graph, costs)?;
+        write_advice(self.alloc, names, &advice, self.form, out)
     }
 
     // Appends the history of a period.

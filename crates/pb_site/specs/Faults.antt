@@ -1,48 +1,54 @@
--- Statement. The first fault of a new declaration, behind the declarations before it.
-use Rattle.std.specs.Prelude.{ℕ, ◌==◌, Bool, false, ◌&&◌, ◌||◌, not, nat_le, List, length, filter_map, Option, Some, None, if◌then◌else◌, is_some}
-use Rattle.std.specs.List.{list_any}
-use Rattle.pb_limits.specs.Limits.{most_streams_of_version_1, most_units_and_tanks}
-use Rattle.pb_rows.specs.Name.{same_name}
+-- Statement. The first fault of a new declaration, after the declarations before it.
+use Rattle.std.specs.Prelude.{ℕ, ◌==◌, Bool, true, false, ◌&&◌, ◌||◌, not, nat_le, List, [], ◌∷◌, length, filter_map, Option, Some, None, if◌then◌else◌, is_some}
+use Rattle.pb_limits.specs.Limits.{most_boundaries, most_streams, most_streams_of_version_1, most_units_and_tanks}
 use Rattle.pb_strap.specs.Table.{is_full as is_full_table, rises}
 use Rattle.pb_site.specs.declared.declared.Declared.{Declared}
-use Rattle.pb_site.specs.declared.declared.Declared.TheVariants.{Unit as UnitRow, Tank, Strap, Stream, CritGlobal, CritNodal, CritMeasure}
+use Rattle.pb_site.specs.declared.declared.Declared.TheVariants.{Version2, Unit as UnitRow, Boundary, Tank, Strap, Stream, CritGlobal, CritNodal, CritMeasure}
 use Rattle.pb_site.specs.declared.declared.SiteFault.{SiteFault}
 use Rattle.pb_site.specs.declared.declared.SiteFault.TheVariants.{Unknown, Duplicate, Order, Mismatch, Full}
-use Rattle.pb_site.specs.Row.{node_name}
-use Rattle.pb_site.specs.Site.{arc_names, arcs_of, global_of, is_tank, measure_of, nodal_of, node_names, node_of, points_of}
+use Rattle.pb_site.specs.declared.declared.Version.{Version}
+use Rattle.pb_site.specs.declared.declared.Version.TheVariants.{One, Two}
+use Rattle.pb_site.specs.Row.{is_among, node_name}
+use Rattle.pb_site.specs.Service.{is_reversed}
+use Rattle.pb_site.specs.Site.{arc_names, arcs_of, boundary_names, global_of, is_tank, measure_of, nodal_of, node_names, node_of, points_of}
 
--- a name is one of these
-abbrev pub is_among : List (List ℕ) → List ℕ → Bool
-is_among names name = list_any (same_name name) names
-
--- a name is the environment's, or that of a declared unit or tank
+-- a name is the environment's, or that of a declared boundary, unit or tank
 abbrev pub is_node : List Declared → List ℕ → Bool
-is_node declared name = is_among (node_names declared) name
+is_node declared name = is_among (boundary_names declared) name || is_among (node_names declared) name
 
--- a name is the environment's, or that of a declared unit, tank or stream
+-- a name is the environment's, or that of a declared boundary, unit, tank or stream
 abbrev pub is_taken : List Declared → List ℕ → Bool
 is_taken declared name = is_node declared name || is_among (arc_names declared) name
 
 -- a point of a table names no declared tank, or an end of a stream no node
 abbrev pub is_unknown : List Declared → Declared → Bool
 is_unknown declared (Strap tank mm ml) = not (is_tank declared tank)
-is_unknown declared (Stream name from to kind base) =
+is_unknown declared (Stream name from to kind base service) =
     not (is_node declared from && is_node declared to)
 is_unknown declared row = false
 
--- the name is taken, or such a critical value is declared
+-- something is declared
+abbrev pub is_begun : List Declared → Bool
+is_begun [] = false
+is_begun (row ∷ declared) = true
+
+-- the name is taken, such a critical value is declared, or the version isn't the first declaration
 abbrev pub is_duplicate : List Declared → Declared → Bool
+is_duplicate declared Version2 = is_begun declared
 is_duplicate declared (UnitRow name) = is_taken declared name
-is_duplicate declared (Tank name base) = is_taken declared name
+is_duplicate declared (Boundary name) = is_taken declared name
+is_duplicate declared (Tank name base service) = is_taken declared name
 is_duplicate declared (Strap tank mm ml) = false
-is_duplicate declared (Stream name from to kind base) = is_taken declared name
+is_duplicate declared (Stream name from to kind base service) = is_taken declared name
 is_duplicate declared (CritGlobal dof value) = is_some (global_of declared dof)
 is_duplicate declared (CritNodal value) = is_some (nodal_of declared)
 is_duplicate declared (CritMeasure value) = is_some (measure_of declared)
 
--- a level that isn't above the table's last one, or a volume below its last one
+-- a level that isn't above the table's last one, a volume below its last one, or a last day in service before the first
 abbrev pub is_out_of_order : List Declared → Declared → Bool
+is_out_of_order declared (Tank name base service) = is_reversed service
 is_out_of_order declared (Strap tank mm ml) = not (rises (points_of declared tank) mm ml)
+is_out_of_order declared (Stream name from to kind base service) = is_reversed service
 is_out_of_order declared row = false
 
 -- two ends are there, and they are one node
@@ -52,7 +58,7 @@ is_one_node from to = false
 
 -- a stream from a node to itself
 abbrev pub is_mismatch : List Declared → Declared → Bool
-is_mismatch declared (Stream name from to kind base) =
+is_mismatch declared (Stream name from to kind base service) =
     is_one_node (node_of declared from) (node_of declared to)
 is_mismatch declared row = false
 
@@ -60,17 +66,27 @@ is_mismatch declared row = false
 abbrev pub has_most_nodes : List Declared → Bool
 has_most_nodes declared = nat_le most_units_and_tanks (length (filter_map node_name declared))
 
--- as many streams and tanks are declared as there may be
-abbrev pub has_most_arcs : List Declared → Bool
-has_most_arcs declared = nat_le most_streams_of_version_1 (length (arcs_of declared))
+-- as many boundaries are declared as there may be
+abbrev pub has_most_boundaries : List Declared → Bool
+has_most_boundaries declared = nat_le most_boundaries (length (boundary_names declared))
 
--- as many units and tanks, streams and tanks, or points of the table are declared as there may be
-abbrev pub is_full : List Declared → Declared → Bool
-is_full declared (UnitRow name) = has_most_nodes declared
-is_full declared (Tank name base) = has_most_nodes declared || has_most_arcs declared
-is_full declared (Strap tank mm ml) = is_full_table (points_of declared tank)
-is_full declared (Stream name from to kind base) = has_most_arcs declared
-is_full declared row = false
+-- how many streams and tanks a plant has at the most
+abbrev pub most_arcs : Version → ℕ
+most_arcs One = most_streams_of_version_1
+most_arcs Two = most_streams
+
+-- as many streams and tanks are declared as there may be
+abbrev pub has_most_arcs : Version → List Declared → Bool
+has_most_arcs version declared = nat_le (most_arcs version) (length (arcs_of declared))
+
+-- as many units and tanks, boundaries, streams and tanks, or points of the table are declared as there may be
+abbrev pub is_full : Version → List Declared → Declared → Bool
+is_full version declared (UnitRow name) = has_most_nodes declared
+is_full version declared (Boundary name) = has_most_boundaries declared
+is_full version declared (Tank name base service) = has_most_nodes declared || has_most_arcs version declared
+is_full version declared (Strap tank mm ml) = is_full_table (points_of declared tank)
+is_full version declared (Stream name from to kind base service) = has_most_arcs version declared
+is_full version declared row = false
 
 -- the first of these faults that holds
 abbrev pub first_fault : Bool → Bool → Bool → Bool → Bool → Option SiteFault
@@ -83,7 +99,7 @@ first_fault unknown duplicate order mismatch full =
     else None
 
 -- the first fault of a new declaration
-abbrev pub fault_of : List Declared → Declared → Option SiteFault
-fault_of declared row =
+abbrev pub fault_of : Version → List Declared → Declared → Option SiteFault
+fault_of version declared row =
     first_fault (is_unknown declared row) (is_duplicate declared row) (is_out_of_order declared row)
-    (is_mismatch declared row) (is_full declared row)
+    (is_mismatch declared row) (is_full version declared row)

@@ -1,22 +1,76 @@
 -- Statement. What holds of each plant that is declared row by row.
-use Rattle.std.specs.Prelude.{◌≡◌, ◌≤◌, List, [], ◌∷◌, ◌++◌, length, All, None}
-use Rattle.pb_limits.specs.Limits.{most_nodes, most_streams}
+use Rattle.std.specs.Prelude.{◌≡◌, ◌≢◌, ℕ, ◌≤◌, ◌<◌, ℤ, List, [], ◌∷◌, ◌++◌, filter_map, drop, length, All, true, false, None}
+use Rattle.std.specs.List.Sorted.{IsStrictlyIncreasing}
+use Rattle.pb_limits.specs.Limits.{most_boundaries, most_nodes, most_streams}
+use Rattle.pb_site.specs.declared.declared.Arc.{Arc}
 use Rattle.pb_site.specs.declared.declared.Declared.{Declared}
-use Rattle.pb_site.specs.Row.{IsInRange}
-use Rattle.pb_site.specs.Site.{HasDistinctNames, IsArc, arcs_of, node_names}
+use Rattle.pb_site.specs.declared.declared.Version.{Version}
+use Rattle.pb_site.specs.declared.declared.Version.TheVariants.{Two}
+use Rattle.pb_site.specs.Row.{IsInRange, arc_in, node_name, says_version_2}
+use Rattle.pb_site.specs.Site.{AreDistinct, HasDistinctNames, IsArc, arcs_of, boundary_names, node_names, version_of}
+use Rattle.pb_site.specs.OnDays.{arcs_on, declares_in_service, has_place, names_on, nodes_on, place_among}
 use Rattle.pb_site.specs.Faults.{fault_of}
 
--- numbers are in their ranges, names are distinct, each arc leads from a node to another one, and there are not too many nodes and arcs
+-- numbers and days are in their ranges, names are distinct, each arc leads from a node to another one, there are not too many nodes,
+-- boundaries and arcs, and only the first declaration says the version
 pub record IsPlant (declared : List Declared) : Type 0 where
   pub ranges : All IsInRange declared
   pub distinct : HasDistinctNames declared
   pub joined : All (IsArc (length (node_names declared))) (arcs_of declared)
   pub few_nodes : length (node_names declared) ≤ most_nodes
+  pub few_boundaries : length (boundary_names declared) ≤ most_boundaries
   pub few_arcs : length (arcs_of declared) ≤ most_streams
+  pub version : All (λ row. says_version_2 row ≡ false) (drop 1 declared)
 
 -- each plant whose declarations had no fault is one
 abbrev pub PlantLaw : Type 0
 PlantLaw =
     IsPlant []
     × ((declared : List Declared) (row : Declared) → IsPlant declared → IsInRange row
-    → fault_of declared row ≡ None → IsPlant (declared ++ row ∷ []))
+    → fault_of (version_of declared) declared row ≡ None → IsPlant (declared ++ row ∷ []))
+
+-- one more declaration leaves the nodes and arcs that were there, and the version unless it says it
+pub record GrowsBy (declared : List Declared) (row : Declared) (grown : List Declared) : Type 0 where
+  pub nodes : node_names grown ≡ node_names declared ++ filter_map node_name (row ∷ [])
+  pub arcs : arcs_of grown
+      ≡ arcs_of declared ++ filter_map (arc_in (boundary_names grown) (node_names grown)) (row ∷ [])
+  pub version : says_version_2 row ≡ false → version_of grown ≡ version_of declared
+
+abbrev pub GrowthLaw : Type 0
+GrowthLaw =
+    (declared : List Declared) (row : Declared) → IsPlant declared
+    → fault_of (version_of declared) declared row ≡ None → GrowsBy declared row (declared ++ row ∷ [])
+
+-- an arc joins two of these nodes
+pub record JoinsPlaces (nodes : List ℕ) (arc : Arc) : Type 0 where
+  pub begins : has_place nodes arc.from ≡ true
+  pub ends : has_place nodes arc.to ≡ true
+  pub apart : place_among nodes arc.from ≢ place_among nodes arc.to
+
+-- the nodes of some days are nodes of the plant, in order, each arc of these days joins two of them, and the names of the nodes are
+-- distinct, and those of the arcs
+pub record IsPartOnDays (version : Version) (declared : List Declared) (first last : ℤ) : Type 0 where
+  pub few : length (nodes_on version declared first last) ≤ length (node_names declared)
+  pub within : All (λ node. node < length (node_names declared)) (nodes_on version declared first last)
+  pub order : IsStrictlyIncreasing (nodes_on version declared first last)
+  pub joined : All (JoinsPlaces (nodes_on version declared first last)) (arcs_on version declared first last)
+  pub nodes : AreDistinct (names_on version declared first last).nodes
+  pub streams : AreDistinct (names_on version declared first last).streams
+
+abbrev pub DaysLaw : Type 0
+DaysLaw =
+    (version : Version) (declared : List Declared) (first last : ℤ) → IsPlant declared
+    → IsPartOnDays version declared first last
+
+-- the same arcs, nodes and names on some days
+pub record IsSamePart (declared other : List Declared) (first last : ℤ) : Type 0 where
+  pub arcs : arcs_on Two other first last ≡ arcs_on Two declared first last
+  pub nodes : nodes_on Two other first last ≡ nodes_on Two declared first last
+  pub names : names_on Two other first last ≡ names_on Two declared first last
+
+-- a declaration that isn't in service on some days leaves the part of the plant on these days as it was
+abbrev pub SamePartLaw : Type 0
+SamePartLaw =
+    (declared : List Declared) (row : Declared) (first last : ℤ) → IsPlant declared
+    → fault_of (version_of declared) declared row ≡ None → declares_in_service first last row ≡ false
+    → IsSamePart declared (declared ++ row ∷ []) first last

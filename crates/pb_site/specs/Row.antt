@@ -1,6 +1,6 @@
--- Statement. What one declaration says: its ranges, the unit or tank, the arc, the point and the critical value that it declares.
-use Rattle.std.specs.Prelude.{◌≡◌, ℕ, ◌==◌, ℤ, pos, ◌≤◌, Bool, false, List, Option, Some, None, if◌then◌else◌}
-use Rattle.std.specs.List.{position_or_len}
+-- Statement. What one declaration says: its ranges, the node, the boundary, the arc, the point and the critical value that it declares.
+use Rattle.std.specs.Prelude.{◌≡◌, ℕ, ◌==◌, ℤ, pos, ◌≤◌, Bool, true, false, List, Option, Some, None, IfSome, if◌then◌else◌}
+use Rattle.std.specs.List.{list_any, position_or_len}
 use Rattle.pb_limits.specs.Limits.{most_freedom}
 use Rattle.pb_limits.specs.Ranges.{IsBaseVariance, IsCriticalValue, IsLevel, IsVolume}
 use Rattle.pb_rows.specs.Name.{same_name}
@@ -11,7 +11,8 @@ use Rattle.pb_site.specs.declared.declared.Kind.TheVariants.{Metered, Batch, Pla
 use Rattle.pb_site.specs.declared.declared.ArcKind.{ArcKind}
 use Rattle.pb_site.specs.declared.declared.ArcKind.TheVariants.{Metered as MeteredArc, Batch as BatchArc, Plain as PlainArc, Tank as TankArc}
 use Rattle.pb_site.specs.declared.declared.Declared.{Declared}
-use Rattle.pb_site.specs.declared.declared.Declared.TheVariants.{Unit as UnitRow, Tank, Strap, Stream, CritGlobal, CritNodal, CritMeasure}
+use Rattle.pb_site.specs.declared.declared.Declared.TheVariants.{Version2, Unit as UnitRow, Boundary, Tank, Strap, Stream, CritGlobal, CritNodal, CritMeasure}
+use Rattle.pb_site.specs.Service.{IsService}
 
 -- the base variance of an arc of a kind: a plain one has none
 abbrev pub IsArcBase : ArcKind → ℤ → Type 0
@@ -24,47 +25,65 @@ arc_kind Metered = MeteredArc
 arc_kind Batch = BatchArc
 arc_kind Plain = PlainArc
 
--- the numbers of a declaration lie in their ranges
+-- the numbers and days of a declaration lie in their ranges
 abbrev pub IsInRange : Declared → Type 0
-IsInRange (Tank name base) = IsBaseVariance base
+IsInRange (Tank name base service) = IsBaseVariance base × IfSome service IsService
 IsInRange (Strap tank mm ml) = IsLevel mm × IsVolume ml
-IsInRange (Stream name from to kind base) = IsArcBase (arc_kind kind) base
+IsInRange (Stream name from to kind base service) = IsArcBase (arc_kind kind) base × IfSome service IsService
 IsInRange (CritGlobal dof value) = (1 ≤ dof) × (dof ≤ most_freedom) × IsCriticalValue value
 IsInRange (CritNodal value) = IsCriticalValue value
 IsInRange (CritMeasure value) = IsCriticalValue value
 IsInRange row = Unit {0}
 
+-- the declaration that the session is of version 2
+abbrev pub says_version_2 : Declared → Bool
+says_version_2 Version2 = true
+says_version_2 row = false
+
 -- the name of the unit or tank that a declaration declares
 abbrev pub node_name : Declared → Option (List ℕ)
 node_name (UnitRow name) = Some name
-node_name (Tank name base) = Some name
+node_name (Tank name base service) = Some name
 node_name row = None
 
--- the name of the unit, tank or stream that a declaration declares
+-- the name of the boundary that a declaration declares
+abbrev pub boundary_name : Declared → Option (List ℕ)
+boundary_name (Boundary name) = Some name
+boundary_name row = None
+
+-- the name of the unit, boundary, tank or stream that a declaration declares
 abbrev pub declared_name : Declared → Option (List ℕ)
 declared_name (UnitRow name) = Some name
-declared_name (Tank name base) = Some name
-declared_name (Stream name from to kind base) = Some name
+declared_name (Boundary name) = Some name
+declared_name (Tank name base service) = Some name
+declared_name (Stream name from to kind base service) = Some name
 declared_name row = None
 
--- the node of a name: its place among the names of the nodes
-abbrev pub node_at : List (List ℕ) → List ℕ → ℕ
-node_at nodes name = position_or_len (same_name name) nodes
+-- a name is one of these
+abbrev pub is_among : List (List ℕ) → List ℕ → Bool
+is_among names name = list_any (same_name name) names
 
--- the arc that a declaration declares, given the names of the nodes, of which the first is the environment's: a stream, or the
--- inventory stream of a tank, from the tank to the environment
-abbrev pub arc_in : List (List ℕ) → Declared → Option Arc
-arc_in nodes (Tank name base) =
-    Some (record { name = name; from = node_at nodes name; to = 0; kind = TankArc; base = base })
-arc_in nodes (Stream name from to kind base) =
-    let begins = node_at nodes from in
-    let ends = node_at nodes to in
-    Some (record { name = name; from = begins; to = ends; kind = arc_kind kind; base = base })
-arc_in nodes row = None
+-- The node of a name, given the names of the boundaries and those of the nodes, of which the first is the environment's: a boundary
+-- is the environment, and the node of any other name is its place among the names of the nodes.
+abbrev pub node_at : List (List ℕ) → List (List ℕ) → List ℕ → ℕ
+node_at boundaries nodes name =
+    if is_among boundaries name then 0 else position_or_len (same_name name) nodes
+
+-- the arc that a declaration declares, given the names of the boundaries and nodes: a stream, or the inventory stream of a tank,
+-- from the tank to the environment
+abbrev pub arc_in : List (List ℕ) → List (List ℕ) → Declared → Option Arc
+arc_in boundaries nodes (Tank name base service) =
+    let begins = node_at boundaries nodes name in
+    Some (record { name = name; from = begins; to = 0; kind = TankArc; base = base; service = service })
+arc_in boundaries nodes (Stream name from to kind base service) =
+    let begins = node_at boundaries nodes from in
+    let ends = node_at boundaries nodes to in
+    Some (record { name = name; from = begins; to = ends; kind = arc_kind kind; base = base; service = service })
+arc_in boundaries nodes row = None
 
 -- a declaration of the tank of this name
 abbrev pub declares_tank : List ℕ → Declared → Bool
-declares_tank tank (Tank name base) = same_name name tank
+declares_tank tank (Tank name base service) = same_name name tank
 declares_tank tank row = false
 
 -- the point of the table of this tank that a declaration declares

@@ -1,5 +1,5 @@
 -- Statement. The declared plant: its nodes, its arcs, the tables of its tanks and its critical values, in order of declaration.
-use Rattle.std.specs.Prelude.{◌≡◌, ◌≢◌, ◌<◌, ℕ, ℤ, Bool, false, List, ◌∷◌, map, filter_map, find, position, AllPairs, Option, Some, None, if◌then◌else◌, slice_get, codes}
+use Rattle.std.specs.Prelude.{◌≡◌, ◌≢◌, ◌<◌, ℕ, ℤ, Bool, false, List, ◌∷◌, map, filter_map, find, position, AllPairs, Option, Some, None, if◌then◌else◌, option_and_then, slice_get, codes}
 use Rattle.std.specs.List.{list_any}
 use Rattle.std.specs.Option.{option_map}
 use Rattle.pb_rows.specs.Name.{same_name}
@@ -9,19 +9,34 @@ use Rattle.pb_site.specs.declared.declared.Arc.{Arc}
 use Rattle.pb_site.specs.declared.declared.ArcKind.{ArcKind}
 use Rattle.pb_site.specs.declared.declared.ArcKind.TheVariants.{Tank}
 use Rattle.pb_site.specs.declared.declared.Declared.{Declared}
-use Rattle.pb_site.specs.Row.{IsArcBase, arc_in, declared_name, declares_tank, global_value, measure_value, nodal_value, node_name, point_of}
+use Rattle.pb_site.specs.declared.declared.Declared.TheVariants.{Version2}
+use Rattle.pb_site.specs.declared.declared.Service.{Service}
+use Rattle.pb_site.specs.declared.declared.Version.{Version}
+use Rattle.pb_site.specs.declared.declared.Version.TheVariants.{One, Two}
+use Rattle.pb_site.specs.Row.{IsArcBase, arc_in, boundary_name, declared_name, declares_tank, global_value, is_among, measure_value, nodal_value, node_name, point_of}
+
+-- the version of the session: 2 if the first declaration says so
+abbrev pub version_of : List Declared → Version
+version_of (Version2 ∷ declared) = Two
+version_of declared = One
 
 -- the names of the nodes: the environment's, and then those of the units and tanks
 abbrev pub node_names : List Declared → List (List ℕ)
 node_names declared = codes "env" ∷ filter_map node_name declared
 
--- the node of this name
+-- the names of the boundaries, which are further names of the environment
+abbrev pub boundary_names : List Declared → List (List ℕ)
+boundary_names declared = filter_map boundary_name declared
+
+-- the node of this name: a boundary is the environment
 abbrev pub node_of : List Declared → List ℕ → Option ℕ
-node_of declared name = position (same_name name) (node_names declared)
+node_of declared name =
+    if is_among (boundary_names declared) name then Some 0
+    else position (same_name name) (node_names declared)
 
 -- the arcs of the plant: the declared streams and the inventory streams of the tanks
 abbrev pub arcs_of : List Declared → List Arc
-arcs_of declared = filter_map (arc_in (node_names declared)) declared
+arcs_of declared = filter_map (arc_in (boundary_names declared) (node_names declared)) declared
 
 -- an arc leads from a node to another one, and its base variance is within the limits
 pub record IsArc (nodes : ℕ) (arc : Arc) : Type 0 where
@@ -34,11 +49,18 @@ pub record IsArc (nodes : ℕ) (arc : Arc) : Type 0 where
 abbrev pub arc_names : List Declared → List (List ℕ)
 arc_names declared = map (λ (arc : Arc). arc.name) (arcs_of declared)
 
+-- the arc of this name
+abbrev pub arc_named : List Declared → List ℕ → Option Arc
+arc_named declared name = find (λ (arc : Arc). same_name name arc.name) (arcs_of declared)
+
 -- the kind of the arc of this name
 abbrev pub kind_of : List Declared → List ℕ → Option ArcKind
-kind_of declared name =
-    option_map (λ (arc : Arc). arc.kind)
-    (find (λ (arc : Arc). same_name name arc.name) (arcs_of declared))
+kind_of declared name = option_map (λ (arc : Arc). arc.kind) (arc_named declared name)
+
+-- the days on which the arc of this name is in service: version 1 has none
+abbrev pub service_in : Version → List Declared → List ℕ → Option Service
+service_in One declared name = None
+service_in Two declared name = option_and_then (λ (arc : Arc). arc.service) (arc_named declared name)
 
 -- the names of the nodes and arcs
 abbrev pub names_of : List Declared → Names
@@ -48,7 +70,7 @@ names_of declared = record { nodes = node_names declared; streams = arc_names de
 abbrev pub AreDistinct : List (List ℕ) → Type 0
 AreDistinct names = AllPairs (λ a b. same_name a b ≡ false) names
 
--- no two nodes have one name, the environment among them, and no two arcs; nor have any two units, tanks and streams
+-- no two nodes have one name, the environment among them, and no two arcs; nor have any two units, boundaries, tanks and streams
 pub record HasDistinctNames (declared : List Declared) : Type 0 where
   pub nodes : AreDistinct (node_names declared)
   pub arcs : AreDistinct (arc_names declared)

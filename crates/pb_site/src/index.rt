@@ -6,12 +6,11 @@ ghost use Rattle.indexmap.specs.IndexSet as set;
 ghost use Rattle.pb_limits.specs.Limits.{most_nodes, most_units_and_tanks};
 ghost use Rattle.pb_rows.specs.Name.{same_name};
 ghost use Rattle.pb_site.specs.declared.declared.Declared.TheVariants.{Strap as StrapRow};
-ghost use Rattle.pb_site.specs.Faults.{is_among};
-ghost use Rattle.pb_site.specs.Row.{node_at};
-ghost use Rattle.pb_site.specs.Kept.{CanAdd, HasRoom, IsNew, Notes, SameIndex, nodes_in, table_with};
+ghost use Rattle.pb_site.specs.Row.{is_among, node_at};
+ghost use Rattle.pb_site.specs.Kept.{CanAdd, HasRoom, IsNew, Notes, SameIndex, has_node, node_by, nodes_in, table_with};
 ghost use Rattle.std.specs.Prelude.{codes};
 
-use crate::declared::{Arc, ArcKind, Declared};
+use crate::declared::{Arc, ArcKind, Declared, Service, Version};
 use indexmap::IndexSet;
 use pb_rows::Name;
 use pb_strap::Strap;
@@ -19,9 +18,11 @@ use std::alloc::{AllocError, Global};
 use std::collections::HashMap;
 use std::hash::Hash;
 
-/// The names of units and tanks, the arcs and their names, the tables of the tanks and the critical values.
+/// The version, the names of boundaries, units and tanks, the arcs and their names, the tables of the tanks and the critical values.
 #[derive(Drop)]
 pub struct Index {
+    pub version: Version,
+    pub boundaries: IndexSet<Name>,
     pub nodes: IndexSet<Name>,
     pub arc_names: IndexSet<Name>,
     pub arcs: Vec<Arc>,
@@ -37,6 +38,7 @@ impl Index {
         ensures same { SameIndex self.old self.new }
         ensures room { OnOk result (HasRoom self.new) }
     {
+        self.boundaries.reserve(1)?;
         self.nodes.reserve(1)?;
         self.arc_names.reserve(1)?;
         self.arcs.reserve(1)?;
@@ -44,7 +46,7 @@ impl Index {
         self.global.reserve(1)
     }
 
-    /// Notes a declaration whose names are new. After an `Err`, want of memory, all is as it was.
+    /// Notes a declaration whose names are new. After an `Err`, out of memory, all is as it was.
     pub fn note(&mut self, alloc: Global, row: &Declared) -> Result<(), AllocError>
         requires room { HasRoom self.old }
         requires few { length self.old.nodes.keys ≤ most_units_and_tanks }
@@ -53,13 +55,19 @@ impl Index {
         ensures err { OnErr result (SameIndex self.old self.new) }
     {
         match row {
+            Declared::Version2 => self.version = Version::Two,
             Declared::Unit { name } => put_name(&mut self.nodes, *name),
-            Declared::Tank { name, base } => {
+            Declared::Boundary { name } => put_name(&mut self.boundaries, *name),
+            Declared::Tank {
+                name,
+                base,
+                service,
+            } => {
                 put_name(&mut self.nodes, *name);
                 put_name(&mut self.arc_names, *name);
                 put(&mut self.straps, *name, Strap::new(alloc));
                 self.arcs
-                    .push_reserved(inventory(&self.nodes, *name, *base));
+                    .push_reserved(inventory(&self.nodes, *name, *base, *service));
             }
             Declared::Strap { tank, mm, ml } => return add_point(&mut self.straps, tank, *mm, *ml),
             Declared::Stream {
@@ -68,6 +76,7 @@ impl Index {
                 to,
                 kind,
                 base,
+                service,
             } => {
                 let arc = Arc {
                     name: *name,
@@ -75,6 +84,7 @@ impl Index {
                     to: self.end(to),
                     kind: ArcKind::from(*kind),
                     base: *base,
+                    service: *service,
                 };
                 put_name(&mut self.arc_names, *name);
                 self.arcs.push_reserved(arc);
@@ -86,12 +96,12 @@ impl Index {
         Ok(())
     }
 
-    /// The node of a name; `None` exactly where no node has it.
+    /// The node of a name; `None` iff no node has it.
     pub fn node_of(&self, name: &Name) -> Option<u32>
         requires { length self.now.nodes.keys ≤ most_units_and_tanks }
-        ensures { result ≡ position (same_name name.now) (nodes_in self.now) }
+        ensures { result ≡ node_by self.now name.now }
     {
-        if is_env(name) {
+        if is_env(name) || self.boundaries.contains(name) {
             return Some(0);
         }
         match self.nodes.get_index_of(name) {
@@ -103,8 +113,8 @@ impl Index {
     // The node of a name that a node has.
     fn end(&self, name: &Name) -> u32
         requires few { length self.now.nodes.keys ≤ most_units_and_tanks }
-        requires known { is_among (nodes_in self.now) name.now ≡ true }
-        ensures { result ≡ node_at (nodes_in self.now) name.now }
+        requires known { has_node self.now name.now ≡ true }
+        ensures { result ≡ node_at self.now.boundaries.keys (nodes_in self.now) name.now }
     {
         self.node_of(name).unwrap()
     }
@@ -128,7 +138,7 @@ pub fn is_env(name: &Name) -> bool
 }
 
 // The inventory stream of the tank that is the last node.
-fn inventory(nodes: &IndexSet<Name>, name: Name, base: i128) -> Arc
+fn inventory(nodes: &IndexSet<Name>, name: Name, base: i128, service: Option<Service>) -> Arc
     requires { length nodes.now.keys ≤ most_nodes }
     ensures { result ≡ record {
       name = name;
@@ -136,6 +146,7 @@ fn inventory(nodes: &IndexSet<Name>, name: Name, base: i128) -> Arc
       to = 0;
       kind = ArcKind.Tank;
       base = base;
+      service = service;
     } }
 {
     Arc {
@@ -144,10 +155,11 @@ fn inventory(nodes: &IndexSet<Name>, name: Name, base: i128) -> Arc
         to: 0,
         kind: ArcKind::Tank,
         base,
+        service,
     }
 }
 
-// Puts a new name behind the others.
+// Puts a new name after the others.
 fn put_name(names: &mut IndexSet<Name>, name: Name)
     requires room { 0 < set.spare names.old }
     requires new { is_among names.old.keys name ≡ false }
@@ -169,7 +181,7 @@ fn put<K: Eq + Hash + Drop, V: Drop>(map: &mut HashMap<K, V>, key: K, value: V)
     }
 }
 
-// Adds a point to a tank's table. After an `Err`, want of memory, the tables are as they were.
+// Adds a point to a tank's table. After an `Err`, out of memory, the tables are as they were.
 fn add_point(
     straps: &mut HashMap<Name, Strap>,
     tank: &Name,

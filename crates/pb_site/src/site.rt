@@ -5,13 +5,14 @@ ghost use Rattle.pb_limits.specs.Limits.{most_nodes, most_streams};
 ghost use Rattle.pb_rows.specs.Name.{same_name};
 ghost use Rattle.pb_site.specs.Row.{IsInRange};
 ghost use Rattle.pb_site.specs.Laws.{IsPlant};
-ghost use Rattle.pb_site.specs.Site.{HasDistinctNames, IsArc, arc_names, arcs_of, global_of, is_tank, kind_of, measure_of, names_of, nodal_of, node_names, node_of, table_of, table_of_arc};
-ghost use Rattle.pb_site.specs.Faults.{fault_of, has_most_arcs, has_most_nodes, is_duplicate, is_full, is_mismatch, is_node, is_one_node, is_out_of_order, is_taken, is_unknown};
+ghost use Rattle.pb_site.specs.Site.{HasDistinctNames, IsArc, arc_named, arc_names, arcs_of, global_of, is_tank, kind_of, measure_of, names_of, nodal_of, node_names, node_of, service_in, table_of, table_of_arc, version_of};
+ghost use Rattle.pb_site.specs.Faults.{fault_of, has_most_arcs, has_most_boundaries, has_most_nodes, is_duplicate, is_full, is_mismatch, is_node, is_one_node, is_out_of_order, is_taken, is_unknown, most_arcs};
 
-use crate::declared::{Arc, ArcKind, Declared, SiteFault};
+use crate::declared::{Arc, ArcKind, Declared, Service, SiteFault, Version};
 use crate::index::{Index, env, is_env};
+use crate::service::is_reversed;
 use indexmap::IndexSet;
-use pb_limits::{MOST_STREAMS_OF_VERSION_1, MOST_UNITS_AND_TANKS};
+use pb_limits::{MOST_BOUNDARIES, MOST_STREAMS, MOST_STREAMS_OF_VERSION_1, MOST_UNITS_AND_TANKS};
 use pb_rows::{Name, NameList, Names};
 use pb_strap::Strap;
 use std::alloc::{AllocError, Global};
@@ -47,6 +48,8 @@ impl Site {
             alloc,
             declared: Vec::new(alloc),
             index: Index {
+                version: Version::One,
+                boundaries: IndexSet::new(alloc),
                 nodes: IndexSet::new(alloc),
                 arc_names: IndexSet::new(alloc),
                 arcs: Vec::new(alloc),
@@ -58,9 +61,9 @@ impl Site {
         }
     }
 
-    /// The first fault of a new declaration, of Unknown, Duplicate, Order, Mismatch and Full; `None` exactly where there is none.
+    /// The first fault of a new declaration, of Unknown, Duplicate, Order, Mismatch and Full; `None` iff there is none.
     pub fn judge(&self, row: &Declared) -> Option<SiteFault>
-        ensures { result ≡ fault_of self.now row.now }
+        ensures { result ≡ fault_of (version_of self.now) self.now row.now }
     {
         if self.is_unknown(row) {
             Some(SiteFault::Unknown)
@@ -77,10 +80,10 @@ impl Site {
         }
     }
 
-    /// Adds a declaration that has no fault. After an `Err`, want of memory, the plant is as it was.
+    /// Adds a declaration that has no fault. After an `Err`, out of memory, the plant is as it was.
     pub fn add(&mut self, row: Declared) -> Result<(), AllocError>
         requires in_range { IsInRange row }
-        requires no_fault { fault_of self.old row ≡ None }
+        requires no_fault { fault_of (version_of self.old) self.old row ≡ None }
         ensures added { OnOk result (self.new ≡ self.old ++ row ∷ []) }
         ensures unchanged { OnErr result (self.new ≡ self.old) }
     {
@@ -113,12 +116,37 @@ impl Site {
         self.declared.is_empty()
     }
 
+    /// The version of the session, which the first declaration says.
+    pub fn version(&self) -> Version
+        ensures { result ≡ version_of self.now }
+    {
+        self.index.version
+    }
+
+    /// Whether the session is of version 2: whether `Version2` was added.
+    pub fn version2(&self) -> bool
+        ensures { IsTrue result ↔ (version_of self.now ≡ Version.Two) }
+    {
+        matches!(self.index.version, Version::Two)
+    }
+
     /// The number of nodes: the environment, the units and the tanks.
     pub fn nodes(&self) -> u32
         ensures value { result ≡ length (node_names self.now) }
         ensures within { result ≤ most_nodes }
     {
         self.index.nodes.len() as u32 + 1
+    }
+
+    /// The name of a node, which is the environment's, a unit's or a tank's.
+    pub fn node_name(&self, node: u32) -> Name
+        requires { node < length (node_names self.now) }
+        ensures { slice_get (node_names self.now) node ≡ Some result }
+    {
+        if node == 0 {
+            return env();
+        }
+        self.index.nodes.as_slice()[node as usize - 1]
     }
 
     /// The number of arcs: the streams and the tanks.
@@ -138,7 +166,7 @@ impl Site {
         self.index.arcs[place as usize]
     }
 
-    /// The strapping table of the arc at a place; `None` exactly where the arc isn't a tank's.
+    /// The strapping table of the arc at a place; `None` iff the arc isn't a tank's.
     pub fn strap(&self, place: u32) -> Option<&Strap>
         requires { place < length (arcs_of self.now) }
         ensures { option_copied result
@@ -151,14 +179,14 @@ impl Site {
         }
     }
 
-    /// The node of a name; `None` exactly where no node has it.
+    /// The node of a name; 0 for a boundary, and `None` iff no node has the name.
     pub fn node_of(&self, name: &Name) -> Option<u32>
         ensures { result ≡ node_of self.now name.now }
     {
         self.index.node_of(name)
     }
 
-    /// The arc of a name; `None` exactly where no arc has it.
+    /// The arc of a name; `None` iff no arc has it.
     pub fn arc_of(&self, name: &Name) -> Option<u32>
         ensures { result ≡ position (same_name name.now) (arc_names self.now) }
     {
@@ -168,13 +196,24 @@ impl Site {
         }
     }
 
-    /// The kind of the arc of a name: that of a stream, or a tank's inventory; `None` exactly where no arc has the name.
+    /// The kind of the arc of a name: that of a stream, or a tank's inventory; `None` iff no arc has the name.
     pub fn kind_of(&self, name: &Name) -> Option<ArcKind>
         ensures { result ≡ kind_of self.now name.now }
     {
-        match self.index.arc_names.get_index_of(name) {
-            Some(i) => Some(self.index.arcs[i].kind),
+        match self.arc_named(name) {
+            Some(arc) => Some(arc.kind),
             None => None,
+        }
+    }
+
+    /// The days on which the stream or tank of a name is in service; `None` in version 1, if its row has no such days, and if there
+    /// is no stream or tank of the name.
+    pub fn service_of(&self, name: &Name) -> Option<Service>
+        ensures { result ≡ service_in (version_of self.now) self.now name.now }
+    {
+        match self.index.version {
+            Version::One => None,
+            Version::Two => self.arc_named(name)?.service,
         }
     }
 
@@ -185,28 +224,28 @@ impl Site {
         self.index.straps.contains_key(name)
     }
 
-    /// The strapping table of the tank of a name; `None` exactly where no tank has it.
+    /// The strapping table of the tank of a name; `None` iff no tank has it.
     pub fn strap_of(&self, name: &Name) -> Option<&Strap>
         ensures { option_copied result ≡ table_of self.now name.now }
     {
         self.index.straps.get(name)
     }
 
-    /// The critical value of the global test with these degrees of freedom; `None` exactly where none was declared.
+    /// The critical value of the global test with these degrees of freedom; `None` iff none was declared.
     pub fn global(&self, dof: u32) -> Option<i64>
         ensures { result ≡ global_of self.now dof }
     {
         self.index.global.get(&dof).copied()
     }
 
-    /// The critical value of the nodal tests; `None` exactly where none was declared.
+    /// The critical value of the nodal tests; `None` iff none was declared.
     pub fn nodal(&self) -> Option<i64>
         ensures { result ≡ nodal_of self.now }
     {
         self.index.nodal
     }
 
-    /// The critical value of the measurement tests; `None` exactly where none was declared.
+    /// The critical value of the measurement tests; `None` iff none was declared.
     pub fn measure(&self) -> Option<i64>
         ensures { result ≡ measure_of self.now }
     {
@@ -214,7 +253,7 @@ impl Site {
     }
 
     /// The names of the nodes and arcs. No two nodes have one name, the environment's among them, and no two arcs; nor have any two
-    /// units, tanks and streams.
+    /// units, boundaries, tanks and streams.
     pub fn names(&self) -> Result<Names, AllocError>
         ensures ok { IfOk result (λ names. names ≡ names_of self.now) }
         ensures distinct { HasDistinctNames self.now }
@@ -229,6 +268,16 @@ impl Site {
         Ok(names)
     }
 
+    // The arc of a name.
+    fn arc_named(&self, name: &Name) -> Option<Arc>
+        ensures { result ≡ arc_named self.now name.now }
+    {
+        match self.index.arc_names.get_index_of(name) {
+            Some(i) => Some(self.index.arcs[i]),
+            None => None,
+        }
+    }
+
     // Whether a point names no declared tank, or an end of a stream no node.
     fn is_unknown(&self, row: &Declared) -> bool
         ensures { result ≡ is_unknown self.now row.now }
@@ -240,12 +289,14 @@ impl Site {
         }
     }
 
-    // Whether the name is taken, or such a critical value was declared.
+    // Whether the name is taken, such a critical value was declared, or the version isn't the first declaration.
     fn is_duplicate(&self, row: &Declared) -> bool
         ensures { result ≡ is_duplicate self.now row.now }
     {
         match row {
+            Declared::Version2 => !self.declared.is_empty(),
             Declared::Unit { name } => self.is_taken(name),
+            Declared::Boundary { name } => self.is_taken(name),
             Declared::Tank { name, .. } => self.is_taken(name),
             Declared::Stream { name, .. } => self.is_taken(name),
             Declared::Strap { .. } => false,
@@ -255,7 +306,7 @@ impl Site {
         }
     }
 
-    // Whether a point can't stand behind the last one of its table.
+    // Whether a point can't stand after the last one of its table, or the last day in service comes before the first.
     fn is_out_of_order(&self, row: &Declared) -> bool
         ensures { result ≡ is_out_of_order self.now row.now }
     {
@@ -264,16 +315,19 @@ impl Site {
                 Some(strap) => !strap.rises(*mm, *ml),
                 None => false,
             },
+            Declared::Tank { service, .. } => is_reversed(*service),
+            Declared::Stream { service, .. } => is_reversed(*service),
             _ => false,
         }
     }
 
-    // Whether there are as many units and tanks, streams and tanks, or points of the table as there may be.
+    // Whether there are as many units and tanks, boundaries, streams and tanks, or points of the table as there may be.
     fn is_full(&self, row: &Declared) -> bool
-        ensures { result ≡ is_full self.now row.now }
+        ensures { result ≡ is_full (version_of self.now) self.now row.now }
     {
         match row {
             Declared::Unit { .. } => self.has_most_nodes(),
+            Declared::Boundary { .. } => self.has_most_boundaries(),
             Declared::Tank { .. } => self.has_most_nodes() || self.has_most_arcs(),
             Declared::Stream { .. } => self.has_most_arcs(),
             Declared::Strap { tank, .. } => match self.index.straps.get(tank) {
@@ -301,25 +355,42 @@ impl Site {
         self.index.nodes.len() >= MOST_UNITS_AND_TANKS
     }
 
-    // Whether there are as many streams and tanks as there may be.
-    fn has_most_arcs(&self) -> bool
-        ensures { result ≡ has_most_arcs self.now }
+    // Whether there are as many boundaries as there may be.
+    fn has_most_boundaries(&self) -> bool
+        ensures { result ≡ has_most_boundaries self.now }
     {
-        self.index.arcs.len() >= MOST_STREAMS_OF_VERSION_1
+        self.index.boundaries.len() >= MOST_BOUNDARIES
     }
 
-    // Whether a name is the environment's, or that of a declared unit or tank.
+    // Whether there are as many streams and tanks as there may be.
+    fn has_most_arcs(&self) -> bool
+        ensures { result ≡ has_most_arcs (version_of self.now) self.now }
+    {
+        self.index.arcs.len() >= most_arcs(self.index.version)
+    }
+
+    // Whether a name is the environment's, or that of a declared boundary, unit or tank.
     fn is_node(&self, name: &Name) -> bool
         ensures { result ≡ is_node self.now name.now }
     {
-        is_env(name) || self.index.nodes.contains(name)
+        self.index.boundaries.contains(name) || is_env(name) || self.index.nodes.contains(name)
     }
 
-    // Whether a name is the environment's, or that of a declared unit, tank or stream.
+    // Whether a name is the environment's, or that of a declared boundary, unit, tank or stream.
     fn is_taken(&self, name: &Name) -> bool
         ensures { result ≡ is_taken self.now name.now }
     {
         self.is_node(name) || self.index.arc_names.contains(name)
+    }
+}
+
+// How many streams and tanks a plant of a version has at the most.
+fn most_arcs(version: Version) -> usize
+    ensures { result ≡ most_arcs version }
+{
+    match version {
+        Version::One => MOST_STREAMS_OF_VERSION_1,
+        Version::Two => MOST_STREAMS,
     }
 }
 

@@ -5,14 +5,16 @@ use Rattle.pb_book.specs.declared.answer.Refused.{Refused as Refusal}
 use Rattle.pb_book.specs.declared.answer.NotAccepted.{NotAccepted}
 use Rattle.pb_book.specs.declared.answer.NotAccepted.TheVariants.{Refused as NotAcceptedFor, NoMemory}
 use Rattle.pb_book.specs.declared.rows.StoredRow.{StoredRow}
-use Rattle.pb_book.specs.Answer.{Answer, Refused, after, after_answer, answer_of, is_refused}
+use Rattle.pb_book.specs.declared.answer.Accepted.TheVariants.{Advise}
+use Rattle.pb_kinds.specs.Costs.{named_costs}
+use Rattle.pb_book.specs.Answer.{Answer, Refused, Says, after, after_answer, answer_of, is_refused, said_of}
 use Rattle.pb_session.specs.declared.kept.KeptStudy.{KeptStudy}
 use Rattle.pb_session.specs.Keeping.{IsKeptStudy, held_of, left_by}
 use Rattle.pb_session.specs.Kept.{Held, Keeps, KeepsAccepted, KeepsBy, most_kept, reported_after}
 use Rattle.pb_session.specs.Session.{AddsBy, Adds, SessionState, state_after}
 use Rattle.pb_session.proofs.KeepingLemmas.{keeps_by, left_few, left_kept, left_other, reported_still, said, said_ok, state_with}
 use Rattle.pb_session.proofs.KeptLemmas.{periods_in}
-use Rattle.pb_session.proofs.RowLemmas.{accepted_adds, answers, of_periods, refused_is, unchanged_by}
+use Rattle.pb_session.proofs.RowLemmas.{accepted_adds, advice_is, answers, of_periods, refused_is, unchanged_by}
 use Rattle.pb_session.proofs.session.Session.row.Goals as goal
 
 -- what the book says is no want of memory
@@ -29,11 +31,19 @@ on_err : {T E : Type 0} (r : Result T E) (P : Type 0) → P → OnErr r P
 on_err (Ok x) P holds = tt
 on_err (Err e) P holds = holds
 
-pub write-requires : goal.write-requires
-write-requires c =
+pub write-requires-clause-periods : goal.write-requires-clause-periods
+write-requires-clause-periods c =
     let sure = accepted_sure c.in-Ok.accepted c.accept.result c.in-Ok.is in
     let said = sym c.in-Ok.is ∙ c.accept.ensures.answer sure in
     of_periods c.self.inside.book c.accept.new.self c.args.at (answer_of c.self.inside.book c.args.row.now) c.in-Ok.accepted said (answers c.self.inside.book c.args.row.now) (c.accept.ensures.stored sure)
+
+pub write-requires-clause-advised : goal.write-requires-clause-advised
+write-requires-clause-advised c = λ asks.
+    let rows = c.self.inside.book in
+    let sure = accepted_sure c.in-Ok.accepted c.accept.result c.in-Ok.is in
+    let said : said_ok Advise ≡ said_of (answer_of rows c.args.row.now) = ap said_ok (sym asks) ∙ sym c.in-Ok.is ∙ c.accept.ensures.answer sure in
+    let it = advice_is rows c.accept.new.self c.args.at (answer_of rows c.args.row.now) said (c.accept.ensures.stored sure) in
+    subst (λ (rs : List StoredRow). answer_of rs c.args.row.now ≡ Says Advise) (sym it.1) it.0
 
 -- what is kept behind the row is that of the rows stored then
 pub invariant_of-self : goal.invariant_of-self
@@ -80,7 +90,7 @@ returns-in_ok-write-in-Ok-clause-ok c =
     let answer = answer_of c.self.inside.book c.args.row.now in
     let new_is : new ≡ state_with state (after_answer state.rows c.args.at answer) = ap (state_with state) (c.accept.ensures.stored sure) in
     let (text, written, adds) = c.in_ok-write-in-Ok.ensures.ok in
-    let here : Adds state c.args.at c.args.row.now text = accepted_adds state new c.args.at answer c.in-Ok.accepted text said_is new_is adds in
+    let here : Adds state c.args.at c.args.row.now text = accepted_adds state new c.args.at (named_costs c.args.row.now) answer c.in-Ok.accepted text said_is new_is adds in
     (text, written, subst (λ (h : Held). Adds h.state c.args.at c.args.row.now text) c.self.view_is here)
 
 pub returns-in_ok-write-in-Ok-clause-stored : goal.returns-in_ok-write-in-Ok-clause-stored
@@ -130,7 +140,7 @@ returns-in_ok-refuse-in-Err-Refused c =
     let answer = answer_of c.self.inside.book c.args.row.now in
     let answer_is : answer ≡ Refused cause = refused_is answer cause (sym is_for ∙ c.accept.ensures.answer sure) in
     let (text, written, is) = c.in_ok-refuse-in-Err-Refused.ensures.ok in
-    let here : Adds state c.args.at c.args.row.now text = subst (λ (a : Answer). AddsBy state c.args.at a text) (sym answer_is) is in
+    let here : Adds state c.args.at c.args.row.now text = subst (λ (a : Answer). AddsBy state c.args.at (named_costs c.args.row.now) a text) (sym answer_is) is in
     let refused_now : true ≡ is_refused answer = sym (ap is_refused answer_is) in
     let rows_stay : c.accept.new.self ≡ after c.self.inside.book c.args.at c.args.row.now = c.accept.ensures.stored sure in
     let stored : new.state ≡ state_after held.state c.args.at c.args.row.now = ap (state_with state) rows_stay in

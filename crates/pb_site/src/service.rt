@@ -1,0 +1,92 @@
+// The days on which a stream or a tank is in service.
+
+ghost use Rattle.std.specs.Prelude.{◌≡◌};
+ghost use Rattle.pb_rows.specs.Date.{IsDay};
+ghost use Rattle.pb_site.specs.Service.{day_of_closing, day_of_opening, first_served, is_eve, is_in_service_on, is_in_service_throughout, is_in_service_within, is_reversed, last_served};
+
+use crate::declared::Service;
+
+/// Whether the last day in service comes before the first.
+pub fn is_reversed(service: Option<Service>) -> bool
+    ensures { result ≡ is_reversed service }
+{
+    match service {
+        None => false,
+        Some(service) => service.until < service.since,
+    }
+}
+
+/// Whether a stream or tank is in service on a day.
+pub fn is_in_service_on(service: Option<Service>, day: i32) -> bool
+    ensures { result ≡ is_in_service_on service day }
+{
+    match service {
+        None => true,
+        Some(service) => service.since <= day && day <= service.until,
+    }
+}
+
+/// Whether it is in service on each day from a first to a last one.
+pub fn is_in_service_throughout(service: Option<Service>, first: i32, last: i32) -> bool
+    ensures { result ≡ is_in_service_throughout service first last }
+{
+    match service {
+        None => true,
+        Some(service) => service.since <= first && last <= service.until,
+    }
+}
+
+/// Whether it is in service on some day from a first to a last one, which doesn't come before it.
+pub fn is_in_service_within(service: Option<Service>, first: i32, last: i32) -> bool
+    ensures { result ≡ is_in_service_within service first last }
+{
+    match service {
+        None => true,
+        Some(service) => service.since <= last && first <= service.until,
+    }
+}
+
+/// Whether a day is the one before the first in service.
+pub fn is_eve(service: Option<Service>, day: i32) -> bool
+    ensures { result ≡ is_eve service day }
+{
+    match service {
+        None => false,
+        Some(service) => day < service.since && service.since - 1 == day,
+    }
+}
+
+/// Of the days from a first one on, the first in service.
+pub fn first_served(service: Option<Service>, first: i32) -> i32
+    ensures { result ≡ first_served service first }
+{
+    match service {
+        None => first,
+        Some(service) => first.max(service.since),
+    }
+}
+
+/// Of the days up to a last one, the last in service.
+pub fn last_served(service: Option<Service>, last: i32) -> i32
+    ensures { result ≡ last_served service last }
+{
+    match service {
+        None => last,
+        Some(service) => last.min(service.until),
+    }
+}
+
+/// The day at whose end the content of a tank opens, of the days from a first one on: the one before the first in service.
+pub fn opening_day(service: Option<Service>, first: i32) -> i32
+    requires { IsDay first }
+    ensures { result ≡ day_of_opening service first }
+{
+    first_served(service, first) - 1
+}
+
+/// The day at whose end the content of a tank closes, of the days up to a last one: the last in service.
+pub fn closing_day(service: Option<Service>, last: i32) -> i32
+    ensures { result ≡ day_of_closing service last }
+{
+    last_served(service, last)
+}
