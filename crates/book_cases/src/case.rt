@@ -234,6 +234,7 @@ fn answer(told: Result<Accepted, NotAccepted>) -> &'static [u8] {
         Ok(Accepted::Design) => b"design",
         Ok(Accepted::Report(_)) => b"report",
         Ok(Accepted::History(_)) => b"history",
+        Ok(Accepted::Advise) => b"advise",
         Err(NotAccepted::NoMemory) => b"memory",
         Err(NotAccepted::Refused(cause)) => refusal(cause),
     }

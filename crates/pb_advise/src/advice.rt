@@ -4,7 +4,7 @@ ghost use Rattle.std.specs.Prelude.{◌≡◌, ◌<◌, ◌∷◌, true, length,
 ghost use Rattle.pb_graph.specs.ProcessGraph.{IsProcessGraph};
 ghost use Rattle.pb_forest.specs.Forest.{IsForestOf};
 ghost use Rattle.pb_advise.specs.Choice.{AreCosts, metered_graph};
-ghost use Rattle.pb_advise.specs.Advice.{IsAdvice, IsAdvisedChoice, IsCheapest};
+ghost use Rattle.pb_advise.specs.Advice.{IsAdvice, IsAdviceWithin, IsAdvisedChoice, IsCheapest};
 ghost use Rattle.pb_advise.specs.Order.{AreJoined, AreMetersBefore, IsCycleIfChosen};
 
 use crate::choice::advised_choice;
@@ -109,6 +109,7 @@ pub fn advise(alloc: Global, graph: &Graph, costs: &[i64]) -> Result<Advice, All
     requires { AreCosts graph.now costs.now }
     ensures advice { IfOk result (IsAdvice graph.now costs.now) }
     ensures cheapest { IfOk result (IsCheapest graph.now costs.now) }
+    ensures within { IfOk result (IsAdviceWithin graph.now) }
 {
     let chosen = advised_choice(alloc, graph, costs)?;
     let metered = metered_copy(alloc, graph, &chosen)?;

@@ -1,11 +1,11 @@
 -- Statement. The kind of a row among those that may stand somewhere, and the rows that are passed over between blocks.
-use Rattle.std.specs.Prelude.{ℕ, Bool, List, [], ◌∷◌, Result, find, if◌then◌else◌}
+use Rattle.std.specs.Prelude.{ℕ, Bool, false, ◌||◌, List, [], ◌∷◌, Result, bytes_eq, codes, find, slice_get, if◌then◌else◌}
 use Rattle.std.specs.List.{list_any}
-use Rattle.std.specs.Option.{ok_or}
+use Rattle.std.specs.Option.{ok_or, option_map_or}
 use Rattle.pb_form.specs.OutputRows.{output_schema}
 use Rattle.pb_form.specs.Telling.{has_words, is_of}
 use Rattle.pb_form.specs.declared.output.OutputKind.{OutputKind}
-use Rattle.pb_form.specs.declared.output.OutputKind.TheVariants.{Class, Design, Edit, History, Over, Refused, Stop, Taken}
+use Rattle.pb_form.specs.declared.output.OutputKind.TheVariants.{Advise, Class, Design, Edit, History, Meter, Over, Refused, Stop, Taken}
 use Rattle.pb_blocks.specs.declared.fault.RowFault.{RowFault}
 use Rattle.pb_blocks.specs.declared.fault.RowFault.TheVariants.{Kind, Fields}
 
@@ -23,8 +23,16 @@ kind_among kinds row = ok_or (find (λ kind. is_of row (output_schema kind)) kin
 
 -- the kinds of rows that are passed over between blocks: a report may stand among the other rows of a session's output
 abbrev pub passed_kinds : List OutputKind
-passed_kinds = Refused ∷ Over ∷ Design ∷ Class ∷ History ∷ Edit ∷ Taken ∷ Stop ∷ []
+passed_kinds = Refused ∷ Over ∷ Design ∷ Class ∷ History ∷ Edit ∷ Taken ∷ Stop ∷ Advise ∷ Meter ∷ []
+
+-- the words of rows that are passed over too, though no session writes them yet: those of windows and of component balances
+abbrev pub coming_words : List (List ℕ)
+coming_words = codes "window" ∷ codes "place" ∷ codes "component" ∷ []
+
+-- the first field of a row is this word
+abbrev pub begins_with : List (List ℕ) → List ℕ → Bool
+begins_with row word = option_map_or (λ (field : List ℕ). bytes_eq field word) (slice_get row 0) false
 
 -- a row that is passed over between blocks, whatever its other fields
 abbrev pub is_passed_over : List (List ℕ) → Bool
-is_passed_over row = list_any (has_word_of row) passed_kinds
+is_passed_over row = list_any (has_word_of row) passed_kinds || list_any (begins_with row) coming_words

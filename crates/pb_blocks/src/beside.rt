@@ -15,9 +15,7 @@ use pb_rows::read_whole;
 pub fn is_half_told(kind: OutputKind, fields: &Fields) -> bool
     ensures { result ≡ is_half_told kind fields.now }
 {
-    pairs_of(kind)
-        .iter()
-        .any(|pair| is_half(field(fields, pair.0), field(fields, pair.1)))
+    pairs_of(kind).iter().any(|pair| is_half(field(fields, pair.0), field(fields, pair.1)))
 }
 
 // The places of the columns of a stream's row that come together: a value and its variance, bounds, and least bounds.

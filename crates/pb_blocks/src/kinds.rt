@@ -5,7 +5,7 @@ ghost use Rattle.std.specs.List.{list_any};
 ghost use Rattle.pb_form.specs.OutputRows.{output_schema};
 ghost use Rattle.pb_form.specs.Telling.{is_of};
 ghost use Rattle.pb_form.specs.declared.output.OutputKind.{OutputKind};
-ghost use Rattle.pb_blocks.specs.Kinds.{has_word_of, is_passed_over, kind_among, no_kind, passed_kinds};
+ghost use Rattle.pb_blocks.specs.Kinds.{begins_with, has_word_of, is_passed_over, kind_among, no_kind, passed_kinds};
 
 use crate::fault::RowFault;
 use pb_form::{Fields, FormFault, OutputKind, output_schema, tell};
@@ -69,7 +69,25 @@ fn has_word_of(kind: OutputKind, fields: &Fields) -> bool
 pub fn is_passed_over(row: &Row) -> bool
     ensures { result ≡ is_passed_over row.now }
 {
-    has_word_among(passed_kinds(), &Fields::all(row))
+    let fields = Fields::all(row);
+    has_word_among(passed_kinds(), &fields) || begins_with_one(COMING_WORDS, &fields)
+}
+
+// The words of rows that are passed over too, though no session writes them yet: those of windows and of component balances.
+const COMING_WORDS: &[&str] = &["window", "place", "component"];
+
+// Whether the first field of a record is one of these words.
+fn begins_with_one(words: &[&str], fields: &Fields) -> bool
+    ensures { result ≡ list_any (λ word. begins_with fields.now word.now) words.now }
+{
+    words.iter().any(|word| begins_with(fields, word))
+}
+
+// Whether the first field of a record is this word.
+fn begins_with(fields: &Fields, word: &str) -> bool
+    ensures { result ≡ begins_with fields.now word.now }
+{
+    fields.len() > 0 && fields.at(0) == word.as_bytes()
 }
 
 // The kinds of the rows that are passed over.
@@ -85,5 +103,7 @@ fn passed_kinds() -> &'static [OutputKind]
         OutputKind::Edit,
         OutputKind::Taken,
         OutputKind::Stop,
+        OutputKind::Advise,
+        OutputKind::Meter,
     ]
 }

@@ -8,11 +8,12 @@ ghost use Rattle.pb_kinds.specs.Costs.{IsMeterCost};
 ghost use Rattle.pb_book.specs.Costs.{cost_named, cost_of_kind, is_no_stream, is_not_plain, meter_costs, names_measured, names_twice, names_unknown, refusal_of_costs};
 
 use crate::answer::Refused;
+use indexmap::IndexSet;
 use pb_kinds::NamedCosts;
 use pb_rows::Name;
 use pb_site::{Arc, ArcKind, Site};
 use std::alloc::{AllocError, Global};
-use std::collections::{HashMap, HashSet};
+use std::collections::HashMap;
 
 // What a meter on a plain stream costs, unless a cost is named.
 const PLAIN_COST: i64 = 1;
@@ -60,7 +61,7 @@ fn is_no_stream(kind: Option<ArcKind>) -> bool
 fn some_twice(alloc: Global, named: &NamedCosts) -> Result<bool, AllocError>
     ensures { IfOk result (λ twice. twice ≡ names_twice named.now) }
 {
-    let mut streams: HashSet<Name> = HashSet::new(alloc);
+    let mut streams: IndexSet<Name> = IndexSet::new(alloc);
     for i in 0..named.len() {
         if !streams.insert(named.at(i).stream)? {
             return Ok(true);

@@ -24,7 +24,8 @@ use Rattle.pb_elim.specs.Options.{AreOptions}
 use Rattle.pb_check.specs.Laws.{OwnLaw}
 use Rattle.pb_check.specs.Verdict.{IsPassed}
 use Rattle.pb_book.specs.declared.answer.Accepted.{Accepted}
-use Rattle.pb_book.specs.declared.answer.Accepted.TheVariants.{Blank, Stored as StoredAccepted, Design, Report, History}
+use Rattle.pb_book.specs.declared.answer.Accepted.TheVariants.{Blank, Stored as StoredAccepted, Design, Report, History, Advise}
+use Rattle.pb_kinds.specs.Costs.{named_costs}
 use Rattle.pb_book.specs.declared.rows.Period.{Period}
 use Rattle.pb_book.specs.Accepted.{AreAccepted}
 use Rattle.pb_book.specs.Answer.{Answer, Refused, Says, Stored, answer_of, code_of}
@@ -48,6 +49,7 @@ use Rattle.pb_readback.specs.Laws.{JoinLaw}
 use Rattle.pb_readback.specs.Next.{AreBlocks}
 use Rattle.pb_readback.specs.Written.{BeginWithWords, HasBoundsForLeast, IsReportable, PassedRowsLaw, RowTextLaw, RowWordsLaw, StudyRowsLaw, block_with, blocks_from, records_in}
 use Rattle.pb_session.specs.Criticals.{critical_of}
+use Rattle.pb_report.specs.Advice.{advice_rows}
 use Rattle.pb_report.specs.Design.{design_rows}
 use Rattle.pb_report.specs.Names.{name_at}
 use Rattle.pb_report.specs.Over.{over_row}
@@ -224,7 +226,7 @@ record_read known law state at fields text sound adds = by (answer_of state.rows
     nothing : text ≡ [] → ReadsBack text
     nothing is = subst (λ (t : List ℕ). ReadsBack t) (sym is) none_read
 
-    said : (accepted : Accepted) → AddsAccepted state accepted text → ReadsBack text
+    said : (accepted : Accepted) → AddsAccepted state (named_costs fields) accepted text → ReadsBack text
     said Blank is = nothing is
     said StoredAccepted is = nothing is
     said Design design =
@@ -234,8 +236,12 @@ record_read known law state at fields text sound adds = by (answer_of state.rows
         passed_over rows text (in_csv state rows text sound.form design.rows) (known.words.designs names graph design.classes) (known.others.designs names graph design.classes)
     said (Report i) reports = reports_read known law state i text sound (slice_get (periods_of state.rows) i) refl reports
     said (History i) is = tells (slice_get (periods_of state.rows) i) is
+    said Advise advised =
+        let names = names_of (declared_of state.rows) in
+        let rows : List OutputRow = advice_rows names advised.advice in
+        passed_over rows text (in_csv state rows text sound.form advised.rows) (known.words.advices names advised.advice) (known.others.advices names advised.advice)
 
-    by : (answer : Answer) → AddsBy state at answer text → ReadsBack text
+    by : (answer : Answer) → AddsBy state at (named_costs fields) answer text → ReadsBack text
     by (Refused cause) is =
         let rows : List OutputRow = refused_row at (code_of cause) ∷ [] in
         passed_over rows text (in_csv state rows text sound.form is) (known.words.refused at (code_of cause)) (known.others.refused at (code_of cause))

@@ -5,6 +5,8 @@ use Rattle.pb_rows.specs.declared.name.Names.{Names}
 use Rattle.pb_graph.specs.declared.records.Classified.{Classified}
 use Rattle.pb_graph.specs.declared.records.Stream.{Stream}
 use Rattle.pb_report.specs.declared.history.HistoryRow.{HistoryRow}
+use Rattle.pb_advise.specs.declared.advice.Meter.{Meter}
+use Rattle.pb_report.specs.Advice.{meter_row}
 use Rattle.pb_report.specs.Design.{class_row}
 use Rattle.pb_report.specs.History.{edit_row}
 use Rattle.pb_report.specs.Rows.{rows_with}
@@ -20,11 +22,16 @@ edits_passed : (edits : List HistoryRow) → ArePassedOver (records_in (map edit
 edits_passed [] = refl
 edits_passed (edit ∷ edits) = edits_passed edits
 
--- the rows of refusals, of reports that can't be made, of designs and of histories
+meters_passed : (names : Names) (meters : List Meter) → ArePassedOver (records_in (map (meter_row names) meters))
+meters_passed names [] = refl
+meters_passed names (meter ∷ meters) = meters_passed names meters
+
+-- the rows of refusals, of reports that can't be made, of designs, of histories and of advices
 pub others_passed : PassedRowsLaw
 others_passed = record {
   refused = λ at code. refl;
   over = λ period stream. refl;
   designs = λ names graph classes. classes_passed names 0 graph.streams classes;
   histories = λ period edits. edits_passed edits;
+  advices = λ names advice. meters_passed names advice.meter;
 }

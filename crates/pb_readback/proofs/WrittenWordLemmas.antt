@@ -14,6 +14,7 @@ use Rattle.pb_graph.specs.declared.results.Stop.{Stop}
 use Rattle.pb_graph.specs.declared.results.Taken.{Taken}
 use Rattle.pb_graph.specs.declared.results.Tests.{Tests}
 use Rattle.pb_report.specs.Block.{block_rows, end_row, node_row, result_row, solved_row}
+use Rattle.pb_report.specs.Advice.{meter_row}
 use Rattle.pb_report.specs.Design.{class_row}
 use Rattle.pb_report.specs.History.{edit_row}
 use Rattle.pb_report.specs.Row.{OutputRow, fields_of}
@@ -76,6 +77,7 @@ all_words = record {
   over = λ period stream. refl;
   designs = λ names graph classes. words_with (class_row names) (λ i stream classified. refl) 0 graph.streams classes;
   histories = λ period edits. words_of edit_row (λ edit. refl) edits;
+  advices = λ names advice. words_of (meter_row names) (λ meter. refl) advice.meter;
   studies = λ names period options study.
       words_both (stage_rows names period options study.taken study.stages) (option_to_list (option_map (stop_row period (length study.taken)) study.stop))
       (stage_words names period options study.taken study.stages) (stop_words period (length study.taken) study.stop);

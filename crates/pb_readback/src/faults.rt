@@ -76,9 +76,5 @@ impl Draft {
 fn unknown_unless(known: bool) -> Option<RowFault>
     ensures { result ≡ if known then None else Some Unknown }
 {
-    if known {
-        None
-    } else {
-        Some(RowFault::Unknown)
-    }
+    if known { None } else { Some(RowFault::Unknown) }
 }

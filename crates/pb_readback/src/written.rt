@@ -16,7 +16,7 @@ pub fn study_rows_law()
     number_text_law();
 }
 
-/// The law that the rows of refusals, of reports that can't be made, of designs and of histories are passed over.
+/// The law that the rows of refusals, of reports that can't be made, of designs, of histories and of advices are passed over.
 pub fn passed_rows_law()
     ensures { PassedRowsLaw }
 {}

@@ -1,13 +1,11 @@
 // The rows of an advice.
 
 ghost use Rattle.std.specs.Prelude.{◌≡◌, ◌<◌, ◌∷◌, [], length, map, string_bytes, All, OnOk, OnErr};
-ghost use Rattle.pb_form.specs.Value.{Items, Name as NameValue, Number};
 ghost use Rattle.pb_report.specs.Advice.{IsNamedAdvice, advice_row, advice_rows, meter_row};
+ghost use Rattle.pb_report.specs.Certificate.{spaced, step_text};
 ghost use Rattle.pb_report.specs.Form.{AppendsRows};
 ghost use Rattle.pb_report.specs.Given.{IsNamedMeter, given_row};
-ghost use Rattle.pb_report.specs.Names.{name_at};
 ghost use Rattle.pb_report.specs.Output.{AddsRows};
-ghost use Rattle.pb_report.specs.Row.{row_of};
 
 use crate::form::Form;
 use crate::output::Output;
@@ -68,10 +66,10 @@ fn write_meter(names: &Names, meter: &Meter, output: &mut Output) -> Result<(), 
 }
 
 fn meter_values<'a>(names: &'a Names, meter: &Meter, parts: &'a String) -> [Value<'a>; 4]
-    requires { meter.now.stream < length names.now.streams }
-    ensures { given_row OutputKind.Meter result ≡ row_of OutputKind.Meter
-        (NameValue (name_at names.now.streams meter.now.stream) ∷ Number meter.now.cost
-        ∷ Items (string_bytes parts.now) ∷ []) }
+    requires stream { meter.now.stream < length names.now.streams }
+    requires shows { string_bytes parts.now
+        ≡ spaced (step_text names.now.streams) meter.now.steps }
+    ensures { given_row OutputKind.Meter result ≡ meter_row names.now meter.now }
 {
     [
         Value::Word(0),

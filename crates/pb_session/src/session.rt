@@ -192,12 +192,7 @@ impl Session {
     }
 
     // Appends what an accepted record adds, and keeps what a report leaves.
-    fn write(
-        &mut self,
-        accepted: Accepted,
-        row: &Row,
-        out: &mut Vec<u8>,
-    ) -> Result<(), AllocError>
+    fn write(&mut self, accepted: Accepted, row: &Row, out: &mut Vec<u8>) -> Result<(), AllocError>
         requires periods { IsOfPeriods self.old.state.rows accepted }
         requires advised { accepted ≡ Advise
             → answer_of self.old.state.rows row.now ≡ Says Advise }
@@ -259,8 +254,8 @@ impl Session {
     {
         let names = self.book.site().names()?;
         let costs = self.book.costs(self.alloc, row)?;
-        let graph = design(self.alloc, &self.book)?;
-        self.write_meters(&names, &graph, &costs, out)
+        let plant = design(self.alloc, &self.book)?;
+        self.write_meters(&names, &plant, &costs, out)
     }
 
     // Appends the rows of the cheapest metering of a graph, of which a meter on each stream costs this and whose nodes and streams have

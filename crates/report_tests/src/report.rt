@@ -9,11 +9,12 @@ ghost use Rattle.pb_graph.specs.declared.records.Classified.{Classified};
 ghost use Rattle.pb_graph.specs.WellFormed.{IsWitnessWithin};
 ghost use Rattle.pb_report.specs.Names.{IsNamed};
 
+use pb_advise::{MOST_COST, advise};
 use pb_graph::{
     Bounds, Class, Classified, Graph, List, MOST_NODES, Meas, MeasureTest, Member, NodalTest,
     Options, Solved, Stage, Step, Stream, StreamResult, Study, Tests, Verdict, Witness,
 };
-use pb_report::{Form, write_design, write_over, write_refused, write_study};
+use pb_report::{Form, write_advice, write_design, write_over, write_refused, write_study};
 use pb_rows::{Name, NameList, Names};
 use std::alloc::Global;
 use std::test::Fail;
@@ -304,6 +305,47 @@ fn writes_a_design(rt: HostRuntime) -> Result<(), Fail> {
         b"design,3,2
 class,P,U,V,no,observable,cut,U,-P -M
 class,M,U,V,yes,nonredundant,cycle,,+M -P
+"
+            .as_slice()
+    );
+    Ok(())
+}
+
+// The rows of the advice for a graph at these costs.
+fn advice_of(
+    alloc: Global,
+    names: &Names,
+    plant: &Graph,
+    costs: &[i64],
+    form: Form,
+) -> Result<Vec<u8>, Fail> {
+    if !is_named(names, plant) || costs.len() != plant.len() as usize {
+        return Err(Fail::new("a graph with other names or costs"));
+    }
+    if !costs.iter().all(|&cost| 0 <= cost && cost <= MOST_COST) {
+        return Err(Fail::new("costs out of range"));
+    }
+    let advice = advise(alloc, plant, costs)?;
+    let mut out = Vec::new(alloc);
+    write_advice(alloc, names, &advice, form, &mut out)?;
+    Ok(out)
+}
+
+// The rows of an advice for three unmeasured streams and a metered one between two units.
+fn advice(alloc: Global, form: Form) -> Result<Vec<u8>, Fail> {
+    let names = names(alloc, &[b"env", b"U", b"V"], &[b"P", b"M", b"R", b"T"])?;
+    let streams = [plain(1, 2), metered(1, 2, 0, 1), plain(2, 1), plain(1, 2)];
+    let plant = graph(alloc, 3, &streams)?;
+    advice_of(alloc, &names, &plant, &[5, 0, 3, 5], form)
+}
+
+#[test]
+fn writes_an_advice(rt: HostRuntime) -> Result<(), Fail> {
+    assert_eq!(rt;
+        advice(rt.alloc(), Form::Csv)?.as_slice(),
+        b"advise,2,8
+meter,R,3,+R +P
+meter,T,5,+T -P
 "
             .as_slice()
     );

@@ -120,6 +120,42 @@ fn writes_designs(rt: HostRuntime) -> Result<(), Fail> {
 }
 
 #[test]
+fn writes_advices(rt: HostRuntime) -> Result<(), Fail> {
+    let table: [(&str, &str); 7] = [
+        ("advise\n", "advise,0,0\n"),
+        (
+            "unit,U\nunit,V\nstream,A,env,U,metered,1\nstream,B,U,V,plain,0\nstream,C,V,env,metered,1\nadvise\n",
+            "advise,0,0\n",
+        ),
+        (
+            "unit,U\nunit,V\nstream,P,U,V,plain,0\nstream,R,U,V,plain,0\nstream,T,U,V,plain,0\nadvise,P,5,R,3,T,5\nadvise,,\nadvise,T,0\n",
+            "advise,2,8\nmeter,R,3,+R -P\nmeter,T,5,+T -P\nadvise,2,2\nmeter,R,1,+R -P\nmeter,T,1,+T -P\nadvise,2,1\nmeter,R,1,+R -P\nmeter,T,0,+T -P\n",
+        ),
+        (
+            "unit,U\nunit,V\nstream,P,U,V,plain,0\nstream,R,V,U,plain,0\nadvise,R,1000000000000,P,999999999999\nadvise,P\nadvise,P,1,P,2\n",
+            "advise,1,999999999999\nmeter,P,999999999999,+P +R\nrefused,6,2,fields\nrefused,7,7,duplicate\n",
+        ),
+        (
+            "unit,U\nunit,V\nunit,W\nstream,A,env,U,plain,0\nstream,B,U,V,plain,0\nstream,C,V,W,plain,0\nstream,D,W,U,plain,0\nstream,E,V,env,plain,0\nstream,F,W,env,plain,0\nstream,G,V,U,plain,0\nadvise,A,4,B,4,C,7,D,2,E,4,F,9,G,0\n",
+            "advise,4,10\nmeter,B,4,+B +C +F +A\nmeter,D,2,+D -A -F\nmeter,E,4,+E -F -C\nmeter,G,0,+G -A -F -C\n",
+        ),
+        (
+            "unit,CDU\ntank,TK1,1000000\nstream,CRUDE,env,CDU,plain,0\nstream,RES,CDU,env,plain,0\nstream,NAPH,CDU,TK1,plain,0\nstream,KERO,CDU,TK1,plain,0\nstream,SHIP,TK1,env,batch,1000000\nstream,SLOP,CDU,env,plain,0\nadvise,CRUDE,12000,RES,9000,NAPH,4000,KERO,4500,SLOP,300\n",
+            "advise,3,13300\nmeter,RES,9000,+RES +CRUDE\nmeter,NAPH,4000,+NAPH -KERO\nmeter,SLOP,300,+SLOP +CRUDE\n",
+        ),
+        (
+            "unit,U\nunit,V\nstream,P,U,V,plain,0\nstream,Q,V,U,plain,0\nperiod,d1,2024-01-01,2024-01-01\nclose,d1\nadvise,Q,9\nadvise,P,9\n",
+            "advise,1,1\nmeter,P,1,+P +Q\nadvise,1,1\nmeter,Q,1,+Q +P\n",
+        ),
+    ];
+    for (text, want) in table {
+        let (is_given, _) = gives(rt.alloc(), &[text.as_bytes()], want)?;
+        assert!(rt; is_given, "the output of {text}");
+    }
+    Ok(())
+}
+
+#[test]
 fn writes_reports(rt: HostRuntime) -> Result<(), Fail> {
     let table: [(&str, &str); 8] = [
         (

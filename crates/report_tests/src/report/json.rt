@@ -1,6 +1,6 @@
 // Rows as lines of JSON.
 
-use super::{design, name, names_of_meters, options, report_in, two_meters};
+use super::{advice, design, name, names_of_meters, options, report_in, two_meters};
 use pb_report::{Form, write_over, write_refused};
 use std::alloc::Global;
 use std::test::Fail;
@@ -52,6 +52,19 @@ fn writes_a_design_as_json(rt: HostRuntime) -> Result<(), Fail> {
         b"{\"nodes\":\"3\",\"row\":\"design\",\"streams\":\"2\"}
 {\"class\":\"observable\",\"from\":\"U\",\"measured\":\"no\",\"name\":\"P\",\"parts\":\"-P -M\",\"row\":\"class\",\"shape\":\"cut\",\"side\":\"U\",\"to\":\"V\"}
 {\"class\":\"nonredundant\",\"from\":\"U\",\"measured\":\"yes\",\"name\":\"M\",\"parts\":\"+M -P\",\"row\":\"class\",\"shape\":\"cycle\",\"side\":\"\",\"to\":\"V\"}
+"
+            .as_slice()
+    );
+    Ok(())
+}
+
+#[test]
+fn writes_an_advice_as_json(rt: HostRuntime) -> Result<(), Fail> {
+    assert_eq!(rt;
+        advice(rt.alloc(), Form::Json)?.as_slice(),
+        b"{\"count\":\"2\",\"row\":\"advise\",\"total\":\"8\"}
+{\"cost\":\"3\",\"parts\":\"+R +P\",\"row\":\"meter\",\"stream\":\"R\"}
+{\"cost\":\"5\",\"parts\":\"+T -P\",\"row\":\"meter\",\"stream\":\"T\"}
 "
             .as_slice()
     );

@@ -25,10 +25,15 @@ write_meters-requires-clause-names c =
     let rows = c.self.inside.book in
     let names_is : c.in_ok-names.names ≡ names_of (declared_of rows) = c.in_ok-names.ensures.ok ∙ ap names_of c.site.ensures.value in
     let distinct : HasDistinctNames (declared_of rows) = subst HasDistinctNames c.site.ensures.value c.in_ok-names.ensures.distinct in
-    rw (names_is, c.in_ok-graph.ensures) (names_are base_of rows distinct)
+    rw (names_is, c.in_ok-plant.ensures) (names_are base_of rows distinct)
 
 pub write_meters-requires-clause-costs : goal.write_meters-requires-clause-costs
-write_meters-requires-clause-costs c = ?
+write_meters-requires-clause-costs c =
+    let rows = c.self.inside.book in
+    let costs = meter_costs (declared_of rows) (named_costs c.args.row.now) in
+    let within : All IsMeterCost costs = subst (All IsMeterCost) c.in_ok-costs.ensures.value c.in_ok-costs.ensures.within in
+    let are : AreCosts (design_graph rows) costs = costs_are base_of rows (named_costs c.args.row.now) within in
+    ?
 
 pub returns-clause-ok : goal.returns-clause-ok
 returns-clause-ok c = ?
