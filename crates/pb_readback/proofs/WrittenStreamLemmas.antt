@@ -34,7 +34,8 @@ use Rattle.pb_form.specs.declared.output.OutputKind.TheVariants.{Stream as Strea
 use Rattle.pb_choices.specs.Places.{class_place, placed_class, placed_shape, shape_place, witness_shape}
 use Rattle.pb_blocks.specs.declared.rows.StreamRow.{StreamRow}
 use Rattle.pb_blocks.specs.Beside.{has_bad_list, has_unknown_node, is_half}
-use Rattle.pb_blocks.specs.Lists.{is_among, is_part, is_side, is_unknown_item, items, names_no_stream, place_of, side_of}
+use Rattle.pb_blocks.specs.Lists.{is_among, is_part, is_side, items, place_of}
+use Rattle.pb_blocks.specs.Held.{is_unknown_item, names_no_stream, side_of}
 use Rattle.pb_blocks.specs.Results.{has_unknown_part, result_of, witness_by}
 use Rattle.pb_blocks.specs.Values.{said_arc, both_bounds, both_meas, said_stream}
 use Rattle.pb_readback.specs.declared.draft.Draft.{Draft}

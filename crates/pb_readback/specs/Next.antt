@@ -1,12 +1,13 @@
 -- Statement. What comes next in records: a block, the first row that can't be read, or neither.
-use Rattle.std.specs.Prelude.{◌≡◌, ◌≢◌, ◌⊎◌, ℕ, ◌+◌, true, false, List, [], ◌∷◌, ◌++◌, length, drop, Option, Some, None}
+use Rattle.std.specs.Prelude.{◌≡◌, ◌≢◌, ◌⊎◌, ℕ, ◌+◌, ◌≤◌, true, false, List, [], ◌∷◌, ◌++◌, length, drop, Option, Some, None}
 use Rattle.std.specs.List.{list_all}
-use Rattle.pb_form.specs.declared.output.OutputKind.TheVariants.{End}
+use Rattle.pb_form.specs.declared.output.OutputKind.TheVariants.{End, Report}
 use Rattle.pb_rows.specs.RecordsLeft.{RecordsLeft}
 use Rattle.pb_blocks.specs.declared.fault.RowFault.{RowFault}
 use Rattle.pb_blocks.specs.declared.fault.RowFault.TheVariants.{Unknown, Ended}
-use Rattle.pb_blocks.specs.Beside.{heading_in, opening_fault}
+use Rattle.pb_blocks.specs.Beside.{opening_fault}
 use Rattle.pb_blocks.specs.Kinds.{is_passed_over}
+use Rattle.pb_blocks.specs.Values.{said_heading, values_in}
 use Rattle.pb_readback.specs.declared.block.Block.{Block}
 use Rattle.pb_readback.specs.declared.draft.Draft.{Draft}
 use Rattle.pb_readback.specs.declared.reading.ReadRefused.{ReadRefused}
@@ -35,7 +36,7 @@ AreSound draft (row ∷ rows) =
 
 -- what a row that opens a block tells
 abbrev pub opened : List (List ℕ) → Draft
-opened row = draft_of (heading_in row)
+opened row = draft_of (said_heading row (values_in Report row))
 
 -- the rows of a whole block: the one that opens it, and those after it up to the end
 pub record IsBlock (first : List (List ℕ)) (rows : List (List (List ℕ))) (block : Block) : Type 0 where
@@ -116,7 +117,11 @@ next_by (Some block) rest = Found block rest
 abbrev pub AreCounted : RecordsLeft → RecordsLeft → Type 0
 AreCounted old new = new.taken + length new.left ≡ old.taken + length old.left
 
--- what comes next, if a row can't be read, and that no record after it was taken; out of memory says nothing
+-- no record counts as taken that wasn't given, and none is given again
+abbrev pub IsWithinGiven : RecordsLeft → RecordsLeft → Type 0
+IsWithinGiven old new = (old.taken ≤ new.taken) × (new.taken + length new.left ≤ old.taken + length old.left)
+
+-- what comes next, if a row can't be read, and that no record after it was taken; out of memory, that none counts that wasn't given
 abbrev pub Tells : RecordsLeft → RecordsLeft → ReadRefused → Type 0
 Tells old new (At number fault) = IsNext old.taken old.left (Refused number fault new.left) × AreCounted old new
-Tells old new NoMemory = Unit {0}
+Tells old new NoMemory = IsWithinGiven old new
