@@ -15,15 +15,17 @@ from typing import Any
 from .expressions import Made, Values
 from .sources import Sources, Unknown
 
+Data = dict[str, Any]
+
 SCHEMA = "python/plantbal/schema.json"
 # The columns of sessions that the guide calls otherwise than the table does.
 LABELS = {"base": "BASEVAR", "day": "DATE"}
 # What the lists of an output hold.
 ITEMS = {"side": "names", "parts": "parts"}
+# The row that is no kind of a table: it is read before any other row, or not at all.
+VERSION: Data = {"name": "word", "label": "2", "type": "word", "words": ["2"]}
 # The rows that another command than `run` writes.
 WRITERS = {"summary": "make", "yes": "check", "no": "check", "unreadable": "check"}
-
-Data = dict[str, Any]
 
 
 @dataclass
@@ -86,7 +88,7 @@ def labelled(column: Data) -> Data:
 
 
 def session(sources: Sources) -> list[Data]:
-    """Return the rows of a session; kinds of one word are its variants."""
+    """Return the rows of a session, that of its version first; kinds of one word are its variants."""
     kinds, found = kinds_of(sources, "pb_form.specs.SessionRows", "session"), []
     words = [kind.word for kind in kinds]
     for kind in kinds:
@@ -97,6 +99,8 @@ def session(sources: Sources) -> list[Data]:
         if kind.tail:
             row["tail"] = [labelled(column) for column in kind.tail]
         found.append({**row, "columns": [labelled(column) for column in kind.columns]})
+    if "version" not in words:
+        found.insert(0, {"kind": "version", "columns": [dict(VERSION)]})
     shown = [(row["kind"], row.get("variant")) for row in found]
     if len(set(shown)) < len(shown):
         raise Unknown(f"rows: two kinds of a session have one word and one variant: {shown}")
