@@ -100,7 +100,8 @@ def session(sources: Sources) -> list[Data]:
             row["tail"] = [labelled(column) for column in kind.tail]
         found.append({**row, "columns": [labelled(column) for column in kind.columns]})
     if "version" not in words:
-        found.insert(0, {"kind": "version", "columns": [dict(VERSION)]})
+        version: Data = {"kind": "version", "columns": [dict(VERSION)]}
+        found.insert(0, version)
     shown = [(row["kind"], row.get("variant")) for row in found]
     if len(set(shown)) < len(shown):
         raise Unknown(f"rows: two kinds of a session have one word and one variant: {shown}")
