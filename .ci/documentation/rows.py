@@ -22,8 +22,6 @@ SCHEMA = "python/plantbal/schema.json"
 LABELS = {"base": "BASEVAR", "day": "DATE"}
 # What the lists of an output hold.
 ITEMS = {"side": "names", "parts": "parts"}
-# The row that is no kind of a table: it is read before any other row, or not at all.
-VERSION: Data = {"name": "word", "label": "2", "type": "word", "words": ["2"]}
 # The rows that another command than `run` writes.
 WRITERS = {"summary": "make", "yes": "check", "no": "check", "unreadable": "check"}
 
@@ -38,10 +36,9 @@ class Kind:
     tail: list[Data]
 
     def variant(self) -> str:
-        """Return what the kind's name has after its word, such as `metered` of `StreamMetered`."""
-        if not self.name.lower().startswith(self.word):
-            raise Unknown(f"rows: the kind {self.name} isn't named for its word {self.word}")
-        return "-".join(re.findall(r"[A-Z][a-z0-9]*", self.name[len(self.word) :])).lower()
+        """Return what distinguishes the kind among those of its word: `metered` of `StreamMetered`."""
+        front = len(self.word) if self.name.lower().startswith(self.word) else 0
+        return "-".join(re.findall(r"[A-Z][a-z0-9]*", self.name[front:])).lower()
 
 
 def column_of(column: Data) -> Data:
@@ -87,8 +84,13 @@ def labelled(column: Data) -> Data:
     return {"name": column["name"], "label": label, **column}
 
 
+def is_dated(row: Data) -> bool:
+    """Say whether a row of a session has dates of service."""
+    return any(column["name"] == "since" for column in row["columns"])
+
+
 def session(sources: Sources) -> list[Data]:
-    """Return the rows of a session, that of its version first; kinds of one word are its variants."""
+    """Return the rows of a session; kinds of one word are its variants, and stand together."""
     kinds, found = kinds_of(sources, "pb_form.specs.SessionRows", "session"), []
     words = [kind.word for kind in kinds]
     for kind in kinds:
@@ -99,9 +101,8 @@ def session(sources: Sources) -> list[Data]:
         if kind.tail:
             row["tail"] = [labelled(column) for column in kind.tail]
         found.append({**row, "columns": [labelled(column) for column in kind.columns]})
-    if "version" not in words:
-        version: Data = {"kind": "version", "columns": [dict(VERSION)]}
-        found.insert(0, version)
+    first = {row["kind"]: place for place, row in enumerate(found) if not is_dated(row)}
+    found.sort(key=lambda row: (first[row["kind"]], is_dated(row)))
     shown = [(row["kind"], row.get("variant")) for row in found]
     if len(set(shown)) < len(shown):
         raise Unknown(f"rows: two kinds of a session have one word and one variant: {shown}")
