@@ -36,8 +36,13 @@ class Kind:
     tail: list[Data]
 
     def variant(self) -> str:
-        """Return what distinguishes the kind among those of its word: `metered` of `StreamMetered`."""
+        """Return what distinguishes the kind among those of its word: `metered` of `StreamMetered`.
+
+        A kind with dates of service may have a name without its word, such as `MeteredInService`.
+        """
         front = len(self.word) if self.name.lower().startswith(self.word) else 0
+        if not front and not self.name.endswith("InService"):
+            raise Unknown(f"rows: the kind {self.name} isn't named for its word {self.word}")
         return "-".join(re.findall(r"[A-Z][a-z0-9]*", self.name[front:])).lower()
 
 
