@@ -3,13 +3,12 @@
 from __future__ import annotations
 
 import argparse
-import csv
-import sys
-from collections.abc import Iterator, Mapping
+from collections.abc import Iterable, Iterator, Mapping
 from dataclasses import dataclass
 from pathlib import Path
 
 from plantbal.cells import Reader, check_locale
+from plantbal.explain import explain_bytes, is_report
 from plantbal.faults import Fault, InputFault, Place, read_bytes
 from plantbal.files import write_bytes, write_text
 from plantbal.options import add_program
@@ -85,14 +84,20 @@ def plant_of(source: str, data: bytes) -> Session:
     Fault
         If one of these rows is refused, or there is no stream.
     """
+    if is_report(data):
+        place = Place(file=source)
+        raise InputFault("this is an output", place=place, remedy="name the session")
     session = Session(strict=False)
     for record in read_records(data):
         place = Place(file=source, line=record.line, record=record.number)
         session.row(*record.fields, place=place)
-    refused = [each for each in session.refused if each.row[0] in _PLANT]
-    if refused:
-        raise refused[0]
-    if not session.streams:
+    refused = any(each.row[0] in _PLANT for each in session.refused)
+    if not session.streams or refused:
+        found = explain_bytes(source, data)
+        asks_nothing = "it asks for nothing"  # which isn't wrong here
+        whole = [told for told in found.whole if not told.sentence.startswith(asks_nothing)]
+        for told in [*whole, *found.rows]:
+            raise Fault(told.headline, text=told.row)
         raise InputFault("it has no stream", place=Place(file=source), remedy="is it a session?")
     return session
 
@@ -204,12 +209,11 @@ def run(options: argparse.Namespace) -> int:
     plant = plant_of(source, data)
     costs = read_costs(options.costs, plant, options.locale) if options.costs else {}
     found = advise(plant, costs, program=options.program)
+    lines: Iterable[str] = found.lines()
     if options.form == "csv":
-        writer = csv.writer(sys.stdout, lineterminator="\n")
-        writer.writerow(("stream", "cost", "cycle"))
-        writer.writerows((each["stream"], each["cost"], each["parts"]) for each in found.meters)
-    else:
-        write_text("-", "".join(f"{line}\n" for line in found.lines()))
+        rows = [(each["stream"], each["cost"], each["parts"]) for each in found.meters]
+        lines = [",".join(row) for row in [("stream", "cost", "cycle"), *rows]]
+    write_text("-", "".join(f"{line}\n" for line in lines))
     if options.draw:
         write_bytes(options.draw, svg(advised(found.rows).dot()))
     return 0
