@@ -605,7 +605,7 @@ class Session:
             return None
         service = _number(values["since"]), _number(values["until"])
         if service[1] < service[0]:
-            what = "it is in service since a day after the last"
+            what = "its first day in service is after its last"
             self._refuse(8, record, what, "since", values["since"], "exchange the days")
         return service
 
