@@ -1,8 +1,9 @@
 /* The flows of one month, in plain C: reads the rows of a session (unit, stream, period, reading, report), sweeps best prices in 128
  * bits until the gap is met, and writes one row `flow,STREAM,GRAMS` for each stream. With the word `tests` it goes on and solves the
- * plant once more for each redundant stream, without its measurement. It stands beside plantbal in bench/c, and knows metered and
- * plain streams alone. It is plain: each step asks the box of all its streams, and each sweep makes the flows, whose gap is left at
- * the first stream that is too far. */
+ * plant once more for each redundant stream, without its measurement. `sweeps N` allows N sweeps (5,000 without it), and `bytes N`
+ * writes N bytes more, names of streams with their signs as in the certificates of a report. It stands beside plantbal in bench/c,
+ * and knows metered and plain streams alone. It is plain: each step asks the box of all its streams, and each sweep makes the flows,
+ * whose gap is left at the first stream that is too far. */
 #include <stdint.h>
 #include <stdio.h>
 #include <stdlib.h>
@@ -11,7 +12,7 @@
 typedef __int128 wide;
 typedef unsigned __int128 uwide;
 
-enum { MOST_NODES = 1001, MOST_STREAMS = 2000, MOST_DAYS = 366 };
+enum { MOST_NODES = 1001, MOST_STREAMS = 4000, MOST_DAYS = 366 };
 
 typedef struct { char name[64]; int from, to, metered, days; wide value, variance; } Stream;
 typedef struct { int stream, other, enters; wide variance, room; } Border;
@@ -296,7 +297,10 @@ static void print_wide(wide x)
     fwrite(p, 1, text + sizeof text - p, stdout);
 }
 
-/* sweeps from prices of 0 until the gap is met, at most 5,000 times, and writes the flows */
+/* the most sweeps */
+static int most_sweeps = 5000;
+
+/* sweeps from prices of 0 until the gap is met, at most so often, and makes the flows */
 static int solve(void)
 {
     group_count = 0;
@@ -308,8 +312,8 @@ static int solve(void)
     walk_forest();
     make_borders();
     int k = 0, met = is_met(10);
-    for (; !met && k < 5000; k++) {
-        if (!sweep()) { k = 5000; break; }
+    for (; !met && k < most_sweeps; k++) {
+        if (!sweep()) { k = most_sweeps; break; }
         met = is_met(10);
     }
     write_flows();
@@ -331,9 +335,27 @@ static void solve_without_each(void)
     printf("tests,%d,%d\n", count, sweeps);
 }
 
+/* names of streams, each with a sign and a blank, over and over up to that many bytes */
+static void write_bytes(long left)
+{
+    for (int j = 0; left > 0; j = (j + 1) % stream_count) {
+        putchar(' ');
+        putchar(j % 2 ? '+' : '-');
+        fputs(streams[j].name, stdout);
+        left -= 2 + (long)strlen(streams[j].name);
+    }
+}
+
 int main(int count, char **words)
 {
     static char line[4096];
+    int tests = 0;
+    long bytes = 0;
+    for (int i = 1; i < count; i++) {
+        if (!strcmp(words[i], "tests")) tests = 1;
+        else if (!strcmp(words[i], "sweeps") && i + 1 < count) most_sweeps = atoi(words[++i]);
+        else if (!strcmp(words[i], "bytes") && i + 1 < count) bytes = atol(words[++i]);
+    }
     strcpy(nodes[0], "env");
     put(node_slots, nodes[0], 0);
     while (fgets(line, sizeof line, stdin)) { line[strcspn(line, "\n")] = 0; read_row(line); }
@@ -341,6 +363,7 @@ int main(int count, char **words)
     add_readings();
     solve();
     for (int j = 0; j < stream_count; j++) { printf("flow,%s,", streams[j].name); print_wide(flow[j]); putchar('\n'); }
-    if (count > 1 && !strcmp(words[1], "tests")) solve_without_each();
+    if (tests) solve_without_each();
+    if (bytes) { write_bytes(bytes); putchar('\n'); }
     return 0;
 }
