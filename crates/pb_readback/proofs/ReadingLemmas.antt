@@ -409,33 +409,33 @@ tells_from old now new row (At number fault) skips counted breaks =
     elim breaks [
       | inl opening ↦
           let same = opening.2 in (
-            inl (record {
+            record {
               passed = skips.0;
               first = row;
-              split = skips.1 ∙ ap (λ (r : RecordsLeft). skips.0 ++ row ∷ r.left) (sym same);
+              behind = now.left;
+              within = 1;
+              split = skips.1;
               skipped = skips.2;
               other = skips.3;
-              cause = opening.0;
+              cause = inl (opening.0, refl, ap (λ (r : RecordsLeft). r.left) same);
               place = opening.1 ∙ omega (arith, long, counted);
-            }),
+            },
             ap (λ (r : RecordsLeft). r.taken + length r.left) same ∙ counted,
           )
       | inr within ↦
           let broken = within.1 in
           let place = broken.place in (
-            inr (record {
+            record {
               passed = skips.0;
               first = row;
-              rows = broken.rows;
-              rest = broken.rest;
+              behind = now.left;
               within = broken.within;
-              split = skips.1 ∙ ap (λ (more : List (List (List ℕ))). skips.0 ++ row ∷ more) broken.split;
+              split = skips.1;
               skipped = skips.2;
-              opens = within.0;
-              sound = broken.sound;
-              cause = broken.cause;
+              other = skips.3;
+              cause = inr (within.0, broken.rows, broken.rest, broken.split, broken.sound, broken.cause);
               place = omega (arith, long, counted, place);
-            }),
+            },
             within.2 ∙ counted,
           )
     ]

@@ -70,38 +70,31 @@ pub record IsFound (records : List (List (List ℕ))) (block : Block) (rest : Li
   pub skipped : ArePassedOver passed
   pub whole : IsBlock first rows block
 
--- after rows that are passed over comes a row that isn't passed over and doesn't open a block
-pub record IsRefusedAtOpening (at : ℕ) (records : List (List (List ℕ))) (number : ℕ) (fault : RowFault)
-    (left : List (List (List ℕ))) : Type 0 where
+-- A first row that isn't passed over, with the records after it, is no block: this is the number of the first row that has a fault,
+-- counted from the first, and these records are left. The first row doesn't open a block, or a row after it can't be read.
+abbrev pub IsNoBlock : List (List ℕ) → List (List (List ℕ)) → ℕ → RowFault → List (List (List ℕ)) → Type 0
+IsNoBlock first behind number fault left =
+    ((opening_fault first ≡ Some fault) × (number ≡ 1) × (left ≡ behind))
+    ⊎ ((opening_fault first ≡ None) × (rows : List (List (List ℕ))) × (rest : List (List (List ℕ))) × (behind ≡ rows ++ rest)
+    × AreSound (opened first) rows × IsFault (with_rows (opened first) rows) (length rows) rest number fault left)
+
+-- after rows that are passed over comes another, and no block begins with it
+pub record IsRefused (at : ℕ) (records : List (List (List ℕ))) (number : ℕ) (fault : RowFault) (left : List (List (List ℕ))) : Type 0 where
   pub passed : List (List (List ℕ))
   pub first : List (List ℕ)
-  pub split : records ≡ passed ++ first ∷ left
+  pub behind : List (List (List ℕ))
+  pub within : ℕ
+  pub split : records ≡ passed ++ first ∷ behind
   pub skipped : ArePassedOver passed
   pub other : is_passed_over first ≡ false
-  pub cause : opening_fault first ≡ Some fault
-  pub place : number ≡ at + length passed + 1
-
--- after rows that are passed over begins a block that can't be read on
-pub record IsRefusedWithin (at : ℕ) (records : List (List (List ℕ))) (number : ℕ) (fault : RowFault)
-    (left : List (List (List ℕ))) : Type 0 where
-  pub passed : List (List (List ℕ))
-  pub first : List (List ℕ)
-  pub rows : List (List (List ℕ))
-  pub rest : List (List (List ℕ))
-  pub within : ℕ
-  pub split : records ≡ passed ++ first ∷ (rows ++ rest)
-  pub skipped : ArePassedOver passed
-  pub opens : opening_fault first ≡ None
-  pub sound : AreSound (opened first) rows
-  pub cause : IsFault (with_rows (opened first) rows) (length rows) rest within fault left
+  pub cause : IsNoBlock first behind within fault left
   pub place : number ≡ at + length passed + within
 
 -- What comes next in the records after as many as this.
 abbrev pub IsNext : ℕ → List (List (List ℕ)) → Next → Type 0
 IsNext at records NoBlock = ArePassedOver records
 IsNext at records (Found block rest) = IsFound records block rest
-IsNext at records (Refused number fault left) =
-    IsRefusedAtOpening at records number fault left ⊎ IsRefusedWithin at records number fault left
+IsNext at records (Refused number fault left) = IsRefused at records number fault left
 
 -- The records are these blocks in order, and rows that are passed over between, before and after them.
 abbrev pub AreBlocks : List (List (List ℕ)) → List Block → Type 0
