@@ -38,18 +38,3 @@ number_fits lo hi z (Some n) passes = by (int_le lo n) refl (int_le n hi) refl p
         rw (← same) (least, most)
     by true low false high is = cc is
     by false low b high is = cc is
-
--- one more value fits
-pub fit_last : (columns : List Column) (values : List Value) (column : Column) (value : Value) → FitEach columns values → Fits column value
-    → FitEach (columns ++ column ∷ []) (values ++ value ∷ [])
-fit_last [] [] column value fit fits = (fits, tt)
-fit_last [] (other ∷ values) column value fit fits = absurd fit
-fit_last (first ∷ columns) [] column value fit fits = absurd fit
-fit_last (first ∷ columns) (other ∷ values) column value fit fits = (fit.0, fit_last columns values column value fit.1 fits)
-
--- the same of the columns of the code
-pub fit_more : (columns : List coded.Column) (values : List Value) (i : ℕ) (d : coded.Column) (value : Value) → i < length columns
-    → FitEach (map column_seen (take i columns)) values → Fits (column_seen (get_or columns i d)) value
-    → FitEach (map column_seen (take (i + 1) columns)) (values ++ value ∷ [])
-fit_more columns values i d value there fit fits =
-    rw (add-one i, take-suc columns i d there, map-append) (fit_last (map column_seen (take i columns)) values (column_seen (get_or columns i d)) value fit fits)

@@ -59,7 +59,7 @@ field_fits dates column field v says = by (column.optional && (length field == 0
     by false told says = held_fits dates column.holds column.optional field v told says
 
 -- all fields
-fields_fit : HaveOneDateText → (columns : List Column) (values : List Value) (fields : List (List ℕ)) → length columns ≤ length fields → fields_read columns fields ≡ Ok values
+pub fields_fit : HaveOneDateText → (columns : List Column) (values : List Value) (fields : List (List ℕ)) → length columns ≤ length fields → fields_read columns fields ≡ Ok values
     → FitEach columns values
 fields_fit dates [] values [] long says =
     let none : [] ≡ values = cc says in

@@ -1,5 +1,5 @@
 mod ListLemmas
-mod KeptLemmas
+mod SaidLemmas
 mod ReadingLemmas
 mod TellingLemmas
 mod TableLemmas

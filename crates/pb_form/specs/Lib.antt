@@ -17,6 +17,6 @@ pub mod Laws
 pub mod TextLaws
 -- Inside
 pub mod Seen
-pub mod Kept
+pub mod Said
 pub mod Given
 pub mod Told

@@ -5,8 +5,8 @@ use Rattle.pb_form.specs.Value.{Value}
 use Rattle.pb_form.specs.declared.fault.FormFault.{FormFault}
 
 -- the fault of a reading, if it has one
-abbrev pub fault_in : Result (List Value) FormFault → Option FormFault
-fault_in (Ok values) = None
+abbrev pub fault_in : {A : Type 0} → Result A FormFault → Option FormFault
+fault_in (Ok said) = None
 fault_in (Err fault) = Some fault
 
 -- the first of the faults so far and another one

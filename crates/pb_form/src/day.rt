@@ -5,7 +5,7 @@ ghost use Rattle.pb_rows.specs.Date.{date_text};
 ghost use Rattle.pb_form.specs.Days.{text_of_day};
 
 use jiff_core::civil::Date;
-use pb_rows::{Row, date_text_law};
+use pb_rows::Row;
 use std::alloc::AllocError;
 
 // 1900-01-01 and 2199-12-31, counted from 1970-01-01.
@@ -29,7 +29,6 @@ fn day_text(day: i32) -> Option<[u8; 10]>
     ensures { MatchOption result (text_of_day day ≡ [])
         (λ text. (text ≡ text_of_day day) × IsUtf8 text) }
 {
-    date_text_law();
     if day < FIRST_DAY || LAST_DAY < day {
         return None;
     }

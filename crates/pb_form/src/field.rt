@@ -1,58 +1,138 @@
-// One field, read by its column.
+// One field by its column: its fault, or what it says.
 
-ghost use Rattle.std.specs.Prelude.{◌≡◌, ◌≤ℤ◌, IfOk, IfSome, bytes_eq, position};
-ghost use Rattle.pb_rows.specs.Number.{number, within};
-ghost use Rattle.pb_form.specs.Kept.{one_said, said};
-ghost use Rattle.pb_form.specs.Seen.{column_seen};
+ghost use Rattle.std.specs.Prelude.{◌≡◌, ◌&&◌, ◌==◌, length, bytes_eq, position, option_map};
+ghost use Rattle.pb_rows.specs.Date.{day_of};
 ghost use Rattle.pb_form.specs.Field.{field_read};
-ghost use Rattle.pb_form.specs.Writing.{Fits};
+ghost use Rattle.pb_form.specs.Said.{value_said};
+ghost use Rattle.pb_form.specs.Seen.{column_seen};
+ghost use Rattle.pb_form.specs.Told.{fault_in};
+ghost use Rattle.pb_form.specs.Values.{day_in, items_in, name_in, number_in, reason_in, word_in};
 
 use crate::column::{Column, Holds};
 use crate::fault::FormFault;
-use crate::value::Kept;
 use pb_rows::{Name, Reason, read_date, read_whole};
 
-// What a field says by its column, or its fault.
+// The fault of a field by its column, if it has one.
 #[tactic(auto, using(crate::proofs::ListLemmas::position_map))]
 #[inline(always)]
-pub(crate) fn read_field(column: &Column, field: &[u8]) -> Result<Kept, FormFault>
-    ensures says { one_said result field.now ≡ field_read (column_seen column.now) field.now }
-    ensures fits { IfOk result (λ kept. Fits (column_seen column.now) (said kept field.now)) }
+pub(crate) fn field_fault(column: &Column, field: &[u8]) -> Option<FormFault>
+    ensures { result ≡ fault_in (field_read (column_seen column.now) field.now) }
 {
-    if column.optional && field.is_empty() {
-        return Ok(Kept::Missing);
+    if is_missing(column, field) {
+        return None;
     }
     match column.holds {
         Holds::Word(words) => match place_of(words, field) {
-            Some(place) => Ok(Kept::Word(place)),
-            None => Err(FormFault::Word),
+            Some(_) => None,
+            None => Some(FormFault::Word),
         },
         Holds::Name => match Name::read(field) {
-            Some(_) => Ok(Kept::Name),
-            None => Err(FormFault::Name),
+            Some(_) => None,
+            None => Some(FormFault::Name),
         },
         Holds::Reason => match Reason::read(field) {
-            Some(_) => Ok(Kept::Reason),
-            None => Err(FormFault::Name),
+            Some(_) => None,
+            None => Some(FormFault::Name),
         },
-        Holds::Number { lo, hi } => match whole(field, lo, hi) {
-            Some(number) => Ok(Kept::Number(number)),
-            None => Err(FormFault::Number),
+        Holds::Number { lo, hi } => match read_whole(field, lo, hi) {
+            Some(_) => None,
+            None => Some(FormFault::Number),
         },
-        Holds::Date => match read_date(field) {
-            Ok(Some(day)) => Ok(Kept::Date(day)),
-            _ => Err(FormFault::Date),
+        Holds::Date => match day_of(field) {
+            Some(_) => None,
+            None => Some(FormFault::Date),
         },
-        Holds::Items => Ok(Kept::Items),
+        Holds::Items => None,
     }
 }
 
-// A whole number from `lo` to `hi`.
-fn whole(field: &[u8], lo: i128, hi: i128) -> Option<i128>
-    ensures value { result ≡ within lo hi (number field.now) }
-    ensures in_range { IfSome result (λ z. (lo ≤ℤ z) × (z ≤ℤ hi)) }
+// Whether a field is left out.
+#[inline(always)]
+fn is_missing(column: &Column, field: &[u8]) -> bool
+    ensures { result ≡ (column.now.optional && (length field.now == 0)) }
 {
-    read_whole(field, lo, hi)
+    column.optional && field.is_empty()
+}
+
+// The place of the word that a field says.
+#[tactic(auto, using(crate::proofs::ListLemmas::position_map))]
+pub(crate) fn said_word(column: &Column, field: &[u8]) -> Option<usize>
+    ensures { result ≡ word_in (value_said (column_seen column.now) field.now) }
+{
+    if is_missing(column, field) {
+        return None;
+    }
+    match column.holds {
+        Holds::Word(words) => place_of(words, field),
+        _ => None,
+    }
+}
+
+// The name that a field says.
+#[inline(always)]
+pub(crate) fn said_name(column: &Column, field: &[u8]) -> Option<Name>
+    ensures { result ≡ name_in (value_said (column_seen column.now) field.now) }
+{
+    match column.holds {
+        Holds::Name => Name::read(field),
+        _ => None,
+    }
+}
+
+// The reason that a field says.
+pub(crate) fn said_reason(column: &Column, field: &[u8]) -> Option<Reason>
+    ensures { result ≡ reason_in (value_said (column_seen column.now) field.now) }
+{
+    match column.holds {
+        Holds::Reason => Reason::read(field),
+        _ => None,
+    }
+}
+
+// The number that a field says.
+#[inline(always)]
+pub(crate) fn said_number(column: &Column, field: &[u8]) -> Option<i128>
+    ensures { result ≡ number_in (value_said (column_seen column.now) field.now) }
+{
+    match column.holds {
+        Holds::Number { lo, hi } => read_whole(field, lo, hi),
+        _ => None,
+    }
+}
+
+// The day that a field says.
+#[inline(always)]
+pub(crate) fn said_day(column: &Column, field: &[u8]) -> Option<i32>
+    ensures { result ≡ day_in (value_said (column_seen column.now) field.now) }
+{
+    match column.holds {
+        Holds::Date => day_of(field),
+        _ => None,
+    }
+}
+
+// The list that a field says.
+pub(crate) fn said_items<'a>(column: &Column, field: &'a [u8]) -> Option<&'a [u8]>
+    ensures { option_map (λ text. text.now) result
+        ≡ items_in (value_said (column_seen column.now) field.now) }
+{
+    if is_missing(column, field) {
+        return None;
+    }
+    match column.holds {
+        Holds::Items => Some(field),
+        _ => None,
+    }
+}
+
+// The day that a field writes.
+fn day_of(field: &[u8]) -> Option<i32>
+    ensures { result ≡ day_of field.now }
+{
+    match read_date(field) {
+        Ok(day) => day,
+        Err(_) => None,
+    }
 }
 
 // The place of a field among words.
@@ -63,6 +143,7 @@ fn place_of(words: &[&str], field: &[u8]) -> Option<usize>
 }
 
 // Whether a field is this word.
+#[inline(always)]
 pub(crate) fn is_word(field: &[u8], word: &str) -> bool
     ensures { result ≡ bytes_eq field.now word.now }
 {

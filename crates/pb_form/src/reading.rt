@@ -8,14 +8,13 @@ ghost use Rattle.pb_form.specs.Told.{fault_in};
 
 use crate::column::{Column, Schema};
 use crate::fault::{FormFault, soonest};
-use crate::field::read_field;
+use crate::field::field_fault;
 use crate::fields::Fields;
-use crate::value::{Kept, ROOM, Values};
+use crate::value::Values;
 
 /// The value of each column of a schema in the fields of a record, or their first fault.
 #[inline(always)]
-pub fn read<'a>(schema: &Schema, fields: &Fields<'a>) -> Result<Values<'a>, FormFault>
-    requires { length schema.now.columns.now ≤ ROOM }
+pub fn read<'a>(schema: &'a Schema, fields: &Fields<'a>) -> Result<Values<'a>, FormFault>
     ensures value { result ≡ row_read (schema_seen schema.now) fields.now }
     ensures fit { IfOk result (FitEach (map column_seen schema.now.columns.now)) }
 {
@@ -29,6 +28,7 @@ pub fn read<'a>(schema: &Schema, fields: &Fields<'a>) -> Result<Values<'a>, Form
 }
 
 // Whether a row of a schema has this number of fields.
+#[inline(always)]
 pub(crate) fn has_count(schema: &Schema, count: usize) -> bool
     ensures { result ≡ has_count (schema_seen schema.now) count }
 {
@@ -37,6 +37,7 @@ pub(crate) fn has_count(schema: &Schema, count: usize) -> bool
 }
 
 // Whether this number of fields is some turns of a tail.
+#[inline(always)]
 fn are_turns(tail: &[Column], count: usize) -> bool
     ensures { result ≡ are_turns (map column_seen tail.now) count }
 {
@@ -48,28 +49,29 @@ fn are_turns(tail: &[Column], count: usize) -> bool
 }
 
 /// The values of the first fields, one a column, or their first fault: so are those of a turn of a tail read.
-pub fn read_columns<'a>(columns: &[Column], fields: &Fields<'a>) -> Result<Values<'a>, FormFault>
-    requires few { length columns.now ≤ ROOM }
-    requires each { length columns.now ≤ length fields.now }
+pub fn read_columns<'a>(columns: &'a [Column], fields: &Fields<'a>) -> Result<Values<'a>, FormFault>
+    requires { length columns.now ≤ length fields.now }
     ensures value { result ≡ fields_read (map column_seen columns.now) fields.now }
     ensures fit { IfOk result (FitEach (map column_seen columns.now)) }
 {
-    let mut kept = [Kept::Missing; ROOM];
-    let mut first = None;
-    for (i, column) in columns.iter().enumerate() {
-        match read_field(column, fields.at(i)) {
-            Ok(value) => kept[i] = value,
-            Err(fault) => first = Some(soonest(first, fault)),
-        }
-    }
-    match first {
-        None => Ok(Values {
-            kept,
-            len: columns.len(),
-            fields: fields.lent(),
-        }),
+    match columns_fault(columns, fields) {
+        None => Ok(Values::of(columns, fields.lent())),
         Some(fault) => Err(fault),
     }
+}
+
+// The first fault of the first fields, one a column.
+fn columns_fault(columns: &[Column], fields: &Fields) -> Option<FormFault>
+    requires { length columns.now ≤ length fields.now }
+    ensures { result ≡ fault_in (fields_read (map column_seen columns.now) fields.now) }
+{
+    let mut first = None;
+    for (i, column) in columns.iter().enumerate() {
+        if let Some(fault) = field_fault(column, fields.at(i)) {
+            first = Some(soonest(first, fault));
+        }
+    }
+    first
 }
 
 // The first fault of the fields from a place on, by the columns of a tail, over and over.
@@ -84,7 +86,7 @@ fn tail_fault(tail: &[Column], fields: &Fields, start: usize) -> Option<FormFaul
     let mut first = None;
     let mut place = 0;
     for i in start..fields.len() {
-        if let Err(fault) = read_field(&tail[place], fields.at(i)) {
+        if let Some(fault) = field_fault(&tail[place], fields.at(i)) {
             first = Some(soonest(first, fault));
         }
         place = if place + 1 < tail.len() { place + 1 } else { 0 };

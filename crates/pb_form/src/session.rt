@@ -6,6 +6,7 @@ ghost use Rattle.pb_form.specs.Laws.{IsOfKind};
 ghost use Rattle.pb_form.specs.Seen.{schema_seen};
 ghost use Rattle.pb_form.specs.SessionRows.{kinds_of_version_1, kinds_of_version_2, session_columns, session_kinds, session_schema, session_schemas, session_told};
 ghost use Rattle.pb_form.specs.Telling.{is_of};
+ghost use Rattle.pb_form.specs.Texts.{texts_of};
 ghost use Rattle.pb_form.specs.Writing.{FitEach, Writes};
 
 use crate::column::{Column, Holds, Schema};
@@ -323,12 +324,14 @@ pub fn is_of_kind(kind: SessionKind, fields: &Fields) -> bool
     is_of(session_schema(kind), fields)
 }
 
-/// The record of a kind that writes values, one a column: it reads back as them, it is of this kind, and no empty field stands at its
-/// end.
+/// The record of a kind that writes values, one a column: their texts. It reads back as them, it is of this kind, and no empty field
+/// stands at its end.
 pub fn session_record(alloc: Global, kind: SessionKind, values: &[Value]) -> Result<Row, AllocError>
     requires each { length values.now ≡ length (session_columns kind) }
     requires fit { FitEach (session_columns kind) (values_as (session_columns kind) values.now) }
     ensures value { IfOk result (Writes (session_schema kind)
+        (values_as (session_columns kind) values.now)) }
+    ensures fields { IfOk result (λ row. row ≡ texts_of (session_columns kind)
         (values_as (session_columns kind) values.now)) }
     ensures kind { IfOk result (IsOfKind kind) }
 {

@@ -51,6 +51,7 @@ fn untold(schemas: &[Schema], fields: &Fields) -> FormFault
 }
 
 // Whether a record has the words and the number of fields of a schema.
+#[inline(always)]
 pub(crate) fn is_of(schema: &Schema, fields: &Fields) -> bool
     ensures { result ≡ is_of fields.now (schema_seen schema.now) }
 {
@@ -58,6 +59,7 @@ pub(crate) fn is_of(schema: &Schema, fields: &Fields) -> bool
 }
 
 // Whether a record, as far as it goes, has the words that tell the kind of these columns.
+#[inline(always)]
 fn agrees(columns: &[Column], fields: &Fields) -> bool
     ensures { result ≡ agrees (map column_seen columns.now) fields.now }
 {
@@ -70,6 +72,7 @@ fn agrees(columns: &[Column], fields: &Fields) -> bool
 }
 
 // Whether the field at a place, if a record goes so far, has the word of a column that takes one word alone.
+#[inline(always)]
 fn has_word(column: &Column, fields: &Fields, i: usize) -> bool
     ensures there { i < length fields.now
         → result ≡ has_word (holds_seen column.now.holds) (slice_index_or fields.now i []) }

@@ -1,7 +1,6 @@
 // Fields that are the texts of values.
 
 ghost use Rattle.std.specs.Prelude.{◌≡◌, ◌∷◌, ◌++◌, [], length, map, All, IsUtf8, IfOk, OnOk};
-ghost use Rattle.pb_rows.specs.Number.{whole_text};
 ghost use Rattle.pb_form.specs.Given.{value_as, values_as};
 ghost use Rattle.pb_form.specs.Seen.{column_seen, holds_seen};
 ghost use Rattle.pb_form.specs.TextLaws.{TextLaw};
@@ -10,7 +9,7 @@ ghost use Rattle.pb_form.specs.Texts.{held_word, texts_of, value_text};
 use crate::column::{Column, Holds};
 use crate::day::push_day;
 use crate::value::Value;
-use pb_rows::{Row, date_text_law, number_text_law, whole_bytes};
+use pb_rows::{Row, date_text_law, number_text_law};
 use std::alloc::{AllocError, Global};
 
 /// The law that the texts of values which fit the columns of a schema read back as them.
@@ -34,13 +33,13 @@ pub(crate) fn write_texts(
 {
     let mut row = Row::new(alloc);
     for (i, column) in columns.iter().enumerate() {
-        push_text(alloc, column, values[i], &mut row)?;
+        push_text(column, values[i], &mut row)?;
     }
     Ok(row)
 }
 
 // Appends the text of a value.
-fn push_text(alloc: Global, column: &Column, value: Value, row: &mut Row) -> Result<(), AllocError>
+fn push_text(column: &Column, value: Value, row: &mut Row) -> Result<(), AllocError>
     ensures adds { OnOk result (row.new ≡ row.old ++ value_text (holds_seen column.now.holds)
         (value_as (holds_seen column.now.holds) value.entry) ∷ []) }
     ensures texts { OnOk result (All IsUtf8 row.old → All IsUtf8 row.new) }
@@ -49,7 +48,7 @@ fn push_text(alloc: Global, column: &Column, value: Value, row: &mut Row) -> Res
         Value::Missing => row.push(b""),
         Value::Word(place) => row.push(word_of(&column.holds, place).as_bytes()),
         Value::Text(text) => row.push(text.as_bytes()),
-        Value::Number(number) => push_number(alloc, number, row),
+        Value::Number(number) => row.push_whole(number),
         Value::Day(day) => push_day(day, row),
     }
 }
@@ -62,12 +61,4 @@ fn word_of(holds: &Holds, place: usize) -> &'static str
         Holds::Word(words) if place < words.len() => words[place],
         _ => "",
     }
-}
-
-// Appends the text of a number.
-fn push_number(alloc: Global, number: i128, row: &mut Row) -> Result<(), AllocError>
-    ensures { OnOk result (row.new ≡ row.old ++ whole_text number ∷ []) }
-{
-    let text = whole_bytes(alloc, number)?;
-    row.push(text.as_slice())
 }

@@ -1,15 +1,18 @@
 // The values of a row.
 
-ghost use Rattle.std.specs.Prelude.{◌≡◌, ◌∷◌, length, slice_get, true};
+ghost use Rattle.std.specs.Prelude.{◌≡◌, ◌≤◌, length, map, slice_get, true};
 ghost use Rattle.std.specs.Option.{option_map};
 ghost use Rattle.pb_rows.specs.Name.{is_name};
 ghost use Rattle.pb_rows.specs.Reason.{is_reason};
 ghost use Rattle.pb_form.specs.Given.{value_as};
 ghost use Rattle.pb_form.specs.Holds as takes;
-ghost use Rattle.pb_form.specs.Kept.{said};
+ghost use Rattle.pb_form.specs.Said.{value_said, values_said};
+ghost use Rattle.pb_form.specs.Seen.{column_seen};
 ghost use Rattle.pb_form.specs.Value as says;
 ghost use Rattle.pb_form.specs.Values.{day_in, items_in, name_in, number_in, reason_in, value_at, word_in};
 
+use crate::column::Column;
+use crate::field::{said_day, said_items, said_name, said_number, said_reason, said_word};
 use crate::fields::Fields;
 use pb_rows::{Name, Reason};
 use std::marker::Model;
@@ -49,53 +52,50 @@ impl<'a> Value<'a> {
     }
 }
 
-/// What is kept of a field that was read: its value, but for a text, which the field has.
-#[derive(Clone, Copy)]
-pub enum Kept {
-    Missing,
-    Word(usize),
-    Name,
-    Reason,
-    Number(i128),
-    Date(i32),
-    Items,
-}
-
-/// The values of a row, one a column.
+/// The values of a row, one a column: each is read from its field when it is asked for.
 #[derive(Drop)]
 pub struct Values<'a> {
-    pub(crate) kept: [Kept; ROOM],
-    pub(crate) len: usize,
-    pub(crate) fields: Fields<'a>,
+    columns: &'a [Column],
+    fields: Fields<'a>,
 }
 
 impl<'a> Model for Values<'a> {
-    ghost use Rattle.std.specs.Prelude.{◌≡◌, ◌≤◌, List, take, length};
-    ghost use Rattle.pb_form.specs.declared.value.TheConstants.{ROOM};
-    ghost use Rattle.pb_form.specs.Kept.{all_said};
+    ghost use Rattle.std.specs.Prelude.{◌≤◌, List, length, map};
+    ghost use Rattle.pb_form.specs.Said.{values_said};
+    ghost use Rattle.pb_form.specs.Seen.{column_seen};
     ghost use Rattle.pb_form.specs.Value as value;
 
     ghost Value = { List value.Value };
 
-    ghost view = { λ a. all_said (take a.len a.kept) a.fields };
+    ghost view = { λ a. values_said (map column_seen a.columns.now) a.fields };
 
-    ghost invariant = { λ a. (length a.kept ≡ ROOM) × ((a.len ≤ ROOM) × (a.len ≤ length a.fields)) };
+    ghost invariant = { λ a. length a.columns.now ≤ length a.fields };
 }
 
 impl<'a> Values<'a> {
+    // What fields say by these columns.
+    pub(crate) fn of(columns: &'a [Column], fields: Fields<'a>) -> Values<'a>
+        requires { length columns.now ≤ length fields }
+        ensures { result ≡ values_said (map column_seen columns.now) fields.entry }
+    {
+        Values { columns, fields }
+    }
+
     /// The number of values.
     pub fn len(&self) -> usize
         ensures { result ≡ length self.now }
     {
-        self.len
+        self.columns.len()
     }
 
-    // What is kept of the value at a place, and its field.
-    fn at(&self, place: usize) -> Option<(Kept, &'a [u8])>
-        ensures { slice_get self.now place ≡ option_map (λ found. said found.0 found.1.now) result }
+    // The column and the field of the value at a place.
+    #[inline(always)]
+    fn at(&self, place: usize) -> Option<(&'a Column, &'a [u8])>
+        ensures { slice_get self.now place
+            ≡ option_map (λ found. value_said (column_seen found.0.now) found.1.now) result }
     {
-        if place < self.len {
-            Some((self.kept[place], self.fields.at(place)))
+        if place < self.columns.len() {
+            Some((&self.columns[place], self.fields.at(place)))
         } else {
             None
         }
@@ -105,59 +105,47 @@ impl<'a> Values<'a> {
     pub fn word(&self, place: usize) -> Option<usize>
         ensures { result ≡ value_at word_in self.now place }
     {
-        match self.at(place) {
-            Some((Kept::Word(word), _)) => Some(word),
-            _ => None,
-        }
+        let (column, field) = self.at(place)?;
+        said_word(column, field)
     }
 
     /// The name that the value at a place is, if it is one.
     pub fn name(&self, place: usize) -> Option<Name>
         ensures { result ≡ value_at name_in self.now place }
     {
-        match self.at(place) {
-            Some((Kept::Name, text)) => Name::read(text),
-            _ => None,
-        }
+        let (column, field) = self.at(place)?;
+        said_name(column, field)
     }
 
     /// The reason that the value at a place is, if it is one.
     pub fn reason(&self, place: usize) -> Option<Reason>
         ensures { result ≡ value_at reason_in self.now place }
     {
-        match self.at(place) {
-            Some((Kept::Reason, text)) => Reason::read(text),
-            _ => None,
-        }
+        let (column, field) = self.at(place)?;
+        said_reason(column, field)
     }
 
     /// The number that the value at a place is, if it is one.
     pub fn number(&self, place: usize) -> Option<i128>
         ensures { result ≡ value_at number_in self.now place }
     {
-        match self.at(place) {
-            Some((Kept::Number(number), _)) => Some(number),
-            _ => None,
-        }
+        let (column, field) = self.at(place)?;
+        said_number(column, field)
     }
 
     /// The day that the value at a place is, if it is one.
     pub fn day(&self, place: usize) -> Option<i32>
         ensures { result ≡ value_at day_in self.now place }
     {
-        match self.at(place) {
-            Some((Kept::Date(day), _)) => Some(day),
-            _ => None,
-        }
+        let (column, field) = self.at(place)?;
+        said_day(column, field)
     }
 
     /// The list that the value at a place is, if it is one.
     pub fn items(&self, place: usize) -> Option<&'a [u8]>
         ensures { option_map (λ text. text.now) result ≡ value_at items_in self.now place }
     {
-        match self.at(place) {
-            Some((Kept::Items, text)) => Some(text),
-            _ => None,
-        }
+        let (column, field) = self.at(place)?;
+        said_items(column, field)
     }
 }

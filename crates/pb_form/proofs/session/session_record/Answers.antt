@@ -1,11 +1,12 @@
 use Rattle.std.specs.Prelude.{IfOk}
-use Rattle.std.proofs.Common.{◌∙◌, length, ap, subst, sym}
+use Rattle.std.proofs.Common.{◌≡◌, ◌∙◌, length, ap, subst, sym}
 use Rattle.std.proofs.lemmas.List.{length-map}
 use Rattle.std.proofs.lemmas.Result.{IfOk-weaker}
 use Rattle.pb_form.proofs.KindLemmas.{one_kind}
 use Rattle.pb_form.specs.Columns.{Schema}
 use Rattle.pb_form.specs.Given.{values_as}
 use Rattle.pb_form.specs.Seen.{column_seen}
+use Rattle.pb_form.specs.Texts.{texts_of}
 use Rattle.pb_form.specs.Writing.{FitEach, Writes}
 use Rattle.pb_form.proofs.session.session_record.Goals as goal
 
@@ -21,6 +22,10 @@ write-requires-clause-fit c =
 pub returns-clause-value : goal.returns-clause-value
 returns-clause-value c =
     subst (λ (s : Schema). IfOk c.write.result (Writes s (values_as s.columns c.args.values.now))) c.session_schema.ensures.value c.write.ensures.value
+
+pub returns-clause-fields : goal.returns-clause-fields
+returns-clause-fields c =
+    subst (λ (s : Schema). IfOk c.write.result (λ row. row ≡ texts_of s.columns (values_as s.columns c.args.values.now))) c.session_schema.ensures.value c.write.ensures.fields
 
 pub returns-clause-kind : goal.returns-clause-kind
 returns-clause-kind c =

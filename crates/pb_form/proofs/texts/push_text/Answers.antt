@@ -16,4 +16,4 @@ pub returns-in-Text-clause-texts : goal.returns-in-Text-clause-texts
 returns-in-Text-clause-texts c = text_added _ _ _ _ c.push-in-Text.ensures.appended c.as_bytes-in-Text.ensures.utf8
 
 pub returns-in-Number-clause-texts : goal.returns-in-Number-clause-texts
-returns-in-Number-clause-texts c = text_added _ _ _ _ c.push_number.ensures (whole_utf8 _)
+returns-in-Number-clause-texts c = text_added _ _ _ _ c.push_whole.ensures.appended (whole_utf8 _)
