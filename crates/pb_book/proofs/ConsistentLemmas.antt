@@ -14,9 +14,10 @@ use Rattle.pb_strap.specs.declared.strap.Point.{Point}
 use Rattle.pb_strap.specs.Table.{rises, volume_of}
 use Rattle.pb_strap.proofs.VolumeLemmas.{table_grows}
 use Rattle.pb_site.specs.declared.declared.Declared.{Declared}
-use Rattle.pb_site.specs.declared.declared.Declared.TheVariants.{Unit as UnitRow, Tank, Strap, Stream, CritGlobal, CritNodal, CritMeasure}
+use Rattle.pb_site.specs.declared.declared.Declared.TheVariants.{Version2, Unit as UnitRow, Boundary, Tank, Strap, Stream, CritGlobal, CritNodal, CritMeasure}
+use Rattle.pb_site.specs.declared.declared.Version.{Version}
 use Rattle.pb_site.specs.Row.{declares_tank, point_of}
-use Rattle.pb_site.specs.Site.{is_tank, points_of, table_of}
+use Rattle.pb_site.specs.Site.{is_tank, points_of, table_of, version_of}
 use Rattle.pb_site.specs.Faults.{is_out_of_order as is_out_of_order_declared}
 use Rattle.pb_facts.specs.declared.fact.Fact.{Fact}
 use Rattle.pb_facts.specs.declared.fact.Fact.TheVariants.{Reading, Transfer, Dip}
@@ -35,7 +36,8 @@ use Rattle.pb_book.specs.Accepted.{AreAccepted, AreConsistent, IsAcceptable}
 use Rattle.pb_book.specs.Apart.{IsApart, is_named, shares_a_day}
 use Rattle.pb_kinds.specs.Ranges.{IsEffectInRange}
 use Rattle.pb_book.specs.Ranges.{IsPeriod}
-use Rattle.pb_book.specs.Refusals.{is_closed, is_duplicate, is_full, is_mismatch, is_moved_outside, is_out_of_order, is_out_of_range, is_outside_table, is_sealed, is_unknown, refusal_behind}
+use Rattle.pb_book.specs.Refusals.{is_closed, is_duplicate, is_full, is_mismatch, is_moved_outside, is_out_of_order, is_out_of_range, is_out_of_service, is_outside_table, is_sealed, is_unknown, refusal_behind}
+use Rattle.pb_book.specs.Touching.{service_of}
 use Rattle.pb_book.specs.declared.rows.StoredRow.{StoredRow}
 use Rattle.pb_book.specs.Rows.{closed_if_named, declared_of, facts_after, facts_of, live, open_period, periods_after, periods_of}
 use Rattle.pb_book.proofs.AcceptedLemmas.{by_accepted}
@@ -43,25 +45,27 @@ use Rattle.pb_book.proofs.KeptLemmas.{declared_more, declared_same, facts_more, 
 use Rattle.pb_book.proofs.PeriodLemmas.{closed_apart, closed_days, fails_at}
 
 -- no cause holds of a row
-pub record IsFine (declared : List Declared) (kept : List KeptFact) (periods : List Period) (effect : Effect) : Type 0 where
+pub record IsFine (version : Version) (declared : List Declared) (kept : List KeptFact) (periods : List Period) (effect : Effect) : Type 0 where
   pub known : is_unknown declared kept periods effect ≡ false
   pub new : is_duplicate declared kept periods effect ≡ false
   pub order : is_out_of_order declared effect ≡ false
   pub matching : is_mismatch declared kept periods effect ≡ false
-  pub sealed : is_sealed periods effect ≡ false
-  pub opened : is_closed periods effect ≡ false
-  pub range : is_out_of_range declared kept effect ≡ false
-  pub room : is_full declared kept periods effect ≡ false
+  pub sealed : is_sealed version periods effect ≡ false
+  pub opened : is_closed version declared periods effect ≡ false
+  pub range : is_out_of_range version declared kept effect ≡ false
+  pub room : is_full version declared kept periods effect ≡ false
 
-pub fine : (declared : List Declared) (kept : List KeptFact) (periods : List Period) (effect : Effect) → refusal_behind declared kept periods effect ≡ None → IsFine declared kept periods effect
-fine declared kept periods effect none =
-    by (is_unknown declared kept periods effect) (is_duplicate declared kept periods effect) (is_out_of_order declared effect) (is_mismatch declared kept periods effect) (is_sealed periods effect)
-    (is_closed periods effect) (is_out_of_range declared kept effect) (is_full declared kept periods effect) refl refl refl refl refl refl refl refl none
+pub fine : (version : Version) (declared : List Declared) (kept : List KeptFact) (periods : List Period) (effect : Effect) → refusal_behind version declared kept periods effect ≡ None
+    → IsFine version declared kept periods effect
+fine version declared kept periods effect none =
+    by (is_unknown declared kept periods effect) (is_duplicate declared kept periods effect) (is_out_of_order declared effect) (is_mismatch declared kept periods effect) (is_sealed version periods effect)
+    (is_closed version declared periods effect) (is_out_of_range version declared kept effect) (is_full version declared kept periods effect) refl refl refl refl refl refl refl refl none
   where
     by : (a b c d e f g h : Bool) → is_unknown declared kept periods effect ≡ a → is_duplicate declared kept periods effect ≡ b → is_out_of_order declared effect ≡ c
-        → is_mismatch declared kept periods effect ≡ d → is_sealed periods effect ≡ e → is_closed periods effect ≡ f → is_out_of_range declared kept effect ≡ g → is_full declared kept periods effect ≡ h
+        → is_mismatch declared kept periods effect ≡ d → is_sealed version periods effect ≡ e → is_closed version declared periods effect ≡ f → is_out_of_range version declared kept effect ≡ g
+        → is_full version declared kept periods effect ≡ h
         → (if a then Some Unknown else if b then Some Duplicate else if c then Some Order else if d then Some Mismatch else if e then Some Sealed else if f then Some Closed
-        else if g then Some Range else if h then Some Full else None) ≡ None → IsFine declared kept periods effect
+        else if g then Some Range else if h then Some Full else None) ≡ None → IsFine version declared kept periods effect
     by true b c d e f g h known new order matching sealed opened range room none = cc none
     by false true c d e f g h known new order matching sealed opened range room none = cc none
     by false false true d e f g h known new order matching sealed opened range room none = cc none
@@ -72,6 +76,19 @@ fine declared kept periods effect none =
     by false false false false false false false true known new order matching sealed opened range room none = cc none
     by false false false false false false false false known new order matching sealed opened range room none =
         record { known = known; new = new; order = order; matching = matching; sealed = sealed; opened = opened; range = range; room = room }
+
+-- a fact in its range
+pub record IsFactInside (version : Version) (declared : List Declared) (fact : Fact) : Type 0 where
+  pub serving : is_out_of_service (service_of version declared fact) fact ≡ false
+  pub short : is_too_long fact ≡ false
+  pub inside : is_outside_table declared fact ≡ false
+
+pub range_parts : (version : Version) (declared : List Declared) (kept : List KeptFact) (fact : Fact) (late : Bool) → is_out_of_range version declared kept (Books fact late) ≡ false
+    → IsFactInside version declared fact
+range_parts version declared kept fact late range =
+    let parts = or_parts (is_out_of_service (service_of version declared fact) fact) (is_too_long fact || is_outside_table declared fact) range in
+    let others = or_parts (is_too_long fact) (is_outside_table declared fact) parts.1 in
+    record { serving = parts.0; short = others.0; inside = others.1 }
 
 -- ---- tables that grow
 
@@ -96,9 +113,11 @@ volume_more declared (Strap name mm ml) tank level volume order at = elim (cases
     up : (b : Bool) → not b ≡ false → b ≡ true
     up true e = refl
     up false e = cc e
+volume_more declared Version2 tank level volume order at = rw (append-nil (points_of declared tank)) at
+volume_more declared (Boundary name) tank level volume order at = rw (append-nil (points_of declared tank)) at
 volume_more declared (UnitRow name) tank level volume order at = rw (append-nil (points_of declared tank)) at
-volume_more declared (Tank name base) tank level volume order at = rw (append-nil (points_of declared tank)) at
-volume_more declared (Stream name from to kind base) tank level volume order at = rw (append-nil (points_of declared tank)) at
+volume_more declared (Tank name base service) tank level volume order at = rw (append-nil (points_of declared tank)) at
+volume_more declared (Stream name from to kind base service) tank level volume order at = rw (append-nil (points_of declared tank)) at
 volume_more declared (CritGlobal dof value) tank level volume order at = rw (append-nil (points_of declared tank)) at
 volume_more declared (CritNodal value) tank level volume order at = rw (append-nil (points_of declared tank)) at
 volume_more declared (CritMeasure value) tank level volume order at = rw (append-nil (points_of declared tank)) at
@@ -126,19 +145,19 @@ struck_one id k = if has_id id k then record { fact = k.fact; struck = true } el
 
 -- ---- one more row
 
-more_declared : (declared : List Declared) (kept : List KeptFact) (periods : List Period) (row : Declared) → AreConsistent declared kept periods
-    → IsFine declared kept periods (Declares row) → AreConsistent (declared ++ row ∷ []) kept periods
-more_declared declared kept periods row right good = record {
+more_declared : (version : Version) (declared : List Declared) (kept : List KeptFact) (periods : List Period) (row : Declared) → AreConsistent declared kept periods
+    → IsFine version declared kept periods (Declares row) → AreConsistent (declared ++ row ∷ []) kept periods
+more_declared version declared kept periods row right good = record {
   days = right.days;
   apart = right.apart;
   ranges = right.ranges;
   in_tables = λ i d lt. stays_in_table declared row _ good.order (right.in_tables i d lt);
 }
 
-more_periods : (declared : List Declared) (kept : List KeptFact) (periods : List Period) (name : List ℕ) (first last : ℤ) → AreConsistent declared kept periods
-    → IsFine declared kept periods (Opens name first last) → IsEffectInRange (Opens name first last)
+more_periods : (version : Version) (declared : List Declared) (kept : List KeptFact) (periods : List Period) (name : List ℕ) (first last : ℤ) → AreConsistent declared kept periods
+    → IsFine version declared kept periods (Opens name first last) → IsEffectInRange (Opens name first last)
     → AreConsistent declared kept (periods ++ open_period name first last ∷ [])
-more_periods declared kept periods name first last right good range =
+more_periods version declared kept periods name first last right good range =
     let period = open_period name first last in
     let days : IsPeriod period = record { begins = range.0; ends = range.1; rises = omega (arith, ints, good.order); few = omega (arith, ints, good.range) } in record {
       days = All-push IsPeriod periods period right.days days;
@@ -150,13 +169,13 @@ more_periods declared kept periods name first last right good range =
 
 -- one more fact that is in order, with a level that lies in its table
 more_facts : (declared : List Declared) (kept : List KeptFact) (periods : List Period) (fact : Fact) → AreConsistent declared kept periods
-    → IsInRange fact → (is_too_long fact || is_outside_table declared fact) ≡ false → AreConsistent declared (kept ++ live fact ∷ []) periods
+    → IsInRange fact → is_outside_table declared fact ≡ false → AreConsistent declared (kept ++ live fact ∷ []) periods
 more_facts declared kept periods fact right range good = record {
   days = right.days;
   apart = right.apart;
   ranges = All-push (λ (k : KeptFact). IsInRange k.fact) kept (live fact) right.ranges range;
   in_tables = All-push (λ (k : KeptFact). is_outside_table declared k.fact ≡ false) kept (live fact) right.in_tables
-      (or_parts (is_too_long fact) (is_outside_table declared fact) good).1;
+      good;
 }
 
 -- what holds of each item's image
@@ -237,15 +256,17 @@ one_more : (rows : List StoredRow) (at : ℕ) (effect : Effect) → AreSound row
 one_more rows at (Declares row) right accepted =
     let stored : StoredRow = record { at = at; effect = Declares row } in
     rw (declared_more rows stored, facts_more rows stored, periods_more_of rows stored)
-    (more_declared (declared_of rows) (facts_of rows) (periods_of rows) row right (fine _ _ _ _ accepted.no_cause))
+    (more_declared (version_of (declared_of rows)) (declared_of rows) (facts_of rows) (periods_of rows) row right (fine _ _ _ _ _ accepted.no_cause))
 one_more rows at (Opens name first last) right accepted =
     sound_by rows at (Opens name first last) refl
-    (more_periods (declared_of rows) (facts_of rows) (periods_of rows) name first last right (fine _ _ _ _ accepted.no_cause) accepted.in_range)
+    (more_periods (version_of (declared_of rows)) (declared_of rows) (facts_of rows) (periods_of rows) name first last right (fine _ _ _ _ _ accepted.no_cause) accepted.in_range)
 one_more rows at (Books fact late) right accepted =
-    sound_by rows at (Books fact late) refl (more_facts (declared_of rows) (facts_of rows) (periods_of rows) fact right accepted.in_range (fine (declared_of rows) (facts_of rows) (periods_of rows) (Books fact late) accepted.no_cause).range)
+    let good = fine (version_of (declared_of rows)) (declared_of rows) (facts_of rows) (periods_of rows) (Books fact late) accepted.no_cause in
+    let inside = (range_parts (version_of (declared_of rows)) (declared_of rows) (facts_of rows) fact late good.range).inside in
+    sound_by rows at (Books fact late) refl (more_facts (declared_of rows) (facts_of rows) (periods_of rows) fact right accepted.in_range inside)
 one_more rows at (Edits id (edits.Change change) reason) right accepted =
     sound_by rows at (Edits id (edits.Change change) reason) refl
-    (amended_facts (declared_of rows) (facts_of rows) (periods_of rows) id change right accepted.in_range (fine (declared_of rows) (facts_of rows) (periods_of rows) (Edits id (edits.Change change) reason) accepted.no_cause).range)
+    (amended_facts (declared_of rows) (facts_of rows) (periods_of rows) id change right accepted.in_range (fine (version_of (declared_of rows)) (declared_of rows) (facts_of rows) (periods_of rows) (Edits id (edits.Change change) reason) accepted.no_cause).range)
 one_more rows at (Edits id edits.Strike reason) right accepted = sound_by rows at (Edits id edits.Strike reason) refl (struck_facts (declared_of rows) (facts_of rows) (periods_of rows) id right)
 one_more rows at (Closes name) right accepted = sound_by rows at (Closes name) refl (closed_periods (declared_of rows) (facts_of rows) (periods_of rows) name right)
 

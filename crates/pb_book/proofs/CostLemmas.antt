@@ -27,7 +27,7 @@ use Rattle.pb_book.specs.Answer.{Says, answer_if, answer_of, history_or_refused,
 use Rattle.pb_book.specs.Costs.{cost_after, cost_named, cost_of_arc, cost_of_kind, is_cost_of, meter_costs, names_twice}
 use Rattle.pb_book.specs.Laws.{MeterCostsLaw}
 use Rattle.pb_book.specs.Refusals.{refusal_of}
-use Rattle.pb_book.specs.Rows.{declared_of, period_place}
+use Rattle.pb_book.specs.Rows.{declared_of, period_place, version_at}
 
 -- ---- a record that is accepted as one that asks for an advice asks for it
 
@@ -85,7 +85,7 @@ all_costs_in_range costs (arc ∷ arcs) all =
     All-cons IsMeterCost (cost_of_arc costs arc) (map (cost_of_arc costs) arcs) (kind_in_range arc.kind _ (cost_in_range costs arc.name (pos 1) all one_in_range)) (all_costs_in_range costs arcs all)
 
 pub meters_in_range : NamedCostsLaw → MeterCostsLaw
-meters_in_range law rows fields is = all_costs_in_range (named_costs fields) (arcs_of (declared_of rows)) (law fields (asks_advice rows (named_costs fields) (request_in fields) is))
+meters_in_range law rows fields is = all_costs_in_range (named_costs fields) (arcs_of (declared_of rows)) (law (version_at rows) fields (asks_advice rows (named_costs fields) (request_in (version_at rows) fields) is))
 
 -- ---- the costs one by one
 

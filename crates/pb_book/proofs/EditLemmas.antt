@@ -5,12 +5,15 @@ use Rattle.std.specs.Option.{option_map_or}
 use Rattle.std.proofs.Common.{◌≡◌, ◌∙◌, ◌<◌, ◌≤◌, ℕ, zero, suc, List, [], ◌∷◌, length, slice_get, Bool, false, Option, Some, None, refl, sym, ap, ap₂, arith}
 use Rattle.pb_facts.specs.declared.facts.KeptFact.{KeptFact}
 use Rattle.pb_site.specs.declared.declared.Declared.{Declared}
+use Rattle.pb_site.specs.Site.{version_of}
 use Rattle.pb_book.specs.declared.rows.Period.{Period}
 use Rattle.pb_book.specs.declared.rows.Place.{Place}
 use Rattle.pb_book.specs.declared.rows.StoredRow.{StoredRow}
 use Rattle.pb_book.specs.Edits.{edit_touches, edits_of, row_touches, touches_at}
 use Rattle.pb_book.specs.Kept.{AreOf, ArePlaced, IsKept, Shelves, row_at, rows_at}
-use Rattle.pb_book.specs.Rows.{facts_of}
+use Rattle.pb_book.specs.Rows.{declared_of, facts_of, version_at}
+use Rattle.pb_book.specs.TakenOut.{touching_of}
+use Rattle.pb_book.specs.Touching.{touches_in}
 
 -- places that have rows have as many
 pub placed_length : (shelves : Shelves) (places : List Place) → ArePlaced shelves places → length (rows_at shelves places) ≡ length places
@@ -21,6 +24,16 @@ placed_length shelves (place ∷ places) placed =
     by : length (rows_at shelves places) ≡ length places → (o : Option StoredRow) → row_at shelves place ≡ o → IsSome (row_at shelves place) → length (rows_at shelves (place ∷ places)) ≡ length (place ∷ places)
     by rest None is some = cc (rw is at some)
     by rest (Some stored) is some = rw is (omega (arith, rest))
+
+-- the version of rows that are kept
+pub version_kept : (shelves : Shelves) (kept : List KeptFact) (places edits : List Place) → IsKept shelves kept places edits → 1 ≤ length places
+    → Some (version_of shelves.declared) ≡ version_at (rows_at shelves places)
+version_kept shelves kept places edits right some =
+    by (rows_at shelves places) (omega (arith, some, placed_length shelves places right.placed)) right.parts.site
+  where
+    by : (rows : List StoredRow) → 1 ≤ length rows → shelves.declared ≡ declared_of rows → Some (version_of shelves.declared) ≡ version_at rows
+    by [] few same = absurd (omega (arith, few))
+    by (stored ∷ rows) few same = ap (λ (ds : List Declared). Some (version_of ds)) same
 
 -- the row at a place of places
 pub placed_at : (shelves : Shelves) (places : List Place) (i : ℕ) (place : Place) → ArePlaced shelves places → slice_get places i ≡ Some place
@@ -54,8 +67,10 @@ none_within (x ∷ xs) (suc i) lt none = none_within xs i (omega (arith, lt)) no
 
 -- whether the edit at a place touches the period at a place
 pub touches_by : (rows : List StoredRow) (declared : List Declared) (kept : List KeptFact) (periods : List Period) (e i : ℕ) (period : Period) (edit : StoredRow) (result : Bool)
-    → AreOf rows declared kept periods → slice_get periods i ≡ Some period → slice_get (edits_of rows) e ≡ Some edit → result ≡ edit_touches kept edit.effect period → result ≡ touches_at rows e i
+    → AreOf rows declared kept periods → slice_get periods i ≡ Some period → slice_get (edits_of rows) e ≡ Some edit → result ≡ edit_touches (touches_in (version_of declared) declared) kept edit.effect period
+    → result ≡ touches_at rows e i
 touches_by rows declared kept periods e i period edit result right there at is =
-    is ∙ ap₂ (λ (ks : List KeptFact) (o : Option StoredRow). row_touches ks period o) right.facts (sym at)
-    ∙ sym (ap (λ (o : Option Period). option_map_or (λ (p : Period). row_touches (facts_of rows) p (slice_get (edits_of rows) e)) o false)
+    is ∙ ap (λ (ds : List Declared). edit_touches (touches_in (version_of ds) ds) kept edit.effect period) right.site
+    ∙ ap₂ (λ (ks : List KeptFact) (o : Option StoredRow). row_touches (touching_of rows) ks period o) right.facts (sym at)
+    ∙ sym (ap (λ (o : Option Period). option_map_or (λ (p : Period). row_touches (touching_of rows) (facts_of rows) p (slice_get (edits_of rows) e)) o false)
     (ap (λ (ps : List Period). slice_get ps i) (sym right.spans) ∙ there))

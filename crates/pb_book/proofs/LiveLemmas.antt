@@ -9,6 +9,7 @@ use Rattle.std.proofs.lemmas.List.Elements.{filter_map-append}
 use Rattle.std.proofs.lemmas.List.Folds.{list_any-append, list_any_none}
 use Rattle.std.proofs.lemmas.List.Sums.{fold_push}
 use Rattle.pb_rows.specs.Name.{same_name}
+use Rattle.pb_site.specs.Site.{version_of}
 use Rattle.pb_facts.specs.declared.fact.Change.{Change}
 use Rattle.pb_facts.specs.declared.fact.Change.TheVariants.{Amount, Level}
 use Rattle.pb_facts.specs.declared.fact.Fact.{Fact}
@@ -366,13 +367,13 @@ meant_step rows at (Closes name) right accepted =
     meant_same rows stored (well_step rows at (Closes name) right.well accepted) refl refl (λ id. refl) (λ id. refl) right
 meant_step rows at (Books fact late) right accepted =
     let stored : StoredRow = record { at = at; effect = Books fact late } in
-    let good = fine (declared_of rows) (facts_of rows) (periods_of rows) (Books fact late) accepted.no_cause in
+    let good = fine (version_of (declared_of rows)) (declared_of rows) (facts_of rows) (periods_of rows) (Books fact late) accepted.no_cause in
     meant_fact rows stored fact (well_step rows at (Books fact late) right.well accepted) refl refl (λ id. refl) (λ id. refl) good.new right
 meant_step rows at (Edits id (edits.Change change) reason) right accepted =
-    let good = fine (declared_of rows) (facts_of rows) (periods_of rows) (Edits id (edits.Change change) reason) accepted.no_cause in
+    let good = fine (version_of (declared_of rows)) (declared_of rows) (facts_of rows) (periods_of rows) (Edits id (edits.Change change) reason) accepted.no_cause in
     meant_amend rows at id change reason (well_step rows at (Edits id (edits.Change change) reason) right.well accepted) (up (list_any (is_live_with id) (facts_of rows)) good.known) good.matching right
 meant_step rows at (Edits id edits.Strike reason) right accepted =
-    let good = fine (declared_of rows) (facts_of rows) (periods_of rows) (Edits id edits.Strike reason) accepted.no_cause in
+    let good = fine (version_of (declared_of rows)) (declared_of rows) (facts_of rows) (periods_of rows) (Edits id edits.Strike reason) accepted.no_cause in
     meant_strike rows at id reason (well_step rows at (Edits id edits.Strike reason) right.well accepted) (up (list_any (is_live_with id) (facts_of rows)) good.known) right
 
 -- the live ones among them

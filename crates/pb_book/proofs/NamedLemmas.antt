@@ -8,9 +8,9 @@ use Rattle.pb_rows.specs.Name.{is_name}
 use Rattle.pb_form.specs.declared.fault.FormFault.{FormFault}
 use Rattle.pb_site.specs.declared.declared.Arc.{Arc}
 use Rattle.pb_site.specs.declared.declared.Declared.{Declared}
-use Rattle.pb_site.specs.declared.declared.Declared.TheVariants.{Unit as UnitDeclared, Tank as TankDeclared, Strap as StrapDeclared, Stream as StreamDeclared, CritGlobal, CritNodal, CritMeasure}
+use Rattle.pb_site.specs.declared.declared.Declared.TheVariants.{Version2, Unit as UnitDeclared, Boundary as BoundaryDeclared, Tank as TankDeclared, Strap as StrapDeclared, Stream as StreamDeclared, CritGlobal, CritNodal, CritMeasure}
 use Rattle.pb_site.specs.Row.{IsInRange, arc_in, node_name}
-use Rattle.pb_site.specs.Site.{node_names}
+use Rattle.pb_site.specs.Site.{boundary_names, node_names}
 use Rattle.pb_kinds.specs.declared.rows.Effect.{Effect}
 use Rattle.pb_kinds.specs.declared.rows.Effect.TheVariants.{Declares, Opens, Books, Edits, Closes}
 use Rattle.pb_kinds.specs.declared.rows.Request.{Request}
@@ -28,7 +28,7 @@ use Rattle.pb_book.specs.Apart.{is_named}
 use Rattle.pb_book.specs.Costs.{refusal_of_costs}
 use Rattle.pb_book.specs.Named.{AreNamed, HaveNames, NamedLaw, RangesLaw}
 use Rattle.pb_book.specs.Refusals.{refusal_of}
-use Rattle.pb_book.specs.Rows.{closed, closed_if_named, open_period, declaration_in, declared_of, period_place, periods_after}
+use Rattle.pb_book.specs.Rows.{closed, closed_if_named, open_period, declaration_in, declared_of, period_place, periods_after, version_at}
 
 -- ---- one more record
 
@@ -36,7 +36,7 @@ abbrev IsNamedRow : StoredRow → Type 0
 IsNamedRow stored = list_all is_name (effect_names stored.effect) ≡ true
 
 after_named : StoredLaw → (rows : List StoredRow) (at : ℕ) (fields : List (List ℕ)) → HaveNames rows → HaveNames (after rows at fields)
-after_named law rows at fields named = by (request_in fields) (λ effect is. law.named fields effect is)
+after_named law rows at fields named = by (request_in (version_at rows) fields) (λ effect is. law.named (version_at rows) fields effect is)
   where
     stored_then : (effect : Effect) → list_all is_name (effect_names effect) ≡ true → (cause : Option Refused) → HaveNames (after_answer rows at (stored_or_refused effect cause))
     stored_then effect is (Some cause) = named
@@ -101,28 +101,32 @@ nodes_named (d ∷ declared) all =
   where
     by : (d : Declared) → is_declared_named d ≡ true → list_all is_name (filter_map node_name declared) ≡ true
         → list_all is_name (cons_option (node_name d) (filter_map node_name declared)) ≡ true
+    by Version2 is rest = rest
     by (UnitDeclared name) is rest = both (is_name name) _ (first_named name [] is) rest
-    by (TankDeclared name base) is rest = both (is_name name) _ (first_named name [] is) rest
+    by (BoundaryDeclared name) is rest = rest
+    by (TankDeclared name base service) is rest = both (is_name name) _ (first_named name [] is) rest
     by (StrapDeclared tank mm ml) is rest = rest
-    by (StreamDeclared name from to kind base) is rest = rest
+    by (StreamDeclared name from to kind base service) is rest = rest
     by (CritGlobal dof value) is rest = rest
     by (CritNodal value) is rest = rest
     by (CritMeasure value) is rest = rest
 
 -- and of their arcs
-arcs_named : (nodes : List (List ℕ)) (declared : List Declared) → list_all is_declared_named declared ≡ true
-    → list_all is_name (map (λ (arc : Arc). arc.name) (filter_map (arc_in nodes) declared)) ≡ true
-arcs_named nodes [] all = refl
-arcs_named nodes (d ∷ declared) all =
+arcs_named : (boundaries nodes : List (List ℕ)) (declared : List Declared) → list_all is_declared_named declared ≡ true
+    → list_all is_name (map (λ (arc : Arc). arc.name) (filter_map (arc_in boundaries nodes) declared)) ≡ true
+arcs_named boundaries nodes [] all = refl
+arcs_named boundaries nodes (d ∷ declared) all =
     let parts = and_parts (is_declared_named d) (list_all is_declared_named declared) all in
-    by d parts.0 (arcs_named nodes declared parts.1)
+    by d parts.0 (arcs_named boundaries nodes declared parts.1)
   where
-    by : (d : Declared) → is_declared_named d ≡ true → list_all is_name (map (λ (arc : Arc). arc.name) (filter_map (arc_in nodes) declared)) ≡ true
-        → list_all is_name (map (λ (arc : Arc). arc.name) (cons_option (arc_in nodes d) (filter_map (arc_in nodes) declared))) ≡ true
+    by : (d : Declared) → is_declared_named d ≡ true → list_all is_name (map (λ (arc : Arc). arc.name) (filter_map (arc_in boundaries nodes) declared)) ≡ true
+        → list_all is_name (map (λ (arc : Arc). arc.name) (cons_option (arc_in boundaries nodes d) (filter_map (arc_in boundaries nodes) declared))) ≡ true
+    by Version2 is rest = rest
     by (UnitDeclared name) is rest = rest
-    by (TankDeclared name base) is rest = both (is_name name) _ (first_named name [] is) rest
+    by (BoundaryDeclared name) is rest = rest
+    by (TankDeclared name base service) is rest = both (is_name name) _ (first_named name [] is) rest
     by (StrapDeclared tank mm ml) is rest = rest
-    by (StreamDeclared name from to kind base) is rest = both (is_name name) _ (first_named name (from ∷ to ∷ []) is) rest
+    by (StreamDeclared name from to kind base service) is rest = both (is_name name) _ (first_named name (from ∷ to ∷ []) is) rest
     by (CritGlobal dof value) is rest = rest
     by (CritNodal value) is rest = rest
     by (CritMeasure value) is rest = rest
@@ -159,7 +163,7 @@ all_named rows named =
     let declared = declared_named rows named in
     record {
       nodes = nodes_named (declared_of rows) declared;
-      streams = arcs_named (node_names (declared_of rows)) (declared_of rows) declared;
+      streams = arcs_named (boundary_names (declared_of rows)) (node_names (declared_of rows)) (declared_of rows) declared;
       periods = periods_named rows [] (All-nil IsNamedPeriod) named;
     }
 

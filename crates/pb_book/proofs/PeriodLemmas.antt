@@ -3,15 +3,17 @@ use Rattle.std.specs.Prelude.{◌&&◌, ◌||◌, ◌-ℤ◌, ◌+ℤ◌, int_le
 use Rattle.std.specs.List.{list_any, position_or_len}
 use Rattle.std.specs.Cmp.{int_cmp_is}
 use Rattle.std.specs.Cmp.Lexicographic.{bytes_decides}
+use Rattle.std.specs.Int.{int_max, int_min}
 use Rattle.std.specs.Ordering.{int_cmp, int_eq, is_gt, is_lt}
 use Rattle.std.specs.declared.cmp.Ordering.TheVariants.{Less, Equal, Greater}
 use Rattle.std.specs.declared.ops.Bound.TheVariants.{Included, Unbounded}
 use Rattle.std.specs.BTreeMap.Range.{IsRangeOf}
 use Rattle.std.specs.BTreeMap.{BTreeMap, get}
-use Rattle.std.proofs.Common.{◌≡◌, ◌∙◌, ◌<◌, ◌≤ℤ◌, ◌<ℤ◌, ℕ, ℤ, pos, List, [], ◌∷◌, ◌++◌, length, get_or, Bool, true, false, Option, Some, None, refl, sym, ap, arith, inl, inr, length-append}
-use Rattle.std.proofs.lemmas.Bool.{and_parts, cases_Bool, cases_lt, ltb-false, ltb-true, or_parts}
+use Rattle.std.proofs.Common.{◌≡◌, ◌∙◌, ◌<◌, ◌≤ℤ◌, ◌<ℤ◌, ℕ, ℤ, pos, List, [], ◌∷◌, ◌++◌, length, get_or, Bool, true, false, Option, Some, None, FitsSigned, nat_eq, of_z, to_z, refl, sym, ap, arith, inl, inr, length-append}
+use Rattle.std.proofs.lemmas.Bool.{and_parts, cases_Bool, cases_lt, eq-eqb, ltb-false, ltb-true, ne_eqb, or_parts}
 use Rattle.std.proofs.lemmas.Bool.Decides.{Decides-int_eq}
-use Rattle.std.proofs.lemmas.Int.{by_lt_z, ints}
+use Rattle.std.proofs.lemmas.Int.{by_lt_z, int_max_is, int_min_is, ints, to_z-of_z}
+use mir.Syntax.{w32}
 use Rattle.std.proofs.lemmas.List.{ext_get_or, get_or-map, get_or-set_other, get_or-set_same, get_or_default, length-map, length-set, map-append}
 use Rattle.std.proofs.lemmas.List.Elements.{All-push}
 use Rattle.std.proofs.lemmas.List.Folds.{find_at, list_any-append, list_any_at, list_any_none}
@@ -27,7 +29,9 @@ use Rattle.pb_book.specs.Kept.{AreBegun, ArePeriods, FindsLast, HasBegin, IsLast
 use Rattle.pb_book.specs.Ranges.{IsPeriod}
 use Rattle.pb_book.specs.Refusals.{is_closed_named}
 use Rattle.pb_book.specs.Rows.{closed, closed_if_named}
-use Rattle.pb_book.specs.Touching.{is_boundary_of, some_closed}
+use Rattle.pb_book.specs.Touching.{dip_touches, dip_touches_closed, dip_touches_closed_on, is_boundary_of, is_closed_in_service, some_closed}
+use Rattle.pb_site.specs.Service.{is_in_service_within}
+use Rattle.pb_site.specs.declared.declared.Service.{Service}
 use Rattle.pb_rows.specs.Name.{same_name}
 use Rattle.pb_book.proofs.NameLemmas.{same_flip}
 
@@ -109,22 +113,6 @@ none_begun chosen periods begins first last right none = sym (list_any_none (λ 
       | inr apart ↦ apart
     ]
 
--- none ends on that day
-pub none_ends : (chosen : Period → Bool) (periods : List Period) (begins : BTreeMap ℤ ℕ) (day : ℤ) → All IsPeriod periods → AreBegun chosen periods begins
-    → FindsLast begins day None → false ≡ list_any (λ (p : Period). chosen p && int_eq day p.last) periods
-none_ends chosen periods begins day days right none = sym (list_any_none (λ (p : Period). chosen p && int_eq day p.last) periods each)
-  where
-    each : (k : ℕ) (d : Period) → k < length periods → (chosen (get_or periods k d) && int_eq day (get_or periods k d).last) ≡ false
-    each k d lt = elim (cases_Bool (chosen (get_or periods k d) && int_eq day (get_or periods k d).last)) [
-      | inl both ↦
-          let period = get_or periods k d in
-          let parts = and_parts (chosen period) (int_eq day period.last) both in
-          let is : day ≡ period.last = (Decides-int_eq day period.last).0 parts.1 in
-          let begun : period.first ≤ℤ day = omega (arith, ints, is, (days k d lt).rises) in
-          cc (sym (none period.first begun) ∙ right.there k d lt parts.0)
-      | inr apart ↦ apart
-    ]
-
 -- a chosen period that begins by a day is the last one found, or ends before that begins
 earlier : (chosen : Period → Bool) (periods : List Period) (begins : BTreeMap ℤ ℕ) (last key : ℤ) (place k : ℕ) (period d : Period) → All IsPeriod periods → AreApart periods
     → AreBegun chosen periods begins → IsLastBy begins last key place → place < length periods → get_or periods place d ≡ period → period.first ≡ key → k < length periods
@@ -185,76 +173,138 @@ last_begun chosen periods begins first last place period days apart right (key, 
       | inr apart ↦ apart
     ]
 
--- the last one that begins by a day ends on it, or none does
-pub last_ends : (chosen : Period → Bool) (periods : List Period) (begins : BTreeMap ℤ ℕ) (day : ℤ) (place : ℕ) (period : Period) → All IsPeriod periods → AreApart periods
-    → AreBegun chosen periods begins → FindsLast begins day (Some place) → get_or periods place period ≡ period
-    → int_eq day period.last ≡ list_any (λ (p : Period). chosen p && int_eq day p.last) periods
-last_ends chosen periods begins day place period days apart right (key, found) here =
-    let at = right.back key place period found.here in
-    let begins_on : period.first ≡ key = rw here at at.1 in
-    let is : chosen period ≡ true = rw here at at.2 in
-    elim (cases_Bool (int_eq day period.last)) [
-      | inl ends ↦ ends ∙ sym (list_any_at (λ (p : Period). chosen p && int_eq day p.last) periods place period at.0 (rw (here, is) ends))
-      | inr other ↦ other ∙ sym (list_any_none (λ (p : Period). chosen p && int_eq day p.last) periods (each at.0 begins_on other))
+-- ---- dips
+
+-- days of 32 bits are compared by their bits
+pub same_as : (a b : ℤ) → FitsSigned w32 a → FitsSigned w32 b → nat_eq (of_z w32 a) (of_z w32 b) ≡ int_eq a b
+same_as a b one other = elim (cases_Bool (int_eq a b)) [
+  | inl is ↦
+      let same : of_z w32 a ≡ of_z w32 b = ap (of_z w32) ((Decides-int_eq a b).0 is) in
+      eq-eqb (of_z w32 a) (of_z w32 b) same ∙ sym is
+  | inr differs ↦
+      ne_eqb (of_z w32 a) (of_z w32 b) (λ same.
+      let is : a ≡ b = sym (to_z-of_z w32 a one) ∙ ap (to_z w32) same ∙ to_z-of_z w32 b other in
+      absurd (cc (sym differs ∙ (Decides-int_eq a b).1 is))) ∙ sym differs
+]
+
+pub differ_as : (a b : ℤ) → (of_z w32 a ≡ of_z w32 b → ⊥) → int_eq a b ≡ false
+differ_as a b apart = elim (cases_Bool (int_eq a b)) [
+  | inl is ↦ absurd (apart (ap (of_z w32) ((Decides-int_eq a b).0 is)))
+  | inr differs ↦ differs
+]
+
+either_true : (a b : Bool) → (a || b) ≡ true → (a ≡ true) ⊎ (b ≡ true)
+either_true true b is = inl refl
+either_true false b is = inr is
+
+-- a period that a dip touches has the day of the dip or the next one
+dip_day : (service : Option Service) (day : ℤ) (period : Period) → period.first ≤ℤ period.last → dip_touches service day period ≡ true
+    → (shares_a_day day day period ≡ true) ⊎ (shares_a_day (day +ℤ pos 1) (day +ℤ pos 1) period ≡ true)
+dip_day None day period rises is = elim (either_true (int_eq day period.last) (int_eq day (period.first -ℤ pos 1)) is) [
+  | inl ends ↦
+      let e = (Decides-int_eq day period.last).0 ends in
+      inl (share_days day day period (omega (arith, ints, e)) (omega (arith, ints, e, rises)))
+  | inr opens ↦
+      let e = (Decides-int_eq day (period.first -ℤ pos 1)).0 opens in
+      inr (share_days (day +ℤ pos 1) (day +ℤ pos 1) period (omega (arith, ints, e, rises)) (omega (arith, ints, e)))
+]
+dip_day (Some service) day period rises is =
+    let both = and_parts (is_in_service_within (Some service) period.first period.last) (is_boundary_of (Some service) day period) is in
+    let parts = and_parts (int_le service.since period.last) (int_le period.first service.until) both.0 in
+    let least = int_min_is period.last service.until in
+    let most = int_max_is period.first service.since in
+    elim (either_true (int_eq day (int_min period.last service.until)) (int_eq day (int_max period.first service.since -ℤ pos 1)) both.1) [
+      | inl ends ↦
+          let e = (Decides-int_eq day (int_min period.last service.until)).0 ends in
+          inl (share_days day day period (omega (arith, ints, e, least)) (omega (arith, ints, e, least, rises, parts.1)))
+      | inr opens ↦
+          let e = (Decides-int_eq day (int_max period.first service.since -ℤ pos 1)).0 opens in
+          inr (share_days (day +ℤ pos 1) (day +ℤ pos 1) period (omega (arith, ints, e, most, rises, parts.0)) (omega (arith, ints, e, most)))
     ]
+
+-- a dip touches a closed period, if it touches one that has its day or one that has the next day
+pub touches_by_days : (periods : List Period) (service : Option Service) (day : ℤ) (a b : Bool) → All IsPeriod periods
+    → (a ≡ true → list_any (dip_touches_closed service day) periods ≡ true) → (list_any (dip_touches_closed_on service day day) periods ≡ true → a ≡ true)
+    → (b ≡ true → list_any (dip_touches_closed service day) periods ≡ true) → (list_any (dip_touches_closed_on service day (day +ℤ pos 1)) periods ≡ true → b ≡ true)
+    → (a || b) ≡ list_any (dip_touches_closed service day) periods
+touches_by_days periods service day true b days only each more_only more_each = sym (only refl)
+touches_by_days periods service day false true days only each more_only more_each = sym (more_only refl)
+touches_by_days periods service day false false days only each more_only more_each = sym (list_any_none (dip_touches_closed service day) periods none)
   where
-    each : place < length periods → period.first ≡ key → int_eq day period.last ≡ false → (k : ℕ) (d : Period) → k < length periods
-        → (chosen (get_or periods k d) && int_eq day (get_or periods k d).last) ≡ false
-    each within begins_on differs k d lt = elim (cases_Bool (chosen (get_or periods k d) && int_eq day (get_or periods k d).last)) [
-      | inl both ↦
+    none : (k : ℕ) (d : Period) → k < length periods → dip_touches_closed service day (get_or periods k d) ≡ false
+    none k d lt = elim (cases_Bool (dip_touches_closed service day (get_or periods k d))) [
+      | inr fails ↦ fails
+      | inl is ↦
+          let period = get_or periods k d in
+          let parts = and_parts period.closed (dip_touches service day period) is in
+          elim (dip_day service day period (days k d lt).rises parts.1) [
+            | inl on ↦ cc (each (list_any_at (dip_touches_closed_on service day day) periods k d lt (rw (is, on) refl)))
+            | inr on ↦ cc (more_each (list_any_at (dip_touches_closed_on service day (day +ℤ pos 1)) periods k d lt (rw (is, on) refl)))
+          ]
+    ]
+
+-- the last closed period that begins by a day is one, and the only one that has that day
+pub touched_last : (periods : List Period) (closes : BTreeMap ℤ ℕ) (service : Option Service) (day by : ℤ) (place : ℕ) (period : Period) → All IsPeriod periods → AreApart periods
+    → AreBegun (λ (p : Period). p.closed) periods closes → FindsLast closes by (Some place) → get_or periods place period ≡ period → dip_touches service day period ≡ true
+    → list_any (dip_touches_closed service day) periods ≡ true
+touched_last periods closes service day by place period days apart right (key, found) here touched =
+    let at = right.back key place period found.here in
+    let is : period.closed ≡ true = rw here at at.2 in
+    list_any_at (dip_touches_closed service day) periods place period at.0 (rw (here, is, touched) refl)
+
+pub touched_each : (periods : List Period) (closes : BTreeMap ℤ ℕ) (service : Option Service) (day by : ℤ) (place : ℕ) (period : Period) → All IsPeriod periods → AreApart periods
+    → AreBegun (λ (p : Period). p.closed) periods closes → FindsLast closes by (Some place) → get_or periods place period ≡ period
+    → list_any (dip_touches_closed_on service day by) periods ≡ true → dip_touches service day period ≡ true
+touched_each periods closes service day by place period days apart right (key, found) here some = elim (cases_Bool (dip_touches service day period)) [
+  | inl is ↦ is
+  | inr fails ↦
+      let at = right.back key place period found.here in
+      let begins_on : period.first ≡ key = rw here at at.1 in
+      cc (sym some ∙ list_any_none (dip_touches_closed_on service day by) periods (none at.0 begins_on fails))
+]
+  where
+    none : place < length periods → period.first ≡ key → dip_touches service day period ≡ false → (k : ℕ) (d : Period) → k < length periods
+        → dip_touches_closed_on service day by (get_or periods k d) ≡ false
+    none within begins_on fails k d lt = elim (cases_Bool (dip_touches_closed_on service day by (get_or periods k d))) [
+      | inr it ↦ it
+      | inl is ↦
           let other = get_or periods k d in
-          let parts = and_parts (chosen other) (int_eq day other.last) both in
-          let ends : day ≡ other.last = (Decides-int_eq day other.last).0 parts.1 in
-          let starts : other.first ≤ℤ day = omega (arith, ints, ends, (days k d lt).rises) in
-          elim (earlier chosen periods begins day key place k period d days apart right found within (get_or_default periods place d period within ∙ here) begins_on lt parts.0 starts) [
+          let parts = and_parts (dip_touches_closed service day other) (shares_a_day by by other) is in
+          let closed_parts = and_parts other.closed (dip_touches service day other) parts.0 in
+          let shared = overlap by by other parts.1 in
+          let rises : period.first ≤ℤ period.last = rw here at (days place period within).rises in
+          elim (earlier (λ (p : Period). p.closed) periods closes by key place k period d days apart right found within (get_or_default periods place d period within ∙ here) begins_on lt closed_parts.0 shared.1) [
             | inl same ↦
                 let other_is : other ≡ period = ap (λ (n : ℕ). get_or periods n d) same ∙ get_or_default periods place d period within ∙ here in
-                let equal : int_eq day period.last ≡ true = rw other_is at parts.1 in
-                cc (sym differs ∙ equal)
-            | inr before ↦ absurd (omega (arith, ints, before, ends, begins_on, found.early))
+                cc (sym fails ∙ sym (ap (dip_touches service day) other_is) ∙ closed_parts.1)
+            | inr before ↦ absurd (omega (arith, ints, before, shared.0, begins_on, found.early))
           ]
-      | inr apart ↦ apart
     ]
 
--- a chosen period begins on the day behind one, or none does
-pub next_begins : (chosen : Period → Bool) (periods : List Period) (begins : BTreeMap ℤ ℕ) (day : ℤ) → AreBegun chosen periods begins
-    → is_some (get int_cmp begins (day +ℤ pos 1)) ≡ list_any (λ (p : Period). chosen p && int_eq day (p.first -ℤ pos 1)) periods
-next_begins chosen periods begins day right = by (get int_cmp begins (day +ℤ pos 1)) refl
+-- where no closed period begins by a day, none has it
+pub none_touched_on : (periods : List Period) (closes : BTreeMap ℤ ℕ) (service : Option Service) (day by : ℤ) → AreBegun (λ (p : Period). p.closed) periods closes → FindsLast closes by None
+    → list_any (dip_touches_closed_on service day by) periods ≡ false
+none_touched_on periods closes service day by right none = list_any_none (dip_touches_closed_on service day by) periods each
   where
-    by : (o : Option ℕ) → get int_cmp begins (day +ℤ pos 1) ≡ o → is_some o ≡ list_any (λ (p : Period). chosen p && int_eq day (p.first -ℤ pos 1)) periods
-    by (Some place) is =
-        let d : Period = record { name = []; first = pos 0; last = pos 0; closed = false } in
-        let at = right.back (day +ℤ pos 1) place d is in
-        let own : day ≡ (get_or periods place d).first -ℤ pos 1 = omega (arith, ints, at.1) in
-        sym (list_any_at (λ (p : Period). chosen p && int_eq day (p.first -ℤ pos 1)) periods place d at.0 (rw at.2 ((Decides-int_eq day ((get_or periods place d).first -ℤ pos 1)).1 own)))
-    by None is = sym (list_any_none (λ (p : Period). chosen p && int_eq day (p.first -ℤ pos 1)) periods (λ k d lt. elim (cases_Bool (chosen (get_or periods k d) && int_eq day ((get_or periods k d).first -ℤ pos 1))) [
-      | inl both ↦
-          let period = get_or periods k d in
-          let parts = and_parts (chosen period) (int_eq day (period.first -ℤ pos 1)) both in
-          let equal : day ≡ period.first -ℤ pos 1 = (Decides-int_eq day (period.first -ℤ pos 1)).0 parts.1 in
-          let first : period.first ≡ day +ℤ pos 1 = omega (arith, ints, equal) in
-          cc (sym is ∙ sym (ap (get int_cmp begins) first) ∙ right.there k d lt parts.0)
-      | inr apart ↦ apart
-    ]))
+    each : (k : ℕ) (d : Period) → k < length periods → dip_touches_closed_on service day by (get_or periods k d) ≡ false
+    each k d lt = elim (cases_Bool (dip_touches_closed_on service day by (get_or periods k d))) [
+      | inr it ↦ it
+      | inl is ↦
+          let other = get_or periods k d in
+          let parts = and_parts (dip_touches_closed service day other) (shares_a_day by by other) is in
+          let closed_parts = and_parts other.closed (dip_touches service day other) parts.0 in
+          let ends = (overlap by by other parts.1).1 in
+          cc (sym (none other.first ends) ∙ right.there k d lt closed_parts.0)
+    ]
 
--- some chosen item passes one of two tests
-pub any_of_two : {X : Type 0} (chosen p q : X → Bool) (xs : List X) → list_any (λ x. chosen x && (p x || q x)) xs ≡ (list_any (λ x. chosen x && p x) xs || list_any (λ x. chosen x && q x) xs)
-any_of_two chosen p q [] = refl
-any_of_two chosen p q (x ∷ xs) = rw (any_of_two chosen p q xs) (by (chosen x) (p x) (q x) (list_any (λ y. chosen y && p y) xs) (list_any (λ y. chosen y && q y) xs))
+-- a closed period in which what is in service on every day is in service is a closed one
+pub all_served : (periods : List Period) → list_any (is_closed_in_service None) periods ≡ some_closed periods
+all_served [] = refl
+all_served (period ∷ periods) = rw (all_served periods) (by period.closed)
   where
-    by : (a b c d e : Bool) → ((a && (b || c)) || (d || e)) ≡ (((a && b) || d) || ((a && c) || e))
-    by true true c d e = refl
-    by true false true true e = refl
-    by true false true false e = refl
-    by true false false d e = refl
-    by false b c d e = refl
-
--- a day is the last of a chosen period, or the one before its first
-pub at_boundary : (chosen : Period → Bool) (periods : List Period) (begins : BTreeMap ℤ ℕ) (day : ℤ) (ends : Bool) → AreBegun chosen periods begins
-    → ends ≡ list_any (λ (p : Period). chosen p && int_eq day p.last) periods
-    → (ends || is_some (get int_cmp begins (day +ℤ pos 1))) ≡ list_any (λ (p : Period). chosen p && is_boundary_of day p) periods
-at_boundary chosen periods begins day ends right is =
-    rw (is, next_begins chosen periods begins day right) (sym (any_of_two chosen (λ (p : Period). int_eq day p.last) (λ (p : Period). int_eq day (p.first -ℤ pos 1)) periods))
+    by : (b : Bool) → ((b && true) || some_closed periods) ≡ (b || some_closed periods)
+    by true = refl
+    by false = refl
 
 -- the place that is found, and its period
 pub place_found : (chosen : Period → Bool) (periods : List Period) (begins : BTreeMap ℤ ℕ) (last : ℤ) (place : ℕ) → AreBegun chosen periods begins

@@ -1,5 +1,5 @@
 -- The plain rows of accepted rows: none is refused.
-use Rattle.std.specs.Prelude.{◌||◌, ◌&&◌, All, filter_map, find, map, nat_le}
+use Rattle.std.specs.Prelude.{◌||◌, ◌&&◌, All, filter_map, find, map, nat_le, option_and_then}
 use Rattle.std.specs.List.{cons_option, list_any}
 use Rattle.std.specs.Option.{option_map}
 use Rattle.std.proofs.Common.{◌≡◌, ◌∙◌, ◌+◌, ◌<◌, ◌≤◌, ℕ, ℤ, List, [], ◌∷◌, ◌++◌, get_or, length, Bool, true, false, Option, Some, None, refl, sym, ap, subst, arith, inl, inr, append_assoc, length-append}
@@ -15,9 +15,12 @@ use Rattle.pb_rows.specs.Name.{same_name}
 use Rattle.pb_site.specs.declared.declared.Arc.{Arc}
 use Rattle.pb_site.specs.declared.declared.ArcKind.{ArcKind}
 use Rattle.pb_site.specs.declared.declared.Declared.{Declared}
-use Rattle.pb_site.specs.declared.declared.Declared.TheVariants.{Unit as UnitRow, Tank, Strap, Stream, CritGlobal, CritNodal, CritMeasure}
+use Rattle.pb_site.specs.declared.declared.Declared.TheVariants.{Version2, Unit as UnitRow, Boundary, Tank, Strap, Stream, CritGlobal, CritNodal, CritMeasure}
+use Rattle.pb_site.specs.declared.declared.Service.{Service}
+use Rattle.pb_site.specs.declared.declared.Version.{Version}
+use Rattle.pb_site.specs.declared.declared.Version.TheVariants.{One, Two}
 use Rattle.pb_site.specs.Row.{arc_in}
-use Rattle.pb_site.specs.Site.{kind_of, node_names}
+use Rattle.pb_site.specs.Site.{arc_named, boundary_names, kind_of, node_names, service_in, version_of}
 use Rattle.pb_facts.specs.declared.fact.Change.{Change}
 use Rattle.pb_facts.specs.declared.fact.Change.TheVariants.{Amount, Level}
 use Rattle.pb_facts.specs.declared.fact.Fact.{Fact}
@@ -34,38 +37,63 @@ use Rattle.pb_book.specs.Accepted.{AreAccepted, AreInTables, IsAcceptable}
 use Rattle.pb_book.specs.Apart.{is_named, shares_a_day}
 use Rattle.pb_book.specs.Plain.{PlainLaw, booked, numbered, opened, plain_stored, settled, settled_rows}
 use Rattle.pb_kinds.specs.Ranges.{IsEffectInRange}
-use Rattle.pb_book.specs.Refusals.{is_of_other_kind, is_of_plant, is_outside_table, kind_of_fact, names_other, refusal_behind, refusal_of}
+use Rattle.pb_kinds.specs.Versions.{may_declare, may_do}
+use Rattle.pb_book.specs.Refusals.{is_of_other_kind, is_of_plant, is_out_of_service, is_outside_table, is_sealed_by, kind_of_fact, names_other, refusal_behind, refusal_of}
 use Rattle.pb_book.specs.declared.rows.StoredRow.{StoredRow}
-use Rattle.pb_book.specs.Rows.{closed_if_named, declared_of, facts_after, facts_of, live, open_period, periods_after, periods_of}
-use Rattle.pb_book.specs.Touching.{some_closed, touches_closed}
+use Rattle.pb_book.specs.Rows.{closed_if_named, declared_of, facts_after, facts_of, live, open_period, periods_after, periods_of, version_at}
+use Rattle.pb_book.specs.Touching.{is_closed_in_service, service_of, some_closed, touches_closed, touches_in}
 use Rattle.pb_book.proofs.AcceptedLemmas.{accepted_more, by_accepted, none_accepted}
-use Rattle.pb_book.proofs.ConsistentLemmas.{IsFine, amended_one, consistent, fine, struck_one}
+use Rattle.pb_book.proofs.ConsistentLemmas.{IsFine, amended_one, consistent, fine, range_parts, struck_one}
 use Rattle.pb_book.proofs.KeptLemmas.{declared_more, declared_same, facts_more, periods_more_of}
 use Rattle.pb_book.proofs.NameLemmas.{any_map}
 use Rattle.pb_book.proofs.PeriodLemmas.{fails_at}
 
--- ---- the kind of what a fact names stays, where more is declared
+-- ---- the kind of what a fact names stays, and its service, where more is declared
 
-abbrev kind_by : List (List ℕ) → List ℕ → List Declared → Option ArcKind
-kind_by nodes name declared =
-    option_map (λ (arc : Arc). arc.kind) (find (λ (arc : Arc). same_name name arc.name) (filter_map (arc_in nodes) declared))
+-- the kind and the service of an arc
+abbrev kind_and_service : Arc → ArcKind × Option Service
+kind_and_service arc = (arc.kind, arc.service)
 
-kind_stays : (nodes more_nodes : List (List ℕ)) (name : List ℕ) (kind : ArcKind) (declared more : List Declared) → kind_by nodes name declared ≡ Some kind
-    → kind_by more_nodes name (declared ++ more) ≡ Some kind
-kind_stays nodes more_nodes name kind [] more is = cc is
-kind_stays nodes more_nodes name kind (Tank own base ∷ declared) more is = elim (cases_Bool (same_name name own)) [
+-- an arc that is found has this kind and this service
+record IsSeen (kind : ArcKind) (service : Option Service) (found : Option Arc) : Type 0 where
+  arc : Arc
+  there : found ≡ Some arc
+  kind_is : arc.kind ≡ kind
+  service_is : arc.service ≡ service
+
+seen_arc : (x : ArcKind × Option Service) (found : Option Arc) → option_map kind_and_service found ≡ Some x → IsSeen x.0 x.1 found
+seen_arc x None is = cc is
+seen_arc x (Some arc) is =
+    let same : kind_and_service arc ≡ x = cc is in
+    record { arc = arc; there = refl; kind_is = ap (λ (p : ArcKind × Option Service). p.0) same; service_is = ap (λ (p : ArcKind × Option Service). p.1) same }
+
+abbrev seen_by : List (List ℕ) → List (List ℕ) → List ℕ → List Declared → Option (ArcKind × Option Service)
+seen_by boundaries nodes name declared = option_map kind_and_service (find (λ (arc : Arc). same_name name arc.name) (filter_map (arc_in boundaries nodes) declared))
+
+seen_stays : (bs ns more_bs more_ns : List (List ℕ)) (name : List ℕ) (x : ArcKind × Option Service) (declared more : List Declared) → seen_by bs ns name declared ≡ Some x
+    → seen_by more_bs more_ns name (declared ++ more) ≡ Some x
+seen_stays bs ns more_bs more_ns name x [] more is = cc is
+seen_stays bs ns more_bs more_ns name x (Tank own base days ∷ declared) more is = elim (cases_Bool (same_name name own)) [
   | inl same ↦ rw same (rw same at is)
-  | inr other ↦ rw other (kind_stays nodes more_nodes name kind declared more (rw other at is))
+  | inr other ↦ rw other (seen_stays bs ns more_bs more_ns name x declared more (rw other at is))
 ]
-kind_stays nodes more_nodes name kind (Stream own from to arc_kind base ∷ declared) more is = elim (cases_Bool (same_name name own)) [
+seen_stays bs ns more_bs more_ns name x (Stream own from to sort base days ∷ declared) more is = elim (cases_Bool (same_name name own)) [
   | inl same ↦ rw same (rw same at is)
-  | inr other ↦ rw other (kind_stays nodes more_nodes name kind declared more (rw other at is))
+  | inr other ↦ rw other (seen_stays bs ns more_bs more_ns name x declared more (rw other at is))
 ]
-kind_stays nodes more_nodes name kind (UnitRow own ∷ declared) more is = kind_stays nodes more_nodes name kind declared more is
-kind_stays nodes more_nodes name kind (Strap tank mm ml ∷ declared) more is = kind_stays nodes more_nodes name kind declared more is
-kind_stays nodes more_nodes name kind (CritGlobal dof value ∷ declared) more is = kind_stays nodes more_nodes name kind declared more is
-kind_stays nodes more_nodes name kind (CritNodal value ∷ declared) more is = kind_stays nodes more_nodes name kind declared more is
-kind_stays nodes more_nodes name kind (CritMeasure value ∷ declared) more is = kind_stays nodes more_nodes name kind declared more is
+seen_stays bs ns more_bs more_ns name x (Version2 ∷ declared) more is = seen_stays bs ns more_bs more_ns name x declared more is
+seen_stays bs ns more_bs more_ns name x (UnitRow own ∷ declared) more is = seen_stays bs ns more_bs more_ns name x declared more is
+seen_stays bs ns more_bs more_ns name x (Boundary own ∷ declared) more is = seen_stays bs ns more_bs more_ns name x declared more is
+seen_stays bs ns more_bs more_ns name x (Strap tank mm ml ∷ declared) more is = seen_stays bs ns more_bs more_ns name x declared more is
+seen_stays bs ns more_bs more_ns name x (CritGlobal dof value ∷ declared) more is = seen_stays bs ns more_bs more_ns name x declared more is
+seen_stays bs ns more_bs more_ns name x (CritNodal value ∷ declared) more is = seen_stays bs ns more_bs more_ns name x declared more is
+seen_stays bs ns more_bs more_ns name x (CritMeasure value ∷ declared) more is = seen_stays bs ns more_bs more_ns name x declared more is
+
+-- the version stays once something is declared
+version_stays : (declared more : List Declared) → 1 ≤ length declared → version_of (declared ++ more) ≡ version_of declared
+version_stays [] more some = absurd (omega (arith, some))
+version_stays (Version2 ∷ declared) more some = refl
+version_stays (d ∷ declared) more some = refl
 
 -- the name of what a fact is of
 abbrev of_name : Fact → List ℕ
@@ -78,37 +106,71 @@ kind_is declared (Reading id stream day grams variance) = refl
 kind_is declared (Transfer id stream first last grams variance) = refl
 kind_is declared (Dip id tank day mm density variance) = refl
 
--- what a fact names is declared, and of its kind
+service_is : (version : Version) (declared : List Declared) (fact : Fact) → service_of version declared fact ≡ service_in version declared (of_name fact)
+service_is version declared (Reading id stream day grams variance) = refl
+service_is version declared (Transfer id stream first last grams variance) = refl
+service_is version declared (Dip id tank day mm density variance) = refl
+
+-- what a fact names is declared, of its kind, and in service
 pub record IsFactOf (declared : List Declared) (fact : Fact) : Type 0 where
   known : names_other fact (kind_of_fact declared fact) ≡ false
   matching : is_of_other_kind fact (kind_of_fact declared fact) ≡ false
   order : is_out_of_order fact ≡ false
   short : is_too_long fact ≡ false
+  serving : is_out_of_service (service_of (version_of declared) declared fact) fact ≡ false
 
 names_other_none : (fact : Fact) → names_other fact None ≡ true
 names_other_none (Reading id stream day grams variance) = refl
 names_other_none (Transfer id stream first last grams variance) = refl
 names_other_none (Dip id tank day mm density variance) = refl
 
+-- an arc of a name is declared
+some_declared : (declared : List Declared) (name : List ℕ) (arc : Arc) → arc_named declared name ≡ Some arc → 1 ≤ length declared
+some_declared [] name arc is = cc is
+some_declared (d ∷ declared) name arc is = omega arith
+
+service_stays : (version : Version) (declared grown : List Declared) (name : List ℕ) (service : Option Service) (arc more : Arc) → arc_named declared name ≡ Some arc → arc.service ≡ service
+    → arc_named grown name ≡ Some more → more.service ≡ service → service_in version grown name ≡ service_in version declared name
+service_stays One declared grown name service arc more at own there other = refl
+service_stays Two declared grown name service arc more at own there other =
+    ap (option_and_then (λ (a : Arc). a.service)) there ∙ other ∙ sym own ∙ sym (ap (option_and_then (λ (a : Arc). a.service)) at)
+
 fact_of_more : (declared more : List Declared) (fact : Fact) → IsFactOf declared fact → IsFactOf (declared ++ more) fact
-fact_of_more declared more fact right = by (kind_of_fact declared fact) refl
+fact_of_more declared more fact right = by (arc_named declared (of_name fact)) refl
   where
-    by : (kind : Option ArcKind) → kind_of_fact declared fact ≡ kind → IsFactOf (declared ++ more) fact
-    by None is = cc (sym (names_other_none fact) ∙ sym (ap (names_other fact) is) ∙ right.known)
-    by (Some kind) is =
-        let stays = kind_stays (node_names declared) (node_names (declared ++ more)) (of_name fact) kind declared more (sym (kind_is declared fact) ∙ is) in
-        let now : kind_of_fact (declared ++ more) fact ≡ kind_of_fact declared fact = kind_is (declared ++ more) fact ∙ stays ∙ sym is in
-        record { known = ap (names_other fact) now ∙ right.known; matching = ap (is_of_other_kind fact) now ∙ right.matching; order = right.order; short = right.short }
+    by : (found : Option Arc) → arc_named declared (of_name fact) ≡ found → IsFactOf (declared ++ more) fact
+    by None is =
+        let none : kind_of_fact declared fact ≡ None = kind_is declared fact ∙ ap (option_map (λ (arc : Arc). arc.kind)) is in
+        cc (sym (names_other_none fact) ∙ sym (ap (names_other fact) none) ∙ right.known)
+    by (Some arc) is =
+        let grown = declared ++ more in
+        let seen : option_map kind_and_service (arc_named declared (of_name fact)) ≡ Some (kind_and_service arc) = ap (option_map kind_and_service) is in
+        let grown_seen =
+        seen_stays (boundary_names declared) (node_names declared) (boundary_names grown) (node_names grown) (of_name fact) (kind_and_service arc) declared more seen in
+        let stays : IsSeen arc.kind arc.service (arc_named grown (of_name fact)) = seen_arc (kind_and_service arc) (arc_named grown (of_name fact)) grown_seen in
+        let kind : kind_of_fact grown fact ≡ kind_of_fact declared fact =
+        kind_is grown fact ∙ ap (option_map (λ (a : Arc). a.kind)) stays.there ∙ ap Some stays.kind_is ∙ sym (ap (option_map (λ (a : Arc). a.kind)) is) ∙ sym (kind_is declared fact) in
+        let version = version_stays declared more (some_declared declared (of_name fact) arc is) in
+        let service : service_of (version_of grown) grown fact ≡ service_of (version_of declared) declared fact =
+        service_is (version_of grown) grown fact ∙ ap (λ (v : Version). service_in v grown (of_name fact)) version
+        ∙ service_stays (version_of declared) declared grown (of_name fact) arc.service arc stays.arc is refl stays.there stays.service_is ∙ sym (service_is (version_of declared) declared fact) in
+        record {
+          known = ap (names_other fact) kind ∙ right.known;
+          matching = ap (is_of_other_kind fact) kind ∙ right.matching;
+          order = right.order;
+          short = right.short;
+          serving = ap (λ (o : Option Service). is_out_of_service o fact) service ∙ right.serving;
+        }
 
 -- a fact with other values is of the same
 changed_fact : (declared : List Declared) (change : Change) (fact : Fact) → IsFactOf declared fact → IsFactOf declared (changed change fact)
-changed_fact declared (Amount grams variance) (Reading id stream day old_grams old_variance) right = record { known = right.known; matching = right.matching; order = refl; short = refl }
+changed_fact declared (Amount grams variance) (Reading id stream day old_grams old_variance) right = record { known = right.known; matching = right.matching; order = refl; short = refl; serving = right.serving }
 changed_fact declared (Amount grams variance) (Transfer id stream first last old_grams old_variance) right =
-    record { known = right.known; matching = right.matching; order = right.order; short = right.short }
+    record { known = right.known; matching = right.matching; order = right.order; short = right.short; serving = right.serving }
 changed_fact declared (Amount grams variance) (Dip id tank day mm density old_variance) right = right
 changed_fact declared (Level mm density variance) (Reading id stream day grams old_variance) right = right
 changed_fact declared (Level mm density variance) (Transfer id stream first last grams old_variance) right = right
-changed_fact declared (Level mm density variance) (Dip id tank day old_mm old_density old_variance) right = record { known = right.known; matching = right.matching; order = refl; short = refl }
+changed_fact declared (Level mm density variance) (Dip id tank day old_mm old_density old_variance) right = record { known = right.known; matching = right.matching; order = refl; short = refl; serving = right.serving }
 
 -- ---- kept facts repeat none before them
 
@@ -234,9 +296,10 @@ well_step rows at (Declares declared) right accepted =
     })
 well_step rows at (Opens name first last) right accepted = well_by rows (record { at = at; effect = Opens name first last }) refl right
 well_step rows at (Books fact late) right accepted =
-    let good = fine (declared_of rows) (facts_of rows) (periods_of rows) (Books fact late) accepted.no_cause in
+    let good = fine (version_of (declared_of rows)) (declared_of rows) (facts_of rows) (periods_of rows) (Books fact late) accepted.no_cause in
+    let parts = range_parts (version_of (declared_of rows)) (declared_of rows) (facts_of rows) fact late good.range in
     let own : IsFactOf (declared_of rows) fact =
-    record { known = good.known; matching = good.matching; order = good.order; short = (or_parts (is_too_long fact) (is_outside_table (declared_of rows) fact) good.range).0 } in
+    record { known = good.known; matching = good.matching; order = good.order; short = parts.short; serving = parts.serving } in
     well_by rows (record { at = at; effect = Books fact late }) refl (well_more (declared_of rows) (facts_of rows) fact right own good.new good.room)
 well_step rows at (Edits id (edits.Change change) reason) right accepted =
     well_by rows (record { at = at; effect = Edits id (edits.Change change) reason }) refl
@@ -269,16 +332,32 @@ unique_more rows at effect accepted fine_row = (well_step rows at effect (well r
 -- ---- the declarations and periods alone
 
 -- where no condition holds there is no cause
-no_cause : (declared : List Declared) (kept : List KeptFact) (periods : List Period) (effect : Effect) → IsFine declared kept periods effect → refusal_behind declared kept periods effect ≡ None
-no_cause declared kept periods effect good = rw (good.known, good.new, good.order, good.matching, good.sealed, good.opened, good.range, good.room) refl
+no_cause : (version : Version) (declared : List Declared) (kept : List KeptFact) (periods : List Period) (effect : Effect) → IsFine version declared kept periods effect
+    → refusal_behind version declared kept periods effect ≡ None
+no_cause version declared kept periods effect good = rw (good.known, good.new, good.order, good.matching, good.sealed, good.opened, good.range, good.room) refl
 
 none_closed_now : (periods : List Period) → some_closed (map opened periods) ≡ false
 none_closed_now [] = refl
 none_closed_now (period ∷ periods) = none_closed_now periods
 
-none_touched : (fact : Fact) (periods : List Period) → list_any (touches_closed fact) (map opened periods) ≡ false
-none_touched fact [] = refl
-none_touched fact (period ∷ periods) = none_touched fact periods
+none_touched : (touching : Fact → Period → Bool) (fact : Fact) (periods : List Period) → list_any (touches_closed touching fact) (map opened periods) ≡ false
+none_touched touching fact [] = refl
+none_touched touching fact (period ∷ periods) = none_touched touching fact periods
+
+none_served : (service : Option Service) (periods : List Period) → list_any (is_closed_in_service service) (map opened periods) ≡ false
+none_served service [] = refl
+none_served service (period ∷ periods) = none_served service periods
+
+-- no declaration comes too late where no period is closed
+none_sealed : (version : Version) (periods : List Period) (declared : Declared) → is_sealed_by version (map opened periods) declared ≡ false
+none_sealed One periods declared = unsealed (is_of_plant declared) (none_closed_now periods)
+  where
+    unsealed : (a : Bool) {b : Bool} → b ≡ false → (a && b) ≡ false
+    unsealed true is = is
+    unsealed false is = refl
+none_sealed Two periods (Tank name base service) = none_served service periods
+none_sealed Two periods (Stream name from to sort base service) = none_served service periods
+none_sealed Two periods declared = refl
 
 opened_named : (name : List ℕ) (periods : List Period) → list_any (is_named name) (map opened periods) ≡ list_any (is_named name) periods
 opened_named name periods = any_map (is_named name) opened periods
@@ -318,15 +397,35 @@ base_same rows stored none unsettled spans right =
     rw (same, declared_same rows stored none, periods_more_of rows stored)
     (record { accepted = right.accepted; declares = right.declares; spans = right.spans ∙ sym spans; has = right.has })
 
+-- what a row may do in a session of version 1 it may do before one is stored
+declares_first : (declared : Declared) → may_declare (Some One) declared ≡ true → may_declare None declared ≡ true
+declares_first Version2 may = refl
+declares_first declared may = may
+
+does_first : (effect : Effect) → may_do (Some One) effect ≡ true → may_do None effect ≡ true
+does_first (Declares declared) may = declares_first declared may
+does_first effect may = refl
+
+-- what a row may do after some rows it may do after their declarations and periods alone
+may_again : (rows : List StoredRow) (effect : Effect) → declared_of (numbered 1 (settled_rows rows)) ≡ declared_of rows → may_do (version_at rows) effect ≡ true
+    → may_do (version_at (numbered 1 (settled_rows rows))) effect ≡ true
+may_again [] effect same may = may
+may_again (stored ∷ rows) effect same may = by (numbered 1 (settled_rows (stored ∷ rows))) same
+  where
+    by : (plain : List StoredRow) → declared_of plain ≡ declared_of (stored ∷ rows) → may_do (version_at plain) effect ≡ true
+    by [] same = does_first effect (subst (λ (ds : List Declared). may_do (Some (version_of ds)) effect ≡ true) (sym same) may)
+    by (first ∷ plain) same = subst (λ (ds : List Declared). may_do (Some (version_of ds)) effect ≡ true) (sym same) may
+
 -- one more row behind plain ones
 plain_more : (declared : List Declared) (periods : List Period) (facts : List KeptFact) (plain : List StoredRow) (at : ℕ) (effect : Effect) (ds : List Declared) (ps : List Period) (ks : List KeptFact)
-    → IsPlainSoFar declared periods facts plain → IsFine declared facts (map opened periods) effect → IsEffectInRange effect
+    → IsPlainSoFar declared periods facts plain → IsFine (version_of declared) declared facts (map opened periods) effect → IsEffectInRange effect
+    → may_do (version_at plain) effect ≡ true
     → declared ++ declared_of (record { at = at; effect = effect } ∷ []) ≡ ds → periods_after (map opened periods) effect ≡ map opened ps → facts_after facts effect ≡ ks
     → IsPlainSoFar ds ps ks (plain ++ record { at = at; effect = effect } ∷ [])
-plain_more declared periods facts plain at effect ds ps ks right good range declares spans has =
+plain_more declared periods facts plain at effect ds ps ks right good range may declares spans has =
     let stored : StoredRow = record { at = at; effect = effect } in
-    let none : refusal_of plain effect ≡ None = rw (right.declares, right.has, right.spans) (no_cause declared facts (map opened periods) effect good) in record {
-      accepted = accepted_more plain stored right.accepted (record { no_cause = none; in_range = range });
+    let none : refusal_of plain effect ≡ None = rw (right.declares, right.has, right.spans) (no_cause (version_of declared) declared facts (map opened periods) effect good) in record {
+      accepted = accepted_more plain stored right.accepted (record { no_cause = none; in_range = range; may = may });
       declares = declared_more plain stored ∙ ap (λ (d : List Declared). d ++ declared_of (stored ∷ [])) right.declares ∙ declares;
       spans = periods_more_of plain stored ∙ ap (λ (p : List Period). periods_after p effect) right.spans ∙ spans;
       has = facts_more plain stored ∙ ap (λ (k : List KeptFact). facts_after k effect) right.has ∙ has;
@@ -335,14 +434,14 @@ plain_more declared periods facts plain at effect ds ps ks right good range decl
 base_step : (rows : List StoredRow) (at : ℕ) (effect : Effect) → IsBase rows → IsAcceptable rows effect → IsBase (rows ++ record { at = at; effect = effect } ∷ [])
 base_step rows at (Declares declared) right accepted =
     let stored : StoredRow = record { at = at; effect = Declares declared } in
-    let good = fine (declared_of rows) (facts_of rows) (periods_of rows) (Declares declared) accepted.no_cause in
-    let again : IsFine (declared_of rows) [] (map opened (periods_of rows)) (Declares declared) =
+    let good = fine (version_of (declared_of rows)) (declared_of rows) (facts_of rows) (periods_of rows) (Declares declared) accepted.no_cause in
+    let again : IsFine (version_of (declared_of rows)) (declared_of rows) [] (map opened (periods_of rows)) (Declares declared) =
     record {
       known = good.known;
       new = good.new;
       order = good.order;
       matching = good.matching;
-      sealed = unsealed (is_of_plant declared) (none_closed_now (periods_of rows));
+      sealed = none_sealed (version_of (declared_of rows)) (periods_of rows) declared;
       opened = refl;
       range = refl;
       room = good.room;
@@ -351,16 +450,12 @@ base_step rows at (Declares declared) right accepted =
     ap (numbered 1) (filter_map-append (λ (s : StoredRow). settled s.effect) rows (stored ∷ [])) ∙ numbered_append 1 (settled_rows rows) (Declares declared ∷ []) in
     rw (rows_are, declared_more rows stored, periods_more_of rows stored)
     (plain_more (declared_of rows) (periods_of rows) [] (numbered 1 (settled_rows rows)) (1 + length (settled_rows rows)) (Declares declared) (declared_of rows ++ declared ∷ []) (periods_of rows) [] right again
-    accepted.in_range refl refl refl)
-  where
-    unsealed : (a : Bool) {b : Bool} → b ≡ false → (a && b) ≡ false
-    unsealed true is = is
-    unsealed false is = refl
+    accepted.in_range (may_again rows (Declares declared) right.declares accepted.may) refl refl refl)
 base_step rows at (Opens name first last) right accepted =
     let stored : StoredRow = record { at = at; effect = Opens name first last } in
     let periods = periods_of rows in
-    let good = fine (declared_of rows) (facts_of rows) periods (Opens name first last) accepted.no_cause in
-    let again : IsFine (declared_of rows) [] (map opened periods) (Opens name first last) =
+    let good = fine (version_of (declared_of rows)) (declared_of rows) (facts_of rows) periods (Opens name first last) accepted.no_cause in
+    let again : IsFine (version_of (declared_of rows)) (declared_of rows) [] (map opened periods) (Opens name first last) =
     record {
       known = refl;
       new = opened_named name periods ∙ good.new;
@@ -375,7 +470,7 @@ base_step rows at (Opens name first last) right accepted =
     ap (numbered 1) (filter_map-append (λ (s : StoredRow). settled s.effect) rows (stored ∷ [])) ∙ numbered_append 1 (settled_rows rows) (Opens name first last ∷ []) in
     rw (rows_are, declared_same rows stored refl, periods_more_of rows stored)
     (plain_more (declared_of rows) periods [] (numbered 1 (settled_rows rows)) (1 + length (settled_rows rows)) (Opens name first last) (declared_of rows) (periods ++ open_period name first last ∷ []) [] right again
-    accepted.in_range (append-nil (declared_of rows)) (sym (map-append opened periods (open_period name first last ∷ []))) refl)
+    accepted.in_range (may_again rows (Opens name first last) right.declares accepted.may) (append-nil (declared_of rows)) (sym (map-append opened periods (open_period name first last ∷ []))) refl)
 base_step rows at (Books fact late) right accepted = base_same rows (record { at = at; effect = Books fact late }) refl refl refl right
 base_step rows at (Edits id (edits.Change change) reason) right accepted = base_same rows (record { at = at; effect = Edits id (edits.Change change) reason }) refl refl refl right
 base_step rows at (Edits id edits.Strike reason) right accepted = base_same rows (record { at = at; effect = Edits id edits.Strike reason }) refl refl refl right
@@ -430,7 +525,7 @@ record AreAddable (declared : List Declared) (kept : List KeptFact) : Type 0 whe
   in_tables : AreInTables declared kept
 
 live_fine : (declared : List Declared) (periods : List Period) (before : List KeptFact) (k : KeptFact) (rest : List KeptFact) → AreAddable declared (before ++ k ∷ rest)
-    → IsFine declared (map live (live_facts before)) (map opened periods) (Books k.fact false)
+    → IsFine (version_of declared) declared (map live (live_facts before)) (map opened periods) (Books k.fact false)
 live_fine declared periods before k rest right =
     let own = own_of (λ (q : KeptFact). IsFactOf declared q.fact) before k rest right.well.facts in
     let inside = own_of (λ (q : KeptFact). is_outside_table declared q.fact ≡ false) before k rest right.in_tables in record {
@@ -439,8 +534,8 @@ live_fine declared periods before k rest right =
       order = own.order;
       matching = own.matching;
       sealed = refl;
-      opened = none_touched k.fact periods;
-      range = rw (own.short, inside) refl;
+      opened = none_touched (touches_in (version_of declared) declared) k.fact periods;
+      range = rw (own.serving, own.short, inside) refl;
       room = above (omega (arith, length-append before (k ∷ rest), right.well.few, live_short before, length-map (live_facts before) live));
     }
   where
@@ -474,7 +569,7 @@ live_added declared periods before (k ∷ rest) at plain right so_far =
         sym (ap (map live) (live_more before k ∙ rw alive refl) ∙ map-append live (live_facts before) (k.fact ∷ [])) in
         let more : IsPlainSoFar declared periods (map live (live_facts (before ++ k ∷ []))) (plain ++ row ∷ []) =
         plain_more declared periods (map live (live_facts before)) plain at (Books k.fact false) declared periods (map live (live_facts (before ++ k ∷ []))) so_far
-        (live_fine declared periods before k rest right) (own_of (λ (q : KeptFact). IsInRange q.fact) before k rest right.ranges) (append-nil declared) refl same in
+        (live_fine declared periods before k rest right) (own_of (λ (q : KeptFact). IsInRange q.fact) before k rest right.ranges) refl (append-nil declared) refl same in
         let next = go_on (at + 1) (plain ++ row ∷ []) more in
         let rows = append_assoc plain (row ∷ []) (numbered (at + 1) (map booked (live_facts rest))) in
         let there = subst (λ (ks : List KeptFact). IsPlainSoFar declared periods (map live (live_facts ks)) ((plain ++ row ∷ []) ++ numbered (at + 1) (map booked (live_facts rest)))) split next in

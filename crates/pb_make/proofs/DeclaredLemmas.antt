@@ -11,12 +11,14 @@ use Rattle.pb_rows.specs.Name.{same_name}
 use Rattle.pb_site.specs.declared.declared.Arc.{Arc}
 use Rattle.pb_site.specs.declared.declared.Declared.{Declared}
 use Rattle.pb_site.specs.declared.declared.Declared.TheVariants.{Unit as UnitDeclared, Stream as StreamDeclared}
-use Rattle.pb_site.specs.Row.{arc_in, arc_kind, node_name as declared_node}
-use Rattle.pb_site.specs.Site.{node_names}
+use Rattle.pb_site.specs.declared.declared.Version.TheVariants.{One}
+use Rattle.pb_site.specs.Row.{arc_in, arc_kind, boundary_name, node_name as declared_node}
+use Rattle.pb_site.specs.Site.{boundary_names, node_names, version_of}
 use Rattle.pb_site.specs.Faults.{is_among, is_one_node}
 use Rattle.pb_make.specs.declared.plant.MadeStream.{MadeStream}
 use Rattle.pb_make.specs.Rows.{node_name, stream_name}
-use Rattle.pb_make.proofs.NameLemmas.{nodes_apart, same_self, stream_no_node, streams_apart}
+use Rattle.pb_rows.proofs.TextLaws.{same_self}
+use Rattle.pb_make.proofs.NameLemmas.{nodes_apart, stream_no_node, streams_apart}
 use Rattle.pb_make.proofs.RequestLemmas.{base_at, kind_at}
 
 -- ---- the declarations
@@ -28,7 +30,7 @@ abbrev pub units : ℕ → ℕ → List Declared
 units from count = map declared_unit (range_with_len from count)
 
 abbrev pub declared_stream : ℕ → MadeStream → Declared
-declared_stream i stream = StreamDeclared (stream_name i) (node_name stream.from) (node_name stream.to) (kind_at i) (base_at i)
+declared_stream i stream = StreamDeclared (stream_name i) (node_name stream.from) (node_name stream.to) (kind_at i) (base_at i) None
 
 abbrev pub streams_from : ℕ → List MadeStream → List Declared
 streams_from i [] = []
@@ -81,14 +83,16 @@ stream_nodes : (i : ℕ) (streams : List MadeStream) → filter_map declared_nod
 stream_nodes i [] = refl
 stream_nodes i (s ∷ streams) = stream_nodes (i + 1) streams
 
-pub unit_arcs : (nodes : List (List ℕ)) (from count : ℕ) → filter_map (arc_in nodes) (units from count) ≡ []
-unit_arcs nodes from zero = refl
-unit_arcs nodes from (suc count) = unit_arcs nodes (from + 1) count
+pub unit_arcs : (boundaries nodes : List (List ℕ)) (from count : ℕ) → filter_map (arc_in boundaries nodes) (units from count) ≡ []
+unit_arcs boundaries nodes from zero = refl
+unit_arcs boundaries nodes from (suc count) = unit_arcs boundaries nodes (from + 1) count
 
--- declarations behind the plant that are of no node and no arc
+-- declarations behind the plant that are of no node, no boundary and no arc
 pub record AreOther (more : List Declared) : Type 0 where
+  pub first : version_of more ≡ One
   pub no_node : filter_map declared_node more ≡ []
-  pub no_arc : (nodes : List (List ℕ)) → filter_map (arc_in nodes) more ≡ []
+  pub no_boundary : filter_map boundary_name more ≡ []
+  pub no_arc : (boundaries nodes : List (List ℕ)) → filter_map (arc_in boundaries nodes) more ≡ []
 
 pub unit_names : (n : ℕ) (streams : List MadeStream) (more : List Declared) → AreOther more → filter_map declared_node (plant_of n streams more) ≡ map node_name (range_with_len 1 n)
 unit_names n streams more other =
@@ -101,13 +105,21 @@ unit_names n streams more other =
 pub names_are : (n : ℕ) (streams : List MadeStream) (more : List Declared) → AreOther more → node_names (plant_of n streams more) ≡ map node_name (range_with_len 0 (suc n))
 names_are n streams more other = ap (λ (l : List (List ℕ)). codes "env" ∷ l) (unit_names n streams more other)
 
-pub arcs_are : (n : ℕ) (streams : List MadeStream) (more : List Declared) (nodes : List (List ℕ)) → AreOther more
-    → filter_map (arc_in nodes) (plant_of n streams more) ≡ filter_map (arc_in nodes) (streams_from 1 streams)
-arcs_are n streams more nodes other =
-    filter_map-append (arc_in nodes) (units 1 n) (streams_from 1 streams ++ more)
-    ∙ ap₂ (λ (a b : List Arc). a ++ b) (unit_arcs nodes 1 n)
-    (filter_map-append (arc_in nodes) (streams_from 1 streams) more ∙ ap (λ (l : List Arc). filter_map (arc_in nodes) (streams_from 1 streams) ++ l) (other.no_arc nodes))
-    ∙ append-nil (filter_map (arc_in nodes) (streams_from 1 streams))
+pub arcs_are : (n : ℕ) (streams : List MadeStream) (more : List Declared) (boundaries nodes : List (List ℕ)) → AreOther more
+    → filter_map (arc_in boundaries nodes) (plant_of n streams more) ≡ filter_map (arc_in boundaries nodes) (streams_from 1 streams)
+arcs_are n streams more boundaries nodes other =
+    filter_map-append (arc_in boundaries nodes) (units 1 n) (streams_from 1 streams ++ more)
+    ∙ ap₂ (λ (a b : List Arc). a ++ b) (unit_arcs boundaries nodes 1 n)
+    (filter_map-append (arc_in boundaries nodes) (streams_from 1 streams) more ∙ ap (λ (l : List Arc). filter_map (arc_in boundaries nodes) (streams_from 1 streams) ++ l) (other.no_arc boundaries nodes))
+    ∙ append-nil (filter_map (arc_in boundaries nodes) (streams_from 1 streams))
+
+-- no boundary is declared, and the version isn't
+pub unit_boundaries : (from count : ℕ) → boundary_names (units from count) ≡ []
+unit_boundaries from zero = refl
+unit_boundaries from (suc count) = unit_boundaries (from + 1) count
+
+pub no_boundaries : (n : ℕ) (streams : List MadeStream) (more : List Declared) → AreOther more → boundary_names (plant_of n streams more) ≡ []
+no_boundaries n streams more other = skip boundary_name (λ i. refl) (λ i s. refl) n streams more ∙ other.no_boundary
 
 -- ---- lists made by number
 
@@ -164,7 +176,7 @@ stream_not_there n i names are =
 node_place : (n a : ℕ) (names : List (List ℕ)) → a ≤ n → n < 2 ^ 31 → names ≡ map node_name (range_with_len 0 (suc n)) → position (same_name (node_name a)) names ≡ Some a
 node_place n a names within small are =
     ap (λ (l : List (List ℕ)). position (same_name (node_name a)) l) are
-    ∙ position_at node_name (same_name (node_name a)) (suc n) a [] (omega arith) (λ j lt. nodes_apart a j (omega (arith, small)) (omega (arith, small)) (λ e. absurd (omega (arith, e)))) (same_self (node_name a))
+    ∙ position_at node_name (same_name (node_name a)) (suc n) a [] (omega arith) (λ j lt. nodes_apart a j (λ e. absurd (omega (arith, e)))) (same_self (node_name a))
 
 -- two nodes are two
 pub two_nodes : (n a b : ℕ) (names : List (List ℕ)) → a ≤ n → b ≤ n → n < 2 ^ 31 → a ≢ b → names ≡ map node_name (range_with_len 0 (suc n))
@@ -174,28 +186,28 @@ two_nodes n a b names a_in b_in small other are =
 
 -- ---- arcs
 
-pub count_arcs : (nodes : List (List ℕ)) (i : ℕ) (streams : List MadeStream) → length (filter_map (arc_in nodes) (streams_from i streams)) ≡ length streams
-count_arcs nodes i [] = refl
-count_arcs nodes i (s ∷ streams) = ap suc (count_arcs nodes (i + 1) streams)
+pub count_arcs : (boundaries nodes : List (List ℕ)) (i : ℕ) (streams : List MadeStream) → length (filter_map (arc_in boundaries nodes) (streams_from i streams)) ≡ length streams
+count_arcs boundaries nodes i [] = refl
+count_arcs boundaries nodes i (s ∷ streams) = ap suc (count_arcs boundaries nodes (i + 1) streams)
 
 -- no stream so far has the name
-pub no_arc_named : (nodes : List (List ℕ)) (i : ℕ) (streams : List MadeStream) (name : List ℕ) → ((k : ℕ) → i ≤ k → k < i + length streams → same_name name (stream_name k) ≡ false)
-    → is_among (map (λ (arc : Arc). arc.name) (filter_map (arc_in nodes) (streams_from i streams))) name ≡ false
-no_arc_named nodes i [] name fails = refl
-no_arc_named nodes i (s ∷ streams) name fails =
-    rw (fails i (omega arith) (omega arith)) (no_arc_named nodes (i + 1) streams name (λ k low high. fails k (omega arith) (omega arith)))
+pub no_arc_named : (boundaries nodes : List (List ℕ)) (i : ℕ) (streams : List MadeStream) (name : List ℕ) → ((k : ℕ) → i ≤ k → k < i + length streams → same_name name (stream_name k) ≡ false)
+    → is_among (map (λ (arc : Arc). arc.name) (filter_map (arc_in boundaries nodes) (streams_from i streams))) name ≡ false
+no_arc_named boundaries nodes i [] name fails = refl
+no_arc_named boundaries nodes i (s ∷ streams) name fails =
+    rw (fails i (omega arith) (omega arith)) (no_arc_named boundaries nodes (i + 1) streams name (λ k low high. fails k (omega arith) (omega arith)))
 
 -- the kind of a stream by its name
-pub kind_found : (nodes : List (List ℕ)) (i : ℕ) (streams : List MadeStream) (j : ℕ) → i ≤ j → j < i + length streams → i + length streams < 2 ^ 31
-    → option_map (λ (arc : Arc). arc.kind) (find (λ (arc : Arc). same_name (stream_name j) arc.name) (filter_map (arc_in nodes) (streams_from i streams))) ≡ Some (arc_kind (kind_at j))
-kind_found nodes i [] j low high small = absurd (omega arith)
-kind_found nodes i (s ∷ streams) j low high small = elim (cases_Bool (i == j)) [
+pub kind_found : (boundaries nodes : List (List ℕ)) (i : ℕ) (streams : List MadeStream) (j : ℕ) → i ≤ j → j < i + length streams → i + length streams < 2 ^ 31
+    → option_map (λ (arc : Arc). arc.kind) (find (λ (arc : Arc). same_name (stream_name j) arc.name) (filter_map (arc_in boundaries nodes) (streams_from i streams))) ≡ Some (arc_kind (kind_at j))
+kind_found boundaries nodes i [] j low high small = absurd (omega arith)
+kind_found boundaries nodes i (s ∷ streams) j low high small = elim (cases_Bool (i == j)) [
   | inl same ↦
       let is = eqb-true i j same in
       let test : same_name (stream_name j) (stream_name i) ≡ true = ap (λ (k : ℕ). same_name (stream_name j) (stream_name k)) is ∙ same_self (stream_name j) in
       rw test (ap (λ (k : ℕ). Some (arc_kind (kind_at k))) is)
   | inr differs ↦
       let other = eqb-false i j differs in
-      let test : same_name (stream_name j) (stream_name i) ≡ false = streams_apart j i (omega (arith, small)) (omega (arith, small)) (λ e. other (sym e)) in
-      rw test (kind_found nodes (i + 1) streams j (omega (arith, low, other)) (omega arith) (omega (arith, small)))
+      let test : same_name (stream_name j) (stream_name i) ≡ false = streams_apart j i (λ e. other (sym e)) in
+      rw test (kind_found boundaries nodes (i + 1) streams j (omega (arith, low, other)) (omega arith) (omega (arith, small)))
 ]

@@ -12,34 +12,34 @@ use Rattle.std.proofs.lemmas.List.FromFn.{length-map-range_with_len, map-range_w
 use Rattle.pb_integers.proofs.Order.{le_trans, mul_mono_left, square_mono, square_pos}
 use Rattle.pb_limits.specs.Limits.{most_facts, most_grams, most_row_variance, most_made_streams}
 use Rattle.pb_rows.specs.Name.{same_name}
-use Rattle.pb_rows.specs.Texts.{HaveOneDateText, HaveOneNumberText}
 use Rattle.pb_site.specs.declared.declared.Arc.{Arc}
 use Rattle.pb_site.specs.declared.declared.ArcKind.{ArcKind}
 use Rattle.pb_site.specs.declared.declared.ArcKind.TheVariants.{Metered as MeteredArc}
 use Rattle.pb_site.specs.declared.declared.Kind.TheVariants.{Metered, Plain}
 use Rattle.pb_site.specs.declared.declared.Declared.{Declared}
 use Rattle.pb_site.specs.Row.{arc_kind}
-use Rattle.pb_site.specs.Site.{kind_of, node_names}
+use Rattle.pb_site.specs.Site.{boundary_names, kind_of, node_names}
 use Rattle.pb_facts.specs.declared.fact.Fact.{Fact}
 use Rattle.pb_facts.specs.declared.fact.Fact.TheVariants.{Reading}
 use Rattle.pb_facts.specs.declared.facts.KeptFact.{KeptFact}
 use Rattle.pb_facts.specs.Facts.{is_repeat}
 use Rattle.pb_kinds.specs.declared.rows.Effect.TheVariants.{Books}
+use Rattle.pb_kinds.specs.Costs.{named_costs}
 use Rattle.pb_book.specs.declared.rows.Period.{Period}
 use Rattle.pb_book.specs.Answer.{after, answer_if, is_refused, report_or_refused}
 use Rattle.pb_book.specs.Apart.{is_named}
-use Rattle.pb_kinds.specs.Laws.{AskingLaw}
+use Rattle.pb_book.specs.Rows.{version_at}
 use Rattle.pb_book.specs.Refusals.{is_of_other_kind, names_other}
 use Rattle.pb_book.specs.declared.rows.StoredRow.{StoredRow}
 use Rattle.pb_make.specs.declared.plant.MadeStream.{MadeStream}
 use Rattle.pb_make.specs.Bounds.{IsMade}
 use Rattle.pb_make.specs.Laws.{Anything}
 use Rattle.pb_make.specs.Readings.{day_read, deviation_of, error_of, is_plain, metered_at, metered_of, reading_draw, readings_of, shown_grams, stream_read, truth_at, variance_of}
-use Rattle.pb_make.specs.Rows.{made_period, reading_id, reading_row_at, report_row, stream_name}
+use Rattle.pb_make.specs.Rows.{january, made_period, reading_id, reading_row_at, report_row, stream_name}
 use Rattle.pb_make.proofs.DeclaredLemmas.{AreOther, arcs_are, kind_found, none_any, plant_of}
 use Rattle.pb_make.proofs.MadeLemmas.{Rest, measure, nodal, the_period}
 use Rattle.pb_make.proofs.NameLemmas.{ids_apart, is_reading_id, is_stream_name, streams_apart}
-use Rattle.pb_make.proofs.RequestLemmas.{day_at, days_apart, reading_asks, report_asks}
+use Rattle.pb_make.proofs.RequestLemmas.{Asks, days_apart, reading_asks, report_asks}
 use Rattle.pb_make.proofs.TakenLemmas.{HasNoCause, IsAt, fewer, store_fact}
 
 -- ---- which streams are metered
@@ -79,7 +79,7 @@ pub record AreShown (truth error : ℤ) : Type 0 where
   pub least : pos 0 ≤ℤ variance_of truth
   pub most : variance_of truth ≤ℤ pos most_row_variance
 
-shown : (truth error : ℤ) → pos 1 ≤ℤ truth → truth ≤ℤ pos 100000000000 → neg_ℤ (pos 1000) ≤ℤ error → error ≤ℤ pos 1000 → AreShown truth error
+pub shown : (truth error : ℤ) → pos 1 ≤ℤ truth → truth ≤ℤ pos 100000000000 → neg_ℤ (pos 1000) ≤ℤ error → error ≤ℤ pos 1000 → AreShown truth error
 shown truth error least most low high =
     let up = mul_mono_left error (pos 1000) truth high (omega (arith, ints, least)) in
     let down = mul_mono_left (neg_ℤ (pos 1000)) error truth low (omega (arith, ints, least)) in
@@ -108,7 +108,7 @@ shown truth error least most low high =
 abbrev pub fact_at : ℕ → ℕ → List MadeStream → ℕ → Fact
 fact_at number sides streams place =
     let truth = truth_at streams (stream_read place) in
-    Reading (reading_id place) (stream_name (stream_read place)) (day_at (day_read place)) (shown_grams truth (error_of (reading_draw number sides place))) (variance_of truth)
+    Reading (reading_id place) (stream_name (stream_read place)) (january (day_read place)) (shown_grams truth (error_of (reading_draw number sides place))) (variance_of truth)
 
 abbrev pub kept_at : ℕ → ℕ → List MadeStream → ℕ → KeptFact
 kept_at number sides streams place = record { fact = fact_at number sides streams place; struck = false }
@@ -118,21 +118,21 @@ abbrev pub kept_to : ℕ → ℕ → List MadeStream → ℕ → List KeptFact
 kept_to number sides streams count = map (kept_at number sides streams) (range_with_len 0 count)
 
 -- no reading is told twice
-no_repeat : HaveOneDateText → (number sides : ℕ) (streams : List MadeStream) (p q : ℕ) → p < 60000 → q < 60000 → p ≢ q
+no_repeat : (number sides : ℕ) (streams : List MadeStream) (p q : ℕ) → p ≢ q
     → is_repeat (fact_at number sides streams p) (kept_at number sides streams q) ≡ false
-no_repeat dates number sides streams p q p_in q_in other =
-    ap₂ (λ (a b : Bool). a || b) (ids_apart q p (omega (arith, q_in)) (omega (arith, p_in)) (λ e. other (sym e))) by_day
+no_repeat number sides streams p q other =
+    ap₂ (λ (a b : Bool). a || b) (ids_apart q p (λ e. other (sym e))) by_day
   where
-    by_day : (same_name (stream_name (stream_read q)) (stream_name (stream_read p)) && int_eq (day_at (day_read q)) (day_at (day_read p))) ≡ false
+    by_day : (same_name (stream_name (stream_read q)) (stream_name (stream_read p)) && int_eq (january (day_read q)) (january (day_read p))) ≡ false
     by_day = elim (cases_Bool (stream_read q == stream_read p)) [
       | inl same ↦
-          let day = days_apart dates (day_read q) (day_read p) (omega arith) (omega arith) (omega arith) (omega arith)
+          let day = days_apart (day_read q) (day_read p) (omega arith) (omega arith)
           (two_readings q p (λ e. other (sym e)) (eqb-true (stream_read q) (stream_read p) same)) in
-          ap (λ (b : Bool). same_name (stream_name (stream_read q)) (stream_name (stream_read p)) && b) (differ (day_at (day_read q)) (day_at (day_read p)) day)
+          ap (λ (b : Bool). same_name (stream_name (stream_read q)) (stream_name (stream_read p)) && b) (differ (january (day_read q)) (january (day_read p)) day)
           ∙ no (same_name (stream_name (stream_read q)) (stream_name (stream_read p)))
       | inr differs ↦
-          ap (λ (b : Bool). b && int_eq (day_at (day_read q)) (day_at (day_read p)))
-          (streams_apart (stream_read q) (stream_read p) (omega (arith, q_in)) (omega (arith, p_in)) (eqb-false (stream_read q) (stream_read p) differs))
+          ap (λ (b : Bool). b && int_eq (january (day_read q)) (january (day_read p)))
+          (streams_apart (stream_read q) (stream_read p) (eqb-false (stream_read q) (stream_read p) differs))
     ]
       where
         differ : (a b : ℤ) → a ≢ b → int_eq a b ≡ false
@@ -143,32 +143,33 @@ no_repeat dates number sides streams p q p_in q_in other =
         no false = refl
 
 criticals : AreOther (nodal ∷ measure ∷ [])
-criticals = record { no_node = refl; no_arc = λ nodes. refl }
+criticals = record { first = refl; no_node = refl; no_boundary = refl; no_arc = λ boundaries nodes. refl }
 
 -- the stream of a reading is metered
 kind_is : (n place : ℕ) (streams : List MadeStream) → length streams ≤ most_made_streams → place < readings_of (length streams)
     → kind_of (plant_of n streams (nodal ∷ measure ∷ [])) (stream_name (stream_read place)) ≡ Some MeteredArc
 kind_is n place streams few within =
     let declared = plant_of n streams (nodal ∷ measure ∷ []) in
+    let boundaries = boundary_names declared in
     let names = node_names declared in
     let j = stream_read place in
     let there : j ≤ length streams = metered_within (length streams) (place / 30) (omega (arith, within)) in
-    ap (λ (l : List Arc). option_map (λ (arc : Arc). arc.kind) (find (λ (arc : Arc). same_name (stream_name j) arc.name) l)) (arcs_are n streams (nodal ∷ measure ∷ []) names criticals)
-    ∙ kind_found names 1 streams j (omega arith) (omega (arith, there)) (omega (arith, few))
+    ap (λ (l : List Arc). option_map (λ (arc : Arc). arc.kind) (find (λ (arc : Arc). same_name (stream_name j) arc.name) l)) (arcs_are n streams (nodal ∷ measure ∷ []) boundaries names criticals)
+    ∙ kind_found boundaries names 1 streams j (omega arith) (omega (arith, there)) (omega (arith, few))
     ∙ ap (λ (plain : Bool). Some (kind_by plain)) (metered (place / 30))
   where
     kind_by : Bool → ArcKind
     kind_by plain = arc_kind (if plain then Plain else Metered)
 
-reading_fine : HaveOneDateText → (number sides n place : ℕ) (streams : List MadeStream) → length streams ≤ most_made_streams → place < readings_of (length streams)
+reading_fine : (number sides n place : ℕ) (streams : List MadeStream) → length streams ≤ most_made_streams → place < readings_of (length streams)
     → HasNoCause (plant_of n streams (nodal ∷ measure ∷ [])) (kept_to number sides streams place) (the_period ∷ []) (Books (fact_at number sides streams place) false)
-reading_fine dates number sides n place streams few within =
+reading_fine number sides n place streams few within =
     let fact = fact_at number sides streams place in
     let kind = kind_is n place streams few within in
     let small : place < 60000 = omega (arith, few, within) in
     record {
       known = ap (names_other fact) kind;
-      new = none_any (kept_at number sides streams) (is_repeat fact) 0 place (λ k low high. no_repeat dates number sides streams place k small (omega (arith, small, high)) (λ e. absurd (omega (arith, e, high))));
+      new = none_any (kept_at number sides streams) (is_repeat fact) 0 place (λ k low high. no_repeat number sides streams place k (λ e. absurd (omega (arith, e, high))));
       ordered = refl;
       matching = ap (is_of_other_kind fact) kind;
       unsealed = refl;
@@ -183,20 +184,20 @@ truth_fits n i streams made from to =
     let fits = made (i - 1) (record { from = 0; to = 0; truth = pos 0 }) (omega (arith, from, to)) in
     (fits.least, fits.most)
 
-error_fits : (draw : ℕ) → (neg_ℤ (pos 1000) ≤ℤ error_of draw) × (error_of draw ≤ℤ pos 1000)
+pub error_fits : (draw : ℕ) → (neg_ℤ (pos 1000) ≤ℤ error_of draw) × (error_of draw ≤ℤ pos 1000)
 error_fits draw =
     let small : draw % 2001 < 2001 = omega arith in
     (omega (arith, ints, small), omega (arith, ints, small))
 
 -- the readings that are left, behind those before them
-pub readings_taken : AskingLaw → (Holds : List StoredRow → Type 0) → HaveOneNumberText → HaveOneDateText → (number sides n place left : ℕ) (streams : List MadeStream) (records : List (List (List ℕ))) → length streams ≤ most_made_streams
+pub readings_taken : Asks → (Holds : List StoredRow → Type 0) → (number sides n place left : ℕ) (streams : List MadeStream) (records : List (List (List ℕ))) → length streams ≤ most_made_streams
     → All (IsMade n) streams → place + left ≤ readings_of (length streams)
     → Rest Holds (plant_of n streams (nodal ∷ measure ∷ [])) (kept_to number sides streams (place + left)) (the_period ∷ []) records
     → Rest Holds (plant_of n streams (nodal ∷ measure ∷ [])) (kept_to number sides streams place) (the_period ∷ []) (map (reading_row_at number sides streams) (range_with_len place left) ++ records)
-readings_taken law Holds numbers dates number sides n place zero streams records few made within rest rows at is =
+readings_taken law Holds number sides n place zero streams records few made within rest rows at is =
     let same : place ≡ place + 0 = omega arith in
     rest rows at (subst (λ (k : ℕ). IsAt rows (plant_of n streams (nodal ∷ measure ∷ [])) (kept_to number sides streams k) (the_period ∷ [])) same is)
-readings_taken law Holds numbers dates number sides n place (suc left) streams records few made within rest rows at is =
+readings_taken law Holds number sides n place (suc left) streams records few made within rest rows at is =
     let declared = plant_of n streams (nodal ∷ measure ∷ []) in
     let row = reading_row_at number sides streams place in
     let j = stream_read place in
@@ -208,23 +209,23 @@ readings_taken law Holds numbers dates number sides n place (suc left) streams r
     let error_is = error_fits (reading_draw number sides place) in
     let are = shown truth error truth_is.0 truth_is.1 error_is.0 error_is.1 in
     let taken = store_fact rows at row (fact_at number sides streams place) declared (kept_to number sides streams place) (the_period ∷ []) is
-    (reading_asks law numbers dates (reading_id place) (stream_name j) (day_read place) (shown_grams truth error) (variance_of truth) (is_reading_id place (omega (arith, here, few)))
+    (reading_asks law (version_at rows) (reading_id place) (stream_name j) (day_read place) (shown_grams truth error) (variance_of truth) (is_reading_id place (omega (arith, here, few)))
     (is_stream_name j (omega (arith, there, few))) (omega arith) (omega arith) are.low are.high are.least are.most)
-    (reading_fine dates number sides n place streams few here) in
+    (reading_fine number sides n place streams few here) in
     let more : kept_to number sides streams place ++ kept_at number sides streams place ∷ [] ≡ kept_to number sides streams (place + 1) =
     sym (map-range_with_len_more (kept_at number sides streams) 0 place place (omega arith)) in
     let same : place + suc left ≡ (place + 1) + left = omega arith in (
       taken.fine,
-      readings_taken law Holds numbers dates number sides n (place + 1) left streams records few made (omega (arith, within))
+      readings_taken law Holds number sides n (place + 1) left streams records few made (omega (arith, within))
           (subst (λ (k : ℕ). Rest Holds declared (kept_to number sides streams k) (the_period ∷ []) records) same rest) (after rows at row) (at + 1)
           (subst (λ (k : List KeptFact). IsAt (after rows at row) declared k (the_period ∷ [])) more taken.next),
     )
 
 -- ---- the report
 
-pub report_taken : AskingLaw → (declared : List Declared) (kept : List KeptFact) → Rest Anything declared kept (the_period ∷ []) (report_row ∷ [])
+pub report_taken : Asks → (declared : List Declared) (kept : List KeptFact) → Rest Anything declared kept (the_period ∷ []) (report_row ∷ [])
 report_taken law declared kept rows at is = (
-  ap (λ r. is_refused (answer_if rows r)) (report_asks law)
+  ap (λ r. is_refused (answer_if rows (named_costs report_row) r)) (report_asks law (version_at rows))
       ∙ ap (λ (p : List Period). is_refused (report_or_refused (position (is_named made_period) p))) is.periods_is,
   tt,
 )

@@ -1,27 +1,27 @@
 -- The rows of a made session begin with words, and each is taken.
-use Rattle.std.proofs.Common.{◌≡◌, ◌≤◌, ◌∙◌, ℕ, zero, suc, ◌+◌, ◌++◌, ◌∷◌, [], List, true, length, length-append, ap, refl, subst, arith, append-nil}
-use Rattle.std.specs.Prelude.{map}
+use Rattle.std.proofs.Common.{◌≡◌, ◌≤◌, ◌∙◌, ℕ, zero, suc, ◌+◌, ◌++◌, ◌∷◌, [], List, Bool, true, false, pos, length, length-append, ap, refl, subst, arith, append-nil}
+use Rattle.std.specs.Prelude.{map, if◌then◌else◌}
 use Rattle.std.specs.List.{list_all, range_with_len}
 use Rattle.std.proofs.lemmas.Bool.{and_parts}
 use Rattle.std.proofs.lemmas.List.Elements.{recursion_from_All}
 use Rattle.std.proofs.lemmas.List.FromFn.{length-map-range_with_len}
 use Rattle.pb_limits.specs.Limits.{most_made_streams}
-use Rattle.pb_rows.specs.Texts.{HaveOneDateText, HaveOneNumberText}
 use Rattle.pb_rows.specs.Written.{begins_with_word}
 use Rattle.pb_site.specs.declared.declared.Declared.{Declared}
-use Rattle.pb_kinds.specs.Laws.{AskingLaw}
 use Rattle.pb_book.specs.Answer.{after}
 use Rattle.pb_book.specs.declared.rows.StoredRow.{StoredRow}
 use Rattle.pb_make.specs.declared.plant.MadeStream.{MadeStream}
 use Rattle.pb_make.specs.Bounds.{IsMade}
 use Rattle.pb_make.specs.Laws.{Anything, AreTaken, HasMadePeriod}
 use Rattle.pb_make.specs.Plant.{least_streams, made_streams, side_streams, sides_of, units_of}
-use Rattle.pb_make.specs.Readings.{readings_of}
-use Rattle.pb_make.specs.Rows.{middle_rows, reading_row_at, reading_rows, report_row, session_rows, stored_rows, stream_rows, unit_row, unit_rows}
+use Rattle.pb_form.specs.declared.session.SessionKind.TheVariants as kind
+use Rattle.pb_make.specs.Readings.{is_plain, readings_of}
+use Rattle.pb_make.specs.Rows.{made_row, middle_rows, reading_row_at, reading_rows, report_row, session_rows, stored_rows, stream_rows, stream_values, unit_row, unit_rows}
 use Rattle.pb_make.proofs.DeclaredLemmas.{plant_of, units}
 use Rattle.pb_make.proofs.MadeLemmas.{Rest, measure, middle_taken, nodal, streams_taken, the_period, units_taken}
 use Rattle.pb_make.proofs.PlantLemmas.{AreSides, IsPlant, plant_sides, plant_whole}
 use Rattle.pb_make.proofs.ReadingLemmas.{kept_to, readings_taken, report_taken}
+use Rattle.pb_make.proofs.RequestLemmas.{Asks}
 use Rattle.pb_make.proofs.TakenLemmas.{IsAt, none_stored}
 
 -- ---- words
@@ -38,7 +38,11 @@ made_words f words from (suc count) = rw (words from) (made_words f words (from 
 
 stream_words : (i : ℕ) (streams : List MadeStream) → list_all begins_with_word (stream_rows i streams) ≡ true
 stream_words i [] = refl
-stream_words i (stream ∷ streams) = stream_words (i + 1) streams
+stream_words i (stream ∷ streams) = rw (by (is_plain i)) (stream_words (i + 1) streams)
+  where
+    by : (plain : Bool) → begins_with_word (if plain then made_row kind.StreamPlain (stream_values i stream (pos 0)) else made_row kind.StreamMetered (stream_values i stream (pos 1))) ≡ true
+    by true = refl
+    by false = refl
 
 -- each row of a session begins with a word
 pub session_words : (number streams : ℕ) → list_all begins_with_word (session_rows number streams) ≡ true
@@ -66,28 +70,28 @@ IsMadeOf number streams rows =
     (kept_to number (sides_of streams) (made_streams number streams) (0 + readings_of streams)) (the_period ∷ [])
 
 -- the readings
-readings_are : AskingLaw → HaveOneNumberText → HaveOneDateText → (number streams : ℕ) → least_streams ≤ streams → streams ≤ most_made_streams
+readings_are : Asks → (number streams : ℕ) → least_streams ≤ streams → streams ≤ most_made_streams
     → Rest (IsMadeOf number streams) (plant_of (units_of streams) (made_streams number streams) (nodal ∷ measure ∷ [])) [] (the_period ∷ []) (reading_rows number streams)
-readings_are law numbers dates number streams least most =
+readings_are law number streams least most =
     let n = units_of streams in
     let plant = made_streams number streams in
     let is = plant_is number streams least most in
     let declared = plant_of n plant (nodal ∷ measure ∷ []) in
     let count : 0 + readings_of streams ≤ readings_of (length plant) = omega (arith, is.count) in
     subst (λ (rows : List (List (List ℕ))). Rest (IsMadeOf number streams) declared [] (the_period ∷ []) rows) (append-nil (reading_rows number streams))
-    (readings_taken law (IsMadeOf number streams) numbers dates number (sides_of streams) n 0 (readings_of streams) plant [] (omega (arith, is.count, most)) is.fits count (λ rows at here. here))
+    (readings_taken law (IsMadeOf number streams) number (sides_of streams) n 0 (readings_of streams) plant [] (omega (arith, is.count, most)) is.fits count (λ rows at here. here))
 
 -- the rows that are stored
-pub stored_taken : AskingLaw → HaveOneNumberText → HaveOneDateText → (number streams : ℕ) → least_streams ≤ streams → streams ≤ most_made_streams
+pub stored_taken : Asks → (number streams : ℕ) → least_streams ≤ streams → streams ≤ most_made_streams
     → AreTaken (IsMadeOf number streams) [] 1 (stored_rows number streams)
-stored_taken law numbers dates number streams least most =
+stored_taken law number streams least most =
     let Holds = IsMadeOf number streams in
     let n = units_of streams in
     let plant = made_streams number streams in
     let is = plant_is number streams least most in
     let few : n ≤ 1000 = omega (arith, most) in
     let left = middle_rows ++ reading_rows number streams in
-    let middle : Rest Holds (plant_of n plant []) [] [] left = middle_taken law Holds dates n plant (reading_rows number streams) (readings_are law numbers dates number streams least most) in
+    let middle : Rest Holds (plant_of n plant []) [] [] left = middle_taken law Holds n plant (reading_rows number streams) (readings_are law number streams least most) in
     let streams_are : Rest Holds (plant_of n [] []) [] [] (stream_rows 1 plant ++ left) =
     streams_taken law Holds n 1 [] plant left few (omega (arith, is.count, most)) (omega arith) (recursion_from_All (IsMade n) plant is.fits) middle in
     let bare : plant_of n [] [] ≡ units 1 (0 + n) = append-nil (units 1 n) ∙ ap (λ (k : ℕ). units 1 k) (sum n) in
@@ -103,18 +107,18 @@ taken_then Before After rows at [] rest taken more = more rows at taken
 taken_then Before After rows at (fields ∷ first) rest taken more = (taken.0, taken_then Before After (after rows at fields) (at + 1) first rest taken.1 more)
 
 -- the whole session
-pub session_taken : AskingLaw → HaveOneNumberText → HaveOneDateText → (number streams : ℕ) → least_streams ≤ streams → streams ≤ most_made_streams
+pub session_taken : Asks → (number streams : ℕ) → least_streams ≤ streams → streams ≤ most_made_streams
     → AreTaken Anything [] 1 (session_rows number streams)
-session_taken law numbers dates number streams least most =
-    taken_then (IsMadeOf number streams) Anything [] 1 (stored_rows number streams) (report_row ∷ []) (stored_taken law numbers dates number streams least most)
+session_taken law number streams least most =
+    taken_then (IsMadeOf number streams) Anything [] 1 (stored_rows number streams) (report_row ∷ []) (stored_taken law number streams least most)
     (report_taken law (plant_of (units_of streams) (made_streams number streams) (nodal ∷ measure ∷ [])) (kept_to number (sides_of streams) (made_streams number streams) (0 + readings_of streams)))
 
 -- its period
-pub period_stored : AskingLaw → HaveOneNumberText → HaveOneDateText → (number streams : ℕ) → least_streams ≤ streams → streams ≤ most_made_streams
+pub period_stored : Asks → (number streams : ℕ) → least_streams ≤ streams → streams ≤ most_made_streams
     → AreTaken HasMadePeriod [] 1 (stored_rows number streams)
-period_stored law numbers dates number streams least most =
+period_stored law number streams least most =
     subst (λ (records : List (List (List ℕ))). AreTaken HasMadePeriod [] 1 records) (append-nil (stored_rows number streams))
-    (taken_then (IsMadeOf number streams) HasMadePeriod [] 1 (stored_rows number streams) [] (stored_taken law numbers dates number streams least most) (λ rows next is. is.periods_is))
+    (taken_then (IsMadeOf number streams) HasMadePeriod [] 1 (stored_rows number streams) [] (stored_taken law number streams least most) (λ rows next is. is.periods_is))
 
 -- ---- how many rows there are
 

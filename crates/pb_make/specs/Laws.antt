@@ -1,6 +1,5 @@
 -- Statement. Each row of a made session is accepted, and its text reads back as its rows.
 use Rattle.std.specs.Prelude.{◌≡◌, ℕ, ◌+◌, ◌≤◌, ◌<◌, ◌==◌, ℤ, pos, ◌-ℤ◌, if◌then◌else◌, false, List, [], ◌∷◌, length}
-use Rattle.jiff_core.specs.Calendar.{days_from_civil}
 use Rattle.pb_limits.specs.Limits.{most_made_streams}
 use Rattle.pb_integers.specs.Sums.{sum_over}
 use Rattle.pb_rows.specs.Records.{records_of}
@@ -10,7 +9,7 @@ use Rattle.pb_book.specs.Rows.{periods_of}
 use Rattle.pb_make.specs.declared.plant.MadeStream.{MadeStream}
 use Rattle.pb_make.specs.Plant.{least_streams, made_streams, units_of}
 use Rattle.pb_make.specs.Readings.{is_plain, metered_at, metered_of, readings_of}
-use Rattle.pb_make.specs.Rows.{made_period, session_rows, session_text, stored_rows}
+use Rattle.pb_make.specs.Rows.{january, made_period, session_rows, session_text, stored_rows}
 
 -- none of these records, which are numbered from `at`, is refused behind these stored rows and the ones before it, and this holds
 -- of what is stored in the end
@@ -30,8 +29,8 @@ HasMadePeriod rows =
     periods_of rows
     ≡ record {
       name = made_period;
-      first = days_from_civil (pos 2024) 1 1;
-      last = days_from_civil (pos 2024) 1 30;
+      first = january 1;
+      last = january 30;
       closed = false;
     }
     ∷ []

@@ -1,9 +1,14 @@
 -- Statement. The rows of a made session, and its text.
-use Rattle.std.specs.Prelude.{ℕ, ◌+◌, ◌==◌, ℤ, List, [], ◌∷◌, ◌++◌, map, codes, if◌then◌else◌}
+use Rattle.std.specs.Prelude.{ℕ, ◌+◌, ◌==◌, ℤ, pos, List, [], ◌∷◌, ◌++◌, map, codes, if◌then◌else◌}
 use Rattle.std.specs.List.{range_with_len}
-use Rattle.pb_rows.specs.Date.{date_text}
-use Rattle.pb_rows.specs.Number.{decimal_text, whole_text}
+use Rattle.jiff_core.specs.Calendar.{days_from_civil}
+use Rattle.pb_rows.specs.Number.{decimal_text}
 use Rattle.pb_rows.specs.Written.{text_of_rows}
+use Rattle.pb_form.specs.SessionRows.{session_columns}
+use Rattle.pb_form.specs.Texts.{texts_of}
+use Rattle.pb_form.specs.Value.{Value, Word, Name, Number, Date}
+use Rattle.pb_form.specs.declared.session.SessionKind.{SessionKind}
+use Rattle.pb_form.specs.declared.session.SessionKind.TheVariants as kind
 use Rattle.pb_make.specs.declared.plant.MadeStream.{MadeStream}
 use Rattle.pb_make.specs.Plant.{made_streams, sides_of, units_of}
 use Rattle.pb_make.specs.Readings.{day_read, error_of, is_plain, reading_draw, readings_of, shown_grams, stream_read, truth_at, variance_of}
@@ -24,41 +29,46 @@ reading_id place = codes "r" ++ decimal_text (place + 1)
 abbrev pub made_period : List ℕ
 made_period = codes "m1"
 
--- a day of January 2024
-abbrev pub day_text : ℕ → List ℕ
-day_text day = date_text 2024 1 day
+-- a day of January 2024, counted from 1970-01-01
+abbrev pub january : ℕ → ℤ
+january day = days_from_civil (pos 2024) 1 day
+
+-- the row of a kind, by the values of its columns behind the kind's word
+abbrev pub made_row : SessionKind → List Value → List (List ℕ)
+made_row kind values = texts_of (session_columns kind) (Word 0 ∷ values)
 
 -- the row of a unit
 abbrev pub unit_row : ℕ → List (List ℕ)
-unit_row i = codes "unit" ∷ node_name i ∷ []
+unit_row i = made_row kind.Unit (Name (node_name i) ∷ [])
 
--- the kind of a stream, and its base variance: 1 squared gram of a metered one, 0 of a plain one
-abbrev pub kind_fields : ℕ → List (List ℕ)
-kind_fields i =
-    if is_plain i then codes "plain" ∷ codes "0" ∷ [] else codes "metered" ∷ codes "1" ∷ []
+-- the values of a stream with this number and this base variance
+abbrev pub stream_values : ℕ → MadeStream → ℤ → List Value
+stream_values i stream base =
+    Name (stream_name i) ∷ Name (node_name stream.from) ∷ Name (node_name stream.to) ∷ Word 0 ∷ Number base ∷ []
 
--- the row of a stream with this number
+-- the row of a stream: the base variance of a metered one is 1 squared gram
 abbrev pub stream_row : ℕ → MadeStream → List (List ℕ)
 stream_row i stream =
-    codes "stream" ∷ stream_name i ∷ node_name stream.from ∷ node_name stream.to ∷ kind_fields i
+    if is_plain i then made_row kind.StreamPlain (stream_values i stream (pos 0))
+    else made_row kind.StreamMetered (stream_values i stream (pos 1))
 
 -- the row of the period: 30 days
 abbrev pub period_row : List (List ℕ)
-period_row = codes "period" ∷ made_period ∷ day_text 1 ∷ day_text 30 ∷ []
+period_row = made_row kind.Period (Name made_period ∷ Date (january 1) ∷ Date (january 30) ∷ [])
 
 -- the row of a critical value: 3.841, the 95 percent point of the chi-square distribution with one degree of freedom
-abbrev pub critical_row : List ℕ → List (List ℕ)
-critical_row kind = codes "critical" ∷ kind ∷ codes "3841" ∷ []
+abbrev pub critical_row : SessionKind → List (List ℕ)
+critical_row kind = made_row kind (Word 0 ∷ Number (pos 3841) ∷ [])
 
 -- the row of the reading at a place, of a stream with this true flow, with this draw
 abbrev pub reading_row : ℕ → ℤ → ℕ → List (List ℕ)
 reading_row place truth draw =
-    codes "reading" ∷ reading_id place ∷ stream_name (stream_read place) ∷ day_text (day_read place)
-    ∷ whole_text (shown_grams truth (error_of draw)) ∷ whole_text (variance_of truth) ∷ []
+    made_row kind.Reading (Name (reading_id place) ∷ Name (stream_name (stream_read place)) ∷ Date (january (day_read place))
+    ∷ Number (shown_grams truth (error_of draw)) ∷ Number (variance_of truth) ∷ [])
 
 -- the row that asks for the report
 abbrev pub report_row : List (List ℕ)
-report_row = codes "report" ∷ made_period ∷ []
+report_row = made_row kind.Report (Name made_period ∷ [])
 
 -- the rows of the units
 abbrev pub unit_rows : ℕ → List (List (List ℕ))
@@ -71,7 +81,7 @@ stream_rows i (stream ∷ streams) = stream_row i stream ∷ stream_rows (i + 1)
 
 -- the rows between the plant and its readings
 abbrev pub middle_rows : List (List (List ℕ))
-middle_rows = period_row ∷ critical_row (codes "nodal") ∷ critical_row (codes "measure") ∷ []
+middle_rows = period_row ∷ critical_row kind.CriticalNodal ∷ critical_row kind.CriticalMeasure ∷ []
 
 -- the row of the reading at a place, of a plant of these streams, so many of which are side streams
 abbrev pub reading_row_at : ℕ → ℕ → List MadeStream → ℕ → List (List ℕ)

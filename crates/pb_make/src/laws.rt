@@ -2,8 +2,9 @@
 
 ghost use Rattle.pb_make.specs.Laws.{AcceptedLaw, AreMetered, BalanceLaw, CountLaw, PeriodLaw, ReadsBackLaw};
 
+use pb_form::text_law;
 use pb_kinds::asking_law;
-use pb_rows::{date_text_law, number_text_law, written_rows_law};
+use pb_rows::written_rows_law;
 
 /// The law that the rows of a made session read back from its text.
 pub fn reads_back_law()
@@ -23,8 +24,7 @@ pub fn accepted_law()
 {
     reads_back_law();
     asking_law();
-    number_text_law();
-    date_text_law();
+    text_law();
 }
 
 /// The law that a made session has stored its one period before the record that asks for the report.
@@ -32,8 +32,7 @@ pub fn period_law()
     ensures { PeriodLaw }
 {
     asking_law();
-    number_text_law();
-    date_text_law();
+    text_law();
 }
 
 /// The law on how many rows a made session has.

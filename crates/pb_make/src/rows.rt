@@ -1,79 +1,87 @@
 // The rows of a made session.
 
-ghost use Rattle.std.specs.Prelude.{◌≡◌, ◌<◌, ◌≤◌, ◌≤ℤ◌, ◌*◌, ◌+◌, ◌++◌, ◌∷◌, [], pos, codes, length, IfOk, OnOk};
+ghost use Rattle.std.specs.Prelude.{◌≡◌, ◌<◌, ◌≤◌, ◌≤ℤ◌, ◌*◌, ◌∷◌, [], length, pos, true, IfOk, OnOk};
 ghost use Rattle.pb_limits.specs.Limits.{most_made_streams};
-ghost use Rattle.pb_rows.specs.Number.{decimal_text, whole_text};
+ghost use Rattle.pb_rows.specs.Name.{is_name_byte};
+ghost use Rattle.pb_rows.specs.Number.{decimal_text};
 ghost use Rattle.pb_rows.specs.Written.{AddsLine};
-ghost use Rattle.pb_make.specs.Readings.{day_read, error_of, made_days, shown_grams, stream_read, variance_of};
-ghost use Rattle.pb_make.specs.Rows.{critical_row, day_text, kind_fields, node_name, period_row, reading_id, reading_row, report_row, stream_name, stream_row, unit_row};
+ghost use Rattle.pb_form.specs.Given.{values_as};
+ghost use Rattle.pb_form.specs.SessionRows.{session_columns};
+ghost use Rattle.pb_form.specs.Texts.{texts_of};
+ghost use Rattle.pb_form.specs.Writing.{FitEach};
+ghost use Rattle.pb_form.specs.declared.session.SessionKind.TheVariants as kinds;
+ghost use Rattle.pb_make.specs.Readings.{made_days};
+ghost use Rattle.pb_make.specs.Rows.{critical_row, january, made_period, node_name, period_row, reading_row, report_row, stream_row, unit_row};
 
 use crate::plant::MadeStream;
 use crate::readings::{day_read, is_plain, shown_grams, stream_read, variance_of};
-use pb_rows::{Row, whole_bytes};
+use pb_form::{SessionKind, Value, session_record};
+use pb_rows::{Name, whole_bytes};
 use std::alloc::{AllocError, Global};
 
-// A letter and a number behind it.
-fn numbered(alloc: Global, letter: u8, number: u32) -> Result<Vec<u8>, AllocError>
-    ensures { IfOk result (λ name. name.items ≡ letter ∷ decimal_text number) }
+// 2023-12-31, counted from 1970-01-01.
+const BEFORE_JANUARY: i32 = 19_722;
+
+// 3.841, the 95 percent point of the chi-square distribution with one degree of freedom, in thousandths.
+const CRITICAL: i128 = 3_841;
+
+// The name of a letter and a number behind it.
+fn numbered(alloc: Global, letter: u8, number: u32) -> Result<Name, AllocError>
+    requires { is_name_byte letter ≡ true }
+    ensures { IfOk result (λ name. name ≡ letter ∷ decimal_text number) }
 {
-    let mut name = Vec::new(alloc);
-    name.push(letter)?;
-    name.extend_from_slice(&whole_bytes(alloc, i128::from(number))?)?;
-    Ok(name)
+    let mut text = Vec::new(alloc);
+    text.push(letter)?;
+    text.extend_from_slice(&whole_bytes(alloc, i128::from(number))?)?;
+    Ok(Name::read(&text).unwrap())
 }
 
 // The name of a node.
-fn node_name(alloc: Global, node: u32) -> Result<Vec<u8>, AllocError>
-    ensures { IfOk result (λ name. name.items ≡ node_name node) }
+fn node_name(alloc: Global, node: u32) -> Result<Name, AllocError>
+    ensures { IfOk result (λ name. name ≡ node_name node) }
 {
     if node == 0 {
-        Vec::from_slice(alloc, b"env")
+        Ok(Name::read(b"env").unwrap())
     } else {
         numbered(alloc, b'u', node)
     }
 }
 
-// A day of January 2024.
-fn day_text(day: u8) -> [u8; 10]
-    requires { day < 100 }
-    ensures { result ≡ day_text day }
+// The name of the period.
+fn made_period() -> Name
+    ensures { result ≡ made_period }
 {
-    [
-        b'2',
-        b'0',
-        b'2',
-        b'4',
-        b'-',
-        b'0',
-        b'1',
-        b'-',
-        b'0' + day / 10,
-        b'0' + day % 10,
-    ]
+    Name::read(b"m1").unwrap()
+}
+
+// A day of January 2024, counted from 1970-01-01.
+fn january(day: u8) -> i32
+    requires { 1 ≤ day }
+    ensures { result ≡ january day }
+{
+    BEFORE_JANUARY + i32::from(day)
+}
+
+// Appends the row of a kind.
+fn write_row(text: &mut Vec<u8>, kind: SessionKind, values: &[Value]) -> Result<(), AllocError>
+    requires each { length values.now ≡ length (session_columns kind) }
+    requires fit { FitEach (session_columns kind) (values_as (session_columns kind) values.now) }
+    ensures { OnOk result (AddsLine text.old.items text.new.items
+        (texts_of (session_columns kind) (values_as (session_columns kind) values.now))) }
+{
+    session_record(*text.allocator(), kind, values)?.write_to(text)
 }
 
 /// Appends the row of a unit.
 pub fn write_unit(text: &mut Vec<u8>, i: u32) -> Result<(), AllocError>
     ensures ok { OnOk result (AddsLine text.old.items text.new.items (unit_row i)) }
 {
-    let alloc = *text.allocator();
-    let mut row = Row::new(alloc);
-    row.push(b"unit")?;
-    row.push(&node_name(alloc, i)?)?;
-    row.write_to(text)
-}
-
-// Appends the kind of a stream and its base variance to its row.
-fn push_kind(row: &mut Row, i: u32) -> Result<(), AllocError>
-    ensures { OnOk result (row.new ≡ row.old ++ kind_fields i) }
-{
-    if is_plain(i) {
-        row.push(b"plain")?;
-        row.push(b"0")
-    } else {
-        row.push(b"metered")?;
-        row.push(b"1")
-    }
+    let name = node_name(*text.allocator(), i)?;
+    write_row(
+        text,
+        SessionKind::Unit,
+        &[Value::Word(0), Value::name(&name)],
+    )
 }
 
 /// Appends the row of the stream with this number.
@@ -81,58 +89,66 @@ pub fn write_stream(text: &mut Vec<u8>, i: u32, stream: &MadeStream) -> Result<(
     ensures ok { OnOk result (AddsLine text.old.items text.new.items (stream_row i stream.now)) }
 {
     let alloc = *text.allocator();
-    let mut row = Row::new(alloc);
-    row.push(b"stream")?;
-    row.push(&numbered(alloc, b's', i)?)?;
-    row.push(&node_name(alloc, stream.from)?)?;
-    row.push(&node_name(alloc, stream.to)?)?;
-    push_kind(&mut row, i)?;
-    row.write_to(text)
+    let name = numbered(alloc, b's', i)?;
+    let from = node_name(alloc, stream.from)?;
+    let to = node_name(alloc, stream.to)?;
+    let (kind, base) = if is_plain(i) {
+        (SessionKind::StreamPlain, 0)
+    } else {
+        (SessionKind::StreamMetered, 1)
+    };
+    write_row(
+        text,
+        kind,
+        &[
+            Value::Word(0),
+            Value::name(&name),
+            Value::name(&from),
+            Value::name(&to),
+            Value::Word(0),
+            Value::Number(base),
+        ],
+    )
 }
 
 /// Appends the row of the period.
 pub fn write_period(text: &mut Vec<u8>) -> Result<(), AllocError>
     ensures ok { OnOk result (AddsLine text.old.items text.new.items period_row) }
 {
-    let mut row = Row::new(*text.allocator());
-    row.push(b"period")?;
-    row.push(b"m1")?;
-    row.push(b"2024-01-01")?;
-    row.push(b"2024-01-30")?;
-    row.write_to(text)
+    write_row(
+        text,
+        SessionKind::Period,
+        &[
+            Value::Word(0),
+            Value::name(&made_period()),
+            Value::Day(january(1)),
+            Value::Day(january(30)),
+        ],
+    )
 }
 
-/// Appends the row of a critical value.
-pub fn write_critical(text: &mut Vec<u8>, kind: &[u8]) -> Result<(), AllocError>
-    ensures ok { OnOk result (AddsLine text.old.items text.new.items (critical_row kind.now)) }
+/// Appends the row of the critical value of nodal tests.
+pub fn write_nodal(text: &mut Vec<u8>) -> Result<(), AllocError>
+    ensures ok { OnOk result
+        (AddsLine text.old.items text.new.items (critical_row kinds.CriticalNodal)) }
 {
-    let mut row = Row::new(*text.allocator());
-    row.push(b"critical")?;
-    row.push(kind)?;
-    row.push(b"3841")?;
-    row.write_to(text)
+    write_row(
+        text,
+        SessionKind::CriticalNodal,
+        &[Value::Word(0), Value::Word(0), Value::Number(CRITICAL)],
+    )
 }
 
-// Appends what tells the reading at a place to its row: its id, its stream and its day.
-fn push_place(row: &mut Row, alloc: Global, place: u32) -> Result<(), AllocError>
-    requires { place < made_days * most_made_streams }
-    ensures { OnOk result (row.new ≡ row.old ++ reading_id place ∷ stream_name (stream_read place)
-        ∷ day_text (day_read place) ∷ []) }
+/// Appends the row of the critical value of measurement tests.
+pub fn write_measure(text: &mut Vec<u8>) -> Result<(), AllocError>
+    ensures ok { OnOk result
+        (AddsLine text.old.items text.new.items (critical_row kinds.CriticalMeasure)) }
 {
-    row.push(&numbered(alloc, b'r', place + 1)?)?;
-    row.push(&numbered(alloc, b's', stream_read(place))?)?;
-    row.push(&day_text(day_read(place)))
-}
-
-// Appends what a meter shows to the row of a reading: its grams and their variance.
-fn push_shown(row: &mut Row, alloc: Global, truth: i128, draw: u32) -> Result<(), AllocError>
-    requires least { pos 1 ≤ℤ truth }
-    requires most { truth ≤ℤ pos 100000000000 }
-    ensures { OnOk result (row.new ≡ row.old ++ whole_text (shown_grams truth (error_of draw))
-        ∷ whole_text (variance_of truth) ∷ []) }
-{
-    row.push(&whole_bytes(alloc, shown_grams(truth, draw))?)?;
-    row.push(&whole_bytes(alloc, variance_of(truth))?)
+    write_row(
+        text,
+        SessionKind::CriticalMeasure,
+        &[Value::Word(0), Value::Word(0), Value::Number(CRITICAL)],
+    )
 }
 
 /// Appends the row of the reading at a place, of a stream with this true flow, with this draw.
@@ -149,19 +165,29 @@ pub fn write_reading(
         (reading_row place truth draw)) }
 {
     let alloc = *text.allocator();
-    let mut row = Row::new(alloc);
-    row.push(b"reading")?;
-    push_place(&mut row, alloc, place)?;
-    push_shown(&mut row, alloc, truth, draw)?;
-    row.write_to(text)
+    let id = numbered(alloc, b'r', place + 1)?;
+    let stream = numbered(alloc, b's', stream_read(place))?;
+    write_row(
+        text,
+        SessionKind::Reading,
+        &[
+            Value::Word(0),
+            Value::name(&id),
+            Value::name(&stream),
+            Value::Day(january(day_read(place))),
+            Value::Number(shown_grams(truth, draw)),
+            Value::Number(variance_of(truth)),
+        ],
+    )
 }
 
 /// Appends the row that asks for the report.
 pub fn write_report(text: &mut Vec<u8>) -> Result<(), AllocError>
     ensures ok { OnOk result (AddsLine text.old.items text.new.items report_row) }
 {
-    let mut row = Row::new(*text.allocator());
-    row.push(b"report")?;
-    row.push(b"m1")?;
-    row.write_to(text)
+    write_row(
+        text,
+        SessionKind::Report,
+        &[Value::Word(0), Value::name(&made_period())],
+    )
 }

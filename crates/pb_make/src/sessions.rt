@@ -14,7 +14,7 @@ use crate::draws::Draws;
 use crate::plant::{MadeStream, made_plant, units_of};
 use crate::readings::{readings_of, stream_read};
 use crate::rows::{
-    write_critical, write_period, write_reading, write_report, write_stream, write_unit,
+    write_measure, write_nodal, write_period, write_reading, write_report, write_stream, write_unit,
 };
 use std::alloc::{AllocError, Global};
 
@@ -66,8 +66,8 @@ fn write_middle(text: &mut Vec<u8>) -> Result<(), AllocError>
     ensures { OnOk result (text.new.items ≡ text.old.items ++ text_of_rows middle_rows) }
 {
     write_period(text)?;
-    write_critical(text, b"nodal")?;
-    write_critical(text, b"measure")
+    write_nodal(text)?;
+    write_measure(text)
 }
 
 // Appends the rows of so many readings; the next draw is that of the first one.

@@ -73,8 +73,10 @@ plant_up_to law rows accepted (suc n) le =
     let next = accepted n stored (slice_get-get_or rows n some_row within) in
     subst (λ (rs : List StoredRow). IsPlant (declared_of rs)) (sym (take-suc rows n some_row within)) (one_more law (take n rows) stored.at stored.effect before next)
 
+-- accepted rows declare a plant
+pub plant_of : PlantLaw → (rows : List StoredRow) → AreAccepted rows → IsPlant (declared_of rows)
+plant_of law rows accepted =
+    subst (λ (rs : List StoredRow). IsPlant (declared_of rs)) (take_all (length rows) rows (omega arith)) (plant_up_to law rows accepted (length rows) (omega arith))
+
 pub ready : PlantLaw → AcceptedLaw → (rows : List StoredRow) → AreAccepted rows → IsReady rows
-ready law book rows accepted = record {
-  plant = subst (λ (rs : List StoredRow). IsPlant (declared_of rs)) (take_all (length rows) rows (omega arith)) (plant_up_to law rows accepted (length rows) (omega arith));
-  ranges = (book.consistent rows accepted).ranges;
-}
+ready law book rows accepted = record { plant = plant_of law rows accepted; ranges = (book.consistent rows accepted).ranges }

@@ -29,7 +29,6 @@ pub fn untouched_law()
     ensures { UntouchedLaw }
 {
     plant_law();
-    accepted_law();
 }
 
 /// The law that in a session of version 2 a stored declaration leaves the graph of each closed period as it was, and its names.

@@ -1,6 +1,13 @@
 use Rattle.pb_book.specs.Kept.{told_at}
+use Rattle.pb_book.proofs.FactLemmas.{no_site_fault_of}
 use Rattle.pb_book.proofs.KeptLemmas.{kept_declaration}
 use Rattle.pb_book.proofs.book.Book.add_declaration.Goals as goal
+
+pub add-requires-clause-no_fault : goal.add-requires-clause-no_fault
+add-requires-clause-no_fault c =
+    let inside = c.self.inside in
+    let fine = rw (← c.self.view_is) at c.requires in
+    no_site_fault_of _ inside.site inside.facts inside.periods c.args.declared.now c.self.invariant.parts fine
 
 pub invariant_of-self-2 : goal.invariant_of-self-2
 invariant_of-self-2 c =

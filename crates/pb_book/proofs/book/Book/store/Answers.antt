@@ -15,6 +15,7 @@ returns-in_ok-add-in-None-clause-no_repeats c = λ stored.
     let effect = c.args.effect.now in
     let parts = c.self.invariant.parts in
     let none : refusal_of rows effect ≡ None = rw (← parts.site, ← parts.facts, ← parts.spans) (sym c.in-None.ensures) in
-    let fine : IsAcceptable rows effect = record { no_cause = none; in_range = c.requires } in
+    let may = rw (← c.self.view_is) at c.requires.may in
+    let fine : IsAcceptable rows effect = record { no_cause = none; in_range = c.requires.in_range; may = may } in
     subst (λ (rs : List StoredRow). NoRepeats (facts_of rs)) (ap (λ (rs : List StoredRow). with_row rs c.args.at effect) c.self.view_is ∙ sym c.in_ok-add-in-None.ensures.ok)
     (unique_more rows c.args.at effect c.self.invariant.accepted fine)

@@ -14,8 +14,8 @@ skip-requires c =
     let it = (within_pairs c.self.inside.pairs c.self.inside.len c.args.self.now c.args.place c.self.invariant c.self.view_is c.requires).1.1 in
     omega (arith, it.room)
 
-pub read_columns-requires-clause-each : goal.read_columns-requires-clause-each
-read_columns-requires-clause-each c =
+pub read_columns-requires : goal.read_columns-requires
+read_columns-requires c =
     let it = (within_pairs c.self.inside.pairs c.self.inside.len c.args.self.now c.args.place c.self.invariant c.self.view_is c.requires).1.1 in
     omega (arith, two_columns c.session_schema.result.now c.session_schema.ensures.value, it.room, ap length c.skip.ensures, length-drop (2 * c.args.place) c.self.inside.pairs)
 
