@@ -1,7 +1,7 @@
 -- Rows that were accepted, and one more.
 use Rattle.std.specs.Prelude.{filter_map, All, take, is_none, not, option_and_then, is_some}
 use Rattle.std.specs.List.{list_any}
-use Rattle.std.proofs.Common.{◌≡◌, ◌∙◌, ℕ, ◌<◌, true, List, [], ◌∷◌, ◌++◌, length, slice_get, Option, Some, None, Result, Ok, Err, refl, sym, ap, subst, arith, inl, inr, length-append, append_assoc}
+use Rattle.std.proofs.Common.{◌≡◌, ◌≢◌, ◌⊎◌, ◌∙◌, ℕ, ◌<◌, true, List, [], ◌∷◌, ◌++◌, length, slice_get, Option, Some, None, Result, Ok, Err, refl, sym, ap, subst, arith, inl, inr, length-append, append_assoc}
 use Rattle.std.proofs.lemmas.Bool.{cases_lt}
 use Rattle.std.proofs.lemmas.List.{append-nil, take-append-le}
 use Rattle.std.proofs.lemmas.Option.{get_or_from_slice_get, slice_get-get_or, slice_get_within}
@@ -13,14 +13,18 @@ use Rattle.pb_form.specs.declared.fault.FormFault.{FormFault}
 use Rattle.pb_kinds.specs.declared.rows.Request.{Request}
 use Rattle.pb_kinds.specs.declared.rows.Request.TheVariants as asked
 use Rattle.pb_book.specs.Accepted.{AreAccepted, IsAcceptable}
-use Rattle.pb_book.specs.Answer.{advise_or_refused, after, after_answer, answer_if, history_or_refused, report_or_refused, stored_or_refused}
+use Rattle.pb_book.specs.Answer.{advise_or_refused, after, after_answer, answer_if, answer_to, history_or_refused, report_or_refused, stored_or_refused}
 use Rattle.pb_kinds.specs.Costs.{named_costs}
 use Rattle.pb_kinds.specs.Laws.{StoredLaw}
 use Rattle.pb_book.specs.Costs.{refusal_of_costs}
-use Rattle.pb_kinds.specs.Ranges.{IsEffectInRange}
+use Rattle.pb_kinds.specs.Ranges.{IsEffectInRange, IsRequestInRange}
 use Rattle.pb_book.specs.Refusals.{refusal_of}
 use Rattle.pb_kinds.specs.Requests.{request_in}
-use Rattle.pb_kinds.specs.Versions.{may_do}
+use Rattle.pb_kinds.specs.Versions.{may_ask, may_do}
+use Rattle.pb_kinds.specs.declared.costs.NamedCost.{NamedCost}
+use Rattle.pb_book.specs.declared.answer.Accepted.{Accepted}
+use Rattle.pb_book.specs.declared.answer.NotAccepted.{NotAccepted}
+use Rattle.pb_book.specs.declared.answer.NotAccepted.TheVariants.{NoMemory, Refused as RefusedFor}
 use Rattle.pb_book.specs.declared.rows.StoredRow.{StoredRow}
 use Rattle.pb_book.specs.Rows.{declared_of, period_place, version_at}
 
@@ -46,38 +50,63 @@ accepted_more rows stored right fine i row is = elim (cases_lt i (length rows)) 
       rw (last, take-append_seam rows (stored ∷ []), ← row_is) fine
 ]
 
+-- the rows after a request
+stored_then : (rows : List StoredRow) (at : ℕ) (effect : Effect) → AreAccepted rows → IsEffectInRange effect → may_do (version_at rows) effect ≡ true → (cause : Option Refusal)
+    → refusal_of rows effect ≡ cause → AreAccepted (after_answer rows at (stored_or_refused effect cause))
+stored_then rows at effect right range may (Some cause) is = right
+stored_then rows at effect right range may None is =
+    accepted_more rows (record { at = at; effect = effect }) right (record { no_cause = is; in_range = range; may = may })
+
+reported : (rows : List StoredRow) (at : ℕ) → AreAccepted rows → (place : Option ℕ) → AreAccepted (after_answer rows at (report_or_refused place))
+reported rows at right (Some place) = right
+reported rows at right None = right
+
+told : (rows : List StoredRow) (at : ℕ) → AreAccepted rows → (place : Option ℕ) → AreAccepted (after_answer rows at (history_or_refused place))
+told rows at right (Some place) = right
+told rows at right None = right
+
+advised : (rows : List StoredRow) (at : ℕ) → AreAccepted rows → (cause : Option Refusal) → AreAccepted (after_answer rows at (advise_or_refused cause))
+advised rows at right (Some cause) = right
+advised rows at right None = right
+
+accepted_to : (rows : List StoredRow) (at : ℕ) (costs : List NamedCost) (request : Request) → AreAccepted rows → IsRequestInRange request → may_ask (version_at rows) request ≡ true
+    → AreAccepted (after_answer rows at (answer_to rows costs request))
+accepted_to rows at costs asked.Blank right range may = right
+accepted_to rows at costs (asked.Store effect) right range may = stored_then rows at effect right range may (refusal_of rows effect) refl
+accepted_to rows at costs asked.Design right range may = right
+accepted_to rows at costs (asked.Report name) right range may = reported rows at right (period_place rows name)
+accepted_to rows at costs (asked.History name) right range may = told rows at right (period_place rows name)
+accepted_to rows at costs asked.Advise right range may = advised rows at right (refusal_of_costs (declared_of rows) costs)
+
 -- the rows after a record
 pub accepted_after : StoredLaw → (rows : List StoredRow) (at : ℕ) (fields : List (List ℕ)) → AreAccepted rows → AreAccepted (after rows at fields)
-accepted_after law rows at fields right = 
-    by (request_in (version_at rows) fields) (λ effect is. (law.in_range (version_at rows) fields effect is, law.of_version (version_at rows) fields effect is))
+accepted_after law rows at fields right = by (request_in (version_at rows) fields) refl
   where
-    stored_then : (effect : Effect) → IsEffectInRange effect × (may_do (version_at rows) effect ≡ true) → (cause : Option Refusal) → refusal_of rows effect ≡ cause
-        → AreAccepted (after_answer rows at (stored_or_refused effect cause))
-    stored_then effect good (Some cause) is = right
-    stored_then effect good None is =
-        accepted_more rows (record { at = at; effect = effect }) right (record { no_cause = is; in_range = good.0; may = good.1 })
+    range : (request : Request) → request_in (version_at rows) fields ≡ Ok request → IsRequestInRange request
+    range (asked.Store effect) is = law.in_range (version_at rows) fields effect is
+    range request is = tt
 
-    reported : (place : Option ℕ) → AreAccepted (after_answer rows at (report_or_refused place))
-    reported (Some place) = right
-    reported None = right
+    may : (request : Request) → request_in (version_at rows) fields ≡ Ok request → may_ask (version_at rows) request ≡ true
+    may (asked.Store effect) is = law.of_version (version_at rows) fields effect is
+    may request is = refl
 
-    told : (place : Option ℕ) → AreAccepted (after_answer rows at (history_or_refused place))
-    told (Some place) = right
-    told None = right
+    by : (request : Result Request FormFault) → request_in (version_at rows) fields ≡ request → AreAccepted (after_answer rows at (answer_if rows (named_costs fields) request))
+    by (Err fault) is = right
+    by (Ok request) is = accepted_to rows at (named_costs fields) request right (range request is) (may request is)
 
-    advised : (cause : Option Refusal) → AreAccepted (after_answer rows at (advise_or_refused cause))
-    advised (Some cause) = right
-    advised None = right
+-- so are those of a book that is out of memory, which stay
+memory : (result : Result Accepted NotAccepted) → (result ≡ Err NoMemory) ⊎ (result ≢ Err NoMemory)
+memory (Ok accepted) = inr (λ is. cc is)
+memory (Err (RefusedFor cause)) = inr (λ is. cc is)
+memory (Err NoMemory) = inl refl
 
-    by : (request : Result Request FormFault) → ((effect : Effect) → request ≡ Ok (asked.Store effect) → IsEffectInRange effect × (may_do (version_at rows) effect ≡ true))
-        → AreAccepted (after_answer rows at (answer_if rows (named_costs fields) request))
-    by (Err fault) range = right
-    by (Ok asked.Blank) range = right
-    by (Ok (asked.Store effect)) range = stored_then effect (range effect refl) (refusal_of rows effect) refl
-    by (Ok asked.Design) range = right
-    by (Ok (asked.Report name)) range = reported (period_place rows name)
-    by (Ok (asked.History name)) range = told (period_place rows name)
-    by (Ok asked.Advise) range = advised (refusal_of_costs (declared_of rows) (named_costs fields))
+pub accepted_answer : (rows new : List StoredRow) (at : ℕ) (costs : List NamedCost) (request : Request) (result : Result Accepted NotAccepted) → AreAccepted rows
+    → IsRequestInRange request → may_ask (version_at rows) request ≡ true → (result ≢ Err NoMemory → new ≡ after_answer rows at (answer_to rows costs request))
+    → (result ≡ Err NoMemory → new ≡ rows) → AreAccepted new
+accepted_answer rows new at costs request result right range may stored same = elim (memory result) [
+  | inl none ↦ subst AreAccepted (sym (same none)) right
+  | inr some ↦ subst AreAccepted (sym (stored some)) (accepted_to rows at costs request right range may)
+]
 
 -- all rows, one behind the other: what holds of no row and stays where one joins the others
 grown : (P : List StoredRow → Type 0) → ((rows : List StoredRow) (stored : StoredRow) → P rows → IsAcceptable rows stored.effect → P (rows ++ stored ∷ []))

@@ -11,7 +11,7 @@ use Rattle.pb_book.specs.declared.rows.Place.{Place}
 use Rattle.pb_book.specs.declared.rows.StoredRow.{StoredRow}
 use Rattle.pb_book.specs.Edits.{edit_touches, edits_of, row_touches, touches_at}
 use Rattle.pb_book.specs.Kept.{AreOf, ArePlaced, IsKept, Shelves, row_at, rows_at}
-use Rattle.pb_book.specs.Rows.{facts_of}
+use Rattle.pb_book.specs.Rows.{declared_of, facts_of, version_at}
 use Rattle.pb_book.specs.TakenOut.{touching_of}
 use Rattle.pb_book.specs.Touching.{touches_in}
 
@@ -24,6 +24,16 @@ placed_length shelves (place ∷ places) placed =
     by : length (rows_at shelves places) ≡ length places → (o : Option StoredRow) → row_at shelves place ≡ o → IsSome (row_at shelves place) → length (rows_at shelves (place ∷ places)) ≡ length (place ∷ places)
     by rest None is some = cc (rw is at some)
     by rest (Some stored) is some = rw is (omega (arith, rest))
+
+-- the version of rows that are kept
+pub version_kept : (shelves : Shelves) (kept : List KeptFact) (places edits : List Place) → IsKept shelves kept places edits → 1 ≤ length places
+    → Some (version_of shelves.declared) ≡ version_at (rows_at shelves places)
+version_kept shelves kept places edits right some =
+    by (rows_at shelves places) (omega (arith, some, placed_length shelves places right.placed)) right.parts.site
+  where
+    by : (rows : List StoredRow) → 1 ≤ length rows → shelves.declared ≡ declared_of rows → Some (version_of shelves.declared) ≡ version_at rows
+    by [] few same = absurd (omega (arith, few))
+    by (stored ∷ rows) few same = ap (λ (ds : List Declared). Some (version_of ds)) same
 
 -- the row at a place of places
 pub placed_at : (shelves : Shelves) (places : List Place) (i : ℕ) (place : Place) → ArePlaced shelves places → slice_get places i ≡ Some place

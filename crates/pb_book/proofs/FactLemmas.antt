@@ -1,11 +1,15 @@
 -- A fact that there is no cause to refuse has no fault.
 use Rattle.std.specs.Prelude.{◌||◌, not, IsSome}
 use Rattle.std.specs.List.{list_any}
-use Rattle.std.proofs.Common.{◌≡◌, ℕ, List, Bool, true, false, None, refl}
+use Rattle.std.specs.Option.{option_eq}
+use Rattle.std.proofs.Common.{◌≡◌, ◌∙◌, ℕ, List, Bool, true, false, Option, Some, None, refl, sym, ap}
 use Rattle.std.proofs.lemmas.Bool.{or_parts}
 use Rattle.pb_site.specs.declared.declared.Declared.{Declared}
+use Rattle.pb_site.specs.declared.declared.Version.{Version}
 use Rattle.pb_site.specs.Site.{version_of}
 use Rattle.pb_facts.specs.declared.fact.Fact.{Fact}
+use Rattle.pb_facts.specs.declared.fact.FactFault.{FactFault}
+use Rattle.pb_facts.specs.declared.fact.FactFault.TheVariants.{Duplicate, Order}
 use Rattle.pb_facts.specs.declared.facts.KeptFact.{KeptFact}
 use Rattle.pb_facts.specs.Fact.{is_out_of_order, is_too_long}
 use Rattle.pb_facts.specs.Facts.{fault_of, is_duplicate, is_full, is_live_with, live_place_of}
@@ -16,7 +20,9 @@ use Rattle.pb_book.specs.declared.rows.Period.{Period}
 use Rattle.pb_book.specs.Accepted.{IsAcceptable}
 use Rattle.pb_book.specs.Apart.{is_named}
 use Rattle.pb_book.specs.Kept.{AreOf}
-use Rattle.pb_book.specs.Refusals.{is_outside_table}
+use Rattle.pb_book.specs.Refusals.{is_closed, is_mismatch, is_out_of_service, is_outside_table, is_unknown, refusal_behind}
+use Rattle.pb_book.specs.Touching.{service_of}
+use Rattle.pb_book.specs.declared.answer.Refused.TheVariants.{Range}
 use Rattle.pb_book.specs.declared.rows.StoredRow.{StoredRow}
 use Rattle.pb_book.specs.Rows.{declared_of, facts_of, period_place, periods_of}
 use Rattle.pb_book.proofs.ConsistentLemmas.{fine, range_parts}
@@ -31,6 +37,34 @@ pub no_fault_of : (rows : List StoredRow) (declared : List Declared) (kept : Lis
 no_fault_of rows declared kept periods fact late right accepted =
     let good = fine (version_of (declared_of rows)) (declared_of rows) (facts_of rows) (periods_of rows) (Books fact late) accepted.no_cause in
     rw right.facts (no_fault (facts_of rows) fact good.new good.order (range_parts (version_of (declared_of rows)) (declared_of rows) (facts_of rows) fact late good.range).short good.room)
+
+-- a fact whose first fault isn't that it is a duplicate isn't one; nor is one out of order whose first fault isn't that
+pub no_duplicate : (same : FactFault → FactFault → Bool) (kept : List KeptFact) (fact : Fact) (fault : Option FactFault) (result : Bool) → same Duplicate Duplicate ≡ true
+    → fault ≡ fault_of kept fact → result ≡ option_eq same fault (Some Duplicate) → result ≡ false → is_duplicate kept fact ≡ false
+no_duplicate same kept fact fault result itself is tells none = by (is_duplicate kept fact) refl
+  where
+    by : (b : Bool) → is_duplicate kept fact ≡ b → is_duplicate kept fact ≡ false
+    by false e = e
+    by true e =
+        let first : fault_of kept fact ≡ Some Duplicate = rw e refl in
+        cc (sym none ∙ tells ∙ ap (λ (f : Option FactFault). option_eq same f (Some Duplicate)) (is ∙ first) ∙ itself)
+
+pub no_disorder : (same : FactFault → FactFault → Bool) (kept : List KeptFact) (fact : Fact) (fault : Option FactFault) (result : Bool) → same Order Order ≡ true
+    → fault ≡ fault_of kept fact → result ≡ option_eq same fault (Some Order) → result ≡ false → is_duplicate kept fact ≡ false → is_out_of_order fact ≡ false
+no_disorder same kept fact fault result itself is tells none new = by (is_out_of_order fact) refl
+  where
+    by : (b : Bool) → is_out_of_order fact ≡ b → is_out_of_order fact ≡ false
+    by false e = e
+    by true e =
+        let first : fault_of kept fact ≡ Some Order = rw (new, e) refl in
+        cc (sym none ∙ tells ∙ ap (λ (f : Option FactFault). option_eq same f (Some Order)) (is ∙ first) ∙ itself)
+
+-- a fact of a day out of service is out of range, where no cause before that holds
+pub out_of_service : (version : Version) (declared : List Declared) (kept : List KeptFact) (periods : List Period) (fact : Fact) (late : Bool)
+    → is_unknown declared kept periods (Books fact late) ≡ false → is_duplicate kept fact ≡ false → is_out_of_order fact ≡ false
+    → is_mismatch declared kept periods (Books fact late) ≡ false → is_closed version declared periods (Books fact late) ≡ false
+    → is_out_of_service (service_of version declared fact) fact ≡ true → Some Range ≡ refusal_behind version declared kept periods (Books fact late)
+out_of_service version declared kept periods fact late known new order matching opened out = rw (known, new, order, matching, opened, out) refl
 
 -- nor has a declaration a fault
 pub no_site_fault_of : (rows : List StoredRow) (declared : List Declared) (kept : List KeptFact) (periods : List Period) (row : Declared) → AreOf rows declared kept periods

@@ -9,10 +9,11 @@ use Rattle.std.specs.declared.cmp.Ordering.TheVariants.{Less, Equal, Greater}
 use Rattle.std.specs.declared.ops.Bound.TheVariants.{Included, Unbounded}
 use Rattle.std.specs.BTreeMap.Range.{IsRangeOf}
 use Rattle.std.specs.BTreeMap.{BTreeMap, get}
-use Rattle.std.proofs.Common.{◌≡◌, ◌∙◌, ◌<◌, ◌≤ℤ◌, ◌<ℤ◌, ℕ, ℤ, pos, List, [], ◌∷◌, ◌++◌, length, get_or, Bool, true, false, Option, Some, None, refl, sym, ap, arith, inl, inr, length-append}
-use Rattle.std.proofs.lemmas.Bool.{and_parts, cases_Bool, cases_lt, ltb-false, ltb-true, or_parts}
+use Rattle.std.proofs.Common.{◌≡◌, ◌∙◌, ◌<◌, ◌≤ℤ◌, ◌<ℤ◌, ℕ, ℤ, pos, List, [], ◌∷◌, ◌++◌, length, get_or, Bool, true, false, Option, Some, None, FitsSigned, nat_eq, of_z, to_z, refl, sym, ap, arith, inl, inr, length-append}
+use Rattle.std.proofs.lemmas.Bool.{and_parts, cases_Bool, cases_lt, eq-eqb, ltb-false, ltb-true, ne_eqb, or_parts}
 use Rattle.std.proofs.lemmas.Bool.Decides.{Decides-int_eq}
-use Rattle.std.proofs.lemmas.Int.{by_lt_z, int_max_is, int_min_is, ints}
+use Rattle.std.proofs.lemmas.Int.{by_lt_z, int_max_is, int_min_is, ints, to_z-of_z}
+use mir.Syntax.{w32}
 use Rattle.std.proofs.lemmas.List.{ext_get_or, get_or-map, get_or-set_other, get_or-set_same, get_or_default, length-map, length-set, map-append}
 use Rattle.std.proofs.lemmas.List.Elements.{All-push}
 use Rattle.std.proofs.lemmas.List.Folds.{find_at, list_any-append, list_any_at, list_any_none}
@@ -173,6 +174,24 @@ last_begun chosen periods begins first last place period days apart right (key, 
     ]
 
 -- ---- dips
+
+-- days of 32 bits are compared by their bits
+pub same_as : (a b : ℤ) → FitsSigned w32 a → FitsSigned w32 b → nat_eq (of_z w32 a) (of_z w32 b) ≡ int_eq a b
+same_as a b one other = elim (cases_Bool (int_eq a b)) [
+  | inl is ↦
+      let same : of_z w32 a ≡ of_z w32 b = ap (of_z w32) ((Decides-int_eq a b).0 is) in
+      eq-eqb (of_z w32 a) (of_z w32 b) same ∙ sym is
+  | inr differs ↦
+      ne_eqb (of_z w32 a) (of_z w32 b) (λ same.
+      let is : a ≡ b = sym (to_z-of_z w32 a one) ∙ ap (to_z w32) same ∙ to_z-of_z w32 b other in
+      absurd (cc (sym differs ∙ (Decides-int_eq a b).1 is))) ∙ sym differs
+]
+
+pub differ_as : (a b : ℤ) → (of_z w32 a ≡ of_z w32 b → ⊥) → int_eq a b ≡ false
+differ_as a b apart = elim (cases_Bool (int_eq a b)) [
+  | inl is ↦ absurd (apart (ap (of_z w32) ((Decides-int_eq a b).0 is)))
+  | inr differs ↦ differs
+]
 
 either_true : (a b : Bool) → (a || b) ≡ true → (a ≡ true) ⊎ (b ≡ true)
 either_true true b is = inl refl

@@ -2,7 +2,6 @@
 
 ghost use Rattle.std.specs.Prelude.{◌≡◌, ◌≢◌, ◌<◌, ◌≤◌, [], length, All, Err, Ok, IfOk, OnOk, OnErr, slice_get, Some, false, true};
 ghost use Rattle.pb_limits.specs.Limits.{most_periods};
-ghost use Rattle.pb_rows.specs.Date.{IsDay};
 ghost use Rattle.pb_site.specs.Site.{version_of};
 ghost use Rattle.pb_facts.specs.Facts.{NoRepeats};
 ghost use Rattle.pb_kinds.specs.declared.rows.Effect.TheVariants.{Books, Closes, Declares, Edits, Opens};
@@ -104,9 +103,10 @@ impl Book {
         }
     }
 
-    /// The version of the session; `None` while no row is stored.
+    /// The version of the session; `None` while no row is stored. The rows were accepted, one after the other.
     pub fn version(&self) -> Option<Version>
-        ensures { result ≡ version_at self.now }
+        ensures value { result ≡ version_at self.now }
+        ensures accepted { AreAccepted self.now }
     {
         if self.places.is_empty() {
             None
@@ -191,7 +191,7 @@ impl Book {
         match self.edit(e) {
             Some(edit) => {
                 edit_touches(&self.site, &self.facts, &edit.effect, &self.periods.at(i))
-            },
+            }
             None => false,
         }
     }
@@ -460,7 +460,7 @@ impl Book {
 
 // Whether a row takes out a period, by what it does; that a period begins or is closed takes out none.
 fn takes_out(site: &Site, facts: &Facts, effect: &Effect, period: &Period) -> bool
-    requires { IsDay period.now.first }
+    requires { IsPeriod period.now }
     ensures { result ≡ takes_out (touches_in (version_of site.now) site.now) facts.now effect.now
         period.now }
 {
@@ -475,7 +475,7 @@ fn takes_out(site: &Site, facts: &Facts, effect: &Effect, period: &Period) -> bo
 
 // Whether an edit touches a period, by what it does.
 fn edit_touches(site: &Site, facts: &Facts, effect: &Effect, period: &Period) -> bool
-    requires { IsDay period.now.first }
+    requires { IsPeriod period.now }
     ensures { result ≡ edit_touches (touches_in (version_of site.now) site.now) facts.now effect.now
         period.now }
 {
@@ -487,7 +487,7 @@ fn edit_touches(site: &Site, facts: &Facts, effect: &Effect, period: &Period) ->
 
 // Whether the fact of an id, struck or not, touches a period.
 fn touches_by_id(site: &Site, facts: &Facts, id: &Name, period: &Period) -> bool
-    requires { IsDay period.now.first }
+    requires { IsPeriod period.now }
     ensures { result ≡ touches_by_id (touches_in (version_of site.now) site.now) facts.now id.now
         period.now }
 {

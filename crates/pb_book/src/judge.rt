@@ -10,8 +10,7 @@ ghost use Rattle.pb_site.specs.Site.{version_of};
 ghost use Rattle.pb_kinds.specs.declared.rows.Effect.TheVariants.{Books, Closes, Declares, Edits, Opens};
 ghost use Rattle.pb_kinds.specs.Ranges.{IsEffectInRange};
 ghost use Rattle.pb_book.specs.Causes.{cause_of_change, cause_of_edit};
-ghost use Rattle.pb_book.specs.Refusals.{is_of_other_kind, is_of_plant, is_out_of_service, is_outside_table, is_sealed_by, kind_of_fact, names_other, refusal_behind, serves_closed};
-ghost use Rattle.pb_book.specs.Touching.{touches, touches_closed};
+ghost use Rattle.pb_book.specs.Refusals.{is_closed, is_of_other_kind, is_of_plant, is_out_of_service, is_outside_table, is_sealed_by, kind_of_fact, names_other, refusal_behind, serves_closed};
 
 use crate::answer::Refused;
 use crate::periods::Periods;
@@ -126,7 +125,6 @@ fn judge_fact(
         (Books fact.now late) }
 {
     let kind = kind_of_fact(site, fact);
-    let service = service_of(site, fact);
     if names_other(fact, kind) {
         return Some(Refused::Unknown);
     }
@@ -137,9 +135,9 @@ fn judge_fact(
         Some(Refused::Order)
     } else if is_of_other_kind(fact, kind) {
         Some(Refused::Mismatch)
-    } else if !late && periods.touches_closed(service, fact) {
+    } else if is_closed(site, periods, fact, late) {
         Some(Refused::Closed)
-    } else if is_out_of_service(service, fact)
+    } else if is_out_of_service(service_of(site, fact), fact)
         || fault == Some(FactFault::Range)
         || is_outside_table(site, fact)
     {
@@ -149,6 +147,15 @@ fn judge_fact(
     } else {
         None
     }
+}
+
+// Whether a fact touches a closed period and doesn't come as a late one.
+fn is_closed(site: &Site, periods: &Periods, fact: &Fact, late: bool) -> bool
+    requires { IsInRange fact.now }
+    ensures { result
+        ≡ is_closed (version_of site.now) site.now periods.now (Books fact.now late) }
+{
+    !late && periods.touches_closed(service_of(site, fact), fact)
 }
 
 // Whether a fact has a day on which what it names isn't in service, or a dip is neither of such a day nor of the one before the first.

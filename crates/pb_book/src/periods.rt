@@ -1,6 +1,6 @@
 // The periods of a book.
 
-ghost use Rattle.std.specs.Prelude.{◌≡◌, ◌<◌, ◌≤◌, ◌∷◌, ◌++◌, [], length, map, false, true, Some, OnOk, OnErr, position, slice_get};
+ghost use Rattle.std.specs.Prelude.{◌≡◌, ◌<◌, ◌≤◌, ◌∷◌, ◌++◌, [], All, length, map, false, true, Some, OnOk, OnErr, position, slice_get};
 ghost use Rattle.std.specs.List.{list_any};
 ghost use Rattle.indexmap.specs.IndexSet as set;
 ghost use Rattle.pb_limits.specs.Limits.{most_periods};
@@ -165,6 +165,7 @@ impl Periods {
 
     // Whether it touches the last closed period that begins by another day. No other closed period has that day.
     fn dip_touches_last(&self, service: Option<Service>, day: i32, by: i32) -> bool
+        ensures days { All IsPeriod self.now }
         ensures only { result ≡ true
             → list_any (dip_touches_closed service day) self.now ≡ true }
         ensures each { list_any (dip_touches_closed_on service day by) self.now ≡ true

@@ -1,9 +1,9 @@
 // Which periods a fact touches.
 
 ghost use Rattle.std.specs.Prelude.{◌≡◌};
-ghost use Rattle.pb_rows.specs.Date.{IsDay};
 ghost use Rattle.pb_site.specs.Site.{version_of};
 ghost use Rattle.pb_book.specs.Apart.{shares_a_day};
+ghost use Rattle.pb_book.specs.Ranges.{IsPeriod};
 ghost use Rattle.pb_book.specs.Touching.{dip_touches, is_boundary_of, service_of, touches, touches_in};
 
 use crate::rows::Period;
@@ -12,7 +12,7 @@ use pb_site::{Service, Site, closing_day, is_in_service_within, opening_day};
 
 // Whether a fact touches a period.
 pub(crate) fn touches_in(site: &Site, fact: &Fact, period: &Period) -> bool
-    requires { IsDay period.now.first }
+    requires { IsPeriod period.now }
     ensures { result ≡ touches_in (version_of site.now) site.now fact.now period.now }
 {
     touches(service_of(site, fact), fact, period)
@@ -32,7 +32,7 @@ pub(crate) fn service_of(site: &Site, fact: &Fact) -> Option<Service>
 // Whether a fact of what is in service on these days touches a period: a reading if it has its day, a transfer if they have a day in
 // common, and a dip if the content of its tank opens or closes there at the end of its day.
 fn touches(service: Option<Service>, fact: &Fact, period: &Period) -> bool
-    requires { IsDay period.now.first }
+    requires { IsPeriod period.now }
     ensures { result ≡ touches service fact.now period.now }
 {
     match fact {
@@ -51,7 +51,7 @@ pub(crate) fn shares_a_day(first: i32, last: i32, period: &Period) -> bool
 
 // Whether a dip of a tank that is in service on these days touches a period.
 pub(crate) fn dip_touches(service: Option<Service>, day: i32, period: &Period) -> bool
-    requires { IsDay period.now.first }
+    requires { IsPeriod period.now }
     ensures { result ≡ dip_touches service day period.now }
 {
     is_in_service_within(service, period.first, period.last) && is_boundary_of(service, day, period)
@@ -59,7 +59,7 @@ pub(crate) fn dip_touches(service: Option<Service>, day: i32, period: &Period) -
 
 // Whether at the end of a day the content of a tank opens or closes in a period.
 fn is_boundary_of(service: Option<Service>, day: i32, period: &Period) -> bool
-    requires { IsDay period.now.first }
+    requires { IsPeriod period.now }
     ensures { result ≡ is_boundary_of service day period.now }
 {
     day == closing_day(service, period.last) || day == opening_day(service, period.first)

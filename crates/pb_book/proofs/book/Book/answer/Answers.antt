@@ -29,5 +29,5 @@ returns-in-Advise-clause-stored c =
     λ known. rw c.in-Advise.is (rows_stay c.args.self.now c.args.at (refusal_of_costs (declared_of c.args.self.now) (named_costs c.args.row.now)))
 
 pub returns-in-Advise-clause-no_repeats : goal.returns-in-Advise-clause-no_repeats
-returns-in-Advise-clause-no_repeats c = 
+returns-in-Advise-clause-no_repeats c =
     λ stored. absurd (never_stored (refusal_of_costs (declared_of c.args.self.now) (named_costs c.args.row.now)) c.advise.result (c.advise.ensures (sure c.advise.result stored)) stored)
