@@ -3,8 +3,8 @@
 use crate::book::first_refused;
 use pb_book::Book;
 use pb_graph::Graph;
-use pb_period::{Assembly, assemble, design};
-use pb_rows::Rows;
+use pb_period::{Assembly, assemble, design, names};
+use pb_rows::{NameList, Rows};
 use std::alloc::Global;
 use std::test::Fail;
 
@@ -19,6 +19,10 @@ const REFINERY: &[u8] =
 /// Two days, on the second of which one stream isn't read.
 const TWO_DAYS: &[u8] =
     b"unit,U\nstream,A,env,U,metered,1\nstream,B,U,env,metered,1\nperiod,d1,2024-03-01,2024-03-02\nreading,r1,A,2024-03-01,5,0\nreading,r2,A,2024-03-02,5,0\nreading,r3,B,2024-03-01,4,0\n";
+
+/// A plant whose tank and streams are in service on some days alone, with a period before these days, one of them and one after.
+const SERVED: &[u8] =
+    b"version,2\nboundary,PORT\nunit,U\ntank,K,1,2024-03-02,2024-03-04\nstrap,K,0,0\nstrap,K,1000,1000\nstream,A,PORT,U,metered,1,2024-03-02,2024-03-03\nstream,B,U,K,plain,0\nstream,T,K,PORT,batch,1,2024-03-01,2024-03-03\nperiod,d0,2024-03-01,2024-03-01\nperiod,d1,2024-03-02,2024-03-05\nperiod,d2,2024-03-06,2024-03-06\nreading,r1,A,2024-03-02,20,0\nreading,r2,A,2024-03-03,30,0\ntransfer,t1,T,2024-03-02,2024-03-03,20,0\ndip,p1,K,2024-03-01,0,1000000,0\ndip,p2,K,2024-03-04,30,1000000,0\n";
 
 // The graph of a period of a book that is given these rows, or without a period that of a design.
 fn graph_of(
@@ -180,6 +184,68 @@ fn tells_the_first_stream_over_the_limits(rt: HostRuntime) -> Result<(), Fail> {
         assert!(rt;
             busy(rt.alloc(), transfers)? == want,
             "{transfers} transfers"
+        );
+    }
+    Ok(())
+}
+
+#[test]
+fn measures_what_is_in_service(rt: HostRuntime) -> Result<(), Fail> {
+    for (period, j, want) in [
+        (0, 0, None),
+        (0, 1, Some((0, 1))),
+        (0, 2, None),
+        (1, 0, Some((30, 1))),
+        (1, 1, Some((50, 1))),
+        (1, 2, None),
+        (1, 3, Some((20, 1))),
+        (2, 0, None),
+    ] {
+        let found = measured(rt.alloc(), SERVED, b"", Some(period), j)?;
+        assert!(rt; found == Ok(want), "the stream {j} of the period {period}");
+    }
+    Ok(())
+}
+
+// Appends names, each after a space.
+fn push_names(out: &mut Vec<u8>, names: &NameList) -> Result<(), Fail> {
+    for name in names.iter() {
+        out.push(b' ')?;
+        out.extend_from_slice(name.bytes())?;
+    }
+    Ok(())
+}
+
+// The names of the nodes and streams of a period, each after a space, with a stroke between.
+fn named(alloc: Global, text: &[u8], period: u32) -> Result<Vec<u8>, Fail> {
+    let mut book = Book::new(alloc);
+    if let Some(place) = first_refused(&mut book, 0, &Rows::of(alloc, text)?) {
+        return Err(place)?;
+    }
+    if period >= book.periods() {
+        return Err("no such period")?;
+    }
+    let names = names(alloc, &book, period)?;
+    let mut out = Vec::new(alloc);
+    push_names(&mut out, &names.nodes)?;
+    out.extend_from_slice(b" |")?;
+    push_names(&mut out, &names.streams)?;
+    Ok(out)
+}
+
+#[test]
+fn names_what_is_in_service(rt: HostRuntime) -> Result<(), Fail> {
+    let table: [(&[u8], u32, &[u8]); 4] = [
+        (SERVED, 0, b" env U K | B T"),
+        (SERVED, 1, b" env U K | K A B T"),
+        (SERVED, 2, b" env U K | B"),
+        (REFINERY, 0, b" env CDU TK1 | TK1 CRUDE RES NAPH SHIP"),
+    ];
+    for (text, period, want) in table {
+        let found = named(rt.alloc(), text, period)?;
+        assert!(rt;
+            found.as_slice() == want,
+            "the names of the period {period} of {text:?}"
         );
     }
     Ok(())

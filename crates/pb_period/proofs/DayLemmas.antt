@@ -2,8 +2,10 @@
 use Rattle.std.specs.Prelude.{is_some, if◌then◌else◌, filter_map}
 use Rattle.std.specs.Int.{int_gap}
 use Rattle.std.specs.List.{list_all}
-use Rattle.std.proofs.Common.{◌≡◌, ◌∙◌, ◌+◌, ◌≤◌, ◌≤ℤ◌, ◌<ℤ◌, ◌+ℤ◌, ◌-ℤ◌, suc, ℤ, pos, negsuc, List, [], ◌∷◌, Bool, Option, Some, None, refl, sym, ap, arith}
-use Rattle.std.proofs.lemmas.Int.{ints}
+use Rattle.std.proofs.Common.{◌≡◌, ◌∙◌, ◌+◌, ◌≤◌, ◌≤ℤ◌, ◌<ℤ◌, ◌+ℤ◌, ◌-ℤ◌, ℕ, suc, ℤ, pos, negsuc, List, [], ◌∷◌, Bool, Option, Some, None, refl, sym, ap, arith}
+use Rattle.std.proofs.lemmas.Int.{int_max_is, int_min_is, ints}
+use Rattle.pb_site.specs.declared.declared.Service.{Service}
+use Rattle.pb_site.specs.Service.{first_served, last_served}
 use Rattle.pb_period.specs.declared.amount.Amount.{Amount}
 use Rattle.pb_period.specs.Amounts.{IsAmount, IsSpan, sum_of_two}
 use Rattle.pb_period.specs.Days.{day_count, days_from}
@@ -24,8 +26,11 @@ gap_next a b lt =
     let next = gap_is (a +ℤ pos 1) b (omega (arith, ints, lt)) in
     omega (arith, ints, here, next)
 
-gap_none : (a : ℤ) → int_gap a a ≡ 0
-gap_none a = let here = gap_is a a (omega (arith, ints)) in omega (arith, ints, here)
+pub gap_past : (a b : ℤ) → b ≤ℤ a → int_gap a b ≡ 0
+gap_past (pos a) (pos b) le = omega (arith, ints, le)
+gap_past (pos a) (negsuc b) le = omega (arith, ints, le)
+gap_past (negsuc a) (pos b) le = absurd (omega (arith, ints, le))
+gap_past (negsuc a) (negsuc b) le = omega (arith, ints, le)
 
 -- the days from one day up to another
 abbrev pub days_until : ℤ → ℤ → List ℤ
@@ -34,8 +39,8 @@ days_until day end = days_from day (int_gap day end)
 days_next : (day end : ℤ) → day <ℤ end → days_until day end ≡ day ∷ days_until (day +ℤ pos 1) end
 days_next day end lt = ap (days_from day) (gap_next day end lt)
 
-days_end : (end : ℤ) → days_until end end ≡ []
-days_end end = ap (days_from end) (gap_none end)
+days_past : (day end : ℤ) → end ≤ℤ day → days_until day end ≡ []
+days_past day end le = ap (days_from day) (gap_past day end le)
 
 -- a total with what a meter read on some more days, where it read each of them
 abbrev pub read_more : Amount → (ℤ → Option Amount) → List ℤ → Option Amount
@@ -61,22 +66,30 @@ pub read_none : (total : Amount) (read : ℤ → Option Amount) (day end : ℤ) 
 read_none total read day end lt is = ap (read_more total read) (days_next day end lt) ∙ rw (← is) refl
 
 -- no more days
-pub read_end : (total : Amount) (read : ℤ → Option Amount) (end : ℤ) → read_more total read (days_until end end) ≡ Some total
-read_end total read end = ap (read_more total read) (days_end end) ∙ ap (λ (z : Amount). Some z) (more_none total)
+pub read_end : (total : Amount) (read : ℤ → Option Amount) (day end : ℤ) → end ≤ℤ day → read_more total read (days_until day end) ≡ Some total
+read_end total read day end le = ap (read_more total read) (days_past day end le) ∙ ap (λ (z : Amount). Some z) (more_none total)
 
 -- what a loop over days keeps, a day later
-pub step : (total more : Amount) (read : ℤ → Option Amount) (first day next end : ℤ) (whole : Option Amount) → first ≤ℤ day → day <ℤ end → next ≡ day +ℤ pos 1
-    → Some more ≡ read day → IsAmount (int_gap first day) total → IsAmount 1 more → read_more total read (days_until day end) ≡ whole
-    → (first ≤ℤ next) × (next ≤ℤ end) × (read_more (sum_of_two total more) read (days_until next end) ≡ whole) × IsAmount (int_gap first next) (sum_of_two total more)
-step total more read first day next end whole from lt is_next is small small_more so_far =
+pub step : (total more : Amount) (read : ℤ → Option Amount) (first day next end : ℤ) (most : ℕ) (whole : Option Amount) → first ≤ℤ day → day <ℤ end → next ≡ day +ℤ pos 1
+    → (end -ℤ first) ≤ℤ pos most → Some more ≡ read day → IsAmount (int_gap first day) total → IsAmount 1 more → read_more total read (days_until day end) ≡ whole
+    → (first ≤ℤ next) × (int_gap first next ≤ most) × (read_more (sum_of_two total more) read (days_until next end) ≡ whole) × IsAmount (int_gap first next) (sum_of_two total more)
+step total more read first day next end most whole from lt is_next short is small small_more so_far =
     let later = gap_is first day from in
     let much_later = gap_is first next (omega (arith, ints, from, is_next)) in
     let counted : int_gap first day + 1 ≤ int_gap first next = omega (arith, ints, later, much_later, is_next) in (
       omega (arith, ints, from, is_next),
-      omega (arith, ints, lt, is_next),
+      omega (arith, ints, lt, is_next, much_later, short),
       ap (λ (d : ℤ). read_more (sum_of_two total more) read (days_until d end)) is_next ∙ sym (read_next total more read day end lt is) ∙ so_far,
       of_more_facts (int_gap first day + 1) (int_gap first next) (sum_of_two total more) counted (sum_is_amount (int_gap first day) 1 total more small small_more),
     )
+
+-- the days on which something is in service are some of the days
+pub served_within : (service : Option Service) (first last : ℤ) → (first ≤ℤ first_served service first) × (last_served service last ≤ℤ last)
+served_within None first last = (omega (arith, ints), omega (arith, ints))
+served_within (Some service) first last =
+    let greatest = int_max_is first service.since in
+    let least = int_min_is last service.until in
+    (omega (arith, ints, greatest), omega (arith, ints, least))
 
 -- ---- the days of a transfer
 

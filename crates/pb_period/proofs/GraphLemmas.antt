@@ -1,6 +1,6 @@
 -- Streams of a graph, arc by arc, and the first of them that is over the limits.
-use Rattle.std.specs.Prelude.{nat_lt, int_lt, option_map, unwrap_or, map, position, IfSome, All}
-use Rattle.std.proofs.Common.{◌≡◌, ◌∙◌, ◌+◌, ◌≤◌, ◌≤ℤ◌, ℕ, zero, suc, pos, unsigned_abs, List, [], ◌∷◌, ◌++◌, length, drop, slice_get, true, false, Option, Some, None, Ok, Err, inl, inr, refl, sym, ap, ap₂, append_assoc, arith, length-append, ◌<◌, Bool, get_or}
+use Rattle.std.specs.Prelude.{filter, nat_lt, int_lt, option_map, unwrap_or, map, position, IfSome, All}
+use Rattle.std.proofs.Common.{◌≡◌, ◌∙◌, ◌+◌, ◌≤◌, ◌≤ℤ◌, ℕ, zero, suc, pos, unsigned_abs, List, [], ◌∷◌, ◌++◌, length, drop, slice_get, true, false, Option, Some, None, Ok, Err, inl, inr, refl, sym, ap, ap₂, subst, cond, append_assoc, arith, length-append, ◌<◌, Bool, get_or}
 use Rattle.std.proofs.lemmas.Bool.{cases_Bool, or_parts, ltb-false, ltb-true}
 use Rattle.std.proofs.lemmas.Int.{ints}
 use Rattle.std.proofs.lemmas.List.{append-nil}
@@ -11,19 +11,25 @@ use Rattle.pb_limits.specs.Limits.{most_value, most_variance}
 use Rattle.pb_graph.specs.declared.records.Meas.{Meas}
 use Rattle.pb_graph.specs.declared.records.Stream.{Stream}
 use Rattle.pb_graph.specs.ProcessGraph.{IsMeasurement, IsWithinLimits, ProcessGraph}
-use Rattle.pb_site.specs.Site.{arcs_of, node_names}
+use Rattle.pb_site.specs.Site.{arcs_of}
 use Rattle.pb_facts.specs.Facts.{live_facts}
 use Rattle.pb_book.specs.declared.rows.StoredRow.{StoredRow}
 use Rattle.pb_book.specs.Rows.{declared_of, facts_of}
 use Rattle.pb_period.specs.declared.days.Days.{Days}
 use Rattle.pb_period.specs.declared.graph.Assembly.TheVariants.{Over}
 use Rattle.pb_period.specs.Measurement.{measured}
-use Rattle.pb_period.specs.PeriodGraph.{assembly_of, is_over, is_over_limits, period_graph, stream_with, unless_over}
+use Rattle.pb_period.specs.PeriodGraph.{is_over, is_over_limits, stream_with, unless_over, within_limits}
 
 some_is : {B : Type 0} (a b : B) → Some a ≡ Some b → a ≡ b
 some_is a b is = ap (λ o. unwrap_or o a) is
 
--- what is left from a place on, with the item at the place first
+all_head : {A : Type 0} (P : A → Type 0) (x : A) (xs : List A) → All P (x ∷ xs) → P x
+all_head P x xs all = all 0 x (omega arith)
+
+all_tail : {A : Type 0} (P : A → Type 0) (x : A) (xs : List A) → All P (x ∷ xs) → All P xs
+all_tail P x xs all = λ k d lt. all (suc k) d (omega (arith, lt))
+
+-- what is made of what is left from a place on, with the item at the place first
 pub next : {A B : Type 0} (f : A → B) (xs : List A) (j : ℕ) (s : B) → Some s ≡ option_map f (slice_get xs j) → map f (drop j xs) ≡ s ∷ map f (drop (j + 1) xs)
 next f [] j s is = cc is
 next f (x ∷ xs) zero s is = ap (λ b. b ∷ map f xs) (sym (some_is s (f x) is))
@@ -42,8 +48,8 @@ one_more f whole made xs j s is so_far = so_far ∙ ap (λ rest. made ++ rest) (
 
 -- ---- the limits
 
-within_limits : (meas : Meas) → is_over_limits meas ≡ false → pos 1 ≤ℤ meas.variance → IsMeasurement meas
-within_limits meas not_over least =
+meas_within : (meas : Meas) → is_over_limits meas ≡ false → pos 1 ≤ℤ meas.variance → IsMeasurement meas
+meas_within meas not_over least =
     let parts = or_parts (nat_lt most_value (unsigned_abs meas.value)) (int_lt (pos most_variance) meas.variance) not_over in
     record { value = omega (arith, ltb-false most_value (unsigned_abs meas.value) parts.0); least = least; greatest = omega (arith, ints, parts.1) }
 
@@ -61,7 +67,7 @@ within s = by s.meas
   where
     by : (meas : Option Meas) → Rattle.std.specs.Option.option_map_or is_over_limits meas false ≡ false → IfSome meas (λ m. pos 1 ≤ℤ m.variance) → IfSome meas IsMeasurement
     by None not_over least = tt
-    by (Some meas) not_over least = within_limits meas not_over least
+    by (Some meas) not_over least = meas_within meas not_over least
 
 pub not_over : (s : Stream) → IsWithinLimits s → is_over s ≡ false
 not_over s = by s.meas
@@ -101,21 +107,49 @@ first_over made rest s fits over =
     (λ k lt. rw (get_or-append made (s ∷ rest) s k lt) (fits k s lt))
     (rw (get_or-append_seam made s rest s) over)
 
--- ---- the graph of a period
+-- ---- the graph of some days
 
 abbrev pub streams_of : List StoredRow → Days → List Stream
-streams_of rows days = map (stream_with (measured (declared_of rows) (live_facts (facts_of rows)) days)) (arcs_of (declared_of rows))
+streams_of rows days = map (stream_with (measured (declared_of rows) (live_facts (facts_of rows)) days None)) (arcs_of (declared_of rows))
 
 -- a stream that is over the limits, behind those that aren't
-pub over_at : (rows : List StoredRow) (days : Days) (made rest : List Stream) (s : Stream) (j : ℕ) → streams_of rows days ≡ made ++ s ∷ rest → AllWithin made → is_over s ≡ true
-    → length made ≡ j → Err (Over j) ≡ assembly_of rows days
-over_at rows days made rest s j split fits over is_j =
-    sym (ap (unless_over (period_graph rows days)) (ap (position is_over) split ∙ first_over made rest s fits over ∙ ap (λ (n : ℕ). Some n) is_j))
+pub over_at : (graph : ProcessGraph) (made rest : List Stream) (s : Stream) (j : ℕ) → graph.streams ≡ made ++ s ∷ rest → AllWithin made → is_over s ≡ true → length made ≡ j
+    → Err (Over j) ≡ within_limits graph
+over_at graph made rest s j split fits over is_j = sym (ap (unless_over graph) (ap (position is_over) split ∙ first_over made rest s fits over ∙ ap (λ (n : ℕ). Some n) is_j))
 
 -- no stream is over the limits
-pub finished : (rows : List StoredRow) (days : Days) (graph : ProcessGraph) → graph.nodes ≡ length (node_names (declared_of rows)) → streams_of rows days ≡ graph.streams
-    → AllWithin graph.streams → Ok graph ≡ assembly_of rows days
-finished rows days graph nodes all fits =
-    let none : position is_over (streams_of rows days) ≡ None = ap (position is_over) all ∙ none_over graph.streams fits in
-    let whole : graph ≡ period_graph rows days = ap₂ (λ (n : ℕ) (streams : List Stream). let g : ProcessGraph = record { nodes = n; streams = streams } in g) nodes (sym all) in
-    ap (λ (g : ProcessGraph). unless_over g None) whole ∙ sym (ap (unless_over (period_graph rows days)) none)
+pub finished : (whole graph : ProcessGraph) → graph.nodes ≡ whole.nodes → whole.streams ≡ graph.streams → AllWithin graph.streams → Ok graph ≡ within_limits whole
+finished whole graph nodes all fits =
+    let none : position is_over whole.streams ≡ None = ap (position is_over) all ∙ none_over graph.streams fits in
+    let same : graph ≡ whole = ap₂ (λ (n : ℕ) (streams : List Stream). let g : ProcessGraph = record { nodes = n; streams = streams } in g) nodes (sym all) in
+    ap (λ (g : ProcessGraph). unless_over g None) same ∙ sym (ap (unless_over whole) none)
+
+-- ---- those that pass a test
+
+-- what is left from a place on, with the item at the place first
+pub left_at : {A : Type 0} (xs : List A) (j : ℕ) (x : A) → slice_get xs j ≡ Some x → drop j xs ≡ x ∷ drop (j + 1) xs
+left_at [] j x at = cc at
+left_at (y ∷ xs) zero x at = ap (λ (z : _). z ∷ xs) (some_is y x at)
+left_at (y ∷ xs) (suc j) x at =
+    let later : suc (j + 1) ≡ suc j + 1 = omega arith in
+    left_at xs j x at ∙ ap (λ (n : ℕ). x ∷ drop n (y ∷ xs)) later
+
+-- the item at a place passes
+pub kept_next : {A : Type 0} (p : A → Bool) (xs : List A) (j : ℕ) (x : A) → slice_get xs j ≡ Some x → p x ≡ true → filter p (drop j xs) ≡ x ∷ filter p (drop (j + 1) xs)
+kept_next p xs j x at passes = ap (filter p) (left_at xs j x at) ∙ ap (λ (b : Bool). cond b (x ∷ filter p (drop (j + 1) xs)) (filter p (drop (j + 1) xs))) passes
+
+-- it fails
+pub left_next : {A : Type 0} (p : A → Bool) (xs : List A) (j : ℕ) (x : A) → slice_get xs j ≡ Some x → p x ≡ false → filter p (drop j xs) ≡ filter p (drop (j + 1) xs)
+left_next p xs j x at fails = ap (filter p) (left_at xs j x at) ∙ ap (λ (b : Bool). cond b (x ∷ filter p (drop (j + 1) xs)) (filter p (drop (j + 1) xs))) fails
+
+-- what all that pass have, the item at a place has that passes
+pub kept_has : {A : Type 0} (P : A → Type 0) (p : A → Bool) (xs : List A) (j : ℕ) (x : A) → slice_get xs j ≡ Some x → p x ≡ true → All P (filter p xs) → P x
+kept_has P p [] j x at passes all = cc at
+kept_has P p (y ∷ xs) zero x at passes all =
+    let same : y ≡ x = some_is y x at in
+    let here : p y ≡ true = ap p same ∙ passes in
+    subst P same (all_head P y (filter p xs) (rw here at all))
+kept_has P p (y ∷ xs) (suc j) x at passes all = elim (cases_Bool (p y)) [
+  | inl here ↦ kept_has P p xs j x at passes (all_tail P y (filter p xs) (rw here at all))
+  | inr gone ↦ kept_has P p xs j x at passes (rw gone at all)
+]

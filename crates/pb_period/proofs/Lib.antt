@@ -6,3 +6,4 @@ mod PlantLemmas
 mod TransferLemmas
 mod VarianceLemmas
 mod UntouchedLemmas
+mod ClosedLemmas

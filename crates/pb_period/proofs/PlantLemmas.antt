@@ -9,6 +9,7 @@ use Rattle.std.proofs.lemmas.List.{take_all}
 use Rattle.pb_site.specs.declared.declared.Declared.{Declared}
 use Rattle.pb_site.specs.Faults.{first_fault, is_duplicate as is_duplicate_declared, is_full as is_full_declared, is_mismatch as is_mismatch_declared, is_out_of_order as is_out_of_order_declared, is_unknown as is_unknown_declared}
 use Rattle.pb_site.specs.Laws.{IsPlant, PlantLaw}
+use Rattle.pb_site.specs.Site.{version_of}
 use Rattle.pb_facts.specs.Fact.{IsInRange}
 use Rattle.pb_facts.specs.declared.facts.KeptFact.{KeptFact}
 use Rattle.pb_book.specs.declared.answer.Refused.TheVariants.{Unknown, Duplicate, Order, Mismatch, Sealed, Closed, Range, Full}
@@ -26,7 +27,7 @@ pub record IsReady (rows : List StoredRow) : Type 0 where
   pub ranges : All (λ (k : KeptFact). IsInRange k.fact) (facts_of rows)
 
 -- a declaration that there is no cause to refuse has no fault
-no_fault : (a b c d e f : Bool)
+pub no_fault : (a b c d e f : Bool)
     → (if a then Some Unknown else if b then Some Duplicate else if c then Some Order else if d then Some Mismatch else if e then Some Sealed
     else if false then Some Closed else if false then Some Range else if f then Some Full else None) ≡ None → first_fault a b c d f ≡ None
 no_fault true b c d e f none = cc none
@@ -51,8 +52,9 @@ one_more : PlantLaw → (rows : List StoredRow) (at : ℕ) (effect : Effect) →
 one_more law rows at (Declares declared) right accepted =
     let stored : StoredRow = record { at = at; effect = Declares declared } in
     let before = declared_of rows in
+    let version = version_of before in
     let none = no_fault (is_unknown_declared before declared) (is_duplicate_declared before declared) (is_out_of_order_declared before declared) (is_mismatch_declared before declared)
-    (is_sealed (periods_of rows) (Declares declared)) (is_full_declared before declared) accepted.no_cause in
+    (is_sealed version (periods_of rows) (Declares declared)) (is_full_declared version before declared) accepted.no_cause in
     subst IsPlant (sym (declared_more rows stored)) (law.1 before declared right accepted.in_range none)
 one_more law rows at (Opens name first last) right accepted = same_plant rows (record { at = at; effect = Opens name first last }) refl right
 one_more law rows at (Books fact late) right accepted = same_plant rows (record { at = at; effect = Books fact late }) refl right
@@ -71,8 +73,10 @@ plant_up_to law rows accepted (suc n) le =
     let next = accepted n stored (slice_get-get_or rows n some_row within) in
     subst (λ (rs : List StoredRow). IsPlant (declared_of rs)) (sym (take-suc rows n some_row within)) (one_more law (take n rows) stored.at stored.effect before next)
 
+-- accepted rows declare a plant
+pub plant_of : PlantLaw → (rows : List StoredRow) → AreAccepted rows → IsPlant (declared_of rows)
+plant_of law rows accepted =
+    subst (λ (rs : List StoredRow). IsPlant (declared_of rs)) (take_all (length rows) rows (omega arith)) (plant_up_to law rows accepted (length rows) (omega arith))
+
 pub ready : PlantLaw → AcceptedLaw → (rows : List StoredRow) → AreAccepted rows → IsReady rows
-ready law book rows accepted = record {
-  plant = subst (λ (rs : List StoredRow). IsPlant (declared_of rs)) (take_all (length rows) rows (omega arith)) (plant_up_to law rows accepted (length rows) (omega arith));
-  ranges = (book.consistent rows accepted).ranges;
-}
+ready law book rows accepted = record { plant = plant_of law rows accepted; ranges = (book.consistent rows accepted).ranges }

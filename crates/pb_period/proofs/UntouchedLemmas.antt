@@ -13,12 +13,18 @@ use Rattle.std.proofs.lemmas.List.Elements.{filter-append, filter_map-append}
 use Rattle.std.proofs.lemmas.List.Sums.{fold_push}
 use Rattle.pb_rows.specs.Name.{same_name}
 use Rattle.pb_graph.specs.declared.records.Meas.{Meas}
+use Rattle.pb_graph.specs.declared.records.Stream.{Stream}
 use Rattle.pb_graph.specs.ProcessGraph.{ProcessGraph}
 use Rattle.pb_site.specs.declared.declared.Arc.{Arc}
 use Rattle.pb_site.specs.declared.declared.ArcKind.{ArcKind}
 use Rattle.pb_site.specs.declared.declared.ArcKind.TheVariants.{Metered, Batch, Plain, Tank}
 use Rattle.pb_site.specs.declared.declared.Declared.{Declared}
-use Rattle.pb_site.specs.Site.{arcs_of, node_names, points_of}
+use Rattle.pb_site.specs.declared.declared.Service.{Service}
+use Rattle.pb_site.specs.declared.declared.Version.{Version}
+use Rattle.pb_site.specs.declared.declared.Version.TheVariants.{One, Two}
+use Rattle.pb_site.specs.OnDays.{arcs_on, is_arc_in_service, nodes_on, place_among}
+use Rattle.pb_site.specs.Service.{day_of_closing, day_of_opening, is_in_service_within}
+use Rattle.pb_site.specs.Site.{AreDistinct, arc_names, arcs_of, node_names, points_of, service_in, version_of}
 use Rattle.pb_facts.specs.declared.fact.Change.{Change}
 use Rattle.pb_facts.specs.declared.fact.Change.TheVariants.{Amount as AmountChange, Level}
 use Rattle.pb_facts.specs.declared.fact.Fact.{Fact}
@@ -32,18 +38,19 @@ use Rattle.pb_kinds.specs.declared.rows.Edit.TheVariants as edits
 use Rattle.pb_kinds.specs.declared.rows.Effect.TheVariants.{Declares, Opens, Books, Edits, Closes}
 use Rattle.pb_book.specs.declared.rows.Period.{Period}
 use Rattle.pb_book.specs.Apart.{shares_a_day}
-use Rattle.pb_book.specs.TakenOut.{takes_out, touches_by_id}
+use Rattle.pb_book.specs.TakenOut.{takes_out, touches_by_id, touching_of}
 use Rattle.pb_book.specs.declared.rows.StoredRow.{StoredRow}
 use Rattle.pb_book.specs.Rows.{declaration_in, declared_of, facts_after, facts_of, live}
-use Rattle.pb_book.specs.Touching.{is_boundary_of, touches}
+use Rattle.pb_book.specs.Touching.{is_boundary_of, touches, touches_in}
 use Rattle.pb_period.specs.declared.amount.Amount.{Amount}
 use Rattle.pb_period.specs.declared.days.Days.{Days}
 use Rattle.pb_period.specs.Days.{day_count, days_from, days_of, each_of}
 use Rattle.pb_period.specs.Facts.{content_of, read_amount, read_on, share_on, total_of, transferred}
 use Rattle.pb_period.specs.Laws.{LeavesDays}
-use Rattle.pb_period.specs.Measurement.{amount_of, change_of, measured, measurement, read_total}
-use Rattle.pb_period.specs.PeriodGraph.{assembly_of, is_over, period_graph, stream_with, unless_over}
-use Rattle.pb_period.proofs.DayLemmas.{gap_is}
+use Rattle.pb_period.specs.Measurement.{amount_of, change_of, measured, measurement, read_total, served_days}
+use Rattle.pb_period.specs.PeriodGraph.{measured_served, period_graph, stream_among, stream_with, within_limits}
+use Rattle.pb_period.proofs.DayLemmas.{served_within}
+use Rattle.pb_period.proofs.PlainLemmas.{graph_by, graph_is}
 
 -- ---- what is found, and what is given, among those that pass a wider test
 
@@ -101,6 +108,16 @@ same_total read other days same =
     amounts_read [] same = refl
     amounts_read (day ∷ days) (here, rest) = ap₂ (λ (o : Option Amount) (xs : List Amount). cons_option o xs) here (amounts_read days rest)
 
+-- ---- pairs of a list
+
+pairs_tail : {A : Type 0} (R : A → A → Type 0) (x : A) (xs : List A) → AllPairs R (x ∷ xs) → AllPairs R xs
+pairs_tail R x xs pairs i j d lt within = pairs (suc i) (suc j) d (omega (arith, lt)) (omega (arith, within))
+
+-- what holds of each item that stands behind the first one
+heads : {A : Type 0} (R : A → A → Type 0) (P : A → Type 0) (x : A) (xs : List A) → ((y : A) → R x y → P y) → ((k : ℕ) (d : A) → k < length xs → R x (slice_index_or xs k d)) → AllByRecursion P xs
+heads R P x [] so each = tt
+heads R P x (y ∷ xs) so each = (so y (each 0 y (omega arith)), heads R P x xs so (λ k d lt. each (suc k) d (omega (arith, lt))))
+
 -- ---- what the facts that touch a period say of its days is what all of them say
 
 yes_le : (a b : ℤ) → a ≤ℤ b → int_le a b ≡ true
@@ -109,21 +126,28 @@ yes_le a b le = elim (cases_Bool (int_le a b)) [ inl is ↦ is | inr not ↦ abs
 no_le : (a b : ℤ) → b <ℤ a → int_le a b ≡ false
 no_le a b lt = elim (cases_Bool (int_le a b)) [ inl is ↦ absurd (omega (arith, ints, is, lt)) | inr not ↦ not ]
 
-reading_touches : (period : Period) (stream : List ℕ) (day : ℤ) → period.first ≤ℤ day → day ≤ℤ period.last → (fact : Fact) → is_reading_on stream day fact ≡ true → touches fact period ≡ true
-reading_touches period stream day from to (Reading id own d grams variance) is =
+reading_touches : (version : Version) (declared : List Declared) (period : Period) (stream : List ℕ) (day : ℤ) → period.first ≤ℤ day → day ≤ℤ period.last
+    → (fact : Fact) → is_reading_on stream day fact ≡ true → touches_in version declared fact period ≡ true
+reading_touches version declared period stream day from to (Reading id own d grams variance) is =
     let on = and_parts (same_name own stream) (int_eq d day) is in
     let same : d ≡ day = (Decides-int_eq d day).0 on.1 in
     subst (λ (e : ℤ). shares_a_day e e period ≡ true) (sym same) (rw (yes_le day period.last to, yes_le period.first day from) refl)
-reading_touches period stream day from to (Transfer id own first last grams variance) is = cc is
-reading_touches period stream day from to (Dip id tank d mm density variance) is = cc is
+reading_touches version declared period stream day from to (Transfer id own first last grams variance) is = cc is
+reading_touches version declared period stream day from to (Dip id tank d mm density variance) is = cc is
 
-dip_touches : (period : Period) (tank : List ℕ) (day : ℤ) → is_boundary_of day period ≡ true → (fact : Fact) → is_dip_on tank day fact ≡ true → touches fact period ≡ true
-dip_touches period tank day boundary (Reading id own d grams variance) is = cc is
-dip_touches period tank day boundary (Transfer id own first last grams variance) is = cc is
-dip_touches period tank day boundary (Dip id own d mm density variance) is =
-    let on = and_parts (same_name own tank) (int_eq d day) is in
+dip_touches : (version : Version) (declared : List Declared) (period : Period) (service : Option Service) (tank : List ℕ) (day : ℤ) → service_in version declared tank ≡ service
+    → is_in_service_within service period.first period.last ≡ true → is_boundary_of service day period ≡ true
+    → (fact : Fact) → is_dip_on tank day fact ≡ true → touches_in version declared fact period ≡ true
+dip_touches version declared period service tank day own serves boundary (Reading id other d grams variance) is = cc is
+dip_touches version declared period service tank day own serves boundary (Transfer id other first last grams variance) is = cc is
+dip_touches version declared period service tank day own serves boundary (Dip id other d mm density variance) is =
+    let on = and_parts (same_name other tank) (int_eq d day) is in
     let same : d ≡ day = (Decides-int_eq d day).0 on.1 in
-    subst (λ (e : ℤ). is_boundary_of e period ≡ true) (sym same) boundary
+    let named : other ≡ tank = (bytes_decides other tank).0 on.0 in
+    let here : touches service (Dip id other day mm density variance) period ≡ true = rw serves boundary in
+    let own_here : service_in version declared other ≡ service = ap (service_in version declared) named ∙ own in
+    subst (λ (s : Option Service). touches s (Dip id other d mm density variance) period ≡ true) (sym own_here)
+    (subst (λ (e : ℤ). touches service (Dip id other e mm density variance) period ≡ true) (sym same) here)
 
 no_share : (period : Period) (first last : ℤ) (amount : Amount) → shares_a_day first last period ≡ false
     → share_on first last amount (int_max period.first first) (int_min period.last last) ≡ None
@@ -141,10 +165,11 @@ no_share period first last amount apart =
     ] in
     rw none refl
 
-none_moved : (period : Period) (stream : List ℕ) (fact : Fact) → touches fact period ≡ false → transferred (days_of period) stream fact ≡ None
-none_moved period stream (Reading id own day grams variance) apart = refl
-none_moved period stream (Dip id tank day mm density variance) apart = refl
-none_moved period stream (Transfer id own first last grams variance) apart = elim (cases_Bool (same_name own stream)) [
+none_moved : (version : Version) (declared : List Declared) (period : Period) (stream : List ℕ) (fact : Fact) → touches_in version declared fact period ≡ false
+    → transferred (days_of period) stream fact ≡ None
+none_moved version declared period stream (Reading id own day grams variance) apart = refl
+none_moved version declared period stream (Dip id tank day mm density variance) apart = refl
+none_moved version declared period stream (Transfer id own first last grams variance) apart = elim (cases_Bool (same_name own stream)) [
   | inl same ↦ rw same (no_share period first last (record { grams = grams; variance = variance }) apart)
   | inr other ↦ rw other refl
 ]
@@ -152,63 +177,139 @@ none_moved period stream (Transfer id own first last grams variance) apart = eli
 same_int : (day : ℤ) → int_eq day day ≡ true
 same_int day = (Decides-int_eq day day).1 refl
 
-ends_with : (period : Period) → is_boundary_of period.last period ≡ true
-ends_with period = rw (same_int period.last) refl
+ends_with : (service : Option Service) (period : Period) → is_boundary_of service (day_of_closing service period.last) period ≡ true
+ends_with service period = rw (same_int (day_of_closing service period.last)) refl
 
-opens_before : (period : Period) → is_boundary_of (period.first -ℤ pos 1) period ≡ true
-opens_before period = elim (cases_Bool (int_eq (period.first -ℤ pos 1) period.last)) [
+opens_before : (service : Option Service) (period : Period) → is_boundary_of service (day_of_opening service period.first) period ≡ true
+opens_before service period = elim (cases_Bool (int_eq (day_of_opening service period.first) (day_of_closing service period.last))) [
   | inl is ↦ rw is refl
-  | inr other ↦ rw (other, same_int (period.first -ℤ pos 1)) refl
+  | inr other ↦ rw (other, same_int (day_of_opening service period.first)) refl
 ]
 
 -- those of the facts that touch a period
-abbrev touching : Period → List Fact → List Fact
-touching period facts = filter (λ (fact : Fact). touches fact period) facts
+abbrev touching : (Fact → Period → Bool) → Period → List Fact → List Fact
+touching touch period facts = filter (λ (fact : Fact). touch fact period) facts
 
-read_among : (period : Period) (facts : List Fact) (stream : List ℕ) (day : ℤ) → period.first ≤ℤ day → day ≤ℤ period.last
-    → read_on (touching period facts) stream day ≡ read_on facts stream day
-read_among period facts stream day from to =
-    ap (option_and_then read_amount) (find_among (is_reading_on stream day) (λ (fact : Fact). touches fact period) facts (reading_touches period stream day from to))
+read_among : (version : Version) (declared : List Declared) (period : Period) (facts : List Fact) (stream : List ℕ) (day : ℤ) → period.first ≤ℤ day → day ≤ℤ period.last
+    → read_on (touching (touches_in version declared) period facts) stream day ≡ read_on facts stream day
+read_among version declared period facts stream day from to =
+    ap (option_and_then read_amount)
+    (find_among (is_reading_on stream day) (λ (fact : Fact). touches_in version declared fact period) facts (reading_touches version declared period stream day from to))
 
-amount_among : (declared : List Declared) (period : Period) (facts : List Fact) (kind : ArcKind) (name : List ℕ)
-    → amount_of declared (touching period facts) (days_of period) kind name ≡ amount_of declared facts (days_of period) kind name
-amount_among declared period facts Metered name =
-    same_total (read_on (touching period facts) name) (read_on facts name) (each_of (days_of period))
-    (within_days (λ (day : ℤ). read_on (touching period facts) name day ≡ read_on facts name day) (days_of period) (read_among period facts name))
-amount_among declared period facts Batch name =
-    ap (λ (amounts : List Amount). Some (total_of amounts)) (given_among (transferred (days_of period) name) (λ (fact : Fact). touches fact period) facts (none_moved period name))
-amount_among declared period facts Plain name = refl
-amount_among declared period facts Tank name =
+-- what all facts say of something that is in service in a period, those say that touch it
+amount_among : (version : Version) (declared : List Declared) (period : Period) (facts : List Fact) (service : Option Service) (kind : ArcKind) (name : List ℕ)
+    → service_in version declared name ≡ service → is_in_service_within service period.first period.last ≡ true
+    → amount_of declared (touching (touches_in version declared) period facts) (days_of period) service kind name ≡ amount_of declared facts (days_of period) service kind name
+amount_among version declared period facts service Metered name own serves =
+    let among = touching (touches_in version declared) period facts in
+    let served = served_days service (days_of period) in
+    let inside = served_within service period.first period.last in
+    same_total (read_on among name) (read_on facts name) (each_of served)
+    (within_days (λ (day : ℤ). read_on among name day ≡ read_on facts name day) served
+    (λ day from to. read_among version declared period facts name day (omega (arith, ints, inside.0, from)) (omega (arith, ints, inside.1, to))))
+amount_among version declared period facts service Batch name own serves =
+    ap (λ (amounts : List Amount). Some (total_of amounts))
+    (given_among (transferred (days_of period) name) (λ (fact : Fact). touches_in version declared fact period) facts (none_moved version declared period name))
+amount_among version declared period facts service Plain name own serves = refl
+amount_among version declared period facts service Tank name own serves =
+    let touch = λ (fact : Fact). touches_in version declared fact period in
+    let opening = day_of_opening service period.first in
+    let closing = day_of_closing service period.last in
     ap₂ (change_of (content_of (points_of declared name)))
-    (find_among (is_dip_on name (period.first -ℤ pos 1)) (λ (fact : Fact). touches fact period) facts (dip_touches period name (period.first -ℤ pos 1) (opens_before period)))
-    (find_among (is_dip_on name period.last) (λ (fact : Fact). touches fact period) facts (dip_touches period name period.last (ends_with period)))
+    (find_among (is_dip_on name opening) touch facts (dip_touches version declared period service name opening own serves (opens_before service period)))
+    (find_among (is_dip_on name closing) touch facts (dip_touches version declared period service name closing own serves (ends_with service period)))
 
-measured_among : (declared : List Declared) (period : Period) (facts : List Fact) → measured declared (touching period facts) (days_of period) ≡ measured declared facts (days_of period)
-measured_among declared period facts = λ i arc. option_map (measurement arc.base) (amount_among declared period facts arc.kind arc.name i)
+measured_among : (version : Version) (declared : List Declared) (period : Period) (facts : List Fact) (service : Option Service) (arc : Arc)
+    → service_in version declared arc.name ≡ service → is_in_service_within service period.first period.last ≡ true
+    → measured declared (touching (touches_in version declared) period facts) (days_of period) service arc ≡ measured declared facts (days_of period) service arc
+measured_among version declared period facts service arc own serves =
+    ap (option_map (measurement arc.base)) (amount_among version declared period facts service arc.kind arc.name own serves)
+
+-- ---- the days of service of an arc are those that its name gives
+
+-- the days of service that the first arc of this name has
+abbrev service_named : List Arc → List ℕ → Option Service
+service_named arcs name = option_and_then (λ (arc : Arc). arc.service) (find (λ (arc : Arc). same_name name arc.name) arcs)
+
+abbrev HasOwnService : List Arc → Arc → Type 0
+HasOwnService arcs arc = service_named arcs arc.name ≡ arc.service
+
+swapped : (a b : List ℕ) → same_name a b ≡ false → same_name b a ≡ false
+swapped a b apart = elim (cases_Bool (same_name b a)) [
+  | inl same ↦ absurd (true≢false (sym ((bytes_decides a b).1 (sym ((bytes_decides b a).0 same))) ∙ apart))
+  | inr other ↦ other
+]
+
+-- an arc of another name in front
+put_before : (a : Arc) (whole arcs : List Arc) → AllByRecursion (λ name. same_name a.name name ≡ false) (map (λ (arc : Arc). arc.name) arcs) → AllByRecursion (HasOwnService whole) arcs
+    → AllByRecursion (HasOwnService (a ∷ whole)) arcs
+put_before a whole [] apart own = tt
+put_before a whole (x ∷ arcs) (apart, others) (own, rest) =
+    let differs : same_name x.name a.name ≡ false = swapped a.name x.name apart in
+    (rw differs own, put_before a whole arcs others rest)
+
+own_services : (arcs : List Arc) → AreDistinct (map (λ (arc : Arc). arc.name) arcs) → AllByRecursion (HasOwnService arcs) arcs
+own_services [] distinct = tt
+own_services (a ∷ arcs) distinct =
+    let names = map (λ (arc : Arc). arc.name) arcs in
+    let same : same_name a.name a.name ≡ true = (bytes_decides a.name a.name).1 refl in
+    let apart : AllByRecursion (λ name. same_name a.name name ≡ false) names =
+    heads (λ (one other : List ℕ). same_name one other ≡ false) (λ (name : List ℕ). same_name a.name name ≡ false) a.name names (λ name differs. differs)
+    (λ k d lt. distinct 0 (suc k) d (omega arith) (omega (arith, lt))) in
+    (rw same refl, put_before a arcs arcs apart (own_services arcs (pairs_tail (λ (one other : List ℕ). same_name one other ≡ false) a.name names distinct)))
+
+-- what is the same of each item that passes
+map_kept : {A B : Type 0} (p : A → Bool) (f g : A → B) (xs : List A) → AllByRecursion (λ x. p x ≡ true → f x ≡ g x) xs → map f (filter p xs) ≡ map g (filter p xs)
+map_kept p f g [] same = refl
+map_kept p f g (x ∷ xs) (here, rest) = elim (cases_Bool (p x)) [
+  | inl passes ↦ rw passes (ap₂ (λ (y : _) (ys : List _). y ∷ ys) (here passes) (map_kept p f g xs rest))
+  | inr fails ↦ rw fails (map_kept p f g xs rest)
+]
+
+all_by : {A : Type 0} (P Q : A → Type 0) (xs : List A) → ((x : A) → P x → Q x) → AllByRecursion P xs → AllByRecursion Q xs
+all_by P Q [] each all = tt
+all_by P Q (x ∷ xs) each (here, rest) = (each x here, all_by P Q xs each rest)
+
+-- the graph of a period by the facts that touch it
+same_graph : (version : Version) (declared : List Declared) (period : Period) (facts other : List Fact) → AreDistinct (arc_names declared)
+    → touching (touches_in version declared) period other ≡ touching (touches_in version declared) period facts
+    → graph_by version declared other (days_of period) ≡ graph_by version declared facts (days_of period)
+same_graph One declared period facts other distinct same =
+    let touch = touches_in One declared in
+    let among : (fs : List Fact) → measured declared (touching touch period fs) (days_of period) None ≡ measured declared fs (days_of period) None =
+    λ fs i arc. measured_among One declared period fs None arc refl refl i in
+    ap (λ (measure : Arc → Option Meas). let g : ProcessGraph = record { nodes = length (node_names declared); streams = map (stream_with measure) (arcs_of declared) } in g)
+    (sym (among other) ∙ ap (λ (fs : List Fact). measured declared fs (days_of period) None) same ∙ among facts)
+same_graph Two declared period facts other distinct same =
+    let touch = touches_in Two declared in
+    let days = days_of period in
+    let nodes = nodes_on Two declared days.first days.last in
+    let stream : List Fact → Arc → Stream = λ fs. stream_among nodes (measured_served declared fs days) in
+    let each : (fs : List Fact) → AllByRecursion (λ (arc : Arc). is_arc_in_service days.first days.last arc ≡ true → stream (touching touch period fs) arc ≡ stream fs arc) (arcs_of declared) =
+    λ fs. all_by (HasOwnService (arcs_of declared)) (λ (arc : Arc). is_arc_in_service days.first days.last arc ≡ true → stream (touching touch period fs) arc ≡ stream fs arc) (arcs_of declared)
+    (λ arc own serves. ap (λ (m : Option Meas). let s : Stream = record { from = place_among nodes arc.from; to = place_among nodes arc.to; meas = m } in s)
+    (measured_among Two declared period fs arc.service arc own serves)) (own_services (arcs_of declared) distinct) in
+    let among : (fs : List Fact) → map (stream (touching touch period fs)) (arcs_on Two declared days.first days.last) ≡ map (stream fs) (arcs_on Two declared days.first days.last) =
+    λ fs. map_kept (is_arc_in_service days.first days.last) (stream (touching touch period fs)) (stream fs) (arcs_of declared) (each fs) in
+    ap (λ (streams : List Stream). let g : ProcessGraph = record { nodes = length nodes; streams = streams } in g)
+    (sym (among other) ∙ ap (λ (fs : List Fact). map (stream fs) (arcs_on Two declared days.first days.last)) same ∙ among facts)
 
 -- ---- the facts of one id
 
 -- a fact of this id doesn't touch the period
-abbrev IsAway : Period → List ℕ → KeptFact → Type 0
-IsAway period id kept = has_id id kept ≡ true → touches kept.fact period ≡ false
-
-pairs_tail : {A : Type 0} (R : A → A → Type 0) (x : A) (xs : List A) → AllPairs R (x ∷ xs) → AllPairs R xs
-pairs_tail R x xs pairs i j d lt within = pairs (suc i) (suc j) d (omega (arith, lt)) (omega (arith, within))
-
--- what holds of each item that stands behind the first one
-heads : {A : Type 0} (R : A → A → Type 0) (P : A → Type 0) (x : A) (xs : List A) → ((y : A) → R x y → P y) → ((k : ℕ) (d : A) → k < length xs → R x (slice_index_or xs k d)) → AllByRecursion P xs
-heads R P x [] so each = tt
-heads R P x (y ∷ xs) so each = (so y (each 0 y (omega arith)), heads R P x xs so (λ k d lt. each (suc k) d (omega (arith, lt))))
+abbrev IsAway : (Fact → Period → Bool) → Period → List ℕ → KeptFact → Type 0
+IsAway touch period id kept = has_id id kept ≡ true → touch kept.fact period ≡ false
 
 -- where the fact of an id doesn't touch the period, none of that id does: it is one fact
-all_away : (period : Period) (id : List ℕ) (kept : List KeptFact) → NoRepeats kept → touches_by_id kept id period ≡ false → AllByRecursion (IsAway period id) kept
-all_away period id [] apart none = tt
-all_away period id (k ∷ kept) apart none = elim (cases_Bool (has_id id k)) [
+all_away : (touch : Fact → Period → Bool) (period : Period) (id : List ℕ) (kept : List KeptFact) → NoRepeats kept → touches_by_id touch kept id period ≡ false
+    → AllByRecursion (IsAway touch period id) kept
+all_away touch period id [] apart none = tt
+all_away touch period id (k ∷ kept) apart none = elim (cases_Bool (has_id id k)) [
   | inl own ↦
-      let here : touches k.fact period ≡ false = rw own at none in
-      (λ is. here, heads Apart (IsAway period id) k kept (λ other r. λ is. absurd (true≢false (sym (repeated k other own is) ∙ r))) (λ i d lt. apart 0 (suc i) d (omega arith) (omega (arith, lt))))
+      let here : touch k.fact period ≡ false = rw own at none in
+      (λ is. here, heads Apart (IsAway touch period id) k kept (λ other r. λ is. absurd (true≢false (sym (repeated k other own is) ∙ r))) (λ i d lt. apart 0 (suc i) d (omega arith) (omega (arith, lt))))
   | inr other ↦
-      (λ is. absurd (true≢false (sym is ∙ other)), all_away period id kept (pairs_tail Apart k kept apart) (rw other at none))
+      (λ is. absurd (true≢false (sym is ∙ other)), all_away touch period id kept (pairs_tail Apart k kept apart) (rw other at none))
 ]
   where
     Apart : KeptFact → KeptFact → Type 0
@@ -224,22 +325,23 @@ all_away period id (k ∷ kept) apart none = elim (cases_Bool (has_id id k)) [
 -- ---- one more row
 
 -- the facts that pass behind a fact that there may be
-abbrev put : Period → Option Fact → List Fact → List Fact
-put period None facts = facts
-put period (Some fact) facts = cond (touches fact period) (fact ∷ facts) facts
+abbrev put : (Fact → Period → Bool) → Period → Option Fact → List Fact → List Fact
+put touch period None facts = facts
+put touch period (Some fact) facts = cond (touch fact period) (fact ∷ facts) facts
 
-put_is : (period : Period) (o : Option Fact) (facts : List Fact) → touching period (cons_option o facts) ≡ put period o (touching period facts)
-put_is period None facts = refl
-put_is period (Some fact) facts = refl
+put_is : (touch : Fact → Period → Bool) (period : Period) (o : Option Fact) (facts : List Fact) → touching touch period (cons_option o facts) ≡ put touch period o (touching touch period facts)
+put_is touch period None facts = refl
+put_is touch period (Some fact) facts = refl
 
-touching_front : (period : Period) (k : KeptFact) (kept : List KeptFact) → touching period (live_facts (k ∷ kept)) ≡ put period (live_fact k) (touching period (live_facts kept))
-touching_front period k kept = put_is period (live_fact k) (live_facts kept)
+touching_front : (touch : Fact → Period → Bool) (period : Period) (k : KeptFact) (kept : List KeptFact)
+    → touching touch period (live_facts (k ∷ kept)) ≡ put touch period (live_fact k) (touching touch period (live_facts kept))
+touching_front touch period k kept = put_is touch period (live_fact k) (live_facts kept)
 
 -- a fact that doesn't touch the period is as good as none
-put_away : (period : Period) (k : KeptFact) (facts : List Fact) → touches k.fact period ≡ false → put period (live_fact k) facts ≡ facts
-put_away period k facts away = elim (cases_Bool k.struck) [ inl gone ↦ rw gone refl | inr stands ↦ rw (stands, away) refl ]
+put_away : (touch : Fact → Period → Bool) (period : Period) (k : KeptFact) (facts : List Fact) → touch k.fact period ≡ false → put touch period (live_fact k) facts ≡ facts
+put_away touch period k facts away = elim (cases_Bool k.struck) [ inl gone ↦ rw gone refl | inr stands ↦ rw (stands, away) refl ]
 
--- a fact keeps its id and its days, whatever its values
+-- a fact keeps its id, its name and its days, whatever its values
 same_id : (change : Change) (fact : Fact) → id_of (changed change fact) ≡ id_of fact
 same_id (AmountChange grams variance) (Reading id stream day old_grams old_variance) = refl
 same_id (AmountChange grams variance) (Transfer id stream first last old_grams old_variance) = refl
@@ -248,13 +350,17 @@ same_id (Level mm density variance) (Reading id stream day grams old_variance) =
 same_id (Level mm density variance) (Transfer id stream first last grams old_variance) = refl
 same_id (Level mm density variance) (Dip id tank day old_mm old_density old_variance) = refl
 
-same_touch : (change : Change) (fact : Fact) (period : Period) → touches (changed change fact) period ≡ touches fact period
-same_touch (AmountChange grams variance) (Reading id stream day old_grams old_variance) period = refl
-same_touch (AmountChange grams variance) (Transfer id stream first last old_grams old_variance) period = refl
-same_touch (AmountChange grams variance) (Dip id tank day mm density old_variance) period = refl
-same_touch (Level mm density variance) (Reading id stream day grams old_variance) period = refl
-same_touch (Level mm density variance) (Transfer id stream first last grams old_variance) period = refl
-same_touch (Level mm density variance) (Dip id tank day old_mm old_density old_variance) period = refl
+-- whether a fact touches a period doesn't depend on its values
+abbrev IsSteady : (Fact → Period → Bool) → Type 0
+IsSteady touch = (change : Change) (fact : Fact) (period : Period) → touch (changed change fact) period ≡ touch fact period
+
+same_touch : (version : Version) (declared : List Declared) → IsSteady (touches_in version declared)
+same_touch version declared (AmountChange grams variance) (Reading id stream day old_grams old_variance) period = refl
+same_touch version declared (AmountChange grams variance) (Transfer id stream first last old_grams old_variance) period = refl
+same_touch version declared (AmountChange grams variance) (Dip id tank day mm density old_variance) period = refl
+same_touch version declared (Level mm density variance) (Reading id stream day grams old_variance) period = refl
+same_touch version declared (Level mm density variance) (Transfer id stream first last grams old_variance) period = refl
+same_touch version declared (Level mm density variance) (Dip id tank day old_mm old_density old_variance) period = refl
 
 -- one kept fact, amended or struck
 abbrev amended_one : List ℕ → Change → KeptFact → KeptFact
@@ -263,92 +369,91 @@ amended_one id change k = if is_live_with id k then (let a : KeptFact = record {
 abbrev struck_one : List ℕ → KeptFact → KeptFact
 struck_one id k = if has_id id k then (let a : KeptFact = record { fact = k.fact; struck = true } in a) else k
 
-amended_put : (period : Period) (id : List ℕ) (change : Change) (k : KeptFact) (facts : List Fact) → IsAway period id (amended_one id change k)
-    → put period (live_fact (amended_one id change k)) facts ≡ put period (live_fact k) facts
-amended_put period id change k facts away = elim (cases_Bool (is_live_with id k)) [
+amended_put : (touch : Fact → Period → Bool) → IsSteady touch → (period : Period) (id : List ℕ) (change : Change) (k : KeptFact) (facts : List Fact)
+    → IsAway touch period id (amended_one id change k) → put touch period (live_fact (amended_one id change k)) facts ≡ put touch period (live_fact k) facts
+amended_put touch steady period id change k facts away = elim (cases_Bool (is_live_with id k)) [
   | inl own ↦
       let id_is : has_id id k ≡ true = (and_parts _ _ own).1 in
-      let away_now : has_id id (let a : KeptFact = record { fact = changed change k.fact; struck = false } in a) ≡ true → touches (changed change k.fact) period ≡ false = rw own at away in
-      let gone : touches (changed change k.fact) period ≡ false = away_now (ap (λ (name : List ℕ). same_name name id) (same_id change k.fact) ∙ id_is) in
-      rw (own, gone) (sym (put_away period k facts (sym (same_touch change k.fact period) ∙ gone)))
+      let away_now : has_id id (let a : KeptFact = record { fact = changed change k.fact; struck = false } in a) ≡ true → touch (changed change k.fact) period ≡ false = rw own at away in
+      let gone : touch (changed change k.fact) period ≡ false = away_now (ap (λ (name : List ℕ). same_name name id) (same_id change k.fact) ∙ id_is) in
+      rw (own, gone) (sym (put_away touch period k facts (sym (steady change k.fact period) ∙ gone)))
   | inr other ↦ rw other refl
 ]
 
-amended_same : (period : Period) (id : List ℕ) (change : Change) (kept : List KeptFact) → AllByRecursion (IsAway period id) (amended id change kept)
-    → touching period (live_facts (amended id change kept)) ≡ touching period (live_facts kept)
-amended_same period id change [] away = refl
-amended_same period id change (k ∷ kept) (here, away) =
-    touching_front period (amended_one id change k) (amended id change kept)
-    ∙ ap (put period (live_fact (amended_one id change k))) (amended_same period id change kept away)
-    ∙ amended_put period id change k (touching period (live_facts kept)) here
-    ∙ sym (touching_front period k kept)
+amended_same : (touch : Fact → Period → Bool) → IsSteady touch → (period : Period) (id : List ℕ) (change : Change) (kept : List KeptFact)
+    → AllByRecursion (IsAway touch period id) (amended id change kept) → touching touch period (live_facts (amended id change kept)) ≡ touching touch period (live_facts kept)
+amended_same touch steady period id change [] away = refl
+amended_same touch steady period id change (k ∷ kept) (here, away) =
+    touching_front touch period (amended_one id change k) (amended id change kept)
+    ∙ ap (put touch period (live_fact (amended_one id change k))) (amended_same touch steady period id change kept away)
+    ∙ amended_put touch steady period id change k (touching touch period (live_facts kept)) here
+    ∙ sym (touching_front touch period k kept)
 
-struck_put : (period : Period) (id : List ℕ) (k : KeptFact) (facts : List Fact) → IsAway period id (struck_one id k)
-    → put period (live_fact (struck_one id k)) facts ≡ put period (live_fact k) facts
-struck_put period id k facts away = elim (cases_Bool (has_id id k)) [
+struck_put : (touch : Fact → Period → Bool) (period : Period) (id : List ℕ) (k : KeptFact) (facts : List Fact) → IsAway touch period id (struck_one id k)
+    → put touch period (live_fact (struck_one id k)) facts ≡ put touch period (live_fact k) facts
+struck_put touch period id k facts away = elim (cases_Bool (has_id id k)) [
   | inl own ↦
-      let away_now : has_id id k ≡ true → touches k.fact period ≡ false = rw own at away in
-      rw own (sym (put_away period k facts (away_now own)))
+      let away_now : has_id id k ≡ true → touch k.fact period ≡ false = rw own at away in
+      rw own (sym (put_away touch period k facts (away_now own)))
   | inr other ↦ rw other refl
 ]
 
-struck_same : (period : Period) (id : List ℕ) (kept : List KeptFact) → AllByRecursion (IsAway period id) (struck id kept)
-    → touching period (live_facts (struck id kept)) ≡ touching period (live_facts kept)
-struck_same period id [] away = refl
-struck_same period id (k ∷ kept) (here, away) =
-    touching_front period (struck_one id k) (struck id kept)
-    ∙ ap (put period (live_fact (struck_one id k))) (struck_same period id kept away)
-    ∙ struck_put period id k (touching period (live_facts kept)) here
-    ∙ sym (touching_front period k kept)
+struck_same : (touch : Fact → Period → Bool) (period : Period) (id : List ℕ) (kept : List KeptFact) → AllByRecursion (IsAway touch period id) (struck id kept)
+    → touching touch period (live_facts (struck id kept)) ≡ touching touch period (live_facts kept)
+struck_same touch period id [] away = refl
+struck_same touch period id (k ∷ kept) (here, away) =
+    touching_front touch period (struck_one id k) (struck id kept)
+    ∙ ap (put touch period (live_fact (struck_one id k))) (struck_same touch period id kept away)
+    ∙ struck_put touch period id k (touching touch period (live_facts kept)) here
+    ∙ sym (touching_front touch period k kept)
 
-added_same : (period : Period) (fact : Fact) (kept : List KeptFact) → touches fact period ≡ false → touching period (live_facts (kept ++ live fact ∷ [])) ≡ touching period (live_facts kept)
-added_same period fact kept away =
-    ap (touching period) (filter_map-append live_fact kept (live fact ∷ []))
-    ∙ filter-append (λ (f : Fact). touches f period) (live_facts kept) (fact ∷ [])
-    ∙ ap (λ (b : Bool). touching period (live_facts kept) ++ cond b (fact ∷ []) []) away
-    ∙ append-nil (touching period (live_facts kept))
+added_same : (touch : Fact → Period → Bool) (period : Period) (fact : Fact) (kept : List KeptFact) → touch fact period ≡ false
+    → touching touch period (live_facts (kept ++ live fact ∷ [])) ≡ touching touch period (live_facts kept)
+added_same touch period fact kept away =
+    ap (touching touch period) (filter_map-append live_fact kept (live fact ∷ []))
+    ∙ filter-append (λ (f : Fact). touch f period) (live_facts kept) (fact ∷ [])
+    ∙ ap (λ (b : Bool). touching touch period (live_facts kept) ++ cond b (fact ∷ []) []) away
+    ∙ append-nil (touching touch period (live_facts kept))
 
-touching_same : (period : Period) (kept : List KeptFact) (effect : Effect) → NoRepeats (facts_after kept effect) → takes_out (facts_after kept effect) effect period ≡ false
-    → touching period (live_facts (facts_after kept effect)) ≡ touching period (live_facts kept)
-touching_same period kept (Declares declared) apart spared = cc spared
-touching_same period kept (Opens name first last) apart spared = refl
-touching_same period kept (Books fact late) apart spared = added_same period fact kept spared
-touching_same period kept (Edits id (edits.Change change) reason) apart spared = amended_same period id change kept (all_away period id (amended id change kept) apart spared)
-touching_same period kept (Edits id edits.Strike reason) apart spared = struck_same period id kept (all_away period id (struck id kept) apart spared)
-touching_same period kept (Closes name) apart spared = refl
+touching_same : (touch : Fact → Period → Bool) → IsSteady touch → (period : Period) (kept : List KeptFact) (effect : Effect) → NoRepeats (facts_after kept effect)
+    → takes_out touch (facts_after kept effect) effect period ≡ false → touching touch period (live_facts (facts_after kept effect)) ≡ touching touch period (live_facts kept)
+touching_same touch steady period kept (Declares declared) apart spared = cc spared
+touching_same touch steady period kept (Opens name first last) apart spared = refl
+touching_same touch steady period kept (Books fact late) apart spared = added_same touch period fact kept spared
+touching_same touch steady period kept (Edits id (edits.Change change) reason) apart spared =
+    amended_same touch steady period id change kept (all_away touch period id (amended id change kept) apart spared)
+touching_same touch steady period kept (Edits id edits.Strike reason) apart spared = struck_same touch period id kept (all_away touch period id (struck id kept) apart spared)
+touching_same touch steady period kept (Closes name) apart spared = refl
 
-declared_same : (period : Period) (kept : List KeptFact) (effect : Effect) → takes_out kept effect period ≡ false → declaration_in effect ≡ None
-declared_same period kept (Declares declared) spared = cc spared
-declared_same period kept (Opens name first last) spared = refl
-declared_same period kept (Books fact late) spared = refl
-declared_same period kept (Edits id how reason) spared = refl
-declared_same period kept (Closes name) spared = refl
-
--- the graph of what is declared
-abbrev graph_by : (Arc → Option Meas) → List Declared → ProcessGraph
-graph_by measure declared = record { nodes = length (node_names declared); streams = map (stream_with measure) (arcs_of declared) }
-
-same_graph : (declared : List Declared) (period : Period) (facts other : List Fact) → touching period other ≡ touching period facts
-    → graph_by (measured declared other (days_of period)) declared ≡ graph_by (measured declared facts (days_of period)) declared
-same_graph declared period facts other same =
-    ap (λ (measure : Arc → Option Meas). graph_by measure declared)
-    (sym (measured_among declared period other) ∙ ap (λ (fs : List Fact). measured declared fs (days_of period)) same ∙ measured_among declared period facts)
+declared_same : (touch : Fact → Period → Bool) (period : Period) (kept : List KeptFact) (effect : Effect) → takes_out touch kept effect period ≡ false → declaration_in effect ≡ None
+declared_same touch period kept (Declares declared) spared = cc spared
+declared_same touch period kept (Opens name first last) spared = refl
+declared_same touch period kept (Books fact late) spared = refl
+declared_same touch period kept (Edits id how reason) spared = refl
+declared_same touch period kept (Closes name) spared = refl
 
 -- a row that doesn't touch a period leaves what is declared and its graph
-pub leaves : (rows : List StoredRow) (stored : StoredRow) (period : Period) → NoRepeats (facts_of (rows ++ stored ∷ [])) → takes_out (facts_of (rows ++ stored ∷ [])) stored.effect period ≡ false
+pub leaves : (rows : List StoredRow) (stored : StoredRow) (period : Period) → AreDistinct (arc_names (declared_of (rows ++ stored ∷ []))) → NoRepeats (facts_of (rows ++ stored ∷ []))
+    → takes_out (touching_of (rows ++ stored ∷ [])) (facts_of (rows ++ stored ∷ [])) stored.effect period ≡ false
     → LeavesDays rows (rows ++ stored ∷ []) (days_of period)
-leaves rows stored period apart spared =
-    let facts : facts_of (rows ++ stored ∷ []) ≡ facts_after (facts_of rows) stored.effect = fold_push (λ (kept : List KeptFact) (s : StoredRow). facts_after kept s.effect) [] rows stored in
+leaves rows stored period distinct apart spared =
+    let new = rows ++ stored ∷ [] in
+    let touch = touching_of new in
+    let days = days_of period in
+    let facts : facts_of new ≡ facts_after (facts_of rows) stored.effect = fold_push (λ (kept : List KeptFact) (s : StoredRow). facts_after kept s.effect) [] rows stored in
     let apart_now = subst NoRepeats facts apart in
-    let spared_now = subst (λ (kept : List KeptFact). takes_out kept stored.effect period ≡ false) facts spared in
-    let none : declared_of (stored ∷ []) ≡ [] = ap (λ (o : Option Declared). cons_option o []) (declared_same period (facts_after (facts_of rows) stored.effect) stored.effect spared_now) in
-    let declared : declared_of (rows ++ stored ∷ []) ≡ declared_of rows =
+    let spared_now = subst (λ (kept : List KeptFact). takes_out touch kept stored.effect period ≡ false) facts spared in
+    let none : declared_of (stored ∷ []) ≡ [] = ap (λ (o : Option Declared). cons_option o []) (declared_same touch period (facts_after (facts_of rows) stored.effect) stored.effect spared_now) in
+    let declared : declared_of new ≡ declared_of rows =
     filter_map-append (λ (s : StoredRow). declaration_in s.effect) rows (stored ∷ []) ∙ ap (λ (ds : List Declared). declared_of rows ++ ds) none ∙ append-nil (declared_of rows) in
-    let same = touching_same period (facts_of rows) stored.effect apart_now spared_now in
-    let graph : period_graph (rows ++ stored ∷ []) (days_of period) ≡ period_graph rows (days_of period) =
-    ap₂ (λ (ds : List Declared) (kept : List KeptFact). graph_by (measured ds (live_facts kept) (days_of period)) ds) declared facts
-    ∙ same_graph (declared_of rows) period (live_facts (facts_of rows)) (live_facts (facts_after (facts_of rows) stored.effect)) same in
-    record {
-      declared = declared;
-      graph = ap (λ (g : ProcessGraph). unless_over g (position is_over g.streams)) graph;
-    }
+    let same = touching_same touch (same_touch (version_of (declared_of new)) (declared_of new)) period (facts_of rows) stored.effect apart_now spared_now in
+    let graph : graph_by (version_of (declared_of new)) (declared_of new) (live_facts (facts_after (facts_of rows) stored.effect)) days
+    ≡ graph_by (version_of (declared_of new)) (declared_of new) (live_facts (facts_of rows)) days =
+    same_graph (version_of (declared_of new)) (declared_of new) period (live_facts (facts_of rows)) (live_facts (facts_after (facts_of rows) stored.effect)) distinct same in
+    let whole : period_graph new days ≡ period_graph rows days =
+    graph_is (version_of (declared_of new)) new days
+    ∙ ap (λ (kept : List KeptFact). graph_by (version_of (declared_of new)) (declared_of new) (live_facts kept) days) facts
+    ∙ graph
+    ∙ ap (λ (ds : List Declared). graph_by (version_of ds) ds (live_facts (facts_of rows)) days) declared
+    ∙ sym (graph_is (version_of (declared_of rows)) rows days) in
+    record { declared = declared; graph = ap within_limits whole }

@@ -1,9 +1,9 @@
 -- No variance is negative, so that graphs are within their limits.
-use Rattle.std.specs.Prelude.{int_le, IfSome, IfOk, find, filter_map, map, option_and_then, is_some, position, if◌then◌else◌}
+use Rattle.std.specs.Prelude.{int_le, IfSome, IfOk, ◌==◌, filter, find, filter_map, map, option_and_then, is_some, position, if◌then◌else◌}
 use Rattle.std.specs.Int.{int_gap, int_max, int_min}
 use Rattle.std.specs.List.{cons_option, list_all, list_any, position_or_len}
 use Rattle.std.specs.Option.{option_map}
-use Rattle.std.proofs.Common.{◌≡◌, ◌≤◌, ◌<◌, ◌*◌, ◌/◌, ℕ, suc, ℤ, pos, negsuc, ◌≤ℤ◌, ◌+ℤ◌, ◌-ℤ◌, List, [], ◌∷◌, length, get_or, All, Bool, true, false, true≢false, Option, Some, None, refl, sym, arith, inl, inr}
+use Rattle.std.proofs.Common.{◌≡◌, ◌∙◌, ◌≤◌, ◌<◌, ◌*◌, ◌/◌, ℕ, suc, ℤ, pos, negsuc, ◌≤ℤ◌, ◌+ℤ◌, ◌-ℤ◌, List, [], ◌∷◌, length, get_or, All, Bool, true, false, true≢false, Option, Some, None, refl, sym, arith, inl, inr}
 use Rattle.std.proofs.lemmas.Bool.{cases_Bool, lt-ltb}
 use Rattle.std.proofs.lemmas.Int.{int_max_is, int_min_is, ints}
 use Rattle.std.proofs.lemmas.List.{length-map}
@@ -15,12 +15,17 @@ use Rattle.pb_rows.specs.Name.{same_name}
 use Rattle.pb_strap.specs.declared.strap.Point.{Point}
 use Rattle.pb_graph.specs.declared.records.Meas.{Meas}
 use Rattle.pb_graph.specs.declared.records.Stream.{Stream}
-use Rattle.pb_graph.specs.ProcessGraph.{IsMeasurement, IsProcessGraph, IsStream, IsWithinLimits}
+use Rattle.pb_graph.specs.ProcessGraph.{IsMeasurement, IsProcessGraph, IsStream, IsWithinLimits, ProcessGraph}
 use Rattle.pb_site.specs.declared.declared.Arc.{Arc}
 use Rattle.pb_site.specs.declared.declared.ArcKind.{ArcKind}
 use Rattle.pb_site.specs.declared.declared.ArcKind.TheVariants.{Metered, Batch, Plain, Tank}
 use Rattle.pb_site.specs.declared.declared.Declared.{Declared}
-use Rattle.pb_site.specs.Laws.{IsPlant}
+use Rattle.pb_site.specs.declared.declared.Service.{Service}
+use Rattle.pb_site.specs.declared.declared.Version.{Version}
+use Rattle.pb_site.specs.declared.declared.Version.TheVariants.{One, Two}
+use Rattle.pb_site.specs.Laws.{IsPartOnDays, IsPlant, JoinsPlaces}
+use Rattle.pb_site.specs.OnDays.{arcs_on, is_arc_in_service, name_at_node, names_on, nodes_on}
+use Rattle.pb_site.specs.Service.{day_of_closing, day_of_opening}
 use Rattle.pb_site.specs.Row.{IsArcBase}
 use Rattle.pb_site.specs.Site.{IsArc, arcs_of, node_names, points_of}
 use Rattle.pb_facts.specs.declared.fact.Fact.{Fact}
@@ -35,8 +40,9 @@ use Rattle.pb_period.specs.declared.amount.Amount.{Amount}
 use Rattle.pb_period.specs.declared.days.Days.{Days}
 use Rattle.pb_period.specs.Days.{day_count, each_of}
 use Rattle.pb_period.specs.Facts.{content_of, read_amount, read_on, share_on, total_of, transferred}
-use Rattle.pb_period.specs.Measurement.{amount_of, change_of, measured, measurement, read_total}
-use Rattle.pb_period.specs.PeriodGraph.{assembly_of, base_of, base_of_kind, design_graph, graph_with, is_over, period_graph, stream_with, unless_over}
+use Rattle.pb_period.specs.Laws.{AreGraphNames}
+use Rattle.pb_period.specs.Measurement.{amount_of, change_of, measured, measurement, read_total, served_days}
+use Rattle.pb_period.specs.PeriodGraph.{base_of, base_of_kind, design_graph, graph_in, graph_with, is_over, measured_served, served_graph, stream_among, stream_with, unless_over, within_limits}
 use Rattle.pb_period.proofs.DayLemmas.{gap_is}
 use Rattle.pb_period.proofs.GraphLemmas.{within}
 
@@ -48,14 +54,14 @@ head P x xs all = all 0 x (omega arith)
 tail : {A : Type 0} (P : A → Type 0) (x : A) (xs : List A) → All P (x ∷ xs) → All P xs
 tail P x xs all = λ k d lt. all (suc k) d (omega (arith, lt))
 
--- the live facts lie in their ranges
-live_ranges : (kept : List KeptFact) → All (λ (k : KeptFact). IsInRange k.fact) kept → All IsInRange (live_facts kept)
-live_ranges [] all = All-nil IsInRange
-live_ranges (k ∷ kept) all =
-    let rest = live_ranges kept (tail (λ (k : KeptFact). IsInRange k.fact) k kept all) in
+-- what all facts have, the live ones have
+pub live_have : (P : Fact → Type 0) (kept : List KeptFact) → All (λ (k : KeptFact). P k.fact) kept → All P (live_facts kept)
+live_have P [] all = All-nil P
+live_have P (k ∷ kept) all =
+    let rest = live_have P kept (tail (λ (k : KeptFact). P k.fact) k kept all) in
     elim (cases_Bool k.struck) [
       | inl struck ↦ rw struck rest
-      | inr live ↦ rw live (All-cons IsInRange k.fact (live_facts kept) (head (λ (k : KeptFact). IsInRange k.fact) k kept all) rest)
+      | inr live ↦ rw live (All-cons P k.fact (live_facts kept) (head (λ (k : KeptFact). P k.fact) k kept all) rest)
     ]
 
 -- what is found has what all have
@@ -148,31 +154,36 @@ change_fair content None closing each before after = tt
 change_fair content (Some opening) None each before after = tt
 change_fair content (Some opening) (Some closing) each before after = let one = each opening before in let other = each closing after in omega (arith, ints, one, other)
 
-amount_fair : (declared : List Declared) (facts : List Fact) (days : Days) (kind : ArcKind) (name : List ℕ) → All IsInRange facts → IfSome (amount_of declared facts days kind name) IsFair
-amount_fair declared facts days Metered name all = read_total_fair (read_on facts name) (each_of days) (λ day. read_fair facts name day all)
-amount_fair declared facts days Batch name all = total_fair_all (transferred days name) facts (transferred_fair days name) all
-amount_fair declared facts days Plain name all = tt
-amount_fair declared facts days Tank name all =
+amount_fair : (declared : List Declared) (facts : List Fact) (days : Days) (service : Option Service) (kind : ArcKind) (name : List ℕ) → All IsInRange facts
+    → IfSome (amount_of declared facts days service kind name) IsFair
+amount_fair declared facts days service Metered name all = read_total_fair (read_on facts name) (each_of (served_days service days)) (λ day. read_fair facts name day all)
+amount_fair declared facts days service Batch name all = total_fair_all (transferred days name) facts (transferred_fair days name) all
+amount_fair declared facts days service Plain name all = tt
+amount_fair declared facts days service Tank name all =
     change_fair (content_of (points_of declared name)) _ _ (content_fair (points_of declared name))
-    (find_has IsInRange (is_dip_on name (days.first -ℤ pos 1)) facts all) (find_has IsInRange (is_dip_on name days.last) facts all)
+    (find_has IsInRange (is_dip_on name (day_of_opening service days.first)) facts all) (find_has IsInRange (is_dip_on name (day_of_closing service days.last)) facts all)
 
 -- ---- streams
 
+-- the variance of a stream that is measured is at least 1
+abbrev HasLeast : Stream → Type 0
+HasLeast s = IfSome s.meas (λ meas. pos 1 ≤ℤ meas.variance)
+
 -- what is measured has a variance of at least 1
-measured_least : (declared : List Declared) (facts : List Fact) (days : Days) (arc : Arc) → All IsInRange facts → IsArcBase arc.kind arc.base
-    → IfSome (measured declared facts days arc) (λ meas. pos 1 ≤ℤ meas.variance)
-measured_least declared facts days arc all limits = by arc.kind limits (amount_fair declared facts days arc.kind arc.name all)
+measured_least : (declared : List Declared) (facts : List Fact) (days : Days) (service : Option Service) (arc : Arc) → All IsInRange facts → IsArcBase arc.kind arc.base
+    → IfSome (measured declared facts days service arc) (λ meas. pos 1 ≤ℤ meas.variance)
+measured_least declared facts days service arc all limits = by arc.kind limits (amount_fair declared facts days service arc.kind arc.name all)
   where
     some : (o : Option Amount) → pos 1 ≤ℤ arc.base → IfSome o IsFair → IfSome (option_map (measurement arc.base) o) (λ meas. pos 1 ≤ℤ meas.variance)
     some None least fair = tt
     some (Some amount) least fair = omega (arith, ints, least, fair)
 
-    by : (kind : ArcKind) → IsArcBase kind arc.base → IfSome (amount_of declared facts days kind arc.name) IsFair
-        → IfSome (option_map (measurement arc.base) (amount_of declared facts days kind arc.name)) (λ meas. pos 1 ≤ℤ meas.variance)
-    by Metered limits fair = some (amount_of declared facts days Metered arc.name) limits.0 fair
-    by Batch limits fair = some (amount_of declared facts days Batch arc.name) limits.0 fair
+    by : (kind : ArcKind) → IsArcBase kind arc.base → IfSome (amount_of declared facts days service kind arc.name) IsFair
+        → IfSome (option_map (measurement arc.base) (amount_of declared facts days service kind arc.name)) (λ meas. pos 1 ≤ℤ meas.variance)
+    by Metered limits fair = some (amount_of declared facts days service Metered arc.name) limits.0 fair
+    by Batch limits fair = some (amount_of declared facts days service Batch arc.name) limits.0 fair
     by Plain limits fair = tt
-    by Tank limits fair = some (amount_of declared facts days Tank arc.name) limits.0 fair
+    by Tank limits fair = some (amount_of declared facts days service Tank arc.name) limits.0 fair
 
 base_within : (kind : ArcKind) (base : ℤ) → IsArcBase kind base → IfSome (base_of_kind kind base) IsMeasurement
 base_within Metered base limits = record { value = omega arith; least = limits.0; greatest = omega (arith, ints, limits.1) }
@@ -226,18 +237,88 @@ none_passes test xs none k d lt = elim (cases_Bool (test (get_or xs k d))) [
 both_all : {A : Type 0} (P Q R : A → Type 0) (xs : List A) → ((x : A) → P x → Q x → R x) → All P xs → All Q xs → All R xs
 both_all P Q R xs join ps qs k d lt = join (get_or xs k d) (ps k d lt) (qs k d lt)
 
-pub period_right : (rows : List StoredRow) (days : Days) → IsPlant (declared_of rows) → All (λ (k : KeptFact). IsInRange k.fact) (facts_of rows)
-    → IfOk (assembly_of rows days) IsProcessGraph
-period_right rows days plant ranges = by (position is_over (period_graph rows days).streams) refl
+-- what all items have, those have that pass
+all_filter : {A : Type 0} (P : A → Type 0) (p : A → Bool) (xs : List A) → All P xs → All P (filter p xs)
+all_filter P p [] all = All-nil P
+all_filter P p (x ∷ xs) all =
+    let rest = all_filter P p xs (tail P x xs all) in
+    elim (cases_Bool (p x)) [
+      | inl passes ↦ rw passes (All-cons P x (filter p xs) (head P x xs all) rest)
+      | inr fails ↦ rw fails rest
+    ]
+
+few_pass : {A : Type 0} (p : A → Bool) (xs : List A) → length (filter p xs) ≤ length xs
+few_pass p [] = omega arith
+few_pass p (x ∷ xs) =
+    let rest = few_pass p xs in
+    elim (cases_Bool (p x)) [ inl passes ↦ rw passes (omega (arith, rest)) | inr fails ↦ rw fails (omega (arith, rest)) ]
+
+-- the graph of the part in service
+served_of : (declared : List Declared) (facts : List Fact) (days : Days) → IsPlant declared → IsPartOnDays Two declared days.first days.last
+    → All IsWithinLimits (served_graph declared facts days).streams → IsProcessGraph (served_graph declared facts days)
+served_of declared facts days plant part limits =
+    let nodes = nodes_on Two declared days.first days.last in
+    let arcs = arcs_on Two declared days.first days.last in
+    let stream = stream_among nodes (measured_served declared facts days) in
+    let many = length-map arcs stream in
+    let few = few_pass (is_arc_in_service days.first days.last) (arcs_of declared) in
+    record {
+      env = omega arith;
+      few_nodes = omega (arith, part.few, plant.few_nodes);
+      few_streams = omega (arith, many, few, plant.few_arcs);
+      joins = all_map (JoinsPlaces nodes) (IsStream (length nodes)) stream arcs
+          (λ arc joins. record { from = any_place (λ (n : ℕ). n == arc.from) nodes joins.begins; to = any_place (λ (n : ℕ). n == arc.to) nodes joins.ends; apart = joins.apart }) part.joined;
+      limits = limits;
+    }
+
+-- a graph within the limits, if its variances are large enough
+within_right : (graph : ProcessGraph) → (All IsWithinLimits graph.streams → IsProcessGraph graph) → All HasLeast graph.streams → IfOk (within_limits graph) IsProcessGraph
+within_right graph right least = by (position is_over graph.streams) refl
   where
-    by : (o : Option ℕ) → position is_over (period_graph rows days).streams ≡ o → IfOk (unless_over (period_graph rows days) o) IsProcessGraph
+    by : (o : Option ℕ) → position is_over graph.streams ≡ o → IfOk (unless_over graph o) IsProcessGraph
     by (Some stream) at = tt
-    by None none =
-        let facts = live_facts (facts_of rows) in
-        let declared = declared_of rows in
-        let measure = measured declared facts days in
-        let least = all_map (IsArc (length (node_names declared))) (λ (s : Stream). IfSome s.meas (λ meas. pos 1 ≤ℤ meas.variance)) (stream_with measure) (arcs_of declared)
-        (λ arc right. measured_least declared facts days arc (live_ranges (facts_of rows) ranges) right.limits) plant.joined in
-        let below = none_passes is_over (map (stream_with measure) (arcs_of declared)) none in
-        graph_of measure rows plant
-        (both_all (λ (s : Stream). is_over s ≡ false) (λ (s : Stream). IfSome s.meas (λ meas. pos 1 ≤ℤ meas.variance)) IsWithinLimits (map (stream_with measure) (arcs_of declared)) within below least)
+    by None none = right (both_all (λ (s : Stream). is_over s ≡ false) HasLeast IsWithinLimits graph.streams within (none_passes is_over graph.streams none) least)
+
+pub graph_right : (version : Version) (rows : List StoredRow) (days : Days) → IsPlant (declared_of rows) → IsPartOnDays version (declared_of rows) days.first days.last
+    → All (λ (k : KeptFact). IsInRange k.fact) (facts_of rows) → IfOk (within_limits (graph_in version rows days)) IsProcessGraph
+graph_right One rows days plant part ranges =
+    let facts = live_facts (facts_of rows) in
+    let declared = declared_of rows in
+    let measure = measured declared facts days None in
+    within_right (graph_in One rows days) (graph_of measure rows plant)
+    (all_map (IsArc (length (node_names declared))) HasLeast (stream_with measure) (arcs_of declared)
+    (λ arc right. measured_least declared facts days None arc (live_have IsInRange (facts_of rows) ranges) right.limits) plant.joined)
+graph_right Two rows days plant part ranges =
+    let facts = live_facts (facts_of rows) in
+    let declared = declared_of rows in
+    let nodes = length (node_names declared) in
+    within_right (graph_in Two rows days) (served_of declared facts days plant part)
+    (all_map (IsArc nodes) HasLeast (stream_among (nodes_on Two declared days.first days.last) (measured_served declared facts days)) (arcs_on Two declared days.first days.last)
+    (λ arc right. measured_least declared facts days arc.service arc (live_have IsInRange (facts_of rows) ranges) right.limits)
+    (all_filter (IsArc nodes) (is_arc_in_service days.first days.last) (arcs_of declared) plant.joined))
+
+-- ---- names
+
+pub names_right : (version : Version) (rows : List StoredRow) (days : Days) → IsPartOnDays version (declared_of rows) days.first days.last
+    → AreGraphNames (names_on version (declared_of rows) days.first days.last) (graph_in version rows days)
+names_right One rows days part =
+    let declared = declared_of rows in
+    record {
+      each_node = refl;
+      each_stream = length-map (arcs_of declared) (λ (arc : Arc). arc.name)
+          ∙ sym (length-map (arcs_of declared) (stream_with (measured declared (live_facts (facts_of rows)) days None)));
+      environment = refl;
+      nodes = part.nodes;
+      streams = part.streams;
+    }
+names_right Two rows days part =
+    let declared = declared_of rows in
+    let nodes = nodes_on Two declared days.first days.last in
+    let arcs = arcs_on Two declared days.first days.last in
+    record {
+      each_node = length-map nodes (name_at_node declared);
+      each_stream = length-map arcs (λ (arc : Arc). arc.name) ∙ sym (length-map arcs (stream_among nodes (measured_served declared (live_facts (facts_of rows)) days)));
+      environment = refl;
+      nodes = part.nodes;
+      streams = part.streams;
+    }

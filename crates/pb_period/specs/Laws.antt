@@ -1,21 +1,35 @@
 -- Statement. What holds of the graphs of accepted rows.
-use Rattle.std.specs.Prelude.{◌≡◌, false, List, [], ◌∷◌, ◌++◌, All, IfOk}
-use Rattle.pb_graph.specs.ProcessGraph.{IsProcessGraph}
-use Rattle.pb_site.specs.Site.{HasDistinctNames}
+use Rattle.std.specs.Prelude.{◌≡◌, ℕ, true, false, List, [], ◌∷◌, ◌++◌, length, slice_get, All, IfOk, Some, codes}
+use Rattle.pb_rows.specs.declared.name.Names.{Names}
+use Rattle.pb_graph.specs.ProcessGraph.{IsProcessGraph, ProcessGraph}
+use Rattle.pb_site.specs.declared.declared.Declared.{Declared}
+use Rattle.pb_site.specs.declared.declared.Version.TheVariants.{Two}
+use Rattle.pb_site.specs.Site.{AreDistinct, HasDistinctNames, version_of}
 use Rattle.pb_facts.specs.Facts.{NoRepeats}
+use Rattle.pb_kinds.specs.declared.rows.Effect.TheVariants.{Declares}
 use Rattle.pb_book.specs.declared.rows.Period.{Period}
 use Rattle.pb_book.specs.Accepted.{AreAccepted}
-use Rattle.pb_book.specs.TakenOut.{takes_out}
+use Rattle.pb_book.specs.TakenOut.{takes_out, touching_of}
 use Rattle.pb_book.specs.Plain.{plain_stored}
 use Rattle.pb_book.specs.declared.rows.StoredRow.{StoredRow}
-use Rattle.pb_book.specs.Rows.{declared_of, facts_of, periods_of}
+use Rattle.pb_book.specs.Rows.{declared_of, facts_of, periods_of, with_row}
 use Rattle.pb_period.specs.Days.{days_of}
 use Rattle.pb_period.specs.declared.days.Days.{Days}
-use Rattle.pb_period.specs.PeriodGraph.{assembly_of, design_graph, period_names}
+use Rattle.pb_period.specs.PeriodGraph.{assembly_of, design_graph, period_graph, period_names}
 
--- names are distinct, and the graphs of the design and of each period that has one are within the limits
+-- names of a graph: one for each node, the environment's first, and one for each stream; no two nodes share one, and no two streams
+pub record AreGraphNames (names : Names) (graph : ProcessGraph) : Type 0 where
+  pub each_node : length names.nodes ≡ graph.nodes
+  pub each_stream : length names.streams ≡ length graph.streams
+  pub environment : slice_get names.nodes 0 ≡ Some (codes "env")
+  pub nodes : AreDistinct names.nodes
+  pub streams : AreDistinct names.streams
+
+-- the names of the plant are distinct, the names of any days are those of their graph, and the graphs of the design and of each period
+-- that has one are within the limits
 pub record HaveGraphs (rows : List StoredRow) : Type 0 where
   pub names : HasDistinctNames (declared_of rows)
+  pub named : (days : Days) → AreGraphNames (period_names rows days) (period_graph rows days)
   pub design : IsProcessGraph (design_graph rows)
   pub periods : All (λ (period : Period). IfOk (assembly_of rows (days_of period)) IsProcessGraph) (periods_of rows)
 
@@ -38,9 +52,21 @@ pub record LeavesDays (rows other : List StoredRow) (days : Days) : Type 0 where
   pub declared : declared_of other ≡ declared_of rows
   pub graph : assembly_of other days ≡ assembly_of rows days
 
--- a stored row that doesn't take out a period leaves its graph as it was, where no two facts have one id
+-- a stored row that doesn't take out a period leaves its graph as it was
 abbrev pub UntouchedLaw : Type 0
 UntouchedLaw =
-    (rows : List StoredRow) (stored : StoredRow) (period : Period) → NoRepeats (facts_of (rows ++ stored ∷ []))
-    → takes_out (facts_of (rows ++ stored ∷ [])) stored.effect period ≡ false
+    (rows : List StoredRow) (stored : StoredRow) (period : Period) → AreAccepted (rows ++ stored ∷ []) → NoRepeats (facts_of (rows ++ stored ∷ []))
+    → takes_out (touching_of (rows ++ stored ∷ [])) (facts_of (rows ++ stored ∷ [])) stored.effect period ≡ false
     → LeavesDays rows (rows ++ stored ∷ []) (days_of period)
+
+-- rows of which some days have the same graph, with the same names
+pub record LeavesGraph (rows other : List StoredRow) (days : Days) : Type 0 where
+  pub graph : assembly_of other days ≡ assembly_of rows days
+  pub names : period_names other days ≡ period_names rows days
+
+-- in version 2 a stored declaration leaves the graph of each closed period as it was
+abbrev pub ClosedGraphsLaw : Type 0
+ClosedGraphsLaw =
+    (rows : List StoredRow) (at : ℕ) (declared : Declared) (i : ℕ) (period : Period) → AreAccepted (with_row rows at (Declares declared))
+    → version_of (declared_of rows) ≡ Two → slice_get (periods_of rows) i ≡ Some period → period.closed ≡ true
+    → LeavesGraph rows (with_row rows at (Declares declared)) (days_of period)

@@ -1,11 +1,13 @@
 -- Statement. What the facts say of each arc of the plant on some days.
-use Rattle.std.specs.Prelude.{ℕ, ℤ, pos, ◌+ℤ◌, ◌-ℤ◌, List, filter_map, find, is_some, option_map, Option, Some, None, if◌then◌else◌}
+use Rattle.std.specs.Prelude.{ℕ, ℤ, ◌+ℤ◌, ◌-ℤ◌, List, filter_map, find, is_some, option_map, Option, Some, None, if◌then◌else◌}
 use Rattle.std.specs.List.{list_all}
 use Rattle.pb_graph.specs.declared.records.Meas.{Meas}
 use Rattle.pb_site.specs.declared.declared.Declared.{Declared}
 use Rattle.pb_site.specs.declared.declared.Arc.{Arc}
 use Rattle.pb_site.specs.declared.declared.ArcKind.{ArcKind}
 use Rattle.pb_site.specs.declared.declared.ArcKind.TheVariants.{Metered, Batch, Plain, Tank}
+use Rattle.pb_site.specs.declared.declared.Service.{Service}
+use Rattle.pb_site.specs.Service.{day_of_closing, day_of_opening, first_served, last_served}
 use Rattle.pb_site.specs.Site.{points_of}
 use Rattle.pb_facts.specs.declared.fact.Fact.{Fact}
 use Rattle.pb_facts.specs.Fact.{is_dip_on}
@@ -29,22 +31,28 @@ abbrev pub change_of : (Fact → Amount) → Option Fact → Option Fact → Opt
 change_of content (Some opening) (Some closing) = Some (difference_of (content opening) (content closing))
 change_of content opening closing = None
 
--- What live facts say of an arc on some days: of a metered stream the total of its readings, where each day has one; of
--- a batch stream what its transfers moved; of a plain one nothing; of a tank its content at the end of the last day
--- less that at the end of the day before the first, where both days have a dip.
-abbrev pub amount_of : List Declared → List Fact → Days → ArcKind → List ℕ → Option Amount
-amount_of declared facts days Metered stream = read_total (read_on facts stream) (each_of days)
-amount_of declared facts days Batch stream = Some (total_of (filter_map (transferred days stream) facts))
-amount_of declared facts days Plain stream = None
-amount_of declared facts days Tank tank =
+-- the days on which something is in service, of some days; without days of service all of them
+abbrev pub served_days : Option Service → Days → Days
+served_days service days = record { first = first_served service days.first; last = last_served service days.last }
+
+-- What live facts say of an arc on some days: of a metered stream the total of its readings, where each day on which it is in service
+-- has one; of a batch stream what its transfers moved; of a plain one nothing; of a tank its content at the end of its closing day less
+-- that at the end of its opening day, where both days have a dip. These are the last of the days on which it is in service, and the day
+-- before the first of them.
+abbrev pub amount_of : List Declared → List Fact → Days → Option Service → ArcKind → List ℕ → Option Amount
+amount_of declared facts days service Metered stream = read_total (read_on facts stream) (each_of (served_days service days))
+amount_of declared facts days service Batch stream = Some (total_of (filter_map (transferred days stream) facts))
+amount_of declared facts days service Plain stream = None
+amount_of declared facts days service Tank tank =
     change_of (content_of (points_of declared tank))
-    (find (is_dip_on tank (days.first -ℤ pos 1)) facts) (find (is_dip_on tank days.last) facts)
+    (find (is_dip_on tank (day_of_opening service days.first)) facts)
+    (find (is_dip_on tank (day_of_closing service days.last)) facts)
 
 -- a measured amount: its grams, and the base variance with its own variance
 abbrev pub measurement : ℤ → Amount → Meas
 measurement base amount = record { value = amount.grams; variance = base +ℤ amount.variance }
 
--- what is measured of an arc on some days
-abbrev pub measured : List Declared → List Fact → Days → Arc → Option Meas
-measured declared facts days arc =
-    option_map (measurement arc.base) (amount_of declared facts days arc.kind arc.name)
+-- what is measured of an arc on some days, where it has these days of service
+abbrev pub measured : List Declared → List Fact → Days → Option Service → Arc → Option Meas
+measured declared facts days service arc =
+    option_map (measurement arc.base) (amount_of declared facts days service arc.kind arc.name)

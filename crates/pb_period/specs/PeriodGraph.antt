@@ -1,4 +1,4 @@
--- Statement. The graph of the declared plant, before a single reading and as a period measured it.
+-- Statement. The graph of the declared plant before a single reading, and that of the part in service as a period measured it.
 use Rattle.std.specs.Prelude.{ℕ, ◌<◌, ℤ, pos, Bool, false, ◌||◌, nat_lt, int_lt, unsigned_abs, List, length, map, position, Option, Some, None, Result, Ok, Err}
 use Rattle.std.specs.Option.{option_map_or}
 use Rattle.pb_limits.specs.Limits.{most_value, most_variance}
@@ -9,7 +9,12 @@ use Rattle.pb_site.specs.declared.declared.Arc.{Arc}
 use Rattle.pb_site.specs.declared.declared.ArcKind.{ArcKind}
 use Rattle.pb_site.specs.declared.declared.ArcKind.TheVariants.{Plain}
 use Rattle.pb_rows.specs.declared.name.Names.{Names}
-use Rattle.pb_site.specs.Site.{arcs_of, names_of, node_names}
+use Rattle.pb_site.specs.declared.declared.Declared.{Declared}
+use Rattle.pb_site.specs.declared.declared.Version.{Version}
+use Rattle.pb_site.specs.declared.declared.Version.TheVariants.{One, Two}
+use Rattle.pb_site.specs.OnDays.{arcs_on, names_on, nodes_on, place_among}
+use Rattle.pb_site.specs.Site.{arcs_of, node_names, version_of}
+use Rattle.pb_facts.specs.declared.fact.Fact.{Fact}
 use Rattle.pb_facts.specs.Facts.{live_facts}
 use Rattle.pb_book.specs.declared.rows.StoredRow.{StoredRow}
 use Rattle.pb_book.specs.Rows.{declared_of, facts_of}
@@ -42,13 +47,40 @@ base_of arc = base_of_kind arc.kind arc.base
 abbrev pub design_graph : List StoredRow → ProcessGraph
 design_graph rows = graph_with base_of rows
 
+-- the stream of an arc among some nodes, with what was measured of it
+abbrev pub stream_among : List ℕ → (Arc → Option Meas) → Arc → Stream
+stream_among nodes measure arc = record {
+  from = place_among nodes arc.from;
+  to = place_among nodes arc.to;
+  meas = measure arc;
+}
+
+-- what is measured on some days of an arc, on those of them on which it is in service
+abbrev pub measured_served : List Declared → List Fact → Days → Arc → Option Meas
+measured_served declared facts days arc = measured declared facts days arc.service arc
+
+-- the part of the plant that is in service on some of these days: its streams are the declared ones and the inventories of the tanks
+-- that are, its nodes are the environment and the ends of these streams, all in order of declaration
+abbrev pub served_graph : List Declared → List Fact → Days → ProcessGraph
+served_graph declared facts days =
+    let nodes = nodes_on Two declared days.first days.last in
+    record {
+      nodes = length nodes;
+      streams = map (stream_among nodes (measured_served declared facts days)) (arcs_on Two declared days.first days.last);
+    }
+
+-- The graph of the days of a period in a session of a version: in version 1 of the whole plant, in version 2 of the part in service.
+abbrev pub graph_in : Version → List StoredRow → Days → ProcessGraph
+graph_in One rows days = graph_with (measured (declared_of rows) (live_facts (facts_of rows)) days None) rows
+graph_in Two rows days = served_graph (declared_of rows) (live_facts (facts_of rows)) days
+
 -- The graph of the days of a period.
 abbrev pub period_graph : List StoredRow → Days → ProcessGraph
-period_graph rows days = graph_with (measured (declared_of rows) (live_facts (facts_of rows)) days) rows
+period_graph rows days = graph_in (version_of (declared_of rows)) rows days
 
 -- the names of its nodes and streams
 abbrev pub period_names : List StoredRow → Days → Names
-period_names rows days = names_of (declared_of rows)
+period_names rows days = let declared = declared_of rows in names_on (version_of declared) declared days.first days.last
 
 -- a value above 10^15 grams either way, or a variance above 10^22 squared grams: above the limits of a graph
 abbrev pub is_over_limits : Meas → Bool
@@ -61,11 +93,22 @@ abbrev pub unless_over : ProcessGraph → Option ℕ → Result ProcessGraph Ass
 unless_over graph (Some stream) = Err (Over stream)
 unless_over graph None = Ok graph
 
--- The graph of the days of a period, or its first stream that is over the limits.
-abbrev pub assembly_of : List StoredRow → Days → Result ProcessGraph Assembly
-assembly_of rows days = let graph = period_graph rows days in unless_over graph (position is_over graph.streams)
+-- a graph, or its first stream that is over the limits
+abbrev pub within_limits : ProcessGraph → Result ProcessGraph Assembly
+within_limits graph = unless_over graph (position is_over graph.streams)
 
--- a stream that is over the limits is one of the graph's
+-- The graph of the days of a period, or its first stream that is over the limits, in a session of a version.
+abbrev pub assembly_in : Version → List StoredRow → Days → Result ProcessGraph Assembly
+assembly_in version rows days = within_limits (graph_in version rows days)
+
+abbrev pub assembly_of : List StoredRow → Days → Result ProcessGraph Assembly
+assembly_of rows days = assembly_in (version_of (declared_of rows)) rows days
+
+-- a stream that is over the limits is one of a graph's
+abbrev pub IsStreamOf : ProcessGraph → Assembly → Type 0
+IsStreamOf graph (Over stream) = stream < length graph.streams
+IsStreamOf graph NoMemory = Unit {0}
+
+-- it is one of the graph's of some days
 abbrev pub NamesAStream : List StoredRow → Days → Assembly → Type 0
-NamesAStream rows days (Over stream) = stream < length (period_graph rows days).streams
-NamesAStream rows days NoMemory = Unit {0}
+NamesAStream rows days why = IsStreamOf (period_graph rows days) why

@@ -1,17 +1,20 @@
 // The graph of the plant: as it is declared, and as the days of a period measured it.
 
-ghost use Rattle.std.specs.Prelude.{◌≡◌, ◌≢◌, ◌<◌, ◌≤ℤ◌, pos, length, slice_get, option_map, false, Err, IfErr, IfOk, IfSome, Some};
+ghost use Rattle.std.specs.Prelude.{◌≡◌, ◌≢◌, ◌<◌, ◌≤ℤ◌, pos, length, slice_get, option_map, false, Err, IfErr, IfOk, IfSome, None, Some};
 ghost use Rattle.pb_limits.specs.Limits.{most_facts, most_streams};
 ghost use Rattle.pb_graph.specs.ProcessGraph.{Fits, IsMeasurement, IsStream, IsWithinLimits};
+ghost use Rattle.pb_site.specs.declared.declared.Version.TheVariants.{One, Two};
+ghost use Rattle.pb_site.specs.Laws.{JoinsPlaces};
 ghost use Rattle.pb_site.specs.Row.{IsArcBase};
-ghost use Rattle.pb_site.specs.Site.{HasDistinctNames, arcs_of, node_names};
+ghost use Rattle.pb_site.specs.Site.{arcs_of, node_names, version_of};
 ghost use Rattle.pb_facts.specs.Facts.{live_facts};
 ghost use Rattle.pb_book.specs.Rows.{declared_of, facts_of, periods_of};
 ghost use Rattle.pb_period.specs.declared.graph.Assembly.TheVariants.{NoMemory};
 ghost use Rattle.pb_period.specs.Amounts.{IsAmount};
 ghost use Rattle.pb_period.specs.Days.{AreDays, days_of};
+ghost use Rattle.pb_period.specs.Laws.{AreGraphNames};
 ghost use Rattle.pb_period.specs.Measurement.{amount_of, measured};
-ghost use Rattle.pb_period.specs.PeriodGraph.{NamesAStream, assembly_of, base_of, base_of_kind, design_graph, is_over, period_names, stream_with};
+ghost use Rattle.pb_period.specs.PeriodGraph.{IsStreamOf, NamesAStream, assembly_in, assembly_of, base_of, base_of_kind, design_graph, graph_in, is_over, measured_served, period_graph, period_names, stream_among, stream_with};
 
 use crate::amount::Amount;
 use crate::days::Days;
@@ -20,7 +23,7 @@ use crate::transfers::transferred;
 use pb_book::Book;
 use pb_graph::{Graph, Meas, Stream};
 use pb_rows::Names;
-use pb_site::{Arc, ArcKind};
+use pb_site::{Arc, ArcKind, OnDays, Service, Version, is_in_service_within, names_on};
 use std::alloc::{AllocError, Global};
 
 /// Why there is no graph of a period.
@@ -52,7 +55,8 @@ pub fn design(alloc: Global, book: &Book) -> Result<Graph, AllocError>
     Ok(graph)
 }
 
-/// The graph of a period, from the facts that are live; or the first stream whose value or variance is above the limits.
+/// The graph of a period, from the facts that are live; or the first stream whose value or variance is above the limits. In a session
+/// of version 2 it has the streams and tanks that are in service on some day of the period, and the nodes that these join.
 pub fn assemble(alloc: Global, book: &Book, period: u32) -> Result<Graph, Assembly>
     requires { period < length (periods_of book.now) }
     ensures answer { result ≢ Err Assembly.NoMemory
@@ -61,17 +65,24 @@ pub fn assemble(alloc: Global, book: &Book, period: u32) -> Result<Graph, Assemb
     ensures over { IfSome (slice_get (periods_of book.now) period)
         (λ period. IfErr result (NamesAStream book.now (days_of period))) }
 {
-    measured_graph(alloc, book, Days::of(&book.period(period)))
+    let days = Days::of(&book.period(period));
+    match book.site().version() {
+        Version::One => measured_graph(alloc, book, days),
+        Version::Two => served_graph(alloc, book, days),
+    }
 }
 
 /// The names of the nodes and streams of the graph of a period. No two nodes have one name, and no two streams.
-pub fn period_names(book: &Book, _period: u32) -> Result<Names, AllocError>
-    requires { _period < length (periods_of book.now) }
-    ensures ok { IfOk result (λ names. IfSome (slice_get (periods_of book.now) _period)
+pub fn names(alloc: Global, book: &Book, period: u32) -> Result<Names, AllocError>
+    requires { period < length (periods_of book.now) }
+    ensures ok { IfOk result (λ names. IfSome (slice_get (periods_of book.now) period)
         (λ period. names ≡ period_names book.now (days_of period))) }
-    ensures distinct { HasDistinctNames (declared_of book.now) }
+    ensures named { IfSome (slice_get (periods_of book.now) period)
+        (λ period. AreGraphNames (period_names book.now (days_of period))
+        (period_graph book.now (days_of period))) }
 {
-    book.site().names()
+    let days = Days::of(&book.period(period));
+    names_on(alloc, book.site(), days.first, days.last)
 }
 
 // The stream of an arc.
@@ -109,11 +120,11 @@ fn base_of(kind: ArcKind, base: i128) -> Option<Meas>
     }
 }
 
-// The graph of the plant with what some days measured.
+// The graph of the whole plant with what some days measured.
 fn measured_graph(alloc: Global, book: &Book, days: Days) -> Result<Graph, Assembly>
     requires { AreDays days }
-    ensures answer { result ≢ Err Assembly.NoMemory → result ≡ assembly_of book.now days }
-    ensures over { IfErr result (NamesAStream book.now days) }
+    ensures answer { result ≢ Err Assembly.NoMemory → result ≡ assembly_in One book.now days }
+    ensures over { IfErr result (IsStreamOf (graph_in One book.now days)) }
 {
     let site = book.site();
     let mut graph = Graph::new(alloc, site.nodes());
@@ -123,6 +134,29 @@ fn measured_graph(alloc: Global, book: &Book, days: Days) -> Result<Graph, Assem
             return Err(Assembly::Over(j));
         }
         graph.push(stream)?;
+    }
+    Ok(graph)
+}
+
+// The graph of the part of the plant that is in service on some days, with what these measured.
+fn served_graph(alloc: Global, book: &Book, days: Days) -> Result<Graph, Assembly>
+    requires days { AreDays days }
+    requires version { version_of (declared_of book.now) ≡ Two }
+    ensures answer { result ≢ Err Assembly.NoMemory → result ≡ assembly_in Two book.now days }
+    ensures over { IfErr result (IsStreamOf (graph_in Two book.now days)) }
+{
+    let site = book.site();
+    let part = OnDays::of(alloc, site, days.first, days.last)?;
+    let mut graph = Graph::new(alloc, part.nodes().len() as u32);
+    for j in 0..site.arcs() {
+        let arc = site.arc(j);
+        if is_in_service_within(arc.service, days.first, days.last) {
+            let stream = served_stream(book, &part, days, j, &arc);
+            if is_over(&graph, &stream) {
+                return Err(Assembly::Over(graph.streams().len() as u32));
+            }
+            graph.push(stream)?;
+        }
     }
     Ok(graph)
 }
@@ -138,36 +172,69 @@ fn is_over(graph: &Graph, stream: &Stream) -> bool
     !graph.fits(stream)
 }
 
-// The stream of an arc, with what some days measured of it.
+// The stream of an arc, with what some days measured of it, on each of which it is in service.
 fn measured_stream(book: &Book, days: Days, j: u32) -> Stream
     requires days { AreDays days }
     requires place { j < length (arcs_of (declared_of book.now)) }
     ensures value { Some result ≡ option_map
-        (stream_with (measured (declared_of book.now) (live_facts (facts_of book.now)) days))
+        (stream_with (measured (declared_of book.now) (live_facts (facts_of book.now)) days None))
         (slice_get (arcs_of (declared_of book.now)) j) }
     ensures joins { IsStream (length (node_names (declared_of book.now))) result }
     ensures least { IfSome result.meas (λ meas. pos 1 ≤ℤ meas.variance) }
 {
     let arc = book.site().arc(j);
-    let meas = match amount_of(book, days, j, &arc) {
-        Some(amount) => Some(amount.measured(arc.base)),
-        None => None,
-    };
-    stream_of(&arc, meas)
+    stream_of(&arc, measured(book, days, None, j, &arc))
 }
 
-// What the facts say of an arc on some days.
-fn amount_of(book: &Book, days: Days, j: u32, arc: &Arc) -> Option<Amount>
+// The stream of an arc among the nodes of the part of the plant that is in service on some days, with what these measured of it.
+fn served_stream(book: &Book, part: &OnDays, days: Days, j: u32, arc: &Arc) -> Stream
+    requires days { AreDays days }
+    requires place { slice_get (arcs_of (declared_of book.now)) j ≡ Some arc.now }
+    requires base { IsArcBase arc.now.kind arc.now.base }
+    requires joins { JoinsPlaces part.now arc.now }
+    ensures value { result ≡ stream_among part.now
+        (measured_served (declared_of book.now) (live_facts (facts_of book.now)) days) arc.now }
+    ensures joins { IsStream (length part.now) result }
+    ensures least { IfSome result.meas (λ meas. pos 1 ≤ℤ meas.variance) }
+{
+    Stream {
+        from: part.place(arc.from),
+        to: part.place(arc.to),
+        meas: measured(book, days, arc.service, j, arc),
+    }
+}
+
+// What some days measured of an arc with these days of service.
+fn measured(book: &Book, days: Days, service: Option<Service>, j: u32, arc: &Arc) -> Option<Meas>
+    requires days { AreDays days }
+    requires place { slice_get (arcs_of (declared_of book.now)) j ≡ Some arc.now }
+    requires base { IsArcBase arc.now.kind arc.now.base }
+    ensures value { result ≡ measured (declared_of book.now) (live_facts (facts_of book.now)) days
+        service arc.now }
+    ensures least { IfSome result (λ meas. pos 1 ≤ℤ meas.variance) }
+{
+    let amount = amount_of(book, days, service, j, arc)?;
+    Some(amount.measured(arc.base))
+}
+
+// What the facts say of an arc on some days, where it has these days of service.
+fn amount_of(book: &Book, days: Days, service: Option<Service>, j: u32, arc: &Arc) -> Option<Amount>
     requires days { AreDays days }
     requires place { slice_get (arcs_of (declared_of book.now)) j ≡ Some arc.now }
     ensures value { result ≡ amount_of (declared_of book.now) (live_facts (facts_of book.now)) days
-        arc.now.kind arc.now.name }
+        service arc.now.kind arc.now.name }
     ensures within { IfSome result (IsAmount most_facts) }
 {
     match arc.kind {
-        ArcKind::Metered => read_total(book.facts(), &arc.name, days),
+        ArcKind::Metered => read_total(book.facts(), &arc.name, days, service),
         ArcKind::Batch => Some(transferred(book.facts(), &arc.name, days)),
         ArcKind::Plain => None,
-        ArcKind::Tank => change(book.facts(), book.site().strap(j)?, &arc.name, days),
+        ArcKind::Tank => change(
+            book.facts(),
+            book.site().strap(j)?,
+            &arc.name,
+            days,
+            service,
+        ),
     }
 }

@@ -1,16 +1,18 @@
 // The laws of the graphs.
 
-ghost use Rattle.pb_period.specs.Laws.{GraphsLaw, PlainGraphsLaw, UntouchedLaw};
+ghost use Rattle.pb_period.specs.Laws.{ClosedGraphsLaw, GraphsLaw, PlainGraphsLaw, UntouchedLaw};
 
 use pb_book::{accepted_law, plain_law};
-use pb_site::plant_law;
+use pb_site::{days_law, plant_law, same_part_law};
+use pb_strap::tables_law;
 
-/// The law that the names of accepted rows are distinct, and that the graphs of their design and of each of their periods that has
-/// one are within the limits.
+/// The law that the names of accepted rows are distinct, that those of any days are the names of their graph, and that the graphs of the
+/// design and of each of their periods that has one are within the limits.
 pub fn graphs_law()
     ensures { GraphsLaw }
 {
     plant_law();
+    days_law();
     accepted_law();
 }
 
@@ -25,4 +27,16 @@ pub fn plain_graphs_law()
 /// The law that a stored row which doesn't take out a period leaves what is declared and the graph of the period as they were.
 pub fn untouched_law()
     ensures { UntouchedLaw }
-{}
+{
+    plant_law();
+}
+
+/// The law that in a session of version 2 a stored declaration leaves the graph of each closed period as it was, and its names.
+pub fn closed_graphs_law()
+    ensures { ClosedGraphsLaw }
+{
+    plant_law();
+    same_part_law();
+    tables_law();
+    accepted_law();
+}

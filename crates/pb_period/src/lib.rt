@@ -11,5 +11,5 @@ mod measured;
 mod transfers;
 
 pub use days::Days;
-pub use graph::{Assembly, assemble, design, period_names};
-pub use laws::{graphs_law, plain_graphs_law, untouched_law};
+pub use graph::{Assembly, assemble, design, names};
+pub use laws::{closed_graphs_law, graphs_law, plain_graphs_law, untouched_law};

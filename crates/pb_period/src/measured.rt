@@ -1,18 +1,20 @@
 // What meters read and what tanks held.
 
-ghost use Rattle.std.specs.Prelude.{◌≡◌, ◌-ℤ◌, pos, find, IfSome, Some};
+ghost use Rattle.std.specs.Prelude.{◌≡◌, find, IfSome, Some};
 ghost use Rattle.pb_limits.specs.Limits.{most_days_of_period};
+ghost use Rattle.pb_site.specs.Service.{day_of_closing, day_of_opening};
 ghost use Rattle.pb_facts.specs.Fact.{IsInRange, is_dip_on, is_reading_on};
 ghost use Rattle.pb_facts.specs.Facts.{live_facts};
 ghost use Rattle.pb_period.specs.Amounts.{IsAmount};
 ghost use Rattle.pb_period.specs.Days.{AreDays, each_of};
 ghost use Rattle.pb_period.specs.Facts.{content_of, read_amount, read_on};
-ghost use Rattle.pb_period.specs.Measurement.{change_of, difference_of, read_total};
+ghost use Rattle.pb_period.specs.Measurement.{change_of, difference_of, read_total, served_days};
 
 use crate::amount::Amount;
 use crate::days::Days;
 use pb_facts::{Fact, Facts};
 use pb_rows::Name;
+use pb_site::{Service, closing_day, first_served, last_served, opening_day};
 use pb_strap::Strap;
 
 // The live reading of a stream on a day.
@@ -58,14 +60,23 @@ fn read_on(facts: &Facts, stream: &Name, day: i32) -> Option<Amount>
     read_amount(&reading_on(facts, stream, day)?)
 }
 
-/// The total of what a stream's meter read on some days; `None` exactly where some day has no reading.
-pub fn read_total(facts: &Facts, stream: &Name, days: Days) -> Option<Amount>
+/// The total of what a stream's meter read on those of some days on which the stream is in service; `None` iff one of these has no
+/// reading.
+pub fn read_total(
+    facts: &Facts,
+    stream: &Name,
+    days: Days,
+    service: Option<Service>,
+) -> Option<Amount>
     requires { AreDays days }
-    ensures value { result ≡ read_total (read_on (live_facts facts.now) stream.now) (each_of days) }
+    ensures value { result ≡ read_total (read_on (live_facts facts.now) stream.now)
+        (each_of (served_days service days)) }
     ensures within { IfSome result (IsAmount most_days_of_period) }
 {
+    let first = first_served(service, days.first);
+    let last = last_served(service, days.last);
     let mut total = Amount::zero();
-    for day in days.first..days.last + 1 {
+    for day in first..last + 1 {
         total = total.plus(read_on(facts, stream, day)?);
     }
     Some(total)
@@ -91,17 +102,23 @@ fn content_of(strap: &Strap, dip: &Fact) -> Amount
     }
 }
 
-/// The change of a tank's content over some days; `None` exactly where it has no dip of the last day or of the day before the
-/// first.
-pub fn change(facts: &Facts, strap: &Strap, tank: &Name, days: Days) -> Option<Amount>
+/// The change of a tank's content over those of some days on which it is in service; `None` iff it has no dip of the last of these
+/// or of the day before the first.
+pub fn change(
+    facts: &Facts,
+    strap: &Strap,
+    tank: &Name,
+    days: Days,
+    service: Option<Service>,
+) -> Option<Amount>
     requires { AreDays days }
     ensures value { result ≡ change_of (content_of strap.now)
-        (find (is_dip_on tank.now (days.first -ℤ pos 1)) (live_facts facts.now))
-        (find (is_dip_on tank.now days.last) (live_facts facts.now)) }
+        (find (is_dip_on tank.now (day_of_opening service days.first)) (live_facts facts.now))
+        (find (is_dip_on tank.now (day_of_closing service days.last)) (live_facts facts.now)) }
     ensures within { IfSome result (IsAmount 2) }
 {
-    let opening = dip_on(facts, tank, days.first - 1)?;
-    let closing = dip_on(facts, tank, days.last)?;
+    let opening = dip_on(facts, tank, opening_day(service, days.first))?;
+    let closing = dip_on(facts, tank, closing_day(service, days.last))?;
     Some(difference(content_of(strap, &opening), content_of(strap, &closing)))
 }
 

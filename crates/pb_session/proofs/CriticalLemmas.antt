@@ -5,7 +5,7 @@ use Rattle.std.specs.List.{AllByRecursion, cons_option}
 use Rattle.std.proofs.lemmas.List.Elements.{All-from_recursion, recursion_from_All}
 use Rattle.pb_limits.specs.Ranges.{IsCriticalValue}
 use Rattle.pb_site.specs.declared.declared.Declared.{Declared}
-use Rattle.pb_site.specs.declared.declared.Declared.TheVariants.{Unit as UnitRow, Tank, Strap, Stream, CritGlobal, CritNodal, CritMeasure}
+use Rattle.pb_site.specs.declared.declared.Declared.TheVariants.{Version2, Unit as UnitRow, Boundary, Tank, Strap, Stream, CritGlobal, CritNodal, CritMeasure}
 use Rattle.pb_site.specs.Row.{IsInRange, measure_value, nodal_value}
 use Rattle.pb_site.specs.Laws.{IsPlant}
 use Rattle.pb_elim.specs.Criticals.{AreCritical, IsCriticalRow}
@@ -29,28 +29,34 @@ first P (x ∷ xs) (here, all) = here
 
 gives_row : Gives critical_row IsCriticalRow
 gives_row (CritGlobal dof value) (least, most, range) = range
+gives_row Version2 is = tt
 gives_row (UnitRow name) is = tt
-gives_row (Tank name base) is = tt
+gives_row (Boundary name) is = tt
+gives_row (Tank name base service) is = tt
 gives_row (Strap tank mm ml) is = tt
-gives_row (Stream name from to kind base) is = tt
+gives_row (Stream name from to kind base service) is = tt
 gives_row (CritNodal value) is = tt
 gives_row (CritMeasure value) is = tt
 
 gives_nodal : Gives nodal_value IsCriticalValue
 gives_nodal (CritNodal value) is = is
+gives_nodal Version2 is = tt
 gives_nodal (UnitRow name) is = tt
-gives_nodal (Tank name base) is = tt
+gives_nodal (Boundary name) is = tt
+gives_nodal (Tank name base service) is = tt
 gives_nodal (Strap tank mm ml) is = tt
-gives_nodal (Stream name from to kind base) is = tt
+gives_nodal (Stream name from to kind base service) is = tt
 gives_nodal (CritGlobal dof value) is = tt
 gives_nodal (CritMeasure value) is = tt
 
 gives_measure : Gives measure_value IsCriticalValue
 gives_measure (CritMeasure value) is = is
+gives_measure Version2 is = tt
 gives_measure (UnitRow name) is = tt
-gives_measure (Tank name base) is = tt
+gives_measure (Boundary name) is = tt
+gives_measure (Tank name base service) is = tt
 gives_measure (Strap tank mm ml) is = tt
-gives_measure (Stream name from to kind base) is = tt
+gives_measure (Stream name from to kind base service) is = tt
 gives_measure (CritGlobal dof value) is = tt
 gives_measure (CritNodal value) is = tt
 

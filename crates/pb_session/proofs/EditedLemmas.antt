@@ -10,6 +10,8 @@ use Rattle.pb_graph.specs.ProcessGraph.{ProcessGraph}
 use Rattle.pb_rows.specs.declared.name.Names.{Names}
 use Rattle.pb_elim.specs.Study.{IsStudyOf}
 use Rattle.pb_site.specs.declared.declared.Declared.{Declared}
+use Rattle.pb_site.specs.declared.declared.Version.{Version}
+use Rattle.pb_site.specs.Site.{version_of}
 use Rattle.pb_book.specs.declared.answer.Accepted.{Accepted}
 use Rattle.pb_book.specs.declared.answer.Accepted.TheVariants.{Report}
 use Rattle.pb_book.specs.declared.answer.Refused.{Refused as Refusal}
@@ -18,7 +20,7 @@ use Rattle.pb_kinds.specs.declared.rows.Request.{Request}
 use Rattle.pb_kinds.specs.declared.rows.Request.TheVariants as asked
 use Rattle.pb_kinds.specs.declared.rows.Effect.{Effect}
 use Rattle.pb_book.specs.declared.rows.Period.{Period}
-use Rattle.pb_book.specs.Accepted.{AreAccepted}
+use Rattle.pb_book.specs.Accepted.{AreAccepted, IsAcceptable}
 use Rattle.pb_kinds.specs.declared.costs.NamedCost.{NamedCost}
 use Rattle.pb_kinds.specs.Costs.{named_costs}
 use Rattle.pb_book.specs.Costs.{refusal_of_costs}
@@ -28,7 +30,7 @@ use Rattle.pb_book.specs.Plain.{ArePlain, PlainLaw, numbered, opened, plain_rows
 use Rattle.pb_book.specs.Refusals.{refusal_of}
 use Rattle.pb_kinds.specs.Requests.{request_in}
 use Rattle.pb_book.specs.declared.rows.StoredRow.{StoredRow}
-use Rattle.pb_book.specs.Rows.{declared_of, period_place, periods_of}
+use Rattle.pb_book.specs.Rows.{declared_of, period_place, periods_of, version_at}
 use Rattle.pb_book.specs.Written.{WriteRows, WritesRow}
 use Rattle.pb_period.specs.Days.{days_of}
 use Rattle.pb_period.specs.Laws.{HaveSameGraphs, PlainGraphsLaw}
@@ -38,6 +40,7 @@ use Rattle.pb_period.specs.declared.graph.Assembly.TheVariants.{Over, NoMemory}
 use Rattle.pb_report.specs.Form.{text_in}
 use Rattle.pb_report.specs.Names.{name_at}
 use Rattle.pb_report.specs.Over.{over_row}
+use Rattle.pb_session.proofs.RowLemmas.{AnswersOf, answers}
 use Rattle.pb_session.specs.Criticals.{declared_critical}
 use Rattle.pb_session.specs.Edited.{EditedFileLaw, begun}
 use Rattle.pb_session.specs.Session.{Adds, AddsAccepted, AddsBy, IsReport, IsSessionText, Reports, ReportsBy, SessionState, refuses_some, state_after}
@@ -49,17 +52,17 @@ with_rows state rows = record { options = state.options; form = state.form; rows
 -- ---- records that write accepted rows
 
 -- a row was acceptable behind those before it
-seam : (done more : List StoredRow) (stored : StoredRow) → AreAccepted (done ++ stored ∷ more) → refusal_of done stored.effect ≡ None
+seam : (done more : List StoredRow) (stored : StoredRow) → AreAccepted (done ++ stored ∷ more) → IsAcceptable done stored.effect
 seam done more stored accepted =
     let long = length-append done (stored ∷ more) in
     let here : length done < length (done ++ stored ∷ more) = omega (arith, long) in
     let at = slice_get-get_or (done ++ stored ∷ more) (length done) stored here ∙ ap (λ (s : StoredRow). Some s) (get_or-append_seam done stored more stored) in
     let is = accepted (length done) stored at in
-    subst (λ (rs : List StoredRow). refusal_of rs stored.effect ≡ None) (take-append_seam done (stored ∷ more)) is.no_cause
+    subst (λ (rs : List StoredRow). IsAcceptable rs stored.effect) (take-append_seam done (stored ∷ more)) is
 
-stored_answer : (rows : List StoredRow) (fields : List (List ℕ)) (effect : Effect) → WritesRow fields effect → refusal_of rows effect ≡ None → answer_of rows fields ≡ Stored effect
-stored_answer rows fields effect writes none =
-    ap (λ (r : Result Request FormFault). answer_if rows (named_costs fields) r) writes.asks ∙ ap (λ (o : Option Refusal). stored_or_refused effect o) none
+stored_answer : (rows : List StoredRow) (fields : List (List ℕ)) (effect : Effect) → WritesRow fields effect → IsAcceptable rows effect → answer_of rows fields ≡ Stored effect
+stored_answer rows fields effect writes one =
+    ap (λ (r : Result Request FormFault). answer_if rows (named_costs fields) r) (writes.asks (version_at rows) one.may) ∙ ap (λ (o : Option Refusal). stored_or_refused effect o) one.no_cause
 
 -- none of these records is refused, none adds a text, and so they end
 record StoreAll (state : SessionState) (at : ℕ) (records : List (List (List ℕ))) (end : SessionState) : Type 0 where
@@ -152,6 +155,21 @@ report_answer rows plain i costs (Ok (asked.History name)) same is = absurd (not
 report_answer rows plain i costs (Ok asked.Advise) same is = absurd (not_advised (refusal_of_costs (declared_of rows) costs) i is)
 report_answer rows plain i costs (Err fault) same is = cc is
 
+-- the version, where there is a period
+version_some : (rows : List StoredRow) (i : ℕ) → i < length (periods_of rows) → version_at rows ≡ Some (version_of (declared_of rows))
+version_some [] i within = absurd (omega (arith, within))
+version_some (stored ∷ rows) i within = refl
+
+-- a record that asks for a report of a period asks for it after the plain rows
+plain_answer : (rows plain : List StoredRow) (i : ℕ) (report : List (List ℕ)) → ArePlain rows plain → answer_of rows report ≡ Says (Report i) → answer_of plain report ≡ Says (Report i)
+plain_answer rows plain i report are is =
+    let within : i < length (periods_of rows) = subst (AnswersOf rows) is (answers rows report) in
+    let long = ap (λ (ps : List Period). length ps) are.periods ∙ length-map (periods_of rows) opened in
+    let version : version_at plain ≡ version_at rows =
+    version_some plain i (omega (arith, long, within)) ∙ ap (λ (ds : List Declared). Some (version_of ds)) are.declared ∙ sym (version_some rows i within) in
+    ap (λ (v : Option Version). answer_if plain (named_costs report) (request_in v report)) version
+    ∙ report_answer rows plain i (named_costs report) (request_in (version_at rows) report) are.periods is
+
 -- the study of a graph asks the declarations alone
 report_as : (state : SessionState) (rows other : List StoredRow) (names : Names) (period : List ℕ) (graph : ProcessGraph) (text : List ℕ) → declared_of rows ≡ declared_of other
     → IsReport (with_rows state rows) names period graph text → IsReport (with_rows state other) names period graph text
@@ -199,14 +217,14 @@ adds_to : (state : SessionState) (plain : List StoredRow) (at after i : ℕ) (re
 adds_to state plain at after i report text are graphs is adds =
     let here = subst (λ (a : Answer). AddsBy state at (named_costs report) a text) is adds in
     let there = reports_to state plain (slice_get (periods_of state.rows) i) text are graphs here in
-    let other = report_answer state.rows plain i (named_costs report) (request_in report) are.periods is in
+    let other = plain_answer state.rows plain i report are is in
     subst (λ (a : Answer). AddsBy (with_rows state plain) after (named_costs report) a text) (sym other)
     (subst (λ (found : Option Period). Reports (with_rows state plain) found text) (sym (found_plain state.rows plain i are)) there)
 
 adds_back : (state : SessionState) (plain : List StoredRow) (at after i : ℕ) (report : List (List ℕ)) (text : List ℕ) → ArePlain state.rows plain → HaveSameGraphs state.rows plain
     → answer_of state.rows report ≡ Says (Report i) → Adds (with_rows state plain) after report text → Adds state at report text
 adds_back state plain at after i report text are graphs is adds =
-    let other = report_answer state.rows plain i (named_costs report) (request_in report) are.periods is in
+    let other = plain_answer state.rows plain i report are is in
     let there = subst (λ (a : Answer). AddsBy (with_rows state plain) after (named_costs report) a text) other adds in
     let here = subst (λ (found : Option Period). Reports (with_rows state plain) found text) (found_plain state.rows plain i are) there in
     subst (λ (a : Answer). AddsBy state at (named_costs report) a text) (sym is) (reports_back state plain (slice_get (periods_of state.rows) i) text are graphs here)

@@ -9,12 +9,13 @@ use Rattle.pb_book.specs.declared.rows.Period.{Period}
 use Rattle.pb_book.specs.declared.rows.StoredRow.{StoredRow}
 use Rattle.pb_book.specs.Edits.{edit_touches, edits_of, history_of, row_touches, touches_at}
 use Rattle.pb_book.specs.Rows.{facts_of, periods_of}
+use Rattle.pb_book.specs.TakenOut.{touching_of}
 use Rattle.pb_report.specs.declared.history.HistoryRow.{HistoryRow}
 use Rattle.pb_session.specs.History.{told}
 
 -- an edit touches the period
 abbrev pub touching : List StoredRow → Period → StoredRow → Bool
-touching rows period stored = edit_touches (facts_of rows) stored.effect period
+touching rows period stored = edit_touches (touching_of rows) (facts_of rows) stored.effect period
 
 -- what is told of those that touch it
 abbrev pub told_of : List StoredRow → Period → List StoredRow → List HistoryRow
@@ -38,8 +39,8 @@ drop_next xs e x at =
 touches_is : (rows : List StoredRow) (period : Period) (e i : ℕ) (stored : StoredRow) → slice_get (periods_of rows) i ≡ Some period → slice_get (edits_of rows) e ≡ Some stored
     → touches_at rows e i ≡ touching rows period stored
 touches_is rows period e i stored there at =
-    ap (λ (o : Option Period). option_map_or (λ (p : Period). row_touches (facts_of rows) p (slice_get (edits_of rows) e)) o false) there
-    ∙ ap (row_touches (facts_of rows) period) at
+    ap (λ (o : Option Period). option_map_or (λ (p : Period). row_touches (touching_of rows) (facts_of rows) p (slice_get (edits_of rows) e)) o false) there
+    ∙ ap (row_touches (touching_of rows) (facts_of rows) period) at
 
 more_of : (rows : List StoredRow) (period : Period) (stored : StoredRow) (edits : List StoredRow) → touching rows period stored ≡ true
     → told_of rows period (stored ∷ edits) ≡ cons_option (told stored) (told_of rows period edits)

@@ -22,7 +22,6 @@ use Rattle.pb_elim.specs.Options.{AreOptions}
 use Rattle.pb_elim.specs.Printed.{printed_classes}
 use Rattle.pb_elim.specs.Study.{IsStudyOf}
 use Rattle.pb_site.specs.declared.declared.Declared.{Declared}
-use Rattle.pb_site.specs.Site.{HasDistinctNames}
 use Rattle.pb_facts.specs.Facts.{NoRepeats}
 use Rattle.pb_book.specs.declared.answer.Accepted.{Accepted}
 use Rattle.pb_book.specs.declared.answer.Accepted.TheVariants.{Blank, Stored as StoredAccepted, Design, Report, History, Advise}
@@ -42,13 +41,14 @@ use Rattle.pb_book.specs.Apart.{is_named}
 use Rattle.pb_book.specs.Refusals.{refusal_of}
 use Rattle.pb_kinds.specs.Requests.{request_in}
 use Rattle.pb_book.specs.declared.rows.StoredRow.{StoredRow}
-use Rattle.pb_book.specs.Rows.{closed_if_named, declared_of, facts_of, open_period, period_place, periods_after, periods_of, with_row}
+use Rattle.pb_book.specs.Rows.{closed_if_named, declared_of, facts_of, open_period, period_place, periods_after, periods_of, version_at, with_row}
 use Rattle.pb_period.specs.Days.{days_of}
-use Rattle.pb_book.specs.TakenOut.{row_takes_out, takes_out, touched_at}
-use Rattle.pb_period.specs.Laws.{UntouchedLaw}
+use Rattle.pb_book.specs.Accepted.{AreAccepted}
+use Rattle.pb_book.specs.TakenOut.{row_takes_out, takes_out, touched_at, touching_of}
+use Rattle.pb_period.specs.Laws.{AreGraphNames, UntouchedLaw}
 use Rattle.pb_period.specs.declared.days.Days.{Days}
 use Rattle.pb_period.specs.declared.graph.Assembly.{Assembly}
-use Rattle.pb_period.specs.PeriodGraph.{assembly_of, period_names}
+use Rattle.pb_period.specs.PeriodGraph.{assembly_of, period_graph, period_names}
 use Rattle.pb_session.specs.declared.classes.Classes.{Classes}
 use Rattle.pb_session.specs.declared.kept.KeptStudy.{KeptStudy}
 use Rattle.pb_session.specs.declared.session.Reported.{Reported}
@@ -60,9 +60,9 @@ use Rattle.pb_session.proofs.NamedLemmas.{period_names_are}
 use Rattle.pb_session.proofs.ReportLemmas.{at_found}
 use Rattle.pb_session.proofs.KeptLemmas.{all_behind, all_filter, behind_periods, contained_found, few_behind, few_filter, found_is, others_periods, periods_in, place_found, untouched_periods}
 
--- no two facts of these rows have one id
-abbrev pub HasUniqueIds : List StoredRow → Type 0
-HasUniqueIds rows = NoRepeats (facts_of rows)
+-- accepted rows, of which no two facts have one id
+abbrev pub AreInOrder : List StoredRow → Type 0
+AreInOrder rows = AreAccepted rows × NoRepeats (facts_of rows)
 
 abbrev pub state_with : SessionState → List StoredRow → SessionState
 state_with state rows = record { options = state.options; form = state.form; rows = rows }
@@ -107,14 +107,16 @@ has_graph state (Some period) study kept = by (assembly_of state.rows (days_of p
     by (Err why) is kept = absurd kept
 
 -- the names of a period whose study is kept are those of its graph
-pub kept_names : (state : SessionState) (i : ℕ) (book : List StoredRow) (names : Names) (study : Study) → book ≡ state.rows → HasDistinctNames (declared_of book)
+pub kept_names : (state : SessionState) (i : ℕ) (book : List StoredRow) (names : Names) (study : Study) → book ≡ state.rows
+    → IfSome (slice_get (periods_of book) i) (λ period. AreGraphNames (period_names book (days_of period)) (period_graph book (days_of period)))
     → IfSome (slice_get (periods_of book) i) (λ period. names ≡ period_names book (days_of period)) → (has : HasGraph state (slice_get (periods_of state.rows) i) study)
     → (names ≡ period_names state.rows (days_of has.period)) × AreNamesOf names has.graph
-kept_names state i book names study is distinct named has =
+kept_names state i book names study is own named has =
     let named_now = subst (λ (rows : List StoredRow). IfSome (slice_get (periods_of rows) i) (λ period. names ≡ period_names rows (days_of period))) is named in
     let names_are = at_found (slice_get (periods_of state.rows) i) has.period (λ (p : Period). names ≡ period_names state.rows (days_of p)) has.there named_now in
-    let distinct_now = subst (λ (rows : List StoredRow). HasDistinctNames (declared_of rows)) is distinct in
-    let of = period_names_are state.rows (days_of has.period) has.graph distinct_now has.is in
+    let own_now = subst (λ (rows : List StoredRow). IfSome (slice_get (periods_of rows) i) (λ period. AreGraphNames (period_names rows (days_of period)) (period_graph rows (days_of period)))) is own in
+    let here = at_found (slice_get (periods_of state.rows) i) has.period (λ (p : Period). AreGraphNames (period_names state.rows (days_of p)) (period_graph state.rows (days_of p))) has.there own_now in
+    let of = period_names_are state.rows (days_of has.period) has.graph here has.is in
     (names_are, subst (λ (n : Names). AreNamesOf n has.graph) (sym names_are) of)
 
 -- the first stage of a study is that of its graph, and has its classes
@@ -165,7 +167,7 @@ kept_still state other graph study options critical kept = record {
 }
 
 -- a study whose period the row doesn't touch stays that of its period
-still : UntouchedLaw → (state : SessionState) (at : ℕ) (effect : Effect) (i : ℕ) (study : Study) → HasUniqueIds (with_row state.rows at effect) → touched_at (with_row state.rows at effect) i ≡ false
+still : UntouchedLaw → (state : SessionState) (at : ℕ) (effect : Effect) (i : ℕ) (study : Study) → AreInOrder (with_row state.rows at effect) → touched_at (with_row state.rows at effect) i ≡ false
     → IsKeptAt state (slice_get (periods_of state.rows) i) study
     → IsKeptAt (state_with state (with_row state.rows at effect)) (slice_get (periods_of (with_row state.rows at effect)) i) study
 still law state at effect i study accepted spared kept =
@@ -179,13 +181,13 @@ still law state at effect i study accepted spared kept =
     let long = length-append state.rows (stored ∷ []) in
     let place : length rows - 1 ≡ length state.rows = omega (arith, long) in
     let last : slice_get rows (length rows - 1) ≡ Some stored = ap (slice_get rows) place ∙ last_at state.rows stored in
-    let spared_now : takes_out (facts_of rows) effect now ≡ false = sym (ap₂ (λ (o : Option Period) (s : Option StoredRow). option_map_or (λ (p : Period). row_takes_out (facts_of rows) p s) o false) there_now last) ∙ spared in
-    let leaves = law state.rows stored now accepted spared_now in
+    let spared_now : takes_out (touching_of rows) (facts_of rows) effect now ≡ false = sym (ap₂ (λ (o : Option Period) (s : Option StoredRow). option_map_or (λ (p : Period). row_takes_out (touching_of rows) (facts_of rows) p s) o false) there_now last) ∙ spared in
+    let leaves = law state.rows stored now accepted.0 accepted.1 spared_now in
     let graph_now : Ok has.graph ≡ assembly_of rows (days_of now) = has.is ∙ ap (assembly_of state.rows) (sym stay.days) ∙ sym leaves.graph in
     let critical : critical_of rows ≡ critical_of state.rows = ap declared_critical leaves.declared in
     kept_at (state_with state rows) (slice_get (periods_of rows) i) now has.graph study there_now graph_now (kept_still state (state_with state rows) has.graph study refl critical has.kept)
 
-all_still : UntouchedLaw → (state : SessionState) (at : ℕ) (effect : Effect) (kept : List KeptStudy) → HasUniqueIds (with_row state.rows at effect) → AllByRecursion (IsKeptStudy state) kept
+all_still : UntouchedLaw → (state : SessionState) (at : ℕ) (effect : Effect) (kept : List KeptStudy) → AreInOrder (with_row state.rows at effect) → AllByRecursion (IsKeptStudy state) kept
     → AllByRecursion (IsKeptStudy (state_with state (with_row state.rows at effect))) (untouched_studies (with_row state.rows at effect) kept)
 all_still law state at effect [] accepted all = tt
 all_still law state at effect (k ∷ kept) accepted (here, all) =
@@ -226,12 +228,12 @@ same_accepted a b is = cc is
 
 -- the studies that are left are those of their periods by the rows that are stored then
 pub left_kept : UntouchedLaw → (state : SessionState) (new : List StoredRow) (at : ℕ) (answer : Answer) (accepted : Accepted) (kept : List KeptStudy) → said_ok accepted ≡ said_of answer
-    → IsSaid answer → new ≡ after_answer state.rows at answer → (accepted ≡ StoredAccepted → HasUniqueIds new) → AllByRecursion (IsKeptStudy state) kept
+    → IsSaid answer → new ≡ after_answer state.rows at answer → (accepted ≡ StoredAccepted → AreInOrder new) → AllByRecursion (IsKeptStudy state) kept
     → AllByRecursion (IsKeptStudy (state_with state new)) (left_by accepted new kept)
 left_kept law state new at (Refused cause) accepted kept is said new_is are all = cc is
 left_kept law state new at (Stored effect) accepted kept is said new_is are all =
     let same = same_accepted accepted StoredAccepted is in
-    let here = all_still law state at effect kept (subst HasUniqueIds new_is (are same)) all in
+    let here = all_still law state at effect kept (subst AreInOrder new_is (are same)) all in
     subst (λ (a : Accepted). AllByRecursion (IsKeptStudy (state_with state new)) (left_by a new kept)) (sym same)
     (subst (λ (rows : List StoredRow). AllByRecursion (IsKeptStudy (state_with state rows)) (untouched_studies rows kept)) (sym new_is) here)
 left_kept law state new at (Says one) accepted kept is said new_is are all =
@@ -303,7 +305,7 @@ said_if rows costs (Ok request) = said_to rows costs request
 said_if rows costs (Err fault) = tt
 
 pub said : (rows : List StoredRow) (fields : List (List ℕ)) → IsSaid (answer_of rows fields)
-said rows fields = said_if rows (named_costs fields) (request_in fields)
+said rows fields = said_if rows (named_costs fields) (request_in (version_at rows) fields)
 
 -- ---- behind a report
 

@@ -1,5 +1,6 @@
 mod AppendingLemmas
 mod FirstStageLemmas
+mod ClosedLemmas
 mod CriticalLemmas
 mod EditedLemmas
 mod HistoryLemmas

@@ -14,6 +14,7 @@ use Rattle.pb_book.specs.Costs.{cost_of_arc, meter_costs}
 use Rattle.pb_book.specs.Rows.{declared_of}
 use Rattle.pb_period.specs.declared.days.Days.{Days}
 use Rattle.pb_period.specs.declared.graph.Assembly.{Assembly}
+use Rattle.pb_period.specs.Laws.{AreGraphNames}
 use Rattle.pb_period.specs.PeriodGraph.{assembly_of, graph_with, is_over, period_graph, period_names, stream_with, unless_over}
 use Rattle.pb_session.specs.Session.{AreNamesOf}
 
@@ -46,11 +47,17 @@ unless_is made graph (Some stream) is = cc is
 unless_is made graph None is = cc is
 
 -- of the graph of a period
-pub period_names_are : (rows : List StoredRow) (days : Days) (graph : ProcessGraph) → HasDistinctNames (declared_of rows) → Ok graph ≡ assembly_of rows days
+pub period_names_are : (rows : List StoredRow) (days : Days) (graph : ProcessGraph) → AreGraphNames (period_names rows days) (period_graph rows days) → Ok graph ≡ assembly_of rows days
     → AreNamesOf (period_names rows days) graph
-period_names_are rows days graph distinct is =
-    subst (λ (g : ProcessGraph). AreNamesOf (period_names rows days) g) (unless_is (period_graph rows days) graph _ is) (names_are _ rows distinct)
+period_names_are rows days graph named is =
+    subst (λ (g : ProcessGraph). AreNamesOf (period_names rows days) g) (unless_is (period_graph rows days) graph _ is) (record {
+      each = record { nodes = named.each_node; streams = named.each_stream };
+      environment = named.environment;
+      nodes = named.nodes;
+      streams = named.streams;
+    })
 
 -- a stream of the graph of a period has a name
-pub stream_named : (rows : List StoredRow) (days : Days) (j : ℕ) → j < length (period_graph rows days).streams → j < length (period_names rows days).streams
-stream_named rows days j there = subst (λ (n : ℕ). j < n) (sym (as_many _ rows)) there
+pub stream_named : (rows : List StoredRow) (days : Days) (j : ℕ) → AreGraphNames (period_names rows days) (period_graph rows days) → j < length (period_graph rows days).streams
+    → j < length (period_names rows days).streams
+stream_named rows days j named there = subst (λ (n : ℕ). j < n) (sym named.each_stream) there

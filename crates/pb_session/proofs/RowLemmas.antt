@@ -14,7 +14,7 @@ use Rattle.pb_kinds.specs.declared.rows.Request.{Request}
 use Rattle.pb_kinds.specs.declared.rows.Request.TheVariants as asked
 use Rattle.pb_book.specs.Apart.{is_named}
 use Rattle.pb_book.specs.declared.rows.StoredRow.{StoredRow}
-use Rattle.pb_book.specs.Rows.{declared_of, period_place, periods_of}
+use Rattle.pb_book.specs.Rows.{declared_of, period_place, periods_of, version_at}
 use Rattle.pb_kinds.specs.Requests.{request_in}
 use Rattle.pb_kinds.specs.declared.costs.NamedCost.{NamedCost}
 use Rattle.pb_kinds.specs.Costs.{named_costs}
@@ -99,7 +99,7 @@ answers_if rows costs (Err fault) = tt
 answers_if rows costs (Ok request) = answers_to rows costs request
 
 pub answers : (rows : List StoredRow) (fields : List (List ℕ)) → AnswersOf rows (answer_of rows fields)
-answers rows fields = answers_if rows (named_costs fields) (request_in fields)
+answers rows fields = answers_if rows (named_costs fields) (request_in (version_at rows) fields)
 
 -- an accepted record that stores nothing leaves the rows as they were
 pub unchanged_by : (rows : List StoredRow) (at : ℕ) (answer : Answer) (accepted : Accepted) → said_ok accepted ≡ said_of answer

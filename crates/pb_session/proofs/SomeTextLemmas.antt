@@ -40,7 +40,7 @@ some_report : SomeStudyLaw → CertifiedLaw → LeastThroughoutLaw → TestedLaw
     → (text : List ℕ) × ReportsBy state period assembly text
 some_report studies certified least tested state period (Ok graph) asked graphs within is sure =
     let (study, is_study) = studies graph state.options (critical_of state.rows) within asked in
-    let named = period_names_are state.rows (days_of period) graph graphs.names is in (
+    let named = period_names_are state.rows (days_of period) graph (graphs.named (days_of period)) is in (
       _,
       record {
         limits = within;

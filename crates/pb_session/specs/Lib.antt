@@ -8,6 +8,7 @@ pub mod Laws
 pub mod Edited
 pub mod Kept
 pub mod KeptLaws
+pub mod Closed
 -- Inside
 pub mod Accepted
 pub mod Keeping

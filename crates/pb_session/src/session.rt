@@ -17,7 +17,7 @@ use pb_book::{Accepted, Book, NotAccepted, Refused};
 use pb_classify::{alike_law, classify};
 use pb_elim::{least_throughout_law, stage, study_classed, tested_law};
 use pb_graph::{Classified, Graph, List, Options, Stage, Study};
-use pb_period::{Assembly, assemble, design, period_names, untouched_law};
+use pb_period::{Assembly, assemble, closed_graphs_law, design, untouched_law};
 use pb_report::{
     Form, write_advice, write_design, write_history, write_over, write_refused, write_study,
 };
@@ -70,6 +70,7 @@ impl Session {
     ghost use Rattle.pb_graph.specs.ProcessGraph.{IsProcessGraph};
     ghost use Rattle.pb_session.specs.Accepted.{IsOfPeriods};
     ghost use Rattle.pb_session.specs.Appending.{AppendsText, KeepsText};
+    ghost use Rattle.pb_session.specs.Closed.{LeavesClosed};
     ghost use Rattle.pb_session.specs.FirstStage.{Begins, IsFirstStage, TellsAStream};
     ghost use Rattle.pb_session.specs.Keeping.{IsRenewal, IsReportedAt, IsReportedOf, KeepsAlike};
     ghost use Rattle.pb_session.specs.Kept.{IsKeptAt, Keeps, KeepsAccepted, KeepsReportOf, most_kept, reported_after, reported_behind, reported_of};
@@ -128,7 +129,7 @@ impl Session {
 
     /// Takes the record with the number `at`, counted from 1, and appends to `out` what it adds to the output. True exactly
     /// where the record was refused. A report is kept, where its study has one stage, and a stored row lets those go that it touches.
-    /// After an `Err`, want of memory, the session and `out` are as they were, with all that is kept.
+    /// In a session of version 2 a declaration leaves the graph of each closed period as it was. After an `Err`, out of memory, the session and `out` are as they were, with all that is kept.
     pub fn row(&mut self, at: u32, row: &Row, out: &mut Vec<u8>) -> Result<bool, AllocError>
         ensures ok { OnOk result (AppendsText (Adds self.old.state at row.now) out.old out.new) }
         ensures refused { IfOk result (λ refused.
@@ -138,12 +139,15 @@ impl Session {
         ensures reported { OnOk result (self.new.reported
             ≡ reported_after self.old.state self.old.reported
             (answer_of self.old.state.rows row.now)) }
+        ensures closed { OnOk result
+            (LeavesClosed self.old.state.rows at self.new.state.rows) }
         ensures err { OnErr result (self.new ≡ self.old) }
         ensures err_out { OnErr result (KeepsText out.old out.new) }
     {
         match self.book.accept(at, row) {
             Ok(accepted) => {
                 untouched_law();
+                closed_graphs_law();
                 drop_touched(&mut self.kept, &self.book, accepted);
                 self.write(accepted, row, out)?;
                 Ok(false)
@@ -354,7 +358,7 @@ impl Session {
             (IsReportedAt self.now i (slice_get (periods_of self.now.state.rows) i)) }
         ensures err { OnErr result (KeepsText out.old out.new) }
     {
-        let names = period_names(&self.book, i)?;
+        let names = pb_period::names(self.alloc, &self.book, i)?;
         let name = self.book.period(i).name;
         let stage = study.stages.at(0);
         let graph = stage.graph.copy(self.alloc)?;
@@ -386,7 +390,7 @@ impl Session {
             (IsReportedAt self.now i (slice_get (periods_of self.now.state.rows) i)) }
         ensures err { OnErr result (KeepsText out.old out.new) }
     {
-        let names = period_names(&self.book, i)?;
+        let names = pb_period::names(self.alloc, &self.book, i)?;
         let period = self.book.period(i).name;
         match assemble(self.alloc, &self.book, i) {
             Ok(graph) => Ok(Some(self.write_graph(i, &names, &period, graph, out)?)),

@@ -2,8 +2,6 @@
 use Rattle.std.proofs.Common.{◌≡◌, ◌≢◌, ◌∙◌, ◌<◌, ℕ, zero, suc, List, [], ◌∷◌, length, take, Option, Some, None, Result, Ok, Err, IfOk, Vec, Global, slice_get, ap, refl, sym, subst, arith}
 use Rattle.std.specs.Prelude.{IfErr, IfSome}
 use Rattle.std.specs.declared.alloc.AllocError.{AllocError}
-use Rattle.std.proofs.lemmas.List.{length-map}
-use Rattle.pb_graph.specs.declared.records.Meas.{Meas}
 use Rattle.pb_graph.specs.declared.results.Critical.{Critical}
 use Rattle.pb_graph.specs.declared.results.Options.{Options}
 use Rattle.pb_graph.specs.declared.results.Stage.{Stage}
@@ -13,16 +11,15 @@ use Rattle.pb_elim.specs.Laws.{OneStudyLaw, SomeStudyLaw}
 use Rattle.pb_elim.specs.Options.{AreOptions}
 use Rattle.pb_elim.specs.Stage.{IsStageOf}
 use Rattle.pb_elim.specs.Study.{IsStudyOf, without_taken}
-use Rattle.pb_site.specs.declared.declared.Arc.{Arc}
-use Rattle.pb_site.specs.Site.{arc_names, arcs_of}
 use Rattle.pb_book.specs.declared.rows.Period.{Period}
 use Rattle.pb_book.specs.declared.rows.StoredRow.{StoredRow}
-use Rattle.pb_book.specs.Rows.{declared_of, periods_of}
+use Rattle.pb_book.specs.Rows.{periods_of}
 use Rattle.pb_period.specs.declared.days.Days.{Days}
 use Rattle.pb_period.specs.Days.{days_of}
 use Rattle.pb_period.specs.declared.graph.Assembly.{Assembly}
 use Rattle.pb_period.specs.declared.graph.Assembly.TheVariants.{NoMemory, Over}
-use Rattle.pb_period.specs.PeriodGraph.{NamesAStream, assembly_of, graph_with, period_graph, period_names, stream_with, unless_over}
+use Rattle.pb_period.specs.Laws.{AreGraphNames}
+use Rattle.pb_period.specs.PeriodGraph.{NamesAStream, assembly_of, period_graph, period_names, unless_over}
 use Rattle.pb_report.specs.declared.form.Form.TheVariants.{Csv}
 use Rattle.pb_report.specs.Form.{text_in}
 use Rattle.pb_report.specs.Summary.{summary_row}
@@ -157,10 +154,7 @@ pub at_found : (found : Option Period) (period : Period) (P : Period → Type 0)
 at_found (Some other) period P is holds = let same : other ≡ period = cc is in subst P same holds
 at_found None period P is holds = cc is
 
-as_many : (measure : Arc → Option Meas) (rows : List StoredRow) → length (arc_names (declared_of rows)) ≡ length (graph_with measure rows).streams
-as_many measure rows =
-    length-map (arcs_of (declared_of rows)) (λ (arc : Arc). arc.name) ∙ sym (length-map (arcs_of (declared_of rows)) (stream_with measure))
-
 -- a stream of the graph of a period has a name
-pub stream_named : (rows : List StoredRow) (days : Days) (j : ℕ) → j < length (period_graph rows days).streams → j < length (period_names rows days).streams
-stream_named rows days j there = subst (λ (n : ℕ). j < n) (sym (as_many _ rows)) there
+pub stream_named : (rows : List StoredRow) (days : Days) (j : ℕ) → AreGraphNames (period_names rows days) (period_graph rows days) → j < length (period_graph rows days).streams
+    → j < length (period_names rows days).streams
+stream_named rows days j named there = subst (λ (n : ℕ). j < n) (sym named.each_stream) there

@@ -16,7 +16,7 @@ ghost use Rattle.pb_summary.specs.Summary.{IsSummaryText, SumsUp, made_options, 
 use pb_book::Book;
 use pb_graph::{Options, Stage};
 use pb_make::{count_law, make, period_law, reads_back_law};
-use pb_period::{Assembly, period_names};
+use pb_period::Assembly;
 use pb_report::{Form, write_over, write_summary};
 use pb_rows::Rows;
 use pb_session::Session;
@@ -118,7 +118,7 @@ fn stream_text(alloc: Global, book: &Book, j: u32) -> Result<Vec<u8>, AllocError
     ensures { IfOk result (λ text. IfSome (slice_get (periods_of book.now) 0) (λ period.
         text.items ≡ text_in Csv (stream_row book.now period j ∷ []))) }
 {
-    let names = period_names(book, 0)?;
+    let names = pb_period::names(alloc, book, 0)?;
     let period = book.period(0).name;
     let mut text = Vec::new(alloc);
     write_over(

@@ -232,6 +232,64 @@ fn hundred_transfers(alloc: Global) -> Result<Vec<u8>, Fail> {
     Ok(text)
 }
 
+/// A jetty and a rail head, and a closed day between them.
+const PORT_AND_RAIL: &str =
+    "version,2\nboundary,PORT\nboundary,RAIL\nunit,U\nstream,A,PORT,U,metered,1\nstream,B,U,RAIL,metered,1\nperiod,d1,2024-03-01,2024-03-01\nreading,r1,A,2024-03-01,5,0\nreading,r2,B,2024-03-01,5,0\nclose,d1\n";
+
+/// The report of that day, whatever is declared for other days.
+const CLOSED_DAY: &str =
+    "report,d1,0,2,2,10,5000\nnode,env,0\nnode,U,0\nstream,A,env,U,5,1,redundant,5,5,5,5,5,cut,env,-A +B\nstream,B,U,env,5,1,redundant,5,5,5,5,5,cut,U,+A -B\nsolved,0,converged,0,0,1,0,0\nend,d1,0\n";
+
+// Of the rows after a closed day, whether they refuse as many records, and whether the report after them is that of the day.
+fn leaves_the_day(alloc: Global, rows: &str, refusals: &str) -> Result<bool, Fail> {
+    let want = format!(in alloc; "{refusals}{CLOSED_DAY}")?;
+    let texts = [PORT_AND_RAIL.as_bytes(), rows.as_bytes(), b"report,d1\n"];
+    let (is_given, _) = gives(alloc, &texts, want.as_str())?;
+    Ok(is_given)
+}
+
+#[test]
+fn declarations_leave_a_closed_day(rt: HostRuntime) -> Result<(), Fail> {
+    let table: [(&str, &str); 6] = [
+        ("", ""),
+        ("unit,W\nboundary,SEA\n", ""),
+        ("tank,K,1,2024-03-02,2024-12-31\nstrap,K,0,0\n", ""),
+        ("stream,C,U,RAIL,plain,0,2024-03-02,2199-12-31\n", ""),
+        ("stream,D,U,RAIL,plain,0\n", "refused,11,10,sealed\n"),
+        ("tank,K,1,2024-02-01,2024-03-01\n", "refused,11,10,sealed\n"),
+    ];
+    for (rows, refusals) in table {
+        assert!(rt;
+            leaves_the_day(rt.alloc(), rows, refusals)?,
+            "the report after {rows}"
+        );
+    }
+    Ok(())
+}
+
+#[test]
+fn reports_what_is_in_service(rt: HostRuntime) -> Result<(), Fail> {
+    let table: [(&str, &str); 3] = [
+        (
+            "version,2\nperiod,p,2024-03-01,2024-03-01\nunit,U\nreport,p\n",
+            "report,p,0,1,0,10,5000\nnode,env,0\nsolved,0,converged,0,0,0,0,0\nend,p,0\n",
+        ),
+        (
+            "version,2\nperiod,p,2024-03-01,2024-03-01\nunit,W\nunit,U\nunit,V\nstream,A,U,V,plain,0,2024-03-01,2024-03-01\nreport,p\n",
+            "report,p,0,3,1,10,5000\nnode,env,0\nnode,U,0\nnode,V,0\nstream,A,U,V,,,observable,0,0,0,0,0,cut,U,-A\nsolved,0,converged,0,0,0,0,0\nend,p,0\n",
+        ),
+        (
+            "version,2\nunit,U\ntank,K,1,2024-03-02,2024-03-04\nstream,B,U,K,plain,0\nperiod,p,2024-03-05,2024-03-05\nreport,p\ndesign\n",
+            "report,p,0,3,1,10,5000\nnode,env,0\nnode,U,0\nnode,K,0\nstream,B,U,K,,,observable,0,0,0,0,0,cut,U,-B\nsolved,0,converged,0,0,0,0,0\nend,p,0\ndesign,3,2\nclass,K,K,env,yes,redundant,cut,U K,-K\nclass,B,U,K,no,observable,cut,U,-B\n",
+        ),
+    ];
+    for (text, want) in table {
+        let (is_given, _) = gives(rt.alloc(), &[text.as_bytes()], want)?;
+        assert!(rt; is_given, "the output of {text}");
+    }
+    Ok(())
+}
+
 // The output of two reports, with the transfers before the first and one more before the second.
 fn output_around(alloc: Global, transfers: &[u8]) -> Result<(Vec<u8>, u32), Fail> {
     let plant =

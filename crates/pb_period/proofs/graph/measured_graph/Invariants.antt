@@ -1,4 +1,4 @@
-use Rattle.std.proofs.Common.{◌≡◌, ◌++◌, length, drop, false}
+use Rattle.std.proofs.Common.{◌≡◌, ◌++◌, length, drop, false, None}
 use Rattle.std.specs.Prelude.{map, All}
 use Rattle.pb_graph.specs.declared.records.Stream.{Stream}
 use Rattle.pb_site.specs.Site.{arcs_of, node_names}
@@ -10,7 +10,7 @@ use Rattle.pb_period.proofs.graph.measured_graph.Given as goal
 
 abbrev pub invariant-loop-j : goal.invariant-loop-j
 invariant-loop-j l =
-    let measure = measured (declared_of l.book) (live_facts (facts_of l.book)) l.days in
+    let measure = measured (declared_of l.book) (live_facts (facts_of l.book)) l.days None in
     record {
       nodes : l.graph.nodes ≡ length (node_names (declared_of l.book));
       counted : length l.graph.streams ≡ l.j;

@@ -3,6 +3,7 @@ use Rattle.pb_rows.specs.declared.name.Names.{Names}
 use Rattle.pb_book.specs.declared.rows.Period.{Period}
 use Rattle.pb_book.specs.Rows.{periods_of}
 use Rattle.pb_period.specs.Days.{days_of}
+use Rattle.pb_period.specs.Laws.{AreGraphNames}
 use Rattle.pb_period.specs.PeriodGraph.{period_graph, period_names}
 use Rattle.pb_report.specs.declared.form.Form.TheVariants.{Csv}
 use Rattle.pb_report.specs.Form.{text_in}
@@ -21,7 +22,8 @@ at-requires c =
     let names = c.in_ok-names.names in
     let names_is = at_found found period (λ (p : Period). names ≡ period_names rows (days_of p)) c.period-period.ensures.value c.in_ok-names.ensures.ok in
     let there = at_found found period (λ (p : Period). j < length (period_graph rows (days_of p)).streams) c.period-period.ensures.value c.requires.stream in
-    subst (λ (n : Names). j < length n.streams) (sym names_is) (stream_named rows (days_of period) j there)
+    let own = at_found found period (λ (p : Period). AreGraphNames (period_names rows (days_of p)) (period_graph rows (days_of p))) c.period-period.ensures.value c.in_ok-names.ensures.named in
+    subst (λ (n : Names). j < length n.streams) (sym names_is) (stream_named rows (days_of period) j own there)
 
 pub returns : goal.returns
 returns c =

@@ -8,6 +8,7 @@ use Rattle.pb_period.specs.declared.days.Days.{Days}
 use Rattle.pb_period.specs.Days.{days_of}
 use Rattle.pb_period.specs.declared.graph.Assembly.{Assembly}
 use Rattle.pb_period.specs.declared.graph.Assembly.TheVariants.{Over, NoMemory}
+use Rattle.pb_period.specs.Laws.{AreGraphNames}
 use Rattle.pb_period.specs.PeriodGraph.{NamesAStream, assembly_of, period_graph, period_names}
 use Rattle.pb_report.specs.declared.form.Form.{Form}
 use Rattle.pb_report.specs.Form.{text_in}
@@ -43,7 +44,8 @@ write_graph-requires-clause-names c =
     let names_is = at_found found period (λ (p : Period). names ≡ period_names rows (days_of p)) c.period.ensures.value c.in_ok-names.ensures.ok in
     let sure = ok_sure c.in-Ok.graph c.assemble.result c.in-Ok.is in
     let answer_is = at_found found period (λ (p : Period). c.assemble.result ≡ assembly_of rows (days_of p)) c.period.ensures.value (c.assemble.ensures.answer sure) in
-    rw names_is (period_names_are rows (days_of period) c.in-Ok.graph c.in_ok-names.ensures.distinct (sym c.in-Ok.is ∙ answer_is))
+    let named = at_found found period (λ (p : Period). AreGraphNames (period_names rows (days_of p)) (period_graph rows (days_of p))) c.period.ensures.value c.in_ok-names.ensures.named in
+    rw names_is (period_names_are rows (days_of period) c.in-Ok.graph named (sym c.in-Ok.is ∙ answer_is))
 
 pub at-requires : goal.at-requires
 at-requires c =
@@ -54,7 +56,8 @@ at-requires c =
     let names_is = at_found found period (λ (p : Period). names ≡ period_names rows (days_of p)) c.period.ensures.value c.in_ok-names.ensures.ok in
     let is = is_over c.in-Err-Over.j c.in-Err-Over.field-0 c.assemble.result c.in-Err-Over.is c.in-Err-Over.field-0-is in
     let named = at_found found period (λ (p : Period). IfErr c.assemble.result (NamesAStream rows (days_of p))) c.period.ensures.value c.assemble.ensures.over in
-    let there = stream_named rows (days_of period) c.in-Err-Over.j (over_within rows (days_of period) c.in-Err-Over.j c.assemble.result is named) in
+    let own = at_found found period (λ (p : Period). AreGraphNames (period_names rows (days_of p)) (period_graph rows (days_of p))) c.period.ensures.value c.in_ok-names.ensures.named in
+    let there = stream_named rows (days_of period) c.in-Err-Over.j own (over_within rows (days_of period) c.in-Err-Over.j c.assemble.result is named) in
     subst (λ (n : Names). c.in-Err-Over.j < length n.streams) (sym names_is) there
 
 pub returns-in-Ok-clause-ok : goal.returns-in-Ok-clause-ok

@@ -36,7 +36,7 @@ write_study-requires c =
     let state = c.args.self.now.state in
     let rows_is : c.self.inside.book ≡ state.rows = ap (λ (h : Held). h.state.rows) c.self.view_is in
     let has = has_graph state (slice_get (periods_of state.rows) c.args.i) c.args.study.now c.requires.study in
-    let named = kept_names state c.args.i c.self.inside.book c.in_ok-names.names c.args.study.now rows_is c.in_ok-names.ensures.distinct c.in_ok-names.ensures.ok has in
+    let named = kept_names state c.args.i c.self.inside.book c.in_ok-names.names c.args.study.now rows_is c.in_ok-names.ensures.named c.in_ok-names.ensures.ok has in
     record { named = record { graph = has.graph; named = named.1.each; formed = has.kept.formed } }
 
 pub returns : goal.returns
@@ -51,7 +51,7 @@ returns c =
     let options_is : c.self.inside.options ≡ state.options = ap (λ (h : Held). h.state.options) c.self.view_is in
     let form_is : c.self.inside.form ≡ state.form = ap (λ (h : Held). h.state.form) c.self.view_is in
     let has = has_graph state found study c.requires.study in
-    let named = kept_names state i c.self.inside.book names study rows_is c.in_ok-names.ensures.distinct c.in_ok-names.ensures.ok has in
+    let named = kept_names state i c.self.inside.book names study rows_is c.in_ok-names.ensures.named c.in_ok-names.ensures.ok has in
     let period_there : found ≡ Some c.period-name.result = subst (λ (rs : List StoredRow). slice_get (periods_of rs) i ≡ Some c.period-name.result) rows_is c.period-name.ensures.value in
     let period_is : c.period-name.result ≡ has.period = same_some c.period-name.result has.period found period_there has.there in
     let name_is : c.period-name.result.name ≡ has.period.name = ap (λ (p : Period). p.name) period_is in
