@@ -221,6 +221,14 @@ fn cut(alloc: Global, members: &[Member]) -> Result<Classified, AllocError> {
     })
 }
 
+#[test]
+fn copies_certificates(rt: HostRuntime) -> Result<(), AllocError> {
+    let classified = cut(rt.alloc(), &[member(0, -1), member(2, 1)])?;
+    let copy = classified.witness.copy(rt.alloc())?;
+    assert!(rt; copy == classified.witness, "an equal certificate");
+    Ok(())
+}
+
 /// The result of a stream that a cut shows.
 fn result(alloc: Global, members: &[Member]) -> Result<StreamResult, AllocError> {
     let classified = cut(alloc, members)?;

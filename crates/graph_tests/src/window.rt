@@ -5,7 +5,7 @@ use pb_classify::classify;
 use pb_graph::{Class, Graph, List, Meas};
 use pb_window::{
     Plant, PlantArc, Service, Source, Span, Window, WindowAssembly, WindowFault, WindowNode,
-    is_plant, node_code, stream_code, window_graph, window_of,
+    is_plant, node_code, stream_code, window_graph, window_names, window_of,
 };
 use std::alloc::{AllocError, Global};
 use std::process::Abort;
@@ -264,6 +264,26 @@ fn assert_days(rt: &impl Abort, case: &Case, window: &Window) {
     assert_eq!(rt; seen, case.days.len(), "{}", case.name);
 }
 
+// The names of the environment, of the nodes and of the streams, in order.
+fn assert_names(
+    rt: &impl Abort,
+    alloc: Global,
+    case: &Case,
+    window: &Window,
+) -> Result<(), AllocError> {
+    let names = window_names(alloc, window)?;
+    assert_eq!(rt;
+        (names.nodes.len(), names.streams.len()),
+        (1 + case.window_nodes.len(), case.window_streams.len()),
+        "{}",
+        case.name
+    );
+    for (name, wanted) in names.streams.iter().zip(case.window_streams) {
+        assert_eq!(rt; name.as_str(), wanted.0, "{}", case.name);
+    }
+    Ok(())
+}
+
 fn assert_window(
     rt: &impl Abort,
     alloc: Global,
@@ -273,6 +293,7 @@ fn assert_window(
     assert_nodes(rt, alloc, case, window)?;
     assert_streams(rt, alloc, case, window)?;
     assert_days(rt, case, window);
+    assert_names(rt, alloc, case, window)?;
     Ok(())
 }
 

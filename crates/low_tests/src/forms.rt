@@ -1,8 +1,9 @@
 // Forms of rows: kinds, faults and values of records from outside, and records that are written.
 
 use pb_form::{
-    Column, Fields, FormFault, Holds, OutputKind, Schema, SessionKind, Value, output_schema, read,
-    read_columns, kind_of_version_1, session_schema, write, write_json,
+    Column, Fields, FormFault, Holds, OutputKind, Schema, SessionKind, Value, kind_of_version_1,
+    output_json, output_record, output_schema, read, read_columns, session_record, session_schema,
+    write, write_json,
 };
 use pb_rows::{Name, Records, Row};
 use std::alloc::{AllocError, Global};
@@ -227,6 +228,15 @@ fn period_row(alloc: Global) -> Result<Row, AllocError> {
 }
 
 #[test]
+fn writes_records_of_a_kind(rt: HostRuntime) -> Result<(), Fail> {
+    let row = session_record(rt.alloc(), SessionKind::Design, &[Value::Word(0)])?;
+    let mut text = Vec::new(rt.alloc());
+    row.write_to(&mut text)?;
+    assert_eq!(rt; text.as_slice(), b"design\n".as_slice());
+    Ok(())
+}
+
+#[test]
 fn writes_records(rt: HostRuntime) -> Result<(), Fail> {
     let row = period_row(rt.alloc())?;
     let mut text = Vec::new(rt.alloc());
@@ -238,8 +248,20 @@ fn writes_records(rt: HostRuntime) -> Result<(), Fail> {
     Ok(())
 }
 
-// A `node` row as a line of JSON.
-fn node_line(alloc: Global) -> Result<Vec<u8>, AllocError> {
+// A `node` row as a line of JSON, by its kind.
+fn line_of_kind(alloc: Global) -> Result<Vec<u8>, AllocError> {
+    let row = output_record(
+        alloc,
+        OutputKind::Node,
+        &[Value::Word(0), Value::Text("env"), Value::Number(-3)],
+    )?;
+    let mut text = Vec::new(alloc);
+    output_json(OutputKind::Node, &row, &mut text)?;
+    Ok(text)
+}
+
+// A `node` row as a line of JSON, by its schema.
+fn line_of_schema(alloc: Global) -> Result<Vec<u8>, AllocError> {
     let schema = output_schema(OutputKind::Node);
     let row = write(
         alloc,
@@ -253,10 +275,10 @@ fn node_line(alloc: Global) -> Result<Vec<u8>, AllocError> {
 
 #[test]
 fn writes_lines_of_json(rt: HostRuntime) -> Result<(), Fail> {
-    let text = node_line(rt.alloc())?;
-    assert_eq!(rt;
-        text.as_slice(),
-        b"{\"name\":\"env\",\"price\":\"-3\",\"row\":\"node\"}\n".as_slice()
-    );
+    let wanted = b"{\"name\":\"env\",\"price\":\"-3\",\"row\":\"node\"}\n".as_slice();
+    let by_kind = line_of_kind(rt.alloc())?;
+    let by_schema = line_of_schema(rt.alloc())?;
+    assert_eq!(rt; by_kind.as_slice(), wanted, "by its kind");
+    assert_eq!(rt; by_schema.as_slice(), wanted, "by its schema");
     Ok(())
 }

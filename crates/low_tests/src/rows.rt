@@ -382,9 +382,9 @@ fn assert_fill(
     records: &mut Records,
     row: &mut Row,
     fields: &[&[u8]],
+    found: bool,
 ) -> Result<(), AllocError> {
-    let is_filled = records.fill(row)?;
-    assert_eq!(rt; is_filled, !fields.is_empty(), "{fields:?}");
+    assert_eq!(rt; records.fill(row)?, found, "{fields:?}");
     assert_eq!(rt; row.is_empty(), fields.is_empty(), "{fields:?}");
     assert_fields(rt, row, fields);
     Ok(())
@@ -393,14 +393,14 @@ fn assert_fill(
 // The row before the first record and after the last.
 fn assert_filled(rt: &impl Abort, records: &mut Records, row: &mut Row) -> Result<(), AllocError> {
     row.push(b"before")?;
-    let table: [(&[&[u8]], usize); 4] = [
-        (&[b"unit", b"U", b""], 1),
-        (&[b"a\"b"], 2),
-        (&[], 2),
-        (&[], 2),
+    let table: [(&[&[u8]], bool, usize); 4] = [
+        (&[b"unit", b"U", b""], true, 1),
+        (&[b"a\"b"], true, 2),
+        (&[], false, 2),
+        (&[], false, 2),
     ];
-    for (fields, taken) in table {
-        assert_fill(rt, records, row, fields)?;
+    for (fields, found, taken) in table {
+        assert_fill(rt, records, row, fields, found)?;
         assert_eq!(rt; records.taken(), taken, "after {fields:?}");
     }
     Ok(())
@@ -415,10 +415,10 @@ fn fills_rows(rt: HostRuntime) -> Result<(), Fail> {
 
 // A record's row takes one more field, which the next record drops.
 fn assert_added(rt: &impl Abort, records: &mut Records, row: &mut Row) -> Result<(), AllocError> {
-    assert_fill(rt, records, row, &[b"a\"b"])?;
+    assert_fill(rt, records, row, &[b"a\"b"], true)?;
     row.push(b"after")?;
     assert_fields(rt, row, &[b"a\"b", b"after"]);
-    assert_fill(rt, records, row, &[])
+    assert_fill(rt, records, row, &[], false)
 }
 
 #[test]

@@ -6,6 +6,14 @@ use std::process::Abort;
 use std::test::Fail;
 
 #[test]
+fn adds_a_point(rt: HostRuntime) -> Result<(), Fail> {
+    let mut strap = Strap::new(rt.alloc());
+    strap.add(0, 7)?;
+    assert_eq!(rt; strap.volume(0), Some(7), "at the only point");
+    Ok(())
+}
+
+#[test]
 fn between_points(rt: HostRuntime) -> Result<(), Fail> {
     let mut strap = Strap::new(rt.alloc());
     strap.push(0, 0)?;

@@ -43,7 +43,7 @@ const fn step(stream: u32, forward: bool) -> Step {
 }
 
 /// No critical value.
-fn no_critical(alloc: Global) -> Critical
+pub fn no_critical(alloc: Global) -> Critical
     ensures { AreCritical result }
 {
     Critical {

@@ -12,7 +12,7 @@ use std::alloc::{AllocError, Global};
 use std::process::Abort;
 
 /// The ends of the statistic of a graph, solved at a gap of 10 thousandths with up to 5,000 sweeps.
-fn solved_ends(alloc: Global, g: &Graph) -> Result<(i128, Option<i128>), AllocError>
+pub fn solved_ends(alloc: Global, g: &Graph) -> Result<(i128, Option<i128>), AllocError>
     ensures { IfOk result (λ ends. IsSolvedStatistic g.now 10 5000 ends.0 ends.1) }
 {
     let mut solver = Solver::new(alloc, g)?;

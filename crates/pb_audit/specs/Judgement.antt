@@ -25,17 +25,14 @@ pub data Finding : Type 0 where
 abbrev pub IsPassedBlock : Block → Type 0
 IsPassedBlock block = IsPassed block.stage block.gap block.sweeps
 
--- the row of this number is the first that can't be read
-abbrev pub IsRefusedAt : ℕ → List (List (List ℕ)) → ℕ → RowFault → Type 0
-IsRefusedAt at records number fault = (left : List (List (List ℕ))) × IsNext at records (Refused number fault left)
-
 -- what is found next in the records behind so many, and those that are judged behind it: behind a row that can't be read none is
 abbrev pub Finds : ℕ → List (List (List ℕ)) → Finding → List (List (List ℕ)) → Type 0
 Finds at records (passed block) behind = IsNext at records (Found block behind) × IsPassedBlock block
 Finds at records (failed block test place stated found) behind =
     IsNext at records (Found block behind)
     × IsFirstFault block.stage block.gap block.sweeps test place stated found
-Finds at records (unreadable number fault) behind = IsRefusedAt at records number fault × (behind ≡ [])
+Finds at records (unreadable number fault) behind =
+    ((left : List (List (List ℕ))) × IsNext at records (Refused number fault left)) × (behind ≡ [])
 
 -- there is nothing more to be found: no block, and each record can be passed over
 abbrev pub FindsNothing : ℕ → List (List (List ℕ)) → Type 0

@@ -1,6 +1,7 @@
 // What is found next, and its row.
 
 ghost use Rattle.std.specs.Prelude.{◌≡◌, ◌+◌, ◌<◌, ◌^◌, length, IfOk, OnErr};
+ghost use Rattle.pb_readback.specs.Next.{IsWithinGiven};
 ghost use Rattle.pb_readback.specs.WellFormed.{IsWellFormedBlock};
 ghost use Rattle.pb_audit.specs.Next.{AppendsFinding};
 ghost use Rattle.pb_audit.specs.Judging.{AppendsVerdict};
@@ -23,7 +24,7 @@ pub enum Judged {
 }
 
 /// Reads the next block of a report, judges it, and appends its row; or the row of a record that can't be read. `None` where
-/// neither is left. After an `Err`, want of memory, `out` is as it was.
+/// neither is left. After an `Err`, out of memory, `out` is as it was, and no record counts as taken that wasn't given.
 pub fn judge_next(
     alloc: Global,
     records: &mut Records,
@@ -33,6 +34,7 @@ pub fn judge_next(
     ensures ok { IfOk result (λ judged. AppendsFinding records.old records.new judged
         out.old.items out.new.items) }
     ensures err { OnErr result (out.new.items ≡ out.old.items) }
+    ensures err_records { OnErr result (IsWithinGiven records.old records.new) }
 {
     match read(alloc, records) {
         Ok(Some(block)) => match judge_block(alloc, &block, out) {

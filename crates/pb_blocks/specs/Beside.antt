@@ -4,7 +4,7 @@ use Rattle.std.specs.List.{list_all, list_any}
 use Rattle.std.specs.Option.{option_map_or}
 use Rattle.std.specs.Ordering.{int_eq}
 use Rattle.pb_limits.specs.Limits.{most_nodes, most_rounds, most_streams}
-use Rattle.pb_rows.specs.Name.{same_name}
+use Rattle.pb_rows.specs.Name.{is_name}
 use Rattle.pb_rows.specs.Number.{number, within}
 use Rattle.pb_form.specs.OutputRows.{output_schema}
 use Rattle.pb_form.specs.Reading.{row_read}
@@ -16,10 +16,9 @@ use Rattle.pb_blocks.specs.declared.fault.RowFault.{RowFault}
 use Rattle.pb_blocks.specs.declared.fault.RowFault.TheVariants.{Count}
 use Rattle.pb_blocks.specs.Codes.{fault_by}
 use Rattle.pb_blocks.specs.Kinds.{kind_among}
-use Rattle.pb_blocks.specs.Lists.{is_among, is_part, is_side, is_unknown_item, items}
+use Rattle.pb_blocks.specs.Lists.{is_among, is_part, is_side, items}
 use Rattle.pb_blocks.specs.Texts.{field, from_field, is_blank, parts_field, place_after, side_field, to_field}
-use Rattle.pb_blocks.specs.Values.{said_heading, number_at, values_in}
-use Rattle.pb_blocks.specs.declared.rows.Heading.{Heading}
+use Rattle.pb_blocks.specs.Values.{number_at}
 
 -- the fault of a row's form
 abbrev pub form_fault : Result (List Value) FormFault → Option RowFault
@@ -43,7 +42,7 @@ is_half_told kind row = list_any (λ (pair : ℕ × ℕ). is_half (field row pai
 abbrev pub has_unknown_node : List (List ℕ) → OutputKind → List (List ℕ) → Bool
 has_unknown_node nodes kind row =
     not (is_among nodes (from_field row)) || not (is_among nodes (to_field row))
-    || list_any (is_unknown_item nodes) (items (side_field kind row))
+    || list_any (λ item. is_name item && not (is_among nodes item)) (items (side_field kind row))
 
 -- a stream's side that isn't one of these nodes in order, a cycle with a side, or parts that aren't signs with names
 abbrev pub has_bad_list : List (List ℕ) → OutputKind → List (List ℕ) → Bool
@@ -51,10 +50,6 @@ has_bad_list nodes kind row =
     not (is_side nodes (items (side_field kind row)))
     || (bytes_eq (field row (place_after kind 12)) (codes "cycle") && not (is_blank (side_field kind row)))
     || not (list_all is_part (items (parts_field kind row)))
-
--- a stream from a node to itself
-abbrev pub leads_to_itself : List (List ℕ) → Bool
-leads_to_itself row = same_name (from_field row) (to_field row)
 
 -- the end of a block has this round
 abbrev pub is_round : List (List ℕ) → ℕ → Bool
@@ -78,7 +73,3 @@ fault_as fault_of (Err fault) = Some fault
 -- The first fault of a row that opens a block, or is to.
 abbrev pub opening_fault : List (List ℕ) → Option RowFault
 opening_fault row = fault_as (λ kind. heading_fault (row_read (output_schema Report) row)) (kind_among (Report ∷ []) row)
-
--- what it says
-abbrev pub heading_in : List (List ℕ) → Heading
-heading_in row = said_heading row (values_in Report row)

@@ -28,12 +28,8 @@ fault_by form.Number = Number
 fault_by form.Date = Number
 fault_by form.Word = Word
 
--- the lower of two faults
-abbrev pub lower : RowFault → RowFault → RowFault
-lower one other = if nat_lt (code_of other) (code_of one) then other else one
-
 -- the lowest of two faults, if there is one
 abbrev pub lowest : Option RowFault → Option RowFault → Option RowFault
 lowest None other = other
 lowest (Some one) None = Some one
-lowest (Some one) (Some other) = Some (lower one other)
+lowest (Some one) (Some other) = Some (if nat_lt (code_of other) (code_of one) then other else one)

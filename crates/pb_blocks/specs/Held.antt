@@ -1,10 +1,14 @@
--- Inside. What the code holds: the items of a list that are left, and names that are found without a walk.
-use Rattle.std.specs.Prelude.{◌≡◌, ◌≤◌, ℕ, Bool, true, ◌==◌, ◌||◌, ◌&&◌, not, nat_le, List, [], ◌∷◌, length, slice_index_or, if◌then◌else◌}
+-- Inside. What the code holds: the items of a list that are left, names that are found without a walk, and what its functions ask.
+use Rattle.std.specs.Prelude.{◌≡◌, ◌≤◌, ℕ, Bool, true, ◌==◌, ◌||◌, ◌&&◌, not, nat_le, List, [], ◌∷◌, map, length, slice_index_or, if◌then◌else◌}
 use Rattle.std.specs.List.{list_all, position_or_len, slice_split}
 use Rattle.pb_limits.specs.Limits.{most_streams}
 use Rattle.pb_rows.specs.Bytes.{dash}
-use Rattle.pb_rows.specs.Name.{is_name, is_name_byte}
-use Rattle.pb_blocks.specs.Lists.{differ, is_plus, part_name, place_of, plus, space}
+use Rattle.pb_rows.specs.Name.{is_name, is_name_byte, same_name}
+use Rattle.pb_form.specs.declared.output.OutputKind.TheVariants.{Report}
+use Rattle.pb_blocks.specs.declared.rows.Heading.{Heading}
+use Rattle.pb_blocks.specs.Lists.{differ, is_among, is_plus, part_name, place_of, plus, space}
+use Rattle.pb_blocks.specs.Texts.{from_field, to_field}
+use Rattle.pb_blocks.specs.Values.{said_heading, values_in}
 
 -- the items left of a text
 abbrev pub items_left : List ℕ → Bool → List (List ℕ)
@@ -42,3 +46,23 @@ pub record AreKnown (names : List (List ℕ)) : Type 0 where
   pub forms : list_all is_name names ≡ true
   pub different : differ names ≡ true
   pub few : length names ≤ most_streams
+
+-- an item of the form of a name that isn't one of these
+abbrev pub is_unknown_item : List (List ℕ) → List ℕ → Bool
+is_unknown_item names item = is_name item && not (is_among names item)
+
+-- for each node whether it is in the side of these names
+abbrev pub side_of : List (List ℕ) → List (List ℕ) → List Bool
+side_of nodes names = map (is_among names) nodes
+
+-- a part that names none of these streams
+abbrev pub names_no_stream : List (List ℕ) → List ℕ → Bool
+names_no_stream streams part = not (is_among streams (part_name part))
+
+-- a stream from a node to itself
+abbrev pub leads_to_itself : List (List ℕ) → Bool
+leads_to_itself row = same_name (from_field row) (to_field row)
+
+-- what a row that opens a block says
+abbrev pub heading_in : List (List ℕ) → Heading
+heading_in row = said_heading row (values_in Report row)

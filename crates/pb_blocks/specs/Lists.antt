@@ -32,10 +32,6 @@ differ (name ∷ names) = not (is_among names name) && differ names
 abbrev pub place_of : List (List ℕ) → List ℕ → ℕ
 place_of names name = position_or_len (same_name name) names
 
--- an item of the form of a name that isn't one of these
-abbrev pub is_unknown_item : List (List ℕ) → List ℕ → Bool
-is_unknown_item names item = is_name item && not (is_among names item)
-
 -- places that rise, the first of them at the least
 abbrev pub rise_from : ℕ → List ℕ → Bool
 rise_from least [] = true
@@ -44,10 +40,6 @@ rise_from least (place ∷ places) = nat_le least place && rise_from (place + 1)
 -- a side: names of nodes in order of nodes, none of them twice
 abbrev pub is_side : List (List ℕ) → List (List ℕ) → Bool
 is_side nodes names = list_all is_name names && rise_from 0 (map (place_of nodes) names)
-
--- for each node whether it is in the side of these names
-abbrev pub side_of : List (List ℕ) → List (List ℕ) → List Bool
-side_of nodes names = map (is_among names) nodes
 
 -- a part whose sign is `+`
 abbrev pub is_plus : List ℕ → Bool
@@ -60,10 +52,6 @@ part_name part = drop 1 part
 -- a part: a sign and a name
 abbrev pub is_part : List ℕ → Bool
 is_part part = (is_plus part || slice_index_or part 0 0 == dash) && is_name (part_name part)
-
--- a part that names none of these streams
-abbrev pub names_no_stream : List (List ℕ) → List ℕ → Bool
-names_no_stream streams part = not (is_among streams (part_name part))
 
 -- a part as a member of a cut
 abbrev pub member_of : List (List ℕ) → List ℕ → Member

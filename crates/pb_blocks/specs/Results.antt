@@ -1,5 +1,5 @@
 -- Statement. A stream's result, once the streams in its certificate are looked up by their names.
-use Rattle.std.specs.Prelude.{ℕ, Bool, List, map}
+use Rattle.std.specs.Prelude.{ℕ, Bool, not, List, map}
 use Rattle.std.specs.List.{list_any}
 use Rattle.pb_graph.specs.declared.records.Witness.{Witness}
 use Rattle.pb_graph.specs.declared.records.Witness.TheVariants.{Cut as CutWitness, Cycle as CycleWitness}
@@ -7,7 +7,7 @@ use Rattle.pb_graph.specs.declared.results.StreamResult.{StreamResult}
 use Rattle.pb_choices.specs.declared.places.Shape.{Shape}
 use Rattle.pb_choices.specs.declared.places.Shape.TheVariants.{Cut, Cycle}
 use Rattle.pb_blocks.specs.declared.rows.StreamRow.{StreamRow}
-use Rattle.pb_blocks.specs.Lists.{items, member_of, names_no_stream, step_of}
+use Rattle.pb_blocks.specs.Lists.{is_among, items, member_of, part_name, step_of}
 
 -- a certificate: the members of a cut with its side, or the steps of a cycle
 abbrev pub witness_by : Shape → List (List ℕ) → StreamRow → Witness
@@ -25,4 +25,4 @@ result_of streams row = record {
 
 -- a stream whose parts name none of these streams
 abbrev pub has_unknown_part : List (List ℕ) → StreamRow → Bool
-has_unknown_part streams row = list_any (names_no_stream streams) (items row.parts)
+has_unknown_part streams row = list_any (λ part. not (is_among streams (part_name part))) (items row.parts)

@@ -1,5 +1,5 @@
 -- Statement. What the rows of each kind say, column by column.
-use Rattle.std.specs.Prelude.{ℕ, ℤ, pos, false, List, [], Option, Some, None, option_and_then, if◌then◌else◌, unsigned_abs}
+use Rattle.std.specs.Prelude.{ℕ, ℤ, pos, false, List, [], map, Option, Some, None, option_and_then, if◌then◌else◌, unsigned_abs}
 use Rattle.std.specs.Option.{unwrap_or}
 use Rattle.std.specs.Result.{result_unwrap_or}
 use Rattle.pb_form.specs.OutputRows.{output_schema}
@@ -21,7 +21,7 @@ use Rattle.pb_choices.specs.declared.places.Shape.TheVariants.{Cycle}
 use Rattle.pb_blocks.specs.declared.rows.Heading.{Heading}
 use Rattle.pb_blocks.specs.declared.rows.Solution.{Solution}
 use Rattle.pb_blocks.specs.declared.rows.StreamRow.{StreamRow}
-use Rattle.pb_blocks.specs.Lists.{items, place_of, side_of}
+use Rattle.pb_blocks.specs.Lists.{is_among, items, place_of}
 use Rattle.pb_blocks.specs.Texts.{from_field, name_field, parts_field, place_after, side_field, to_field}
 
 -- the values of a row that can be read
@@ -82,7 +82,7 @@ said_stream nodes kind row values = record {
   bounds = both_bounds (optional_at values 8) (optional_at values 9);
   least = both_bounds (optional_at values 10) (optional_at values 11);
   shape = chosen_at placed_shape Cycle values (place_after kind 12);
-  side = side_of nodes (items (side_field kind row));
+  side = map (is_among (items (side_field kind row))) nodes;
   parts = parts_field kind row;
 }
 

@@ -1,7 +1,8 @@
 // What may be wrong with a row of a block beside its form.
 
 ghost use Rattle.std.specs.Prelude.{◌≡◌, bytes_eq};
-ghost use Rattle.pb_blocks.specs.Beside.{has_bad_list, leads_to_itself, has_unknown_node, is_half, is_half_told, is_round, pairs_of};
+ghost use Rattle.pb_blocks.specs.Beside.{has_bad_list, has_unknown_node, is_half, is_half_told, is_round, pairs_of};
+ghost use Rattle.pb_blocks.specs.Held.{leads_to_itself};
 
 use crate::known::Known;
 use crate::lists::{are_parts, has_unknown_item, is_side};

@@ -1,7 +1,7 @@
 // Why a row of a block can't be read.
 
-ghost use Rattle.std.specs.Prelude.{◌≡◌};
-ghost use Rattle.pb_blocks.specs.Codes.{code_of, lower, lowest};
+ghost use Rattle.std.specs.Prelude.{◌≡◌, nat_lt, if◌then◌else◌};
+ghost use Rattle.pb_blocks.specs.Codes.{code_of, lowest};
 
 use pb_form::FormFault;
 
@@ -82,7 +82,7 @@ pub fn lowest(one: Option<RowFault>, other: Option<RowFault>) -> Option<RowFault
 
 // The lower of two faults.
 fn lower(one: RowFault, other: RowFault) -> RowFault
-    ensures { result ≡ lower one other }
+    ensures { result ≡ if nat_lt (code_of other) (code_of one) then other else one }
 {
     if other.code() < one.code() {
         other

@@ -4,7 +4,8 @@ ghost use Rattle.std.specs.Prelude.{◌≡◌, [], false, IfOk};
 ghost use Rattle.pb_form.specs.OutputRows.{output_columns};
 ghost use Rattle.pb_form.specs.Writing.{FitEach};
 ghost use Rattle.pb_form.specs.declared.output.OutputKind.TheVariants.{Report};
-ghost use Rattle.pb_blocks.specs.Beside.{are_miscounted, heading_in, opening_fault};
+ghost use Rattle.pb_blocks.specs.Beside.{are_miscounted, opening_fault};
+ghost use Rattle.pb_blocks.specs.Held.{heading_in};
 ghost use Rattle.pb_blocks.specs.Counts.{AreCounts, IsHeading, told};
 ghost use Rattle.pb_blocks.specs.Values.{said_heading, number_at};
 

@@ -1,3 +1,4 @@
+mod ServedLemmas
 mod TextLemmas
 mod CommandLemmas
 mod FindingLemmas

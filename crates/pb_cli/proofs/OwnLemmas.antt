@@ -54,11 +54,12 @@ use Rattle.pb_report.specs.Design.{design_rows}
 use Rattle.pb_report.specs.Names.{name_at}
 use Rattle.pb_report.specs.Over.{over_row}
 use Rattle.pb_report.specs.Refusal.{refused_row}
-use Rattle.pb_site.specs.Site.{names_of}
+use Rattle.pb_site.specs.Site.{names_of, version_of}
 use Rattle.pb_session.specs.History.{told, told_history, told_period}
 use Rattle.pb_session.specs.Session.{Adds, AddsAccepted, AddsBy, AreNamesOf, IsReport, IsSessionText, Reports, ReportsBy, SessionState, Tells, state_after}
 use Rattle.pb_audit.specs.Judgement.{AreFindings, Finding, IsJudgement, IsPassedBlock, finds_wrong, passed}
 use Rattle.pb_audit.specs.Laws.{OneFindingsLaw, PassedLaw}
+use Rattle.pb_cli.proofs.ServedLemmas.{days_named}
 
 -- A text is rows that read back as blocks, each of which passes.
 pub record ReadsBack (text : List ℕ) : Type 0 where
@@ -152,6 +153,11 @@ bounds_for_least stage through = λ k d lt.
     let result = get_or stage.streams k d in
     λ none. none_there result.least (through k result (slice_get-get_or stage.streams k d lt) ∙ ap is_some none)
 
+-- the names of the graph of some days are names
+served_named : (rows : List StoredRow) (days : Days) → AreNamed rows
+    → (list_all is_name (period_names rows days).nodes ≡ true) × (list_all is_name (period_names rows days).streams ≡ true)
+served_named rows days named = days_named (version_of (declared_of rows)) (declared_of rows) days.first days.last named.nodes named.streams
+
 -- a report can be read back
 reportable : AreKnown → (state : SessionState) (days : Days) (period : List ℕ) (graph : ProcessGraph) (text : List ℕ) → IsSound state → AreNamed state.rows → is_name period ≡ true
     → (report : IsReport state (period_names state.rows days) period graph text) → IsReportable (period_names state.rows days) period state.options report.study
@@ -166,8 +172,8 @@ reportable known state days period graph text sound named name report = record {
       report.certified;
   least = All-weaker HasLeastThroughout (λ (stage : Stage). All HasBoundsForLeast stage.streams) bounds_for_least report.study.stages report.least;
   all_names = record {
-    node_forms = named.nodes;
-    stream_forms = named.streams;
+    node_forms = (served_named state.rows days named).0;
+    stream_forms = (served_named state.rows days named).1;
     nodes_differ = report.named.nodes;
     streams_differ = report.named.streams;
     env = first_is (period_names state.rows days).nodes (codes "env") report.named.environment;

@@ -12,9 +12,9 @@ use Rattle.pb_site.specs.declared.declared.Arc.{Arc}
 use Rattle.pb_site.specs.declared.declared.Declared.{Declared}
 use Rattle.pb_site.specs.declared.declared.Declared.TheVariants.{Unit as UnitDeclared, Stream as StreamDeclared}
 use Rattle.pb_site.specs.declared.declared.Version.TheVariants.{One}
-use Rattle.pb_site.specs.Row.{arc_in, arc_kind, boundary_name, node_name as declared_node}
+use Rattle.pb_site.specs.Row.{arc_in, arc_kind, boundary_name, is_among, node_name as declared_node}
 use Rattle.pb_site.specs.Site.{boundary_names, node_names, version_of}
-use Rattle.pb_site.specs.Faults.{is_among, is_one_node}
+use Rattle.pb_site.specs.Faults.{is_one_node}
 use Rattle.pb_make.specs.declared.plant.MadeStream.{MadeStream}
 use Rattle.pb_make.specs.Rows.{node_name, stream_name}
 use Rattle.pb_rows.proofs.TextLaws.{same_self}

@@ -9,9 +9,9 @@ use Rattle.pb_rows.specs.Name.{same_name}
 use Rattle.pb_site.specs.declared.declared.Arc.{Arc}
 use Rattle.pb_site.specs.declared.declared.Declared.{Declared}
 use Rattle.pb_site.specs.declared.declared.Declared.TheVariants.{CritNodal, CritMeasure}
-use Rattle.pb_site.specs.Row.{measure_value, nodal_value, node_name as declared_node}
+use Rattle.pb_site.specs.Row.{is_among, measure_value, nodal_value, node_name as declared_node}
 use Rattle.pb_site.specs.Site.{arc_names, arcs_of, boundary_names, node_names}
-use Rattle.pb_site.specs.Faults.{is_among, is_node}
+use Rattle.pb_site.specs.Faults.{is_node}
 use Rattle.pb_facts.specs.declared.facts.KeptFact.{KeptFact}
 use Rattle.pb_form.specs.declared.session.SessionKind.TheVariants as kind
 use Rattle.pb_kinds.specs.declared.rows.Effect.TheVariants.{Declares, Opens}

@@ -8,7 +8,6 @@ use Rattle.pb_rows.specs.Date.{IsDay}
 use Rattle.pb_rows.specs.Name.{is_name}
 use Rattle.pb_form.specs.SessionRows.{is_of_version_1, is_of_version_2, session_columns, session_schema}
 use Rattle.pb_form.specs.TextLaws.{TextLaw}
-use Rattle.pb_form.specs.Texts.{texts_of}
 use Rattle.pb_form.specs.Value as value
 use Rattle.pb_form.specs.Writing.{FitEach}
 use Rattle.pb_form.specs.declared.session.SessionKind.{SessionKind}

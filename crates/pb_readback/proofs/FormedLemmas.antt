@@ -32,12 +32,14 @@ use Rattle.pb_choices.specs.declared.places.Shape.{Shape as ShapeKind}
 use Rattle.pb_choices.specs.declared.places.Shape.TheVariants.{Cut, Cycle}
 use Rattle.pb_blocks.specs.declared.rows.Solution.{Solution}
 use Rattle.pb_blocks.specs.declared.rows.StreamRow.{StreamRow}
-use Rattle.pb_blocks.specs.Beside.{are_miscounted, form_fault, leads_to_itself, has_bad_list, has_unknown_node, heading_fault, heading_in, is_half_told, opening_fault}
+use Rattle.pb_blocks.specs.Beside.{are_miscounted, form_fault, has_bad_list, has_unknown_node, heading_fault, is_half_told, opening_fault}
+use Rattle.pb_blocks.specs.Held.{leads_to_itself, heading_in}
 use Rattle.pb_blocks.specs.Codes.{lowest}
 use Rattle.pb_blocks.specs.Counts.{IsHeading}
 use Rattle.pb_blocks.specs.Kinds.{kind_among}
 use Rattle.pb_blocks.specs.Laws.{LiesWithin}
-use Rattle.pb_blocks.specs.Lists.{is_among, is_plus, items, member_of, names_no_stream, part_name, side_of, step_of}
+use Rattle.pb_blocks.specs.Lists.{is_among, is_plus, items, member_of, part_name, step_of}
+use Rattle.pb_blocks.specs.Held.{names_no_stream, side_of}
 use Rattle.pb_blocks.specs.Results.{has_unknown_part, result_of, witness_by}
 use Rattle.pb_blocks.specs.Texts.{name_field, side_field}
 use Rattle.pb_blocks.specs.Values.{said_arc, both_bounds, both_meas, chosen_at, said_measure, natural_at, said_nodal, number_at, optional_at, said_stream, values_in}
@@ -45,7 +47,8 @@ use Rattle.pb_blocks.proofs.NameLemmas.{some_found}
 use Rattle.pb_blocks.proofs.RowLaws.{name_read, number_read, optional_read, word_read}
 use Rattle.pb_readback.specs.declared.draft.Draft.{Draft}
 use Rattle.pb_readback.specs.Blocks.{block_of}
-use Rattle.pb_readback.specs.Drafts.{kinds_next, told_with, with_measure, with_nodal, with_row, with_rows, with_stream}
+use Rattle.pb_readback.specs.Drafts.{kinds_next, with_measure, with_nodal, with_row, with_rows, with_stream}
+use Rattle.pb_readback.specs.Reading.{told_with}
 use Rattle.pb_readback.specs.Faults.{fault_behind, fault_beside, fault_of, first_unknown}
 use Rattle.pb_readback.specs.Laws.{FormedLaw}
 use Rattle.pb_readback.specs.Next.{AreSound, opened}
@@ -152,7 +155,7 @@ beside_fine Measure draft row none = (is_known (is_among draft.streams (name_fie
 beside_fine kind draft row none = (refl, refl, refl, refl)
 
 pub read_values : (kind : OutputKind) (row : List (List ℕ)) (values : List Value) → row_read (output_schema kind) row ≡ Ok values → values_in kind row ≡ values
-read_values kind row values read = ap result_unwrap_or read []
+read_values kind row values read = ap (λ (r : Result (List Value) FormFault). result_unwrap_or r []) read
 
 -- the row is read, and none of the faults beside its form holds
 pub record IsFine (kind : OutputKind) (draft : Draft) (row : List (List ℕ)) : Type 0 where

@@ -2,7 +2,7 @@
 use Rattle.std.specs.Prelude.{◌≢◌, ◌⊎◌, ◌&&◌, bytes_eq, codes, Result, Ok, Err, if◌then◌else◌}
 use Rattle.std.specs.Cmp.Lexicographic.{bytes_decides}
 use Rattle.std.specs.List.{list_all}
-use Rattle.std.proofs.Common.{◌≡◌, ◌∙◌, ℕ, ◌+◌, ◌≤◌, List, [], ◌∷◌, ◌++◌, length, drop, Bool, true, false, true≢false, Option, Some, None, refl, sym, ap, arith, inl, inr, append_assoc, length-append}
+use Rattle.std.proofs.Common.{◌≡◌, ◌∙◌, ℕ, ◌+◌, ◌≤◌, List, [], ◌∷◌, ◌++◌, length, drop, Bool, true, false, true≢false, Option, Some, None, refl, sym, ap, ap₂, arith, inl, inr, append_assoc, length-append}
 use Rattle.std.proofs.lemmas.Bool.{and_parts, cases_Bool}
 use Rattle.pb_form.specs.OutputRows.{output_columns, output_schema}
 use Rattle.pb_form.specs.Reading.{has_count}
@@ -19,7 +19,7 @@ use Rattle.pb_readback.specs.Blocks.{block_of}
 use Rattle.pb_readback.specs.Drafts.{kinds_next, with_row, with_rows}
 use Rattle.pb_readback.specs.Faults.{fault_behind, first_unknown}
 use Rattle.pb_readback.specs.Laws.{JoinLaw, NextLaw}
-use Rattle.pb_readback.specs.Next.{AreBlocks, ArePassedOver, AreSound, Found, IsFault, IsFound, IsNext, Next, NoBlock, Refused, fault_next, opened}
+use Rattle.pb_readback.specs.Next.{AreBlocks, ArePassedOver, AreSound, Found, IsFault, IsFound, IsNext, IsNoBlock, Next, NoBlock, Refused, fault_next, opened}
 use Rattle.pb_readback.specs.Reading.{HasAll, IsReadWhole, MayCome}
 use Rattle.pb_readback.proofs.ReadingLemmas.{fault_if, is_row_of, may_come, not_below, opening_by, sound_more, told_if, unended, with_rows_more}
 
@@ -215,20 +215,29 @@ is_walked at records (Found block rest) found =
     let all = on ∙ ends in
     sym (ap (next_of at) found.split ∙ over at found.passed (found.first ∷ (found.rows ++ rest)) found.skipped
     ∙ rw (opens_new found.first opens, opens, all) (ap (λ (b : Block). Found b rest) (sym w.value)))
-is_walked at records (Refused number fault left) (inl refused) =
-    sym (ap (next_of at) refused.split ∙ over at refused.passed (refused.first ∷ left) refused.skipped
-    ∙ rw (refused.other, refused.cause) (ap (λ (n : ℕ). Refused n fault left) (sym refused.place)))
-is_walked at records (Refused number fault left) (inr refused) =
-    let opens = refused.opens in
-    let on = goes_on (opened refused.first) 0 refused.rows refused.rest (complete_at_first refused.first) refused.sound in
-    let ends = ends_broken (with_rows (opened refused.first) refused.rows) (0 + length refused.rows) refused.rest refused.within fault left (count refused.cause) in
-    let all = on ∙ ends in
-    sym (ap (next_of at) refused.split ∙ over at refused.passed (refused.first ∷ (refused.rows ++ refused.rest)) refused.skipped
-    ∙ rw (opens_new refused.first opens, opens, all) (ap (λ (n : ℕ). Refused n fault left) (sym refused.place)))
+is_walked at records (Refused number fault left) refused =
+    sym (ap (next_of at) refused.split ∙ over at refused.passed (refused.first ∷ refused.behind) refused.skipped
+    ∙ rw (refused.other) (by refused.cause))
   where
-    count : IsFault (with_rows (opened refused.first) refused.rows) (length refused.rows) refused.rest refused.within fault left
-        → IsFault (with_rows (opened refused.first) refused.rows) (0 + length refused.rows) refused.rest refused.within fault left
-    count h = let e : length refused.rows ≡ 0 + length refused.rows = omega arith in rw (← e) h
+    here : ℕ
+    here = at + length refused.passed
+
+    count : (rows rest : List (List (List ℕ))) → IsFault (with_rows (opened refused.first) rows) (length rows) rest refused.within fault left
+        → IsFault (with_rows (opened refused.first) rows) (0 + length rows) rest refused.within fault left
+    count rows rest h = let e : length rows ≡ 0 + length rows = omega arith in rw (← e) h
+
+    by : IsNoBlock refused.first refused.behind refused.within fault left
+        → by_opening (opening_fault refused.first) here refused.first refused.behind ≡ Refused number fault left
+    by (inl opening) =
+        let one = opening.1 in
+        let place = refused.place in
+        let same : here + 1 ≡ number = omega (arith, one, place) in
+        rw (opening.0) (ap₂ (λ (n : ℕ) (l : List (List (List ℕ))). Refused n fault l) same (sym opening.2))
+    by (inr w) =
+        let on = goes_on (opened refused.first) 0 w.1 w.2 (complete_at_first refused.first) w.4 in
+        let ends = ends_broken (with_rows (opened refused.first) w.1) (0 + length w.1) w.2 refused.within fault left (count w.1 w.2 w.5) in
+        let all = ap (outcome (opened refused.first) 0) w.3 ∙ on ∙ ends in
+        rw (w.0, all) (ap (λ (n : ℕ). Refused n fault left) (sym refused.place))
 
 -- ---- one thing comes next
 
@@ -334,28 +343,17 @@ one_over at row rest (Found block left) holds found = record {
   skipped = rw holds found.skipped;
   whole = found.whole;
 }
-one_over at row rest (Refused number fault left) holds (inl refused) = inl (record {
+one_over at row rest (Refused number fault left) holds refused = record {
   passed = row ∷ refused.passed;
   first = refused.first;
+  behind = refused.behind;
+  within = refused.within;
   split = ap (λ (more : List (List (List ℕ))). row ∷ more) refused.split;
   skipped = rw holds refused.skipped;
   other = refused.other;
   cause = refused.cause;
   place = refused.place ∙ omega arith;
-})
-one_over at row rest (Refused number fault left) holds (inr refused) = inr (record {
-  passed = row ∷ refused.passed;
-  first = refused.first;
-  rows = refused.rows;
-  rest = refused.rest;
-  within = refused.within;
-  split = ap (λ (more : List (List (List ℕ))). row ∷ more) refused.split;
-  skipped = rw holds refused.skipped;
-  opens = refused.opens;
-  sound = refused.sound;
-  cause = refused.cause;
-  place = refused.place ∙ omega arith;
-})
+}
 
 -- a block, or a fault, behind a row that opens one
 by_outcome : (at : ℕ) (row : List (List ℕ)) (rest : List (List (List ℕ))) (o : Outcome) → opening_fault row ≡ None → IsOutcome (opened row) rest o → IsNext at (row ∷ rest) (told_by at o)
@@ -367,19 +365,17 @@ by_outcome at row rest (inl found) opens whole = record {
   skipped = refl;
   whole = record { opens = opens; sound = whole.sound; known = whole.known; ends = whole.ends; value = whole.value };
 }
-by_outcome at row rest (inr broken) opens breaks = inr (record {
+by_outcome at row rest (inr broken) opens breaks = record {
   passed = [];
   first = row;
-  rows = breaks.rows;
-  rest = breaks.rest;
+  behind = rest;
   within = broken.0;
-  split = ap (λ (more : List (List (List ℕ))). row ∷ more) breaks.split;
+  split = refl;
   skipped = refl;
-  opens = opens;
-  sound = breaks.sound;
-  cause = breaks.cause;
+  other = opens_new row opens;
+  cause = inr (opens, breaks.rows, breaks.rest, breaks.split, breaks.sound, breaks.cause);
   place = omega arith;
-})
+}
 
 comes_next : (at : ℕ) (records : List (List (List ℕ))) → IsNext at records (next_of at records)
 comes_next at [] = refl
@@ -387,7 +383,17 @@ comes_next at (row ∷ rest) = by (comes_next (at + 1) rest) (is_passed_over row
   where
     by_first : (f : Option RowFault) → opening_fault row ≡ f → is_passed_over row ≡ false → IsNext at (row ∷ rest) (by_opening f at row rest)
     by_first (Some fault) cause other =
-        inl (record { passed = []; first = row; split = refl; skipped = refl; other = other; cause = cause; place = omega arith })
+        record {
+          passed = [];
+          first = row;
+          behind = rest;
+          within = 1;
+          split = refl;
+          skipped = refl;
+          other = other;
+          cause = inl (cause, refl, refl);
+          place = omega arith;
+        }
     by_first None opens other =
         by_outcome at row rest (outcome (opened row) 0 rest) opens
         (gives (opened row) rest rest (opened row) 0 (record { rows = []; split = refl; sound = tt; told = refl; count = refl }))

@@ -24,9 +24,10 @@ use Rattle.pb_readback.specs.declared.draft.Draft.{Draft}
 use Rattle.pb_readback.specs.declared.reading.ReadRefused.{ReadRefused}
 use Rattle.pb_readback.specs.declared.reading.ReadRefused.TheVariants.{At, NoMemory}
 use Rattle.pb_readback.specs.Blocks.{block_of}
-use Rattle.pb_readback.specs.Drafts.{draft_of, kinds_after, kinds_next, stream_kinds, told_with, with_row, with_rows, with_stream}
+use Rattle.pb_readback.specs.Drafts.{draft_of, kinds_after, kinds_next, stream_kinds, with_row, with_rows, with_stream}
+use Rattle.pb_readback.specs.Reading.{told_with}
 use Rattle.pb_readback.specs.Faults.{fault_behind, fault_of, first_unknown}
-use Rattle.pb_readback.specs.Next.{AreCounted, ArePassedOver, AreSound, IsFound, Tells, opened}
+use Rattle.pb_readback.specs.Next.{AreCounted, ArePassedOver, AreSound, IsFound, IsWithinGiven, Tells, opened}
 use Rattle.pb_readback.specs.Reading.{AwaitsNodes, AwaitsStreams, Breaks, BreaksFrom, Ends, HasAll, IsBroken, IsReadFrom, IsReadTo, IsReadWhole, IsUnderWay, MayCome, RefusesPart, RefusesRow, Skips, is_stream_kind}
 
 -- ---- a row whose kind was asked
@@ -295,9 +296,23 @@ breaks_before start draft all left row stream opened read fine unknown =
 
 -- ---- what a refusal says
 
+-- the records taken so far were given, and so was the one after them
+rows_taken : (old now : RecordsLeft) (draft start : Draft) → IsReadTo start old.left draft now.left → AreCounted old now → old.taken ≤ now.taken
+rows_taken old now draft start read counted =
+    let long = ap length read.split ∙ length-append read.rows now.left in omega (arith, long, counted)
+
+counted_within : (start draft : Draft) (old new : RecordsLeft) (row : List (List ℕ)) → IsReadTo start old.left draft (row ∷ new.left) → AreCounted old new → IsWithinGiven old new
+counted_within start draft old new row read counted =
+    let long = ap length read.split ∙ length-append read.rows (row ∷ new.left) in
+    (omega (arith, long, counted), omega (arith, counted))
+
 pub broke_ended : (start draft : Draft) (old now new : RecordsLeft) (refused : ReadRefused) → IsReadTo start old.left draft now.left → draft.last ≢ End
     → AreCounted old now → Ends now new refused → Breaks start old new refused
-broke_ended start draft old now new NoMemory read on counted ends = tt
+broke_ended start draft old now new NoMemory read on counted ends =
+    let more = rows_taken old now draft start read counted in
+    let kept = ends.0 in
+    let few = ends.1 in
+    (omega (arith, more, kept), omega (arith, few, counted))
 broke_ended start draft old now new (At number fault) read on counted ends =
     let none = ends.0 in
     let at : IsReadTo start old.left draft [] = rw (← none) read in
@@ -306,14 +321,18 @@ broke_ended start draft old now new (At number fault) read on counted ends =
 
 pub broke_at : (start draft : Draft) (old now new : RecordsLeft) (row : List (List ℕ)) (number : ℕ) (refused : ReadRefused) → IsReadTo start old.left draft now.left
     → draft.last ≢ End → now.left ≡ row ∷ new.left → number ≡ new.taken → AreCounted old new → RefusesRow draft row number refused → Breaks start old new refused
-broke_at start draft old now new row number NoMemory read on next is counted breaks = tt
+broke_at start draft old now new row number NoMemory read on next is counted breaks =
+    let here : IsReadTo start old.left draft (row ∷ new.left) = rw (← next) read in
+    counted_within start draft old new row here counted
 broke_at start draft old now new row number (At at fault) read on next is counted breaks =
     let here : IsReadTo start old.left draft (row ∷ new.left) = rw (← next) read in
     rw (breaks.1, is) (breaks_at start draft old.left new.left row fault old.taken new.taken here on breaks.0 counted, counted)
 
 pub broke_before : (start draft after : Draft) (old now new : RecordsLeft) (row : List (List ℕ)) (refused : ReadRefused) → IsReadTo start old.left draft now.left
     → now.left ≡ row ∷ new.left → fault_behind draft row ≡ None → after ≡ with_row draft row → AreCounted old new → RefusesPart after old.taken refused → Breaks start old new refused
-broke_before start draft after old now new row NoMemory read next fine told counted breaks = tt
+broke_before start draft after old now new row NoMemory read next fine told counted breaks =
+    let here : IsReadTo start old.left draft (row ∷ new.left) = rw (← next) read in
+    counted_within start draft old new row here counted
 broke_before start draft after old now new row (At number fault) read next fine told counted breaks =
     let here : IsReadTo start old.left draft (row ∷ new.left) = rw (← next) read in
     let unknown = ap first_unknown (sym told) ∙ breaks.1 in
@@ -380,39 +399,43 @@ found_from all rest left row block skips read = record {
 
 pub tells_from : (old now new : RecordsLeft) (row : List (List ℕ)) (refused : ReadRefused) → Skips old.left now.left (Some row) → AreCounted old now
     → BreaksFrom row now new refused → Tells old new refused
-tells_from old now new row NoMemory skips counted breaks = tt
+tells_from old now new row NoMemory skips counted breaks =
+    let long = ap length skips.1 ∙ behind skips.0 now.left row in
+    let more = breaks.0 in
+    let few = breaks.1 in
+    (omega (arith, long, counted, more), omega (arith, counted, few))
 tells_from old now new row (At number fault) skips counted breaks =
     let long = ap length skips.1 ∙ behind skips.0 now.left row in
     elim breaks [
       | inl opening ↦
           let same = opening.2 in (
-            inl (record {
+            record {
               passed = skips.0;
               first = row;
-              split = skips.1 ∙ ap (λ (r : RecordsLeft). skips.0 ++ row ∷ r.left) (sym same);
+              behind = now.left;
+              within = 1;
+              split = skips.1;
               skipped = skips.2;
               other = skips.3;
-              cause = opening.0;
+              cause = inl (opening.0, refl, ap (λ (r : RecordsLeft). r.left) same);
               place = opening.1 ∙ omega (arith, long, counted);
-            }),
+            },
             ap (λ (r : RecordsLeft). r.taken + length r.left) same ∙ counted,
           )
       | inr within ↦
           let broken = within.1 in
           let place = broken.place in (
-            inr (record {
+            record {
               passed = skips.0;
               first = row;
-              rows = broken.rows;
-              rest = broken.rest;
+              behind = now.left;
               within = broken.within;
-              split = skips.1 ∙ ap (λ (more : List (List (List ℕ))). skips.0 ++ row ∷ more) broken.split;
+              split = skips.1;
               skipped = skips.2;
-              opens = within.0;
-              sound = broken.sound;
-              cause = broken.cause;
+              other = skips.3;
+              cause = inr (within.0, broken.rows, broken.rest, broken.split, broken.sound, broken.cause);
               place = omega (arith, long, counted, place);
-            }),
+            },
             within.2 ∙ counted,
           )
     ]

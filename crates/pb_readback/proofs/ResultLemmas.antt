@@ -16,7 +16,8 @@ use Rattle.pb_choices.specs.declared.places.Shape.{Shape}
 use Rattle.pb_choices.specs.declared.places.Shape.TheVariants.{Cut, Cycle}
 use Rattle.pb_blocks.specs.declared.rows.StreamRow.{StreamRow}
 use Rattle.pb_blocks.specs.Kinds.{kind_among}
-use Rattle.pb_blocks.specs.Lists.{is_among, items, member_of, names_no_stream, part_name, place_of, step_of}
+use Rattle.pb_blocks.specs.Lists.{is_among, items, member_of, part_name, place_of, step_of}
+use Rattle.pb_blocks.specs.Held.{names_no_stream}
 use Rattle.pb_blocks.specs.Results.{has_unknown_part, result_of, witness_by}
 use Rattle.pb_blocks.proofs.NameLemmas.{any_place, none_place}
 use Rattle.pb_readback.specs.declared.draft.Draft.{Draft}

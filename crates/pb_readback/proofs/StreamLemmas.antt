@@ -8,8 +8,10 @@ use Rattle.pb_rows.specs.Name.{is_name, same_name}
 use Rattle.pb_graph.specs.ProcessGraph.{IsStream}
 use Rattle.pb_form.specs.declared.output.OutputKind.{OutputKind}
 use Rattle.pb_form.specs.Value.{Value}
-use Rattle.pb_blocks.specs.Beside.{leads_to_itself, has_unknown_node}
-use Rattle.pb_blocks.specs.Lists.{is_among, is_unknown_item, items, place_of}
+use Rattle.pb_blocks.specs.Beside.{has_unknown_node}
+use Rattle.pb_blocks.specs.Held.{leads_to_itself}
+use Rattle.pb_blocks.specs.Lists.{is_among, items, place_of}
+use Rattle.pb_blocks.specs.Held.{is_unknown_item}
 use Rattle.pb_blocks.specs.Texts.{from_field, side_field, to_field}
 use Rattle.pb_blocks.specs.Values.{said_arc}
 use Rattle.pb_blocks.proofs.NameLemmas.{all_more, any_place, differ_more}

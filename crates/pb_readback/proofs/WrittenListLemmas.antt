@@ -10,7 +10,8 @@ use Rattle.std.proofs.Math.Seq.{get_or-append_seam}
 use Rattle.pb_rows.specs.Name.{is_name, is_name_byte, has_name_length, same_name}
 use Rattle.pb_report.specs.Certificate.{names_in, spaced}
 use Rattle.pb_report.specs.Names.{name_at}
-use Rattle.pb_blocks.specs.Lists.{space, items, is_among, place_of, is_unknown_item, rise_from, side_of}
+use Rattle.pb_blocks.specs.Lists.{space, items, is_among, place_of, rise_from}
+use Rattle.pb_blocks.specs.Held.{is_unknown_item, side_of}
 use Rattle.pb_readback.proofs.WrittenFieldLemmas.{is_empty, AreApart, same_self, same_sym, place_at, some_byte}
 
 -- ---- pieces with one space between
@@ -76,7 +77,8 @@ named_at names i forms lt = AllPass-from_list_all is_name names forms i [] lt
 
 in_pieces : (side : List Bool) (names : List (List ℕ)) → AreNamed names → AllByRecursion (λ (name : List ℕ). IsPiece name) (names_in side names)
 in_pieces [] names forms = tt
-in_pieces (inside ∷ side) [] forms = tt
+in_pieces (true ∷ side) [] forms = tt
+in_pieces (false ∷ side) [] forms = tt
 in_pieces (true ∷ side) (name ∷ names) forms =
     let parts = and_parts (is_name name) (list_all is_name names) forms in
     (name_piece name parts.0, in_pieces side names parts.1)
@@ -93,7 +95,8 @@ side_items side names forms = items_back (λ (name : List ℕ). name) (names_in 
 -- they are of the form
 pub in_named : (side : List Bool) (names : List (List ℕ)) → AreNamed names → AreNamed (names_in side names)
 in_named [] names forms = refl
-in_named (inside ∷ side) [] forms = refl
+in_named (true ∷ side) [] forms = refl
+in_named (false ∷ side) [] forms = refl
 in_named (true ∷ side) (name ∷ names) forms =
     let parts = and_parts (is_name name) (list_all is_name names) forms in
     and_from (is_name name) (list_all is_name (names_in side names)) parts.0 (in_named side names parts.1)
@@ -111,7 +114,8 @@ among_seam (other ∷ done) name names = rw (among_seam done name names) (by (sa
 -- and none of them is unknown
 pub in_known : (done : List (List ℕ)) (side : List Bool) (names : List (List ℕ)) → list_any (is_unknown_item (done ++ names)) (names_in side names) ≡ false
 in_known done [] names = refl
-in_known done (inside ∷ side) [] = refl
+in_known done (true ∷ side) [] = refl
+in_known done (false ∷ side) [] = refl
 in_known done (true ∷ side) (name ∷ names) =
     or_from (is_unknown_item (done ++ name ∷ names) name) (list_any (is_unknown_item (done ++ name ∷ names)) (names_in side names))
     (rw (among_seam done name names) (by (is_name name)))
@@ -135,7 +139,8 @@ place_seam done name names apart =
 pub in_order : (least : ℕ) (done : List (List ℕ)) (side : List Bool) (names : List (List ℕ)) → least ≤ length done → AreApart (done ++ names)
     → rise_from least (map (place_of (done ++ names)) (names_in side names)) ≡ true
 in_order least done [] names le apart = refl
-in_order least done (inside ∷ side) [] le apart = refl
+in_order least done (true ∷ side) [] le apart = refl
+in_order least done (false ∷ side) [] le apart = refl
 in_order least done (true ∷ side) (name ∷ names) le apart =
     let more : length (done ++ name ∷ []) ≡ length done + 1 = length-append done (name ∷ []) in
     let next = append_assoc done (name ∷ []) names in
@@ -151,7 +156,8 @@ in_order least done (false ∷ side) (name ∷ names) le apart =
 -- a name that none of these is isn't in a side of them
 not_in : (name : List ℕ) (side : List Bool) (names : List (List ℕ)) → All (λ (other : List ℕ). same_name name other ≡ false) names → is_among (names_in side names) name ≡ false
 not_in name [] names apart = refl
-not_in name (inside ∷ side) [] apart = refl
+not_in name (true ∷ side) [] apart = refl
+not_in name (false ∷ side) [] apart = refl
 not_in name (true ∷ side) (other ∷ names) apart =
     or_from (same_name name other) (is_among (names_in side names) name) (apart zero [] (omega arith)) (not_in name side names (λ k d lt. apart (suc k) d (omega (arith, lt))))
 not_in name (false ∷ side) (other ∷ names) apart = not_in name side names (λ k d lt. apart (suc k) d (omega (arith, lt)))
@@ -168,7 +174,8 @@ skip name chosen (other ∷ names) apart =
 pub side_back : (side : List Bool) (names : List (List ℕ)) → length side ≡ length names → AreApart names → side_of names (names_in side names) ≡ side
 side_back [] [] long apart = refl
 side_back [] (name ∷ names) long apart = absurd (omega (arith, long))
-side_back (inside ∷ side) [] long apart = absurd (omega (arith, long))
+side_back (true ∷ side) [] long apart = absurd (omega (arith, long))
+side_back (false ∷ side) [] long apart = absurd (omega (arith, long))
 side_back (true ∷ side) (name ∷ names) long apart =
     rw (same_self name) (ap (λ (rest : List Bool). true ∷ rest)
     (skip name (names_in side names) names (first_apart name names apart) ∙ side_back side names (omega (arith, long)) (cons_apart name names apart)))

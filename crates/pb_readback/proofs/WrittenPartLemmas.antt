@@ -11,7 +11,8 @@ use Rattle.pb_graph.specs.ProcessGraph.{ProcessGraph}
 use Rattle.pb_graph.specs.WellFormed.{IsMember, IsSign, IsStep}
 use Rattle.pb_report.specs.Certificate.{spaced, member_text, step_text}
 use Rattle.pb_report.specs.Names.{name_at}
-use Rattle.pb_blocks.specs.Lists.{items, is_part, names_no_stream, member_of, step_of}
+use Rattle.pb_blocks.specs.Lists.{items, is_part, member_of, step_of}
+use Rattle.pb_blocks.specs.Held.{names_no_stream}
 use Rattle.pb_readback.proofs.WrittenFieldLemmas.{AreApart, among_at, place_at, some_byte}
 use Rattle.pb_readback.proofs.WrittenListLemmas.{AreNamed, IsPiece, items_back, name_bytes, named_at}
 

@@ -34,7 +34,8 @@ use Rattle.pb_form.specs.declared.output.OutputKind.TheVariants.{Stream as Strea
 use Rattle.pb_choices.specs.Places.{class_place, placed_class, placed_shape, shape_place, witness_shape}
 use Rattle.pb_blocks.specs.declared.rows.StreamRow.{StreamRow}
 use Rattle.pb_blocks.specs.Beside.{has_bad_list, has_unknown_node, is_half}
-use Rattle.pb_blocks.specs.Lists.{is_among, is_part, is_side, is_unknown_item, items, names_no_stream, place_of, side_of}
+use Rattle.pb_blocks.specs.Lists.{is_among, is_part, is_side, items, place_of}
+use Rattle.pb_blocks.specs.Held.{is_unknown_item, names_no_stream, side_of}
 use Rattle.pb_blocks.specs.Results.{has_unknown_part, result_of, witness_by}
 use Rattle.pb_blocks.specs.Values.{said_arc, both_bounds, both_meas, said_stream}
 use Rattle.pb_readback.specs.declared.draft.Draft.{Draft}
@@ -220,17 +221,41 @@ stream_fits : AreWritten → (names : Names) (graph : ProcessGraph) (i : ℕ) (s
 stream_fits written names graph i stream result known joins limits within lt =
     let from : stream.from < length names.nodes = omega (arith, joins.from, known.each_node) in
     let to : stream.to < length names.nodes = omega (arith, joins.to, known.each_node) in
-    let least = least_within result within.least in
-    let shape = word_fits shape_words shape_place placed_shape written.shapes (witness_shape result.classified.witness) in
-    let certificate = (shape, (refl, (refl, tt))) in
-    let bounds = (low_fits result.bounds within.bounds, (high_fits result.bounds within.bounds, (low_fits (written_least result) least, (high_fits (written_least result) least, certificate)))) in
-    let class = word_fits class_words class_place placed_class written.classes result.classified.class in
-    let flow = (class, (under_between (2 ^ 68) result.flow within.flow, bounds)) in
-    let measured = (value_fits stream.meas limits, (variance_fits stream.meas limits, flow)) in (
+    let least = least_within result within.least in (
       (refl, refl),
       (
         named_at names.streams i known.of_streams.forms lt,
-        (named_at names.nodes stream.from known.form_nodes from, (named_at names.nodes stream.to known.form_nodes to, measured)),
+        (
+          named_at names.nodes stream.from known.form_nodes from,
+          (
+            named_at names.nodes stream.to known.form_nodes to,
+            (
+              value_fits stream.meas limits,
+              (
+                variance_fits stream.meas limits,
+                (
+                  word_fits class_words class_place placed_class written.classes result.classified.class,
+                  (
+                    under_between (2 ^ 68) result.flow within.flow,
+                    (
+                      low_fits result.bounds within.bounds,
+                      (
+                        high_fits result.bounds within.bounds,
+                        (
+                          low_fits (written_least result) least,
+                          (
+                            high_fits (written_least result) least,
+                            (word_fits shape_words shape_place placed_shape written.shapes (witness_shape result.classified.witness), (refl, (refl, tt))),
+                          ),
+                        ),
+                      ),
+                    ),
+                  ),
+                ),
+              ),
+            ),
+          ),
+        ),
       ),
     )
 

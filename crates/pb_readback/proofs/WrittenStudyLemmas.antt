@@ -1,5 +1,6 @@
 -- The rows of a study read back: its blocks, and the rows between them.
 use Rattle.std.specs.Prelude.{◌==◌, neg_ℤ, nat_lt, if◌then◌else◌, map, All, Ok, position}
+use Rattle.std.specs.Option.{option_map, option_to_list}
 use Rattle.std.specs.List.{AllByRecursion, position_or_len}
 use Rattle.std.proofs.Common.{◌≡◌, ◌∙◌, ℕ, pos, ◌+◌, ◌≤◌, List, [], ◌∷◌, ◌++◌, length, Bool, true, false, Option, None, Some, refl, sym, ap, ap₂, subst, arith, append_assoc}
 use Rattle.std.proofs.lemmas.Bool.{le-ltb}
@@ -20,7 +21,7 @@ use Rattle.pb_report.specs.Block.{block_rows, end_row, node_row, report_row, res
 use Rattle.pb_report.specs.Names.{IsNamed}
 use Rattle.pb_report.specs.Row.{OutputRow, fields_of}
 use Rattle.pb_report.specs.Rows.{rows_with}
-use Rattle.pb_report.specs.Study.{round_rows, stage_rows, stop_rows, taken_row}
+use Rattle.pb_report.specs.Study.{round_rows, stage_rows, stop_row, taken_row}
 use Rattle.pb_report.specs.Tests.{tests_rows}
 use Rattle.pb_form.specs.OutputRows.{output_schema}
 use Rattle.pb_form.specs.Reading.{row_read}
@@ -28,7 +29,8 @@ use Rattle.pb_form.specs.declared.output.OutputKind.{OutputKind}
 use Rattle.pb_form.specs.declared.output.OutputKind.TheVariants.{Report, Node, Stream, Solved, End}
 use Rattle.pb_blocks.specs.declared.rows.Heading.{Heading}
 use Rattle.pb_blocks.specs.declared.rows.StreamRow.{StreamRow}
-use Rattle.pb_blocks.specs.Beside.{heading_in, opening_fault}
+use Rattle.pb_blocks.specs.Beside.{opening_fault}
+use Rattle.pb_blocks.specs.Held.{heading_in}
 use Rattle.pb_blocks.specs.Results.{has_unknown_part, result_of}
 use Rattle.pb_blocks.specs.Values.{said_heading}
 use Rattle.pb_readback.specs.declared.draft.Draft.{Draft}
@@ -338,7 +340,7 @@ rounds_back written names period options all round (suspect ∷ taken) (stage �
       behind,
     )
 
-stops_passed : (period : List ℕ) (rounds : ℕ) (stop : Option Stop) → ArePassedOver (records_in (stop_rows period rounds stop))
+stops_passed : (period : List ℕ) (rounds : ℕ) (stop : Option Stop) → ArePassedOver (records_in (option_to_list (option_map (stop_row period rounds) stop)))
 stops_passed period rounds None = refl
 stops_passed period rounds (Some reason) = refl
 
@@ -380,4 +382,4 @@ study_back written names period options study h =
     (recursion_from_All (HasShapeOf h.named.graph) study.stages formed.shapes)
     (recursion_from_All (λ (stage : Stage). All HasBoundsForLeast stage.streams) study.stages h.least) in
     stages_back written names period options (record { all_names = h.all_names; name = h.name; asked = h.asked }) study.taken study.stages
-    (stop_rows period (length study.taken) study.stop) (stops_passed period (length study.taken) study.stop) formed.between h.greatest_round good
+    (option_to_list (option_map (stop_row period (length study.taken)) study.stop)) (stops_passed period (length study.taken) study.stop) formed.between h.greatest_round good

@@ -40,7 +40,8 @@ use Rattle.pb_blocks.specs.Beside.{is_round}
 use Rattle.pb_blocks.specs.Lists.{is_among, place_of}
 use Rattle.pb_blocks.specs.Values.{said_global, said_measure, said_nodal, said_solution}
 use Rattle.pb_readback.specs.declared.draft.Draft.{Draft}
-use Rattle.pb_readback.specs.Drafts.{tests_begun, with_row}
+use Rattle.pb_readback.specs.Drafts.{with_row}
+use Rattle.pb_readback.specs.Reading.{tests_begun}
 use Rattle.pb_readback.specs.Faults.{first_unknown}
 use Rattle.pb_readback.specs.Written.{records_in}
 use Rattle.pb_readback.proofs.WrittenBlockLemmas.{Tells, last_of, tells_append, tells_more, tells_none, tells_to}

@@ -1,5 +1,6 @@
 -- Each row of a session's output begins with a word.
 use Rattle.std.specs.Prelude.{map}
+use Rattle.std.specs.Option.{option_map, option_to_list}
 use Rattle.std.specs.List.{list_all}
 use Rattle.std.proofs.Common.{◌≡◌, ◌∙◌, ℕ, ◌+◌, List, [], ◌∷◌, ◌++◌, length, true, Option, None, Some, refl, ap}
 use Rattle.std.proofs.lemmas.Bool.{and_from}
@@ -18,7 +19,7 @@ use Rattle.pb_report.specs.Design.{class_row}
 use Rattle.pb_report.specs.History.{edit_row}
 use Rattle.pb_report.specs.Row.{OutputRow, fields_of}
 use Rattle.pb_report.specs.Rows.{rows_with}
-use Rattle.pb_report.specs.Study.{round_rows, stage_rows, stop_rows}
+use Rattle.pb_report.specs.Study.{round_rows, stage_rows, stop_row}
 use Rattle.pb_report.specs.Tests.{measure_row, nodal_row, tests_rows}
 use Rattle.pb_readback.specs.Written.{BeginWithWords, RowWordsLaw, records_in}
 
@@ -66,7 +67,7 @@ stage_words names period options taken (stage ∷ stages) =
     words_both (block_rows names period options 0 stage) (round_rows names period options 1 taken stages) (block_words names period options 0 stage)
     (round_words names period options 1 taken stages)
 
-stop_words : (period : List ℕ) (rounds : ℕ) (stop : Option Stop) → BeginWithWords (stop_rows period rounds stop)
+stop_words : (period : List ℕ) (rounds : ℕ) (stop : Option Stop) → BeginWithWords (option_to_list (option_map (stop_row period rounds) stop))
 stop_words period rounds None = refl
 stop_words period rounds (Some reason) = refl
 
@@ -78,6 +79,6 @@ all_words = record {
   histories = λ period edits. words_of edit_row (λ edit. refl) edits;
   advices = λ names advice. words_of (meter_row names) (λ meter. refl) advice.meter;
   studies = λ names period options study.
-      words_both (stage_rows names period options study.taken study.stages) (stop_rows period (length study.taken) study.stop)
+      words_both (stage_rows names period options study.taken study.stages) (option_to_list (option_map (stop_row period (length study.taken)) study.stop))
       (stage_words names period options study.taken study.stages) (stop_words period (length study.taken) study.stop);
 }

@@ -1,24 +1,8 @@
 -- Statement. The block that rows give.
 use Rattle.std.specs.Prelude.{map}
-use Rattle.pb_graph.specs.declared.results.Stage.{Stage}
 use Rattle.pb_blocks.specs.Results.{result_of}
 use Rattle.pb_readback.specs.declared.block.Block.{Block}
 use Rattle.pb_readback.specs.declared.draft.Draft.{Draft}
-
--- the stage that the rows of a block give
-abbrev pub stage_of : Draft → Stage
-stage_of draft = record {
-  graph = draft.graph;
-  streams = map (result_of draft.streams) draft.rows;
-  prices = draft.prices;
-  solved = draft.solution.solved;
-  g = draft.solution.g;
-  h = draft.solution.h;
-  dof = draft.solution.dof;
-  low = draft.solution.low;
-  high = draft.solution.high;
-  tests = draft.tests;
-}
 
 -- the block that its rows give
 abbrev pub block_of : Draft → Block
@@ -28,5 +12,16 @@ block_of draft = record {
   gap = draft.heading.gap;
   sweeps = draft.heading.sweeps;
   names = record { nodes = draft.nodes; streams = draft.streams };
-  stage = stage_of draft;
+  stage = record {
+    graph = draft.graph;
+    streams = map (result_of draft.streams) draft.rows;
+    prices = draft.prices;
+    solved = draft.solution.solved;
+    g = draft.solution.g;
+    h = draft.solution.h;
+    dof = draft.solution.dof;
+    low = draft.solution.low;
+    high = draft.solution.high;
+    tests = draft.tests;
+  };
 }

@@ -2,7 +2,6 @@
 use Rattle.std.specs.Prelude.{ℕ, pos, nat_lt, List, [], ◌∷◌, ◌++◌, length, Some, None, if◌then◌else◌}
 use Rattle.std.specs.Option.{option_map, option_map_or}
 use Rattle.std.specs.Result.{result_ok}
-use Rattle.pb_form.specs.Value.{Value}
 use Rattle.pb_form.specs.declared.output.OutputKind.{OutputKind}
 use Rattle.pb_form.specs.declared.output.OutputKind.TheVariants.{Report, Node, Stream, StreamBefore, Solved, Global, Nodal, Measure, End}
 use Rattle.pb_graph.specs.declared.results.MeasureTest.{MeasureTest}
@@ -57,23 +56,12 @@ kinds_next draft =
     else if nat_lt (length draft.streams) draft.heading.streams then stream_kinds draft.last
     else kinds_after draft.last
 
--- the global test, and no other test yet
-abbrev pub tests_begun : List Value → Tests
-tests_begun values = record { global = said_global values; nodal = []; measure = [] }
-
 -- tests with one of a balance more, or with one of a measurement
 abbrev pub with_nodal : NodalTest → Tests → Tests
 with_nodal test tests = record tests { nodal = tests.nodal ++ test ∷ [] }
 
 abbrev pub with_measure : MeasureTest → Tests → Tests
 with_measure test tests = record tests { measure = tests.measure ++ test ∷ [] }
-
--- what is told of one node more
-abbrev pub with_node : List (List ℕ) → Draft → Draft
-with_node row draft = record draft {
-  nodes = draft.nodes ++ name_field row ∷ [];
-  prices = draft.prices ++ number_at (values_in Node row) 2 ∷ [];
-}
 
 -- what is told of one stream more, by its row in one of the two forms
 abbrev pub with_stream : OutputKind → List (List ℕ) → Draft → Draft
@@ -85,24 +73,25 @@ with_stream kind row draft = record draft {
 
 -- what a row of a kind adds to what the rows before it have told
 abbrev pub added : OutputKind → Draft → List (List ℕ) → Draft
-added Node draft row = with_node row draft
+added Node draft row = record draft {
+  nodes = draft.nodes ++ name_field row ∷ [];
+  prices = draft.prices ++ number_at (values_in Node row) 2 ∷ [];
+}
 added Stream draft row = with_stream Stream row draft
 added StreamBefore draft row = with_stream StreamBefore row draft
 added Solved draft row = record draft { solution = said_solution (values_in Solved row) }
-added Global draft row = record draft { tests = Some (tests_begun (values_in Global row)) }
+added Global draft row =
+    record draft { tests = Some (record { global = said_global (values_in Global row); nodal = []; measure = [] }) }
 added Nodal draft row =
     record draft { tests = option_map (with_nodal (said_nodal draft.nodes row (values_in Nodal row))) draft.tests }
 added Measure draft row =
     record draft { tests = option_map (with_measure (said_measure draft.streams row (values_in Measure row))) draft.tests }
 added kind draft row = draft
 
--- what is told then, and of which kind the last row is
-abbrev pub told_with : OutputKind → Draft → List (List ℕ) → Draft
-told_with kind draft row = record (added kind draft row) { last = kind }
-
--- what one row more tells, if it is of a kind that may come
+-- what one row more tells, if it is of a kind that may come, and of which kind the last row is then
 abbrev pub with_row : Draft → List (List ℕ) → Draft
-with_row draft row = option_map_or (λ kind. told_with kind draft row) (result_ok (kind_among (kinds_next draft) row)) draft
+with_row draft row =
+    option_map_or (λ kind. record (added kind draft row) { last = kind }) (result_ok (kind_among (kinds_next draft) row)) draft
 
 -- what several rows more tell
 abbrev pub with_rows : Draft → List (List (List ℕ)) → Draft

@@ -7,12 +7,12 @@ use Rattle.pb_form.specs.declared.output.OutputKind.{OutputKind}
 use Rattle.pb_form.specs.declared.output.OutputKind.TheVariants.{Node, Stream, StreamBefore, Nodal, Measure, End}
 use Rattle.pb_blocks.specs.declared.fault.RowFault.{RowFault}
 use Rattle.pb_blocks.specs.declared.fault.RowFault.TheVariants.{Number, Unknown, Duplicate, Shape, Count, Env}
-use Rattle.pb_blocks.specs.Beside.{fault_as, form_fault, has_bad_list, leads_to_itself, has_unknown_node, is_half_told, is_round}
+use Rattle.pb_blocks.specs.Beside.{fault_as, form_fault, has_bad_list, has_unknown_node, is_half_told, is_round}
 use Rattle.pb_blocks.specs.Codes.{lowest}
 use Rattle.pb_blocks.specs.Kinds.{kind_among}
 use Rattle.pb_blocks.specs.Lists.{is_among}
 use Rattle.pb_blocks.specs.Results.{has_unknown_part}
-use Rattle.pb_blocks.specs.Texts.{name_field}
+use Rattle.pb_blocks.specs.Texts.{from_field, name_field, to_field}
 use Rattle.pb_readback.specs.declared.draft.Draft.{Draft}
 use Rattle.pb_readback.specs.Drafts.{kinds_next}
 
@@ -25,7 +25,7 @@ stream_fault kind draft row =
     else if has_unknown_node draft.nodes kind row then Some Unknown
     else if is_among draft.streams (name_field row) then Some Duplicate
     else if has_bad_list draft.nodes kind row then Some Shape
-    else if leads_to_itself row then Some Count
+    else if same_name (from_field row) (to_field row) then Some Count
     else None
 
 -- The lowest fault of a row of a kind beside those of its form. A node's name is new, and the first one is the environment; a test is

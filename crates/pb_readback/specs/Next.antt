@@ -1,12 +1,13 @@
 -- Statement. What comes next in records: a block, the first row that can't be read, or neither.
-use Rattle.std.specs.Prelude.{◌≡◌, ◌≢◌, ◌⊎◌, ℕ, ◌+◌, true, false, List, [], ◌∷◌, ◌++◌, length, drop, Option, Some, None}
+use Rattle.std.specs.Prelude.{◌≡◌, ◌≢◌, ◌⊎◌, ℕ, ◌+◌, ◌≤◌, true, false, List, [], ◌∷◌, ◌++◌, length, drop, Option, Some, None}
 use Rattle.std.specs.List.{list_all}
-use Rattle.pb_form.specs.declared.output.OutputKind.TheVariants.{End}
+use Rattle.pb_form.specs.declared.output.OutputKind.TheVariants.{End, Report}
 use Rattle.pb_rows.specs.RecordsLeft.{RecordsLeft}
 use Rattle.pb_blocks.specs.declared.fault.RowFault.{RowFault}
 use Rattle.pb_blocks.specs.declared.fault.RowFault.TheVariants.{Unknown, Ended}
-use Rattle.pb_blocks.specs.Beside.{heading_in, opening_fault}
+use Rattle.pb_blocks.specs.Beside.{opening_fault}
 use Rattle.pb_blocks.specs.Kinds.{is_passed_over}
+use Rattle.pb_blocks.specs.Values.{said_heading, values_in}
 use Rattle.pb_readback.specs.declared.block.Block.{Block}
 use Rattle.pb_readback.specs.declared.draft.Draft.{Draft}
 use Rattle.pb_readback.specs.declared.reading.ReadRefused.{ReadRefused}
@@ -35,7 +36,7 @@ AreSound draft (row ∷ rows) =
 
 -- what a row that opens a block tells
 abbrev pub opened : List (List ℕ) → Draft
-opened row = draft_of (heading_in row)
+opened row = draft_of (said_heading row (values_in Report row))
 
 -- the rows of a whole block: the one that opens it, and those after it up to the end
 pub record IsBlock (first : List (List ℕ)) (rows : List (List (List ℕ))) (block : Block) : Type 0 where
@@ -69,38 +70,31 @@ pub record IsFound (records : List (List (List ℕ))) (block : Block) (rest : Li
   pub skipped : ArePassedOver passed
   pub whole : IsBlock first rows block
 
--- after rows that are passed over comes a row that isn't passed over and doesn't open a block
-pub record IsRefusedAtOpening (at : ℕ) (records : List (List (List ℕ))) (number : ℕ) (fault : RowFault)
-    (left : List (List (List ℕ))) : Type 0 where
+-- A first row that isn't passed over, with the records after it, is no block: this is the number of the first row that has a fault,
+-- counted from the first, and these records are left. The first row doesn't open a block, or a row after it can't be read.
+abbrev pub IsNoBlock : List (List ℕ) → List (List (List ℕ)) → ℕ → RowFault → List (List (List ℕ)) → Type 0
+IsNoBlock first behind number fault left =
+    ((opening_fault first ≡ Some fault) × (number ≡ 1) × (left ≡ behind))
+    ⊎ ((opening_fault first ≡ None) × (rows : List (List (List ℕ))) × (rest : List (List (List ℕ))) × (behind ≡ rows ++ rest)
+    × AreSound (opened first) rows × IsFault (with_rows (opened first) rows) (length rows) rest number fault left)
+
+-- after rows that are passed over comes another, and no block begins with it
+pub record IsRefused (at : ℕ) (records : List (List (List ℕ))) (number : ℕ) (fault : RowFault) (left : List (List (List ℕ))) : Type 0 where
   pub passed : List (List (List ℕ))
   pub first : List (List ℕ)
-  pub split : records ≡ passed ++ first ∷ left
+  pub behind : List (List (List ℕ))
+  pub within : ℕ
+  pub split : records ≡ passed ++ first ∷ behind
   pub skipped : ArePassedOver passed
   pub other : is_passed_over first ≡ false
-  pub cause : opening_fault first ≡ Some fault
-  pub place : number ≡ at + length passed + 1
-
--- after rows that are passed over begins a block that can't be read on
-pub record IsRefusedWithin (at : ℕ) (records : List (List (List ℕ))) (number : ℕ) (fault : RowFault)
-    (left : List (List (List ℕ))) : Type 0 where
-  pub passed : List (List (List ℕ))
-  pub first : List (List ℕ)
-  pub rows : List (List (List ℕ))
-  pub rest : List (List (List ℕ))
-  pub within : ℕ
-  pub split : records ≡ passed ++ first ∷ (rows ++ rest)
-  pub skipped : ArePassedOver passed
-  pub opens : opening_fault first ≡ None
-  pub sound : AreSound (opened first) rows
-  pub cause : IsFault (with_rows (opened first) rows) (length rows) rest within fault left
+  pub cause : IsNoBlock first behind within fault left
   pub place : number ≡ at + length passed + within
 
 -- What comes next in the records after as many as this.
 abbrev pub IsNext : ℕ → List (List (List ℕ)) → Next → Type 0
 IsNext at records NoBlock = ArePassedOver records
 IsNext at records (Found block rest) = IsFound records block rest
-IsNext at records (Refused number fault left) =
-    IsRefusedAtOpening at records number fault left ⊎ IsRefusedWithin at records number fault left
+IsNext at records (Refused number fault left) = IsRefused at records number fault left
 
 -- The records are these blocks in order, and rows that are passed over between, before and after them.
 abbrev pub AreBlocks : List (List (List ℕ)) → List Block → Type 0
@@ -116,7 +110,11 @@ next_by (Some block) rest = Found block rest
 abbrev pub AreCounted : RecordsLeft → RecordsLeft → Type 0
 AreCounted old new = new.taken + length new.left ≡ old.taken + length old.left
 
--- what comes next, if a row can't be read, and that no record after it was taken; out of memory says nothing
+-- no record counts as taken that wasn't given, and none is given again
+abbrev pub IsWithinGiven : RecordsLeft → RecordsLeft → Type 0
+IsWithinGiven old new = (old.taken ≤ new.taken) × (new.taken + length new.left ≤ old.taken + length old.left)
+
+-- what comes next, if a row can't be read, and that no record after it was taken; out of memory, that none counts that wasn't given
 abbrev pub Tells : RecordsLeft → RecordsLeft → ReadRefused → Type 0
 Tells old new (At number fault) = IsNext old.taken old.left (Refused number fault new.left) × AreCounted old new
-Tells old new NoMemory = Unit {0}
+Tells old new NoMemory = IsWithinGiven old new

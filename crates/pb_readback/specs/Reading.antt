@@ -3,6 +3,7 @@ use Rattle.std.specs.Prelude.{◌≡◌, ◌≢◌, ◌⊎◌, ◌≤◌, ◌+�
 use Rattle.std.specs.List.{list_any}
 use Rattle.pb_form.specs.declared.output.OutputKind.{OutputKind}
 use Rattle.pb_form.specs.declared.output.OutputKind.TheVariants.{Node, Stream as StreamKind, StreamBefore, Solved, Global, Nodal, Measure, End}
+use Rattle.pb_form.specs.Value.{Value}
 use Rattle.pb_rows.specs.RecordsLeft.{RecordsLeft}
 use Rattle.pb_graph.specs.declared.records.Member.{Member}
 use Rattle.pb_graph.specs.declared.records.Step.{Step}
@@ -10,6 +11,7 @@ use Rattle.pb_graph.specs.declared.records.Stream.{Stream}
 use Rattle.pb_graph.specs.declared.records.Witness.{Witness}
 use Rattle.pb_graph.specs.declared.records.Witness.TheVariants.{Cut as CutWitness, Cycle as CycleWitness}
 use Rattle.pb_graph.specs.declared.results.StreamResult.{StreamResult}
+use Rattle.pb_graph.specs.declared.results.Tests.{Tests}
 use Rattle.pb_graph.specs.ProcessGraph.{IsStream, IsWithinLimits}
 use Rattle.pb_blocks.specs.declared.fault.RowFault.{RowFault}
 use Rattle.pb_blocks.specs.declared.fault.RowFault.TheVariants.{Unknown, Ended}
@@ -17,14 +19,27 @@ use Rattle.pb_blocks.specs.Beside.{opening_fault}
 use Rattle.pb_blocks.specs.Counts.{IsHeading}
 use Rattle.pb_blocks.specs.Kinds.{is_passed_over}
 use Rattle.pb_blocks.specs.Results.{result_of}
+use Rattle.pb_blocks.specs.Values.{said_global}
 use Rattle.pb_readback.specs.declared.block.Block.{Block}
 use Rattle.pb_readback.specs.declared.draft.Draft.{Draft}
 use Rattle.pb_readback.specs.declared.reading.ReadRefused.{ReadRefused}
 use Rattle.pb_readback.specs.declared.reading.ReadRefused.TheVariants.{At, NoMemory}
 use Rattle.pb_readback.specs.Blocks.{block_of}
-use Rattle.pb_readback.specs.Drafts.{with_rows}
+use Rattle.pb_readback.specs.Drafts.{added, with_rows}
 use Rattle.pb_readback.specs.Faults.{fault_behind, first_unknown}
-use Rattle.pb_readback.specs.Next.{AreCounted, ArePassedOver, AreSound, IsFault, opened}
+use Rattle.pb_readback.specs.Next.{AreCounted, ArePassedOver, AreSound, IsFault, IsWithinGiven, opened}
+
+-- the global test, and no other test yet
+abbrev pub tests_begun : List Value → Tests
+tests_begun values = record { global = said_global values; nodal = []; measure = [] }
+
+-- what is told of one node more
+abbrev pub with_node : List (List ℕ) → Draft → Draft
+with_node row draft = added Node draft row
+
+-- what is told after a row of a kind
+abbrev pub told_with : OutputKind → Draft → List (List ℕ) → Draft
+told_with kind draft row = record (added kind draft row) { last = kind }
 
 -- not all nodes have come; all of them, and not all streams; or all of both
 abbrev pub AwaitsNodes : Draft → Type 0
@@ -121,7 +136,7 @@ pub record IsBroken (start : Draft) (all : List (List (List ℕ))) (opened numbe
 -- a refusal where no record is left
 abbrev pub Ends : RecordsLeft → RecordsLeft → ReadRefused → Type 0
 Ends old new (At number fault) = (old.left ≡ []) × (new ≡ old) × (number ≡ old.taken + 1) × (fault ≡ Ended)
-Ends old new NoMemory = Unit {0}
+Ends old new NoMemory = IsWithinGiven old new
 
 -- a refusal of a row behind a draft, which has this number
 abbrev pub RefusesRow : Draft → List (List ℕ) → ℕ → ReadRefused → Type 0
@@ -137,7 +152,7 @@ RefusesPart draft opened NoMemory = Unit {0}
 -- what a refusal after a first row tells, the last one taken before
 abbrev pub Breaks : Draft → RecordsLeft → RecordsLeft → ReadRefused → Type 0
 Breaks start old new (At number fault) = IsBroken start old.left old.taken number fault new.left × AreCounted old new
-Breaks start old new NoMemory = Unit {0}
+Breaks start old new NoMemory = IsWithinGiven old new
 
 -- a block whose first row is this one
 abbrev pub IsReadFrom : List (List ℕ) → List (List (List ℕ)) → List (List (List ℕ)) → Block → Type 0
@@ -148,4 +163,4 @@ abbrev pub BreaksFrom : List (List ℕ) → RecordsLeft → RecordsLeft → Read
 BreaksFrom first old new (At number fault) =
     ((opening_fault first ≡ Some fault) × (number ≡ old.taken) × (new ≡ old))
     ⊎ ((opening_fault first ≡ None) × IsBroken (opened first) old.left old.taken number fault new.left × AreCounted old new)
-BreaksFrom first old new NoMemory = Unit {0}
+BreaksFrom first old new NoMemory = IsWithinGiven old new

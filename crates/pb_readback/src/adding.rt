@@ -13,7 +13,9 @@ ghost use Rattle.pb_blocks.specs.Counts.{IsHeading, IsStreamKind};
 ghost use Rattle.pb_blocks.specs.Lists.{is_among};
 ghost use Rattle.pb_blocks.specs.Texts.{name_field};
 ghost use Rattle.pb_blocks.specs.Values.{said_arc, values_in};
-ghost use Rattle.pb_readback.specs.Drafts.{draft_of, no_solution, tests_begun, told_with, with_measure, with_nodal, with_node, with_row, with_stream};
+ghost use Rattle.pb_readback.specs.Drafts.{draft_of, no_solution, with_measure, with_nodal, with_row, with_stream};
+ghost use Rattle.pb_readback.specs.Reading.{with_node};
+ghost use Rattle.pb_readback.specs.Reading.{tests_begun, told_with};
 ghost use Rattle.pb_readback.specs.Faults.{fault_behind, fault_beside, fault_of};
 ghost use Rattle.pb_readback.specs.Reading.{IsUnderWay, MayCome};
 

@@ -1,6 +1,6 @@
 // Block after block out of records.
 
-ghost use Rattle.std.specs.Prelude.{◌≡◌, ◌≢◌, ◌+◌, ◌^◌, ◌<◌, true, false, length, map, Some, None, IfOk, IfErr, OnOk, IfSome};
+ghost use Rattle.std.specs.Prelude.{◌≡◌, ◌≢◌, ◌+◌, ◌^◌, ◌<◌, true, false, length, map, Some, None, IfOk, IfErr, OnErr, OnOk, IfSome};
 ghost use Rattle.pb_rows.specs.RecordsLeft.{TakesNext};
 ghost use Rattle.pb_limits.specs.Limits.{most_streams};
 ghost use Rattle.pb_blocks.specs.Counts.{IsHeading};
@@ -8,7 +8,7 @@ ghost use Rattle.pb_blocks.specs.Results.{result_of};
 ghost use Rattle.pb_readback.specs.declared.reading.ReadRefused.TheVariants.{At};
 ghost use Rattle.pb_readback.specs.Faults.{fault_behind, first_unknown};
 ghost use Rattle.pb_readback.specs.Drafts.{draft_of, with_row};
-ghost use Rattle.pb_readback.specs.Next.{AreCounted, IsNext, Tells, next_by};
+ghost use Rattle.pb_readback.specs.Next.{AreCounted, IsNext, IsWithinGiven, Tells, next_by};
 ghost use Rattle.pb_readback.specs.Reading.{Breaks, BreaksFrom, Ends, IsReadFrom, IsReadWhole, IsUnderWay, KeepsResults, RefusesPart, RefusesRow, Skips, is_stream_kind};
 ghost use Rattle.pb_readback.specs.WellFormed.{IsWellFormedBlock};
 
@@ -28,7 +28,8 @@ pub enum ReadRefused {
 
 /// Reads the next block. `Ok(None)` exactly if none follows and each record left is one that is passed over; `At` exactly at the
 /// first record that can't be read, with the lowest of its faults. After `At` that record was taken and none after it; but if the
-/// fault is that of a name in a stream's parts, the records of all streams of the block were taken, and none after them.
+/// fault is that of a name in a stream's parts, the records of all streams of the block were taken, and none after them. Out of memory
+/// the count of taken records is that of some of those that were given.
 pub fn read(alloc: Global, records: &mut Records) -> Result<Option<Block>, ReadRefused>
     requires few { records.old.taken + length records.old.left < 2 ^ 31 }
     ensures next { IfOk result
@@ -51,6 +52,7 @@ pub fn read(alloc: Global, records: &mut Records) -> Result<Option<Block>, ReadR
 fn first_row(records: &mut Records) -> Result<Option<Row>, AllocError>
     ensures skips { IfOk result (Skips records.old.left records.new.left) }
     ensures counted { OnOk result (AreCounted records.old records.new) }
+    ensures err { OnErr result (IsWithinGiven records.old records.new) }
 {
     while let Some(row) = records.next()? {
         if !is_passed_over(&row) {

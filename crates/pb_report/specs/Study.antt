@@ -1,6 +1,7 @@
 -- Statement. The rows of a study: for each stage a block, between two blocks the row of the suspect that was taken, and after
 -- the last one the row that says why no more were taken (serial elimination of gross errors: Narasimhan and Jordache).
-use Rattle.std.specs.Prelude.{ℕ, ◌+◌, pos, List, [], ◌∷◌, ◌++◌, length, Option, Some, None}
+use Rattle.std.specs.Prelude.{ℕ, ◌+◌, pos, List, [], ◌∷◌, ◌++◌, length}
+use Rattle.std.specs.Option.{option_map, option_to_list}
 use Rattle.pb_rows.specs.declared.name.Names.{Names}
 use Rattle.pb_form.specs.Value.{Name, Number, Word}
 use Rattle.pb_form.specs.declared.output.OutputKind.TheVariants as kind
@@ -36,12 +37,8 @@ stage_rows names period options taken (stage ∷ stages) =
 abbrev pub stop_row : List ℕ → ℕ → Stop → OutputRow
 stop_row period rounds reason = row_of kind.Stop (Name period ∷ Word (stop_place reason) ∷ Number (pos rounds) ∷ [])
 
--- no such row if no elimination was asked
-abbrev pub stop_rows : List ℕ → ℕ → Option Stop → List OutputRow
-stop_rows period rounds None = []
-stop_rows period rounds (Some reason) = stop_row period rounds reason ∷ []
-
--- the whole report
+-- the whole report; no reason to stop if no elimination was asked
 abbrev pub study_rows : Names → List ℕ → Options → Study → List OutputRow
 study_rows names period options study =
-    stage_rows names period options study.taken study.stages ++ stop_rows period (length study.taken) study.stop
+    stage_rows names period options study.taken study.stages
+    ++ option_to_list (option_map (stop_row period (length study.taken)) study.stop)

@@ -7,7 +7,7 @@ ghost use Rattle.pb_form.specs.Words.{edit_words};
 ghost use Rattle.pb_choices.specs.Places.{IsWordTable};
 ghost use Rattle.pb_report.specs.Form.{AppendsRows};
 ghost use Rattle.pb_report.specs.Given.{given_row};
-ghost use Rattle.pb_report.specs.History.{edit_place, edit_row, history_rows, period_row, placed_edit};
+ghost use Rattle.pb_report.specs.History.{edit_id, edit_place, edit_reason, edit_row, history_rows, period_row, placed_edit};
 ghost use Rattle.pb_form.specs.Value as value;
 ghost use Rattle.pb_report.specs.Output.{AddsRows};
 ghost use Rattle.pb_report.specs.Row.{value_or_none};
@@ -66,8 +66,8 @@ pub fn edit_words_law()
     ensures { IsWordTable edit_words edit_place placed_edit }
 {}
 
-/// An edit: the number of its record in the session, what it did, and for which fact and why. A closing has no fact, and neither a
-/// closing nor a late fact has a reason.
+/// An edit: the number of its record in the session, what it did, and for which fact and why. The fact of a closing isn't written,
+/// nor the reason of a closing or of a late fact.
 #[derive(Clone, Copy)]
 pub struct HistoryRow {
     pub at: u32,
@@ -122,9 +122,19 @@ fn edit_values<'a>(edit: &'a HistoryRow) -> [Value<'a>; 5]
         Value::Word(0),
         Value::Number(i128::from(edit.at)),
         Value::Word(edit_place(edit.word)),
-        name_or_none(&edit.id),
-        reason_or_none(&edit.reason),
+        edit_id(edit.word, &edit.id),
+        edit_reason(edit.word, &edit.reason),
     ]
+}
+
+// The fact that an edit is about; a closing is about none.
+fn edit_id<'a>(word: HistoryWord, id: &'a Option<Name>) -> Value<'a>
+    ensures { value_as holds.Name result ≡ edit_id word id.now }
+{
+    match word {
+        HistoryWord::Close => Value::Missing,
+        HistoryWord::Late | HistoryWord::Amend | HistoryWord::Strike => name_or_none(id),
+    }
 }
 
 fn name_or_none<'a>(name: &'a Option<Name>) -> Value<'a>
@@ -133,6 +143,16 @@ fn name_or_none<'a>(name: &'a Option<Name>) -> Value<'a>
     match name {
         Some(name) => Value::Text(name.as_str()),
         None => Value::Missing,
+    }
+}
+
+// The reason of an edit; only an amendment and a strike have one.
+fn edit_reason<'a>(word: HistoryWord, reason: &'a Option<Reason>) -> Value<'a>
+    ensures { value_as holds.Reason result ≡ edit_reason word reason.now }
+{
+    match word {
+        HistoryWord::Close | HistoryWord::Late => Value::Missing,
+        HistoryWord::Amend | HistoryWord::Strike => reason_or_none(reason),
     }
 }
 

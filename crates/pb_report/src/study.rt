@@ -1,11 +1,12 @@
 // The rows of a study.
 
 ghost use Rattle.std.specs.Prelude.{◌≡◌, ◌<◌, ◌∷◌, [], length, OnOk, OnErr};
+ghost use Rattle.std.specs.Option.{option_map, option_to_list};
 ghost use Rattle.pb_report.specs.Form.{AppendsRows};
 ghost use Rattle.pb_report.specs.Given.{given_row};
 ghost use Rattle.pb_report.specs.Names.{IsNamedStudy};
 ghost use Rattle.pb_report.specs.Output.{AddsRows};
-ghost use Rattle.pb_report.specs.Study.{stage_rows, stop_row, stop_rows, study_rows, taken_row};
+ghost use Rattle.pb_report.specs.Study.{stage_rows, stop_row, study_rows, taken_row};
 
 use crate::block::write_block;
 use crate::form::Form;
@@ -94,7 +95,8 @@ fn write_stop(
     stop: Option<Stop>,
     output: &mut Output,
 ) -> Result<(), AllocError>
-    ensures { OnOk result (AddsRows output.old output.new (stop_rows period.now rounds stop)) }
+    ensures { OnOk result (AddsRows output.old output.new
+        (option_to_list (option_map (stop_row period.now rounds) stop))) }
 {
     match stop {
         None => Ok(()),

@@ -4,6 +4,8 @@
 #[cfg(test)]
 mod cli;
 #[cfg(test)]
+mod hand;
+#[cfg(test)]
 mod inputs;
 #[cfg(test)]
 mod program;

@@ -1,6 +1,7 @@
 use Rattle.std.proofs.Common.{◌≡◌, length}
 use Rattle.std.specs.List.{list_any}
-use Rattle.pb_blocks.specs.Lists.{is_unknown_item, items}
+use Rattle.pb_blocks.specs.Lists.{items}
+use Rattle.pb_blocks.specs.Held.{is_unknown_item}
 use Rattle.pb_blocks.proofs.lists.has_unknown_item.Given as goal
 
 abbrev pub invariant-loop-item : goal.invariant-loop-item

@@ -1,5 +1,6 @@
 use Rattle.std.proofs.Common.{◌≡◌, ◌++◌, ℕ, List, length}
-use Rattle.pb_blocks.specs.Lists.{items, side_of}
+use Rattle.pb_blocks.specs.Lists.{items}
+use Rattle.pb_blocks.specs.Held.{side_of}
 use Rattle.pb_blocks.proofs.lists.mark.Given as goal
 
 abbrev pub invariant-loop-item : goal.invariant-loop-item

@@ -1,6 +1,4 @@
-use Rattle.std.proofs.Common.{◌≡◌, ◌∷◌, ap, rules}
-use Rattle.std.specs.Prelude.{true}
-use Rattle.pb_rows.specs.Name.{is_name}
+use Rattle.std.proofs.Common.{◌≡◌, ◌∷◌, rules}
 use Rattle.pb_rows.specs.Number.{decimal_text}
 use Rattle.pb_rows.proofs.TextLaws.{numbered_name}
 use Rattle.pb_make.proofs.NameLemmas.{is_read}

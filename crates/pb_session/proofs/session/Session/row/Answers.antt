@@ -1,4 +1,4 @@
-use Rattle.std.proofs.Common.{◌≡◌, ◌≢◌, ◌∙◌, ◌≤◌, List, length, OnErr, Result, Ok, Err, true, refl, sym, ap, ap₂, subst}
+use Rattle.std.proofs.Common.{◌≡◌, ◌≢◌, ◌∙◌, ◌≤◌, List, length, OnErr, Result, Ok, Err, true, false, refl, sym, ap, ap₂, subst}
 use Rattle.std.specs.List.{AllByRecursion}
 use Rattle.pb_book.specs.declared.answer.Accepted.{Accepted}
 use Rattle.pb_book.specs.declared.answer.Refused.{Refused as Refusal}
@@ -10,13 +10,13 @@ use Rattle.pb_kinds.specs.Costs.{named_costs}
 use Rattle.pb_book.specs.Answer.{Answer, Refused, Says, after, after_answer, answer_of, is_refused, said_of}
 use Rattle.pb_session.specs.declared.kept.KeptStudy.{KeptStudy}
 use Rattle.pb_session.specs.Closed.{LeavesClosed}
-use Rattle.pb_session.specs.Keeping.{IsKeptStudy, held_of, left_by}
+use Rattle.pb_session.specs.Keeping.{IsKeeping, IsKeptStudy, held_of, left_by}
 use Rattle.pb_session.specs.Kept.{Held, Keeps, KeepsAccepted, KeepsBy, most_kept, reported_after}
 use Rattle.pb_session.specs.Session.{AddsBy, Adds, SessionState, state_after}
 use Rattle.pb_session.proofs.KeepingLemmas.{keeps_by, left_few, left_kept, left_other, reported_still, said, said_ok, state_with}
 use Rattle.pb_session.proofs.ClosedLemmas.{leaves_closed, none_joined}
 use Rattle.pb_session.proofs.KeptLemmas.{periods_in}
-use Rattle.pb_session.proofs.RowLemmas.{accepted_adds, advice_is, answers, of_periods, refused_is, unchanged_by}
+use Rattle.pb_session.proofs.RowLemmas.{accepted_adds, accepted_is, advice_is, answers, of_periods, refused_is, unchanged_by}
 use Rattle.pb_session.proofs.session.Session.row.Goals as goal
 
 -- what the book says is no want of memory
@@ -67,6 +67,17 @@ invariant_of-self c =
       classes = c.self.invariant.classes;
     }
 
+-- a refused record leaves it as it was
+pub invariant_of-self-in-Err-Refused : goal.invariant_of-self-in-Err-Refused
+invariant_of-self-in-Err-Refused c =
+    let state : SessionState = record { options = c.self.inside.options; form = c.self.inside.form; rows = c.self.inside.book } in
+    let cause = c.in-Err-Refused.cause in
+    let is_for = refused_for cause c.in-Err-Refused.field-0 c.accept.result c.in-Err-Refused.is c.in-Err-Refused.field-0-is in
+    let sure = refused_sure cause c.accept.result is_for in
+    let answer_is = refused_is (answer_of state.rows c.args.row.now) cause (sym is_for ∙ c.accept.ensures.answer sure) in
+    let rows_stay : c.accept.new.self ≡ state.rows = c.accept.ensures.stored sure ∙ ap (after_answer state.rows c.args.at) answer_is in
+    subst (λ (rows : List StoredRow). IsKeeping (state_with state rows) c.self.inside.kept.items c.self.inside.classes) (sym rows_stay) c.self.invariant
+
 pub returns-in_err-write-in-Ok-clause-err : goal.returns-in_err-write-in-Ok-clause-err
 returns-in_err-write-in-Ok-clause-err c =
     let state : SessionState = record { options = c.self.inside.options; form = c.self.inside.form; rows = c.self.inside.book } in
@@ -94,6 +105,13 @@ returns-in_ok-write-in-Ok-clause-ok c =
     let (text, written, adds) = c.in_ok-write-in-Ok.ensures.ok in
     let here : Adds state c.args.at c.args.row.now text = accepted_adds state new c.args.at (named_costs c.args.row.now) answer c.in-Ok.accepted text said_is new_is adds in
     (text, written, subst (λ (h : Held). Adds h.state c.args.at c.args.row.now text) c.self.view_is here)
+
+pub returns-in_ok-write-in-Ok-clause-refused : goal.returns-in_ok-write-in-Ok-clause-refused
+returns-in_ok-write-in-Ok-clause-refused c =
+    let sure = accepted_sure c.in-Ok.accepted c.accept.result c.in-Ok.is in
+    let said_is = sym c.in-Ok.is ∙ c.accept.ensures.answer sure in
+    let here = accepted_is (answer_of c.self.inside.book c.args.row.now) c.in-Ok.accepted said_is in
+    subst (λ (h : Held). false ≡ is_refused (answer_of h.state.rows c.args.row.now)) c.self.view_is here
 
 pub returns-in_ok-write-in-Ok-clause-stored : goal.returns-in_ok-write-in-Ok-clause-stored
 returns-in_ok-write-in-Ok-clause-stored c =

@@ -1,4 +1,4 @@
-use Rattle.std.proofs.Common.{◌≡◌, ◌∙◌, ap, subst, sym, List, ℕ, ℤ, length, trans}
+use Rattle.std.proofs.Common.{◌≡◌, ◌∙◌, ap, subst, sym, List, ℕ, ℤ, length}
 use Rattle.std.specs.Prelude.{All}
 use Rattle.pb_rows.specs.declared.name.Names.{Names}
 use Rattle.pb_graph.specs.ProcessGraph.{ProcessGraph}
@@ -17,9 +17,6 @@ use Rattle.pb_session.proofs.AppendingLemmas.{appends_so}
 use Rattle.pb_session.proofs.NamedLemmas.{costs_are, names_are}
 use Rattle.pb_session.proofs.session.Session.write_advice.Goals as goal
 
-pub costs-costs-requires : goal.costs-costs-requires
-costs-costs-requires c = subst (λ (rows : List StoredRow). answer_of rows c.args.row.now ≡ Says Advise) (sym (ap (λ (h : Held). h.state.rows) c.self.view_is)) c.requires
-
 pub write_meters-requires-clause-names : goal.write_meters-requires-clause-names
 write_meters-requires-clause-names c =
     let rows = c.self.inside.book in
@@ -33,7 +30,23 @@ write_meters-requires-clause-costs c =
     let costs = meter_costs (declared_of rows) (named_costs c.args.row.now) in
     let within : All IsMeterCost costs = subst (All IsMeterCost) c.in_ok-costs.ensures.value c.in_ok-costs.ensures.within in
     let are : AreCosts (design_graph rows) costs = costs_are base_of rows (named_costs c.args.row.now) within in
-    ?
+    rw (c.deref.ensures.value, c.in_ok-costs.ensures.value, c.in_ok-plant.ensures) are
 
 pub returns-clause-ok : goal.returns-clause-ok
-returns-clause-ok c = ?
+returns-clause-ok c =
+    let state = c.args.self.now.state in
+    let fields = c.args.row.now in
+    let names = c.in_ok-names.names in
+    let plant = c.in_ok-plant.plant in
+    let rows_is : c.self.inside.book ≡ state.rows = ap (λ (h : Held). h.state.rows) c.self.view_is in
+    let names_is : names ≡ names_of (declared_of state.rows) =
+    c.in_ok-names.ensures.ok ∙ ap names_of c.site.ensures.value ∙ ap (λ (rows : List StoredRow). names_of (declared_of rows)) rows_is in
+    let plant_is : plant ≡ design_graph state.rows = c.in_ok-plant.ensures ∙ ap design_graph rows_is in
+    let costs_is : c.deref.result.now ≡ meter_costs (declared_of state.rows) (named_costs fields) =
+    c.deref.ensures.value ∙ c.in_ok-costs.ensures.value ∙ ap (λ (rows : List StoredRow). meter_costs (declared_of rows) (named_costs fields)) rows_is in
+    appends_so c.write_meters.result (IsAdviceText state names plant c.deref.result.now)
+    (IsAdviceText state (names_of (declared_of state.rows)) (design_graph state.rows) (meter_costs (declared_of state.rows) (named_costs fields))) _ _
+    (λ t is. subst (λ (n : Names). IsAdviceText state n (design_graph state.rows) (meter_costs (declared_of state.rows) (named_costs fields)) t) names_is
+    (subst (λ (g : ProcessGraph). IsAdviceText state names g (meter_costs (declared_of state.rows) (named_costs fields)) t) plant_is
+    (subst (λ (costs : List ℤ). IsAdviceText state names plant costs t) costs_is is)))
+    c.write_meters.ensures.ok
