@@ -1,9 +1,9 @@
-/* The flows of one month, in plain C: reads the rows of a session (unit, stream, period, reading, report), sweeps best prices in 128
- * bits until the gap is met, and writes one row `flow,STREAM,GRAMS` for each stream. With the word `tests` it goes on and solves the
- * plant once more for each redundant stream, without its measurement. `sweeps N` allows N sweeps (5,000 without it), and `bytes N`
- * writes N bytes more, names of streams with their signs as in the certificates of a report. It stands beside plantbal in bench/c,
- * and knows metered and plain streams alone. It is plain: each step asks the box of all its streams, and each sweep makes the flows,
- * whose gap is left at the first stream that is too far. */
+/* The flows of one month, in plain C: reads the rows of a session (boundary, unit, stream, period, reading, report), sweeps best prices
+ * in 128 bits until the gap is met, at most 5,000 times or as often as the words `sweeps N` say, and writes one row
+ * `flow,STREAM,GRAMS` for each stream; with the word `cuts` with the streams of a cut behind it, as a report has them. With the word
+ * `tests` it goes on and solves the plant once more for each redundant stream, without its measurement. It stands beside plantbal in
+ * bench/c, and knows metered and plain streams alone, all of them in service. It is plain: each step asks the box of all its streams,
+ * and each sweep makes the flows, whose gap is left at the first stream that is too far. */
 #include <stdint.h>
 #include <stdio.h>
 #include <stdlib.h>
@@ -82,7 +82,12 @@ static void read_row(char *line)
     char *field[8] = {0};
     int count = 0;
     for (char *p = line; p && count < 8; count++) { field[count] = p; p = strchr(p, ','); if (p) *p++ = 0; }
-    if (!strcmp(field[0], "unit")) {
+    if (!strcmp(field[0], "boundary")) {
+        static char boundaries[100][64];
+        static int boundary_count;
+        strcpy(boundaries[boundary_count], field[1]);
+        put(node_slots, boundaries[boundary_count++], 0);
+    } else if (!strcmp(field[0], "unit")) {
         strcpy(nodes[node_count], field[1]);
         put(node_slots, nodes[node_count], node_count);
         node_count++;
@@ -297,10 +302,9 @@ static void print_wide(wide x)
     fwrite(p, 1, text + sizeof text - p, stdout);
 }
 
-/* the most sweeps */
 static int most_sweeps = 5000;
 
-/* sweeps from prices of 0 until the gap is met, at most so often, and makes the flows */
+/* sweeps from prices of 0 until the gap is met, or as often as is allowed, and writes the flows */
 static int solve(void)
 {
     group_count = 0;
@@ -335,26 +339,25 @@ static void solve_without_each(void)
     printf("tests,%d,%d\n", count, sweeps);
 }
 
-/* names of streams, each with a sign and a blank, over and over up to that many bytes */
-static void write_bytes(long left)
+/* the streams with one end in the group of a stream's begin, with their signs */
+static void write_cut(int j)
 {
-    for (int j = 0; left > 0; j = (j + 1) % stream_count) {
-        putchar(' ');
-        putchar(j % 2 ? '+' : '-');
-        fputs(streams[j].name, stdout);
-        left -= 2 + (long)strlen(streams[j].name);
+    int k = group[streams[j].from];
+    for (int i = border_at[k]; i < border_at[k + 1]; i++) {
+        putchar_unlocked(i == border_at[k] ? ',' : ' ');
+        putchar_unlocked(border[i].enters ? '+' : '-');
+        for (char *c = streams[border[i].stream].name; *c; c++) putchar_unlocked(*c);
     }
 }
 
 int main(int count, char **words)
 {
     static char line[4096];
-    int tests = 0;
-    long bytes = 0;
+    int tests = 0, cuts = 0;
     for (int i = 1; i < count; i++) {
-        if (!strcmp(words[i], "tests")) tests = 1;
-        else if (!strcmp(words[i], "sweeps") && i + 1 < count) most_sweeps = atoi(words[++i]);
-        else if (!strcmp(words[i], "bytes") && i + 1 < count) bytes = atol(words[++i]);
+        tests |= !strcmp(words[i], "tests");
+        cuts |= !strcmp(words[i], "cuts");
+        if (!strcmp(words[i], "sweeps") && i + 1 < count) most_sweeps = atoi(words[++i]);
     }
     strcpy(nodes[0], "env");
     put(node_slots, nodes[0], 0);
@@ -362,8 +365,12 @@ int main(int count, char **words)
     if (!asked) return 0;
     add_readings();
     solve();
-    for (int j = 0; j < stream_count; j++) { printf("flow,%s,", streams[j].name); print_wide(flow[j]); putchar('\n'); }
+    for (int j = 0; j < stream_count; j++) {
+        printf("flow,%s,", streams[j].name);
+        print_wide(flow[j]);
+        if (cuts) write_cut(j);
+        putchar('\n');
+    }
     if (tests) solve_without_each();
-    if (bytes) { write_bytes(bytes); putchar('\n'); }
     return 0;
 }
