@@ -8,8 +8,7 @@ use Rattle.pb_strap.specs.Table.{volume_of}
 use Rattle.pb_site.specs.declared.declared.ArcKind.{ArcKind}
 use Rattle.pb_site.specs.declared.declared.ArcKind.TheVariants.{Metered, Batch, Tank}
 use Rattle.pb_site.specs.declared.declared.Declared.{Declared}
-use Rattle.pb_site.specs.declared.declared.Declared.TheVariants as declaration
-use Rattle.pb_site.specs.declared.declared.Declared.TheVariants.{Version2, CritGlobal, CritNodal, CritMeasure}
+use Rattle.pb_site.specs.declared.declared.Declared.TheVariants.{Version2, Tank as TankRow, Stream as StreamRow, CritGlobal, CritNodal, CritMeasure}
 use Rattle.pb_site.specs.declared.declared.Service.{Service}
 use Rattle.pb_site.specs.declared.declared.Version.{Version}
 use Rattle.pb_site.specs.declared.declared.Version.TheVariants.{One, Two}
@@ -105,8 +104,8 @@ is_of_plant declared = true
 
 -- a tank or a stream that is in service on a day of a closed period
 abbrev pub serves_closed : List Period → Declared → Bool
-serves_closed periods (declaration.Tank name base service) = list_any (is_closed_in_service service) periods
-serves_closed periods (declaration.Stream name from to kind base service) = list_any (is_closed_in_service service) periods
+serves_closed periods (TankRow name base service) = list_any (is_closed_in_service service) periods
+serves_closed periods (StreamRow name from to kind base service) = list_any (is_closed_in_service service) periods
 serves_closed periods declared = false
 
 -- in version 1 a part of the plant, once some period is closed; in version 2 a tank or a stream that is in service on a day of a closed
