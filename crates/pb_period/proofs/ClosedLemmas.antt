@@ -1,16 +1,16 @@
 -- In version 2 a declaration leaves the graph of a closed period as it was.
-use Rattle.std.specs.Prelude.{◌&&◌, filter_map, find, is_none, not, option_and_then, option_map, unwrap_or, if◌then◌else◌, All, IfSome}
+use Rattle.std.specs.Prelude.{filter_map, find, is_none, not, option_map, unwrap_or, if◌then◌else◌, All, IfSome}
 use Rattle.std.specs.Cmp.Lexicographic.{bytes_decides}
 use Rattle.std.specs.List.{list_any}
 use Rattle.std.specs.Ordering.{int_eq}
-use Rattle.std.proofs.Common.{◌≡◌, ◌∙◌, ◌+◌, ◌≤◌, ◌<◌, ◌+ℤ◌, ℕ, zero, suc, ℤ, pos, List, [], ◌∷◌, ◌++◌, length, map, take, Bool, true, false, Option, Some, None, slice_get, refl, sym, ap, ap₂, subst, arith, inl, inr}
+use Rattle.std.proofs.Common.{◌≡◌, ◌∙◌, ◌<◌, ℕ, zero, suc, ℤ, List, [], ◌∷◌, ◌++◌, length, map, Bool, true, false, Option, Some, None, slice_get, refl, sym, ap, ap₂, subst, arith, inl, inr}
 use Rattle.std.proofs.lemmas.Bool.{and_parts, cases_Bool, or_parts}
 use Rattle.std.proofs.lemmas.List.{append-nil, take-append-le, take_all}
 use Rattle.std.proofs.lemmas.List.Elements.{filter_map-append}
 use Rattle.std.proofs.lemmas.List.Sums.{fold_push}
 use Rattle.pb_rows.specs.Name.{same_name}
 use Rattle.pb_strap.specs.declared.strap.Point.{Point}
-use Rattle.pb_strap.specs.Table.{TableGrowsLaw, grams_of, rises, volume_of}
+use Rattle.pb_strap.specs.Table.{TableGrowsLaw, rises, volume_of}
 use Rattle.pb_graph.specs.declared.records.Meas.{Meas}
 use Rattle.pb_graph.specs.ProcessGraph.{ProcessGraph}
 use Rattle.pb_site.specs.declared.declared.Arc.{Arc}
@@ -20,8 +20,8 @@ use Rattle.pb_site.specs.declared.declared.Declared.{Declared}
 use Rattle.pb_site.specs.declared.declared.Declared.TheVariants.{Version2, Unit as UnitRow, Boundary, Tank, Strap, Stream, CritGlobal, CritNodal, CritMeasure}
 use Rattle.pb_site.specs.declared.declared.Service.{Service}
 use Rattle.pb_site.specs.declared.declared.Version.{Version}
-use Rattle.pb_site.specs.declared.declared.Version.TheVariants.{One, Two}
-use Rattle.pb_site.specs.Faults.{fault_of, first_fault, is_duplicate as is_duplicate_declared, is_full as is_full_declared, is_mismatch as is_mismatch_declared, is_out_of_order as is_out_of_order_declared, is_unknown as is_unknown_declared}
+use Rattle.pb_site.specs.declared.declared.Version.TheVariants.{Two}
+use Rattle.pb_site.specs.Faults.{fault_of, is_duplicate as is_duplicate_declared, is_full as is_full_declared, is_mismatch as is_mismatch_declared, is_out_of_order as is_out_of_order_declared, is_unknown as is_unknown_declared}
 use Rattle.pb_site.specs.Laws.{IsSamePart, PlantLaw, SamePartLaw}
 use Rattle.pb_site.specs.OnDays.{arcs_on, declares_in_service, names_on, nodes_on}
 use Rattle.pb_site.specs.Row.{point_of}
@@ -45,7 +45,7 @@ use Rattle.pb_period.specs.declared.amount.Amount.{Amount}
 use Rattle.pb_period.specs.declared.days.Days.{Days}
 use Rattle.pb_period.specs.Days.{days_of}
 use Rattle.pb_period.specs.Facts.{content_of}
-use Rattle.pb_period.specs.Laws.{ClosedGraphsLaw, LeavesGraph}
+use Rattle.pb_period.specs.Laws.{ClosedGraphsLaw}
 use Rattle.pb_period.specs.Measurement.{amount_of, change_of, difference_of, measurement}
 use Rattle.pb_period.specs.PeriodGraph.{measured_served, period_graph, served_graph, stream_among, within_limits}
 use Rattle.pb_period.proofs.PlainLemmas.{graph_by, graph_is}

@@ -1,17 +1,13 @@
-use Rattle.std.proofs.Common.{◌≡◌, ◌≢◌, ◌∙◌, Option, Some, IfSome, Result, Err, List, sym, ap, subst}
+use Rattle.std.proofs.Common.{◌≡◌, ◌∙◌, Option, Some, IfSome, sym, ap, subst}
 use Rattle.std.specs.Prelude.{IfErr}
-use Rattle.pb_graph.specs.ProcessGraph.{ProcessGraph}
 use Rattle.pb_site.specs.declared.declared.Version.{Version}
 use Rattle.pb_site.specs.declared.declared.Version.TheVariants.{Two}
 use Rattle.pb_site.specs.Site.{version_of}
 use Rattle.pb_book.specs.declared.rows.Period.{Period}
-use Rattle.pb_book.specs.declared.rows.StoredRow.{StoredRow}
 use Rattle.pb_book.specs.Rows.{declared_of}
 use Rattle.pb_period.specs.declared.days.Days.{Days}
-use Rattle.pb_period.specs.declared.graph.Assembly.{Assembly}
-use Rattle.pb_period.specs.declared.graph.Assembly.TheVariants.{NoMemory}
 use Rattle.pb_period.specs.Days.{days_of}
-use Rattle.pb_period.specs.PeriodGraph.{IsStreamOf, NamesAStream, assembly_in, assembly_of, graph_in}
+use Rattle.pb_period.specs.PeriodGraph.{IsStreamOf, assembly_in, graph_in}
 use Rattle.pb_period.proofs.graph.assemble.Goals as goal
 
 -- what holds of the version and the days of a period that is found holds of the period

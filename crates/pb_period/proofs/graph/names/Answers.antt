@@ -1,4 +1,4 @@
-use Rattle.std.proofs.Common.{◌≡◌, ℤ, List, Option, IfSome, Some, FitsSigned, sym, subst, rules}
+use Rattle.std.proofs.Common.{◌≡◌, List, Option, IfSome, Some, FitsSigned, sym, subst, rules}
 use mir.Syntax.{w32}
 use Rattle.std.proofs.lemmas.Int.{to_z-of_z}
 use Rattle.pb_site.specs.Laws.{IsPartOnDays}
@@ -6,7 +6,7 @@ use Rattle.pb_site.specs.declared.declared.Declared.{Declared}
 use Rattle.pb_site.specs.Site.{version_of}
 use Rattle.pb_book.specs.declared.rows.Period.{Period}
 use Rattle.pb_book.specs.declared.rows.StoredRow.{StoredRow}
-use Rattle.pb_book.specs.Rows.{declared_of, periods_of}
+use Rattle.pb_book.specs.Rows.{declared_of}
 use Rattle.pb_period.specs.declared.days.Days.{Days}
 use Rattle.pb_period.specs.Days.{days_of}
 use Rattle.pb_period.specs.Laws.{AreGraphNames}

@@ -1,18 +1,18 @@
 use Rattle.std.specs.Prelude.{filter, map}
-use Rattle.std.proofs.Common.{◌≡◌, ◌∙◌, ◌+◌, ◌≤◌, ◌<◌, ℕ, ℤ, false, true, List, [], ◌∷◌, ◌++◌, length, drop, slice_get, Some, FitsSigned, refl, sym, ap, subst, arith, append_assoc, Bool, length-append}
+use Rattle.std.proofs.Common.{◌≡◌, ◌∙◌, ◌+◌, ◌≤◌, ℕ, ℤ, false, true, List, [], ◌∷◌, ◌++◌, length, drop, FitsSigned, refl, sym, ap, subst, arith, append_assoc, Bool, length-append}
 use mir.Syntax.{w32}
 use Rattle.std.proofs.lemmas.Int.{ints, to_z-of_z}
 use Rattle.std.proofs.lemmas.List.{append-nil}
 use Rattle.std.proofs.lemmas.List.Elements.{All-nil, All-push}
 use Rattle.std.proofs.Math.ListN.{drop_of_length-le}
 use Rattle.pb_graph.specs.declared.records.Stream.{Stream}
-use Rattle.pb_graph.specs.ProcessGraph.{IsStream, ProcessGraph}
+use Rattle.pb_graph.specs.ProcessGraph.{IsStream}
 use Rattle.pb_site.specs.declared.declared.Arc.{Arc}
 use Rattle.pb_site.specs.declared.declared.Declared.{Declared}
 use Rattle.pb_site.specs.declared.declared.Version.{Version}
 use Rattle.pb_site.specs.declared.declared.Version.TheVariants.{Two}
 use Rattle.pb_site.specs.Laws.{IsPartOnDays, JoinsPlaces}
-use Rattle.pb_site.specs.OnDays.{arcs_on, is_arc_in_service, nodes_on}
+use Rattle.pb_site.specs.OnDays.{is_arc_in_service, nodes_on}
 use Rattle.pb_site.specs.Site.{arcs_of, version_of}
 use Rattle.pb_facts.specs.Facts.{live_facts}
 use Rattle.pb_book.specs.Rows.{declared_of, facts_of}

@@ -1,5 +1,5 @@
 use Rattle.std.specs.Int.{int_gap}
-use Rattle.std.proofs.Common.{◌≡◌, ◌∙◌, ◌≤◌, ◌≤ℤ◌, ◌<ℤ◌, ◌+ℤ◌, ◌-ℤ◌, ℤ, pos, FitsSigned, to_z, of_z, sym, ap, ap₂, subst, arith, rules}
+use Rattle.std.proofs.Common.{◌≡◌, ◌∙◌, ◌≤ℤ◌, ◌<ℤ◌, ◌+ℤ◌, ◌-ℤ◌, ℤ, pos, FitsSigned, to_z, of_z, sym, ap, ap₂, subst, arith, rules}
 use mir.Syntax.{w32}
 use Rattle.std.proofs.lemmas.Int.{ints, to_z-of_z}
 use Rattle.pb_limits.specs.Limits.{most_days_of_period}
@@ -8,8 +8,8 @@ use Rattle.pb_site.specs.Service.{first_served, last_served}
 use Rattle.pb_period.specs.declared.amount.Amount.{Amount}
 use Rattle.pb_period.specs.Amounts.{IsAmount}
 use Rattle.pb_period.specs.Days.{each_of}
-use Rattle.pb_period.specs.Facts.{no_amount, read_on}
-use Rattle.pb_period.specs.Measurement.{read_total, served_days}
+use Rattle.pb_period.specs.Facts.{read_on}
+use Rattle.pb_period.specs.Measurement.{served_days}
 use Rattle.pb_period.proofs.AmountLemmas.{none_is_amount, of_more_facts}
 use Rattle.pb_period.proofs.DayLemmas.{days_until, gap_past, read_end, read_more, read_none, read_start, served_within, step}
 use Rattle.pb_period.proofs.measured.read_total.Goals as goal
