@@ -27,7 +27,7 @@ IsPassedBlock block = IsPassed block.stage block.gap block.sweeps
 
 -- what is found next in the records behind so many, and those that are judged behind it: behind a row that can't be read none is
 abbrev pub Finds : ℕ → List (List (List ℕ)) → Finding → List (List (List ℕ)) → Type 0
-Finds at records (passed block) behind = IsNext at records (Found block behind) × IsPassedBlock block
+Finds at records (passed block) behind = IsNext at records (Found block behind) × IsPassed block.stage block.gap block.sweeps
 Finds at records (failed block test place stated found) behind =
     IsNext at records (Found block behind)
     × IsFirstFault block.stage block.gap block.sweeps test place stated found
@@ -40,7 +40,7 @@ FindsNothing at records = IsNext at records NoBlock
 
 -- All that is found in the records behind so many, in order.
 abbrev pub AreFindings : ℕ → List (List (List ℕ)) → List Finding → Type 0
-AreFindings at records [] = FindsNothing at records
+AreFindings at records [] = IsNext at records NoBlock
 AreFindings at records (finding ∷ findings) =
     (behind : List (List (List ℕ))) × Finds at records finding behind
     × AreFindings (at + (length records - length behind)) behind findings

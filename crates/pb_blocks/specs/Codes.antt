@@ -24,9 +24,8 @@ abbrev pub fault_by : FormFault → RowFault
 fault_by form.Kind = Kind
 fault_by form.Fields = Fields
 fault_by form.Name = Name
-fault_by form.Number = Number
-fault_by form.Date = Number
 fault_by form.Word = Word
+fault_by fault = Number
 
 -- the lowest of two faults, if there is one
 abbrev pub lowest : Option RowFault → Option RowFault → Option RowFault

@@ -1,25 +1,24 @@
 -- Statement. The kind of a row among those that may stand somewhere, and the rows that are passed over between blocks.
-use Rattle.std.specs.Prelude.{ℕ, Bool, false, ◌||◌, List, [], ◌∷◌, Result, bytes_eq, codes, find, slice_get, if◌then◌else◌}
+use Rattle.std.specs.Prelude.{ℕ, Bool, ◌||◌, List, [], ◌∷◌, Result, bytes_eq, codes, find, if◌then◌else◌}
 use Rattle.std.specs.List.{list_any}
-use Rattle.std.specs.Option.{ok_or, option_map_or}
+use Rattle.std.specs.Option.{ok_or}
 use Rattle.pb_form.specs.OutputRows.{output_schema}
 use Rattle.pb_form.specs.Telling.{has_words, is_of}
 use Rattle.pb_form.specs.declared.output.OutputKind.{OutputKind}
 use Rattle.pb_form.specs.declared.output.OutputKind.TheVariants.{Advise, Class, Design, Edit, History, Meter, Over, Refused, Stop, Taken}
 use Rattle.pb_blocks.specs.declared.fault.RowFault.{RowFault}
 use Rattle.pb_blocks.specs.declared.fault.RowFault.TheVariants.{Kind, Fields}
+use Rattle.pb_blocks.specs.Texts.{field}
 
 -- a row has a kind's word, whatever its other fields
 abbrev pub has_word_of : List (List ℕ) → OutputKind → Bool
 has_word_of row kind = has_words row (output_schema kind)
 
--- why a row is of none of these kinds: it has the word of none, or another number of fields
-abbrev pub no_kind : List OutputKind → List (List ℕ) → RowFault
-no_kind kinds row = if list_any (has_word_of row) kinds then Fields else Kind
-
--- The kind of a row among these: the first whose word and number of fields it has, or why it is of none.
+-- The kind of a row among these: the first whose word and number of fields it has. Otherwise it has the word of one of them and another
+-- number of fields, or the word of none.
 abbrev pub kind_among : List OutputKind → List (List ℕ) → Result OutputKind RowFault
-kind_among kinds row = ok_or (find (λ kind. is_of row (output_schema kind)) kinds) (no_kind kinds row)
+kind_among kinds row =
+    ok_or (find (λ kind. is_of row (output_schema kind)) kinds) (if list_any (has_word_of row) kinds then Fields else Kind)
 
 -- the kinds of rows that are passed over between blocks: a report may stand among the other rows of a session's output
 abbrev pub passed_kinds : List OutputKind
@@ -29,10 +28,6 @@ passed_kinds = Refused ∷ Over ∷ Design ∷ Class ∷ History ∷ Edit ∷ Ta
 abbrev pub coming_words : List (List ℕ)
 coming_words = codes "window" ∷ codes "place" ∷ codes "component" ∷ []
 
--- the first field of a row is this word
-abbrev pub begins_with : List (List ℕ) → List ℕ → Bool
-begins_with row word = option_map_or (λ (field : List ℕ). bytes_eq field word) (slice_get row 0) false
-
 -- a row that is passed over between blocks, whatever its other fields
 abbrev pub is_passed_over : List (List ℕ) → Bool
-is_passed_over row = list_any (has_word_of row) passed_kinds || list_any (begins_with row) coming_words
+is_passed_over row = list_any (has_word_of row) passed_kinds || list_any (bytes_eq (field row 0)) coming_words

@@ -1,13 +1,17 @@
 // The kind of a row, by its word and the number of its fields.
 
-ghost use Rattle.std.specs.Prelude.{◌≡◌, find, option_copied};
+ghost use Rattle.std.specs.Prelude.{◌≡◌, bytes_eq, find, if◌then◌else◌, option_copied};
 ghost use Rattle.std.specs.List.{list_any};
 ghost use Rattle.pb_form.specs.OutputRows.{output_schema};
 ghost use Rattle.pb_form.specs.Telling.{is_of};
 ghost use Rattle.pb_form.specs.declared.output.OutputKind.{OutputKind};
-ghost use Rattle.pb_blocks.specs.Kinds.{begins_with, has_word_of, is_passed_over, kind_among, no_kind, passed_kinds};
+ghost use Rattle.pb_blocks.specs.Kinds.{has_word_of, is_passed_over, kind_among, passed_kinds};
+ghost use Rattle.pb_blocks.specs.Texts.{field};
+ghost use Rattle.pb_blocks.specs.declared.fault.RowFault.TheVariants.{Fields as OtherFields, Kind as OtherKind};
 
+use crate::beside::is_word;
 use crate::fault::RowFault;
+use crate::texts::field;
 use pb_form::{Fields, FormFault, OutputKind, output_schema, tell};
 use pb_rows::Row;
 
@@ -32,7 +36,8 @@ fn first_kind<'a>(kinds: &'a [OutputKind], fields: &Fields) -> Option<&'a Output
 
 // Why a record is of none of these kinds.
 fn no_kind(kinds: &[OutputKind], fields: &Fields) -> RowFault
-    ensures { result ≡ no_kind kinds.now fields.now }
+    ensures { result
+        ≡ if list_any (has_word_of fields.now) kinds.now then OtherFields else OtherKind }
 {
     if has_word_among(kinds, fields) {
         RowFault::Fields
@@ -78,16 +83,12 @@ const COMING_WORDS: &[&str] = &["window", "place", "component"];
 
 // Whether the first field of a record is one of these words.
 fn begins_with_one(words: &[&str], fields: &Fields) -> bool
-    ensures { result ≡ list_any (λ word. begins_with fields.now word.now) words.now }
+    ensures { result
+        ≡ list_any (λ word. bytes_eq (field fields.now 0) word.now) words.now }
 {
-    words.iter().any(|word| begins_with(fields, word))
-}
-
-// Whether the first field of a record is this word.
-fn begins_with(fields: &Fields, word: &str) -> bool
-    ensures { result ≡ begins_with fields.now word.now }
-{
-    fields.len() > 0 && fields.at(0) == word.as_bytes()
+    words
+        .iter()
+        .any(|word| is_word(field(fields, 0), word.as_bytes()))
 }
 
 // The kinds of the rows that are passed over.

@@ -644,7 +644,7 @@ block_formed draft formed known nodes streams =
 
 pub formed_holds : FormedLaw
 formed_holds records rest block found =
-    let whole = found.whole in
+    let whole = found in
     let formed = rows_formed (opened found.first) found.rows (opened_formed found.first whole.opens) whole.sound in
     let complete = ended_complete found.first found.rows whole.sound whole.ends in
     rw (whole.value) (block_formed (with_rows (opened found.first) found.rows) formed whole.known complete.0 complete.1)

@@ -208,7 +208,7 @@ ended_complete first rows sound ends =
 is_walked : (at : ℕ) (records : List (List (List ℕ))) (next : Next) → IsNext at records next → next ≡ next_of at records
 is_walked at records NoBlock skipped = sym (ap (next_of at) (sym (append_nil records)) ∙ over at records [] skipped)
 is_walked at records (Found block rest) found =
-    let w = found.whole in
+    let w = found in
     let opens = w.opens in
     let on = goes_on (opened found.first) 0 found.rows rest (complete_at_first found.first) w.sound in
     let ends = ends_whole (with_rows (opened found.first) found.rows) (0 + length found.rows) rest w.known w.ends in
@@ -341,7 +341,11 @@ one_over at row rest (Found block left) holds found = record {
   rows = found.rows;
   split = ap (λ (more : List (List (List ℕ))). row ∷ more) found.split;
   skipped = rw holds found.skipped;
-  whole = found.whole;
+  opens = found.opens;
+  sound = found.sound;
+  known = found.known;
+  ends = found.ends;
+  value = found.value;
 }
 one_over at row rest (Refused number fault left) holds refused = record {
   passed = row ∷ refused.passed;
@@ -363,7 +367,11 @@ by_outcome at row rest (inl found) opens whole = record {
   rows = whole.rows;
   split = ap (λ (more : List (List (List ℕ))). row ∷ more) whole.split;
   skipped = refl;
-  whole = record { opens = opens; sound = whole.sound; known = whole.known; ends = whole.ends; value = whole.value };
+  opens = opens;
+  sound = whole.sound;
+  known = whole.known;
+  ends = whole.ends;
+  value = whole.value;
 }
 by_outcome at row rest (inr broken) opens breaks = record {
   passed = [];
@@ -428,7 +436,11 @@ behind_passed front back (block ∷ more) skipped blocks =
         rows = found.rows;
         split = ap (λ (rest : List (List (List ℕ))). front ++ rest) found.split ∙ sym (append_assoc front found.passed (found.first ∷ (found.rows ++ blocks.0)));
         skipped = passed_more front found.passed skipped found.skipped;
-        whole = found.whole;
+        opens = found.opens;
+        sound = found.sound;
+        known = found.known;
+        ends = found.ends;
+        value = found.value;
       },
       blocks.2,
     )
@@ -443,7 +455,11 @@ before_more all rest back block found = record {
       ∙ append_assoc found.passed (found.first ∷ (found.rows ++ rest)) back
       ∙ ap (λ (more : List (List (List ℕ))). found.passed ++ found.first ∷ more) (append_assoc found.rows rest back);
   skipped = found.skipped;
-  whole = found.whole;
+  opens = found.opens;
+  sound = found.sound;
+  known = found.known;
+  ends = found.ends;
+  value = found.value;
 }
 
 pub join_holds : JoinLaw

@@ -1,6 +1,6 @@
 -- Reading on: what one row more shows of the records.
 use Rattle.std.specs.Prelude.{◌≢◌, nat_eq, nat_lt, find, Result, Ok, Err, if◌then◌else◌}
-use Rattle.std.specs.List.{list_all, AllByRecursion}
+use Rattle.std.specs.List.{list_all, list_any, AllByRecursion}
 use Rattle.std.specs.Option.{ok_or, option_map_or}
 use Rattle.std.specs.Result.{result_ok}
 use Rattle.std.proofs.Common.{◌≡◌, ◌∙◌, ℕ, ◌+◌, ◌<◌, ◌≤◌, List, [], ◌∷◌, ◌++◌, length, Bool, true, false, Option, Some, None, refl, sym, ap, arith, inl, inr, append_assoc, length-append}
@@ -16,7 +16,8 @@ use Rattle.pb_blocks.specs.declared.fault.RowFault.TheVariants.{Unknown, Ended}
 use Rattle.pb_blocks.specs.declared.rows.Heading.{Heading}
 use Rattle.pb_blocks.specs.Counts.{IsHeading}
 use Rattle.pb_blocks.specs.Beside.{fault_as, heading_fault}
-use Rattle.pb_blocks.specs.Kinds.{is_passed_over, kind_among, no_kind}
+use Rattle.pb_blocks.specs.declared.fault.RowFault.TheVariants.{Fields as OtherFields, Kind as OtherKind}
+use Rattle.pb_blocks.specs.Kinds.{has_word_of, is_passed_over, kind_among}
 use Rattle.pb_blocks.specs.Texts.{name_field}
 use Rattle.pb_blocks.specs.Values.{said_arc, said_stream, values_in}
 use Rattle.pb_readback.specs.declared.block.Block.{Block}
@@ -61,7 +62,7 @@ found_among P row (first ∷ kinds) kind all found = elim (cases_Bool (is_row_of
 ]
 
 told_among : (P : OutputKind → Type 0) (row : List (List ℕ)) (kinds : List OutputKind) (kind : OutputKind) → AllByRecursion P kinds → kind_among kinds row ≡ Ok kind → P kind
-told_among P row kinds kind all told = by (find (is_row_of row) kinds) refl (no_kind kinds row) told
+told_among P row kinds kind all told = by (find (is_row_of row) kinds) refl (if list_any (has_word_of row) kinds then OtherFields else OtherKind) told
   where
     by : (found : Option OutputKind) → find (is_row_of row) kinds ≡ found → (fault : RowFault) → ok_or found fault ≡ Ok kind → P kind
     by None is fault told = cc told
@@ -394,7 +395,11 @@ found_from all rest left row block skips read = record {
   rows = read.1.rows;
   split = skips.1 ∙ ap (λ (more : List (List (List ℕ))). skips.0 ++ row ∷ more) read.1.split;
   skipped = skips.2;
-  whole = record { opens = read.0; sound = read.1.sound; known = read.1.known; ends = read.1.ends; value = read.1.value };
+  opens = read.0;
+  sound = read.1.sound;
+  known = read.1.known;
+  ends = read.1.ends;
+  value = read.1.value;
 }
 
 pub tells_from : (old now new : RecordsLeft) (row : List (List ℕ)) (refused : ReadRefused) → Skips old.left now.left (Some row) → AreCounted old now

@@ -37,7 +37,8 @@ use Rattle.pb_readback.specs.declared.draft.Draft.{Draft}
 use Rattle.pb_readback.specs.Blocks.{block_of}
 use Rattle.pb_readback.specs.Drafts.{draft_of}
 use Rattle.pb_readback.specs.Faults.{first_unknown}
-use Rattle.pb_readback.specs.Next.{AreBlocks, ArePassedOver, IsBlock, IsFound, opened}
+use Rattle.pb_readback.specs.Next.{AreBlocks, ArePassedOver, IsFound, opened}
+use Rattle.pb_readback.specs.Reading.{IsBlock}
 use Rattle.pb_readback.specs.Written.{AreBlockNames, AreOptionsWithin, HasBoundsForLeast, StudyRowsLaw, block_with, blocks_from, records_in}
 use Rattle.pb_readback.proofs.WrittenBlockLemmas.{Tells, all_nodes, behind_nodes, last_of, nodes_tell}
 use Rattle.pb_readback.proofs.WrittenFieldLemmas.{AreWritten, IsBetween, abs_between, count_between, le_count, new_from}
@@ -284,6 +285,7 @@ found_back : AreWritten → (names : Names) (period : List ℕ) (options : Optio
 found_back written names period options round stage h passed rest over =
     let first = fields_of (report_row period round stage.graph options) in
     let body = body_rows names period round stage in
+    let whole = block_back written names period options round stage h in
     record {
       passed = records_in passed;
       first = first;
@@ -292,7 +294,11 @@ found_back written names period options round stage h passed rest over =
           map-append fields_of passed (block_rows names period options round stage ++ rest)
           ∙ ap (λ (rows : List (List (List ℕ))). records_in passed ++ first ∷ rows) (map-append fields_of body rest);
       skipped = over;
-      whole = block_back written names period options round stage h;
+      opens = whole.opens;
+      sound = whole.sound;
+      known = whole.known;
+      ends = whole.ends;
+      value = whole.value;
     }
 
 -- what is known of all stages

@@ -9,17 +9,12 @@ use Rattle.pb_graph.specs.declared.results.NodalTest.{NodalTest}
 use Rattle.pb_graph.specs.declared.results.Solved.TheVariants.{Unconverged}
 use Rattle.pb_graph.specs.declared.results.Tests.{Tests}
 use Rattle.pb_blocks.specs.declared.rows.Heading.{Heading}
-use Rattle.pb_blocks.specs.declared.rows.Solution.{Solution}
 use Rattle.pb_blocks.specs.Kinds.{kind_among}
 use Rattle.pb_blocks.specs.Texts.{name_field}
 use Rattle.pb_blocks.specs.Values.{number_at, said_arc, said_global, said_measure, said_nodal, said_solution, said_stream, values_in}
 use Rattle.pb_readback.specs.declared.draft.Draft.{Draft}
 
--- the solution before its row has come
-abbrev pub no_solution : Solution
-no_solution = record { solved = Unconverged 0; g = 0; h = 0; dof = 0; low = pos 0; high = None }
-
--- what a heading tells: no node and no stream yet
+-- what a heading tells: no node and no stream yet, and nothing of the solution
 abbrev pub draft_of : Heading → Draft
 draft_of heading = record {
   last = Report;
@@ -29,7 +24,7 @@ draft_of heading = record {
   streams = [];
   graph = record { nodes = heading.nodes; streams = [] };
   rows = [];
-  solution = no_solution;
+  solution = record { solved = Unconverged 0; g = 0; h = 0; dof = 0; low = pos 0; high = None };
   tests = None;
 }
 

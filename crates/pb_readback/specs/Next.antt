@@ -38,14 +38,6 @@ AreSound draft (row ∷ rows) =
 abbrev pub opened : List (List ℕ) → Draft
 opened row = draft_of (said_heading row (values_in Report row))
 
--- the rows of a whole block: the one that opens it, and those after it up to the end
-pub record IsBlock (first : List (List ℕ)) (rows : List (List (List ℕ))) (block : Block) : Type 0 where
-  pub opens : opening_fault first ≡ None
-  pub sound : AreSound (opened first) rows
-  pub known : first_unknown (with_rows (opened first) rows) ≡ None
-  pub ends : (with_rows (opened first) rows).last ≡ End
-  pub value : block ≡ block_of (with_rows (opened first) rows)
-
 -- the fault after the rows of a block that isn't whole: that of the next row, or that there is none
 abbrev pub fault_next : Draft → List (List (List ℕ)) → Option RowFault
 fault_next draft [] = Some Ended
@@ -61,14 +53,19 @@ IsFault draft rows rest number fault left =
     ⊎ ((first_unknown draft ≡ None) × (draft.last ≢ End) × (fault_next draft rest ≡ Some fault) × (number ≡ rows + 2)
     × (left ≡ drop 1 rest))
 
--- a block comes next, after rows that are passed over, and these records are after it
+-- a block comes next, after rows that are passed over, and these records are after it: a row that opens it, and those after it up to
+-- the end
 pub record IsFound (records : List (List (List ℕ))) (block : Block) (rest : List (List (List ℕ))) : Type 0 where
   pub passed : List (List (List ℕ))
   pub first : List (List ℕ)
   pub rows : List (List (List ℕ))
   pub split : records ≡ passed ++ first ∷ (rows ++ rest)
   pub skipped : ArePassedOver passed
-  pub whole : IsBlock first rows block
+  pub opens : opening_fault first ≡ None
+  pub sound : AreSound (opened first) rows
+  pub known : first_unknown (with_rows (opened first) rows) ≡ None
+  pub ends : (with_rows (opened first) rows).last ≡ End
+  pub value : block ≡ block_of (with_rows (opened first) rows)
 
 -- A first row that isn't passed over, with the records after it, is no block: this is the number of the first row that has a fault,
 -- counted from the first, and these records are left. The first row doesn't open a block, or a row after it can't be read.

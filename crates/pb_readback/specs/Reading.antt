@@ -1,5 +1,5 @@
 -- Inside. A draft under way, and what reading on has shown of the records.
-use Rattle.std.specs.Prelude.{◌≡◌, ◌≢◌, ◌⊎◌, ◌≤◌, ◌+◌, ◌==◌, ℕ, Bool, true, false, nat_lt, List, [], ◌∷◌, ◌++◌, length, map, Option, Some, None}
+use Rattle.std.specs.Prelude.{◌≡◌, ◌≢◌, ◌⊎◌, ◌≤◌, ◌+◌, ◌==◌, ℕ, pos, Bool, true, false, nat_lt, List, [], ◌∷◌, ◌++◌, length, map, Option, Some, None}
 use Rattle.std.specs.List.{list_any}
 use Rattle.pb_form.specs.declared.output.OutputKind.{OutputKind}
 use Rattle.pb_form.specs.declared.output.OutputKind.TheVariants.{Node, Stream as StreamKind, StreamBefore, Solved, Global, Nodal, Measure, End}
@@ -10,11 +10,13 @@ use Rattle.pb_graph.specs.declared.records.Step.{Step}
 use Rattle.pb_graph.specs.declared.records.Stream.{Stream}
 use Rattle.pb_graph.specs.declared.records.Witness.{Witness}
 use Rattle.pb_graph.specs.declared.records.Witness.TheVariants.{Cut as CutWitness, Cycle as CycleWitness}
+use Rattle.pb_graph.specs.declared.results.Solved.TheVariants.{Unconverged}
 use Rattle.pb_graph.specs.declared.results.StreamResult.{StreamResult}
 use Rattle.pb_graph.specs.declared.results.Tests.{Tests}
 use Rattle.pb_graph.specs.ProcessGraph.{IsStream, IsWithinLimits}
 use Rattle.pb_blocks.specs.declared.fault.RowFault.{RowFault}
 use Rattle.pb_blocks.specs.declared.fault.RowFault.TheVariants.{Unknown, Ended}
+use Rattle.pb_blocks.specs.declared.rows.Solution.{Solution}
 use Rattle.pb_blocks.specs.Beside.{opening_fault}
 use Rattle.pb_blocks.specs.Counts.{IsHeading}
 use Rattle.pb_blocks.specs.Kinds.{is_passed_over}
@@ -28,6 +30,10 @@ use Rattle.pb_readback.specs.Blocks.{block_of}
 use Rattle.pb_readback.specs.Drafts.{added, with_rows}
 use Rattle.pb_readback.specs.Faults.{fault_behind, first_unknown}
 use Rattle.pb_readback.specs.Next.{AreCounted, ArePassedOver, AreSound, IsFault, IsWithinGiven, opened}
+
+-- the solution before its row has come
+abbrev pub no_solution : Solution
+no_solution = record { solved = Unconverged 0; g = 0; h = 0; dof = 0; low = pos 0; high = None }
 
 -- the global test, and no other test yet
 abbrev pub tests_begun : List Value → Tests
@@ -98,6 +104,14 @@ is_on_stream stream found = has_stream stream found.classified.witness
 abbrev pub KeepsResults : Draft → List StreamResult → Type 0
 KeepsResults draft results =
     length draft.streams ≡ draft.heading.streams → results ≡ map (result_of draft.streams) draft.rows
+
+-- the rows of a whole block: the one that opens it, and those after it up to the end
+pub record IsBlock (first : List (List ℕ)) (rows : List (List (List ℕ))) (block : Block) : Type 0 where
+  pub opens : opening_fault first ≡ None
+  pub sound : AreSound (opened first) rows
+  pub known : first_unknown (with_rows (opened first) rows) ≡ None
+  pub ends : (with_rows (opened first) rows).last ≡ End
+  pub value : block ≡ block_of (with_rows (opened first) rows)
 
 -- behind rows that are passed over comes another, or none
 abbrev pub Skips : List (List (List ℕ)) → List (List (List ℕ)) → Option (List (List ℕ)) → Type 0
