@@ -2,6 +2,7 @@
 
 use pb_kinds::{Request, read_request, write_effect};
 use pb_rows::{Records, Row};
+use pb_site::Version;
 use std::alloc::{AllocError, Global};
 use std::process::Abort;
 use std::test::Fail;
@@ -15,10 +16,14 @@ fn record_of(alloc: Global, line: &[u8]) -> Result<Row, AllocError> {
     }
 }
 
-// The line of the effect that the record of a line asks to be stored, if it asks that.
-fn written_again(alloc: Global, line: &[u8]) -> Result<Vec<u8>, AllocError> {
+// The line of the effect that the record of a line asks to be stored in a session of a version, if it asks that.
+fn written_again(
+    alloc: Global,
+    version: Option<Version>,
+    line: &[u8],
+) -> Result<Vec<u8>, AllocError> {
     let mut text = Vec::new(alloc);
-    if let Ok(Request::Store(effect)) = read_request(&record_of(alloc, line)?) {
+    if let Ok(Request::Store(effect)) = read_request(version, &record_of(alloc, line)?) {
         let row = write_effect(alloc, &effect)?;
         row.write_to(&mut text)?;
     }
@@ -50,8 +55,46 @@ fn writes_what_it_reads(rt: HostRuntime) -> Result<(), Fail> {
         b"close,p\n",
     ];
     for line in table {
-        let text = written_again(rt.alloc(), line)?;
+        let text = written_again(rt.alloc(), Some(Version::One), line)?;
         assert_eq!(rt; text.as_slice(), line, "the record of {line:?}");
+    }
+    Ok(())
+}
+
+#[test]
+fn writes_what_it_reads_in_version_2(rt: HostRuntime) -> Result<(), Fail> {
+    let two = Some(Version::Two);
+    let table: [(Option<Version>, &[u8]); 7] = [
+        (None, b"version,2\n"),
+        (None, b"unit,U\n"),
+        (two, b"boundary,PORT\n"),
+        (two, b"tank,T,1,2024-03-02,2199-12-31\n"),
+        (two, b"stream,S,U,PORT,metered,1,1900-01-01,2024-03-01\n"),
+        (two, b"stream,S,U,PORT,batch,7,2024-03-01,2024-03-01\n"),
+        (two, b"stream,S,U,PORT,plain,0,2024-03-01,2024-02-29\n"),
+    ];
+    for (version, line) in table {
+        let text = written_again(rt.alloc(), version, line)?;
+        assert_eq!(rt; text.as_slice(), line, "the record of {line:?}");
+    }
+    Ok(())
+}
+
+#[test]
+fn stores_nothing_of_the_other_version(rt: HostRuntime) -> Result<(), Fail> {
+    let one = Some(Version::One);
+    let table: [(Option<Version>, &[u8]); 7] = [
+        (one, b"version,2\n"),
+        (Some(Version::Two), b"version,2\n"),
+        (None, b"version,3\n"),
+        (None, b"boundary,PORT\n"),
+        (one, b"boundary,PORT\n"),
+        (one, b"tank,T,1,2024-03-02,2199-12-31\n"),
+        (one, b"stream,S,U,PORT,plain,0,2024-03-01,2024-03-01\n"),
+    ];
+    for (version, line) in table {
+        let text = written_again(rt.alloc(), version, line)?;
+        assert_eq!(rt; text.len(), 0, "nothing of {line:?}");
     }
     Ok(())
 }

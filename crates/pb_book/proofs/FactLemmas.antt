@@ -1,9 +1,8 @@
 -- A fact that there is no cause to refuse has no fault.
-use Rattle.std.specs.Prelude.{◌||◌, not, IsSome}
+use Rattle.std.specs.Prelude.{not, IsSome}
 use Rattle.std.specs.List.{list_any}
 use Rattle.std.specs.Option.{option_eq}
 use Rattle.std.proofs.Common.{◌≡◌, ◌∙◌, ℕ, List, Bool, true, false, Option, Some, None, refl, sym, ap}
-use Rattle.std.proofs.lemmas.Bool.{or_parts}
 use Rattle.pb_site.specs.declared.declared.Declared.{Declared}
 use Rattle.pb_site.specs.declared.declared.Version.{Version}
 use Rattle.pb_site.specs.Site.{version_of}
@@ -20,7 +19,7 @@ use Rattle.pb_book.specs.declared.rows.Period.{Period}
 use Rattle.pb_book.specs.Accepted.{IsAcceptable}
 use Rattle.pb_book.specs.Apart.{is_named}
 use Rattle.pb_book.specs.Kept.{AreOf}
-use Rattle.pb_book.specs.Refusals.{is_closed, is_mismatch, is_out_of_service, is_outside_table, is_unknown, refusal_behind}
+use Rattle.pb_book.specs.Refusals.{is_closed, is_mismatch, is_out_of_service, is_unknown, refusal_behind}
 use Rattle.pb_book.specs.Touching.{service_of}
 use Rattle.pb_book.specs.declared.answer.Refused.TheVariants.{Range}
 use Rattle.pb_book.specs.declared.rows.StoredRow.{StoredRow}

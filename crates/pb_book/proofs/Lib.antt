@@ -13,3 +13,4 @@ mod CostLemmas
 mod PlainLemmas
 mod RecordLemmas
 mod TakenOutLemmas
+mod VersionOneLemmas

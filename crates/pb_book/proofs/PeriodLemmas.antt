@@ -1,5 +1,5 @@
 -- Periods of which no two share a day: the last one that begins by a day, and one more.
-use Rattle.std.specs.Prelude.{◌&&◌, ◌||◌, ◌-ℤ◌, ◌+ℤ◌, int_le, if◌then◌else◌, find, map, position, is_some, nat_lt, set, slice_get, All, IsSome, ◌⊎◌}
+use Rattle.std.specs.Prelude.{◌&&◌, ◌||◌, ◌-ℤ◌, ◌+ℤ◌, int_le, if◌then◌else◌, find, map, position, nat_lt, set, slice_get, All, IsSome, ◌⊎◌}
 use Rattle.std.specs.List.{list_any, position_or_len}
 use Rattle.std.specs.Cmp.{int_cmp_is}
 use Rattle.std.specs.Cmp.Lexicographic.{bytes_decides}

@@ -8,6 +8,7 @@ pub mod Ranges
 pub mod Refusals
 pub mod Costs
 pub mod Answer
+pub mod VersionOne
 pub mod Accepted
 pub mod Named
 pub mod Live

@@ -3,6 +3,7 @@
 ghost use Rattle.std.specs.Prelude.{◌≡◌, ◌≢◌, ◌<◌, ◌≤◌, [], length, All, Err, Ok, IfOk, OnOk, OnErr, slice_get, Some, false, true};
 ghost use Rattle.pb_limits.specs.Limits.{most_periods};
 ghost use Rattle.pb_site.specs.Site.{version_of};
+ghost use Rattle.pb_site.specs.declared.declared.Version.TheVariants.{One};
 ghost use Rattle.pb_facts.specs.Facts.{NoRepeats};
 ghost use Rattle.pb_kinds.specs.declared.rows.Effect.TheVariants.{Books, Closes, Declares, Edits, Opens};
 ghost use Rattle.pb_kinds.specs.declared.rows.Request.TheVariants.{Advise as AskedAdvise};
@@ -23,6 +24,7 @@ ghost use Rattle.pb_book.specs.Refusals.{refusal_of};
 ghost use Rattle.pb_book.specs.Rows.{declared_of, facts_of, period_place, periods_of, version_at, with_row};
 ghost use Rattle.pb_book.specs.Touching.{touches_in};
 ghost use Rattle.pb_book.specs.TakenOut.{last_row, takes_out, touched_at, touches_by_id};
+ghost use Rattle.pb_book.specs.VersionOne.{first_answer_of, says_version};
 ghost use Rattle.pb_book.specs.Written.{WriteRows};
 
 use crate::answer::{Accepted, NotAccepted, Refused};
@@ -89,13 +91,16 @@ impl Book {
 
     /// Takes the record with the number `at`, counted from 1: it is refused with the first cause that holds, or it joins the
     /// book, or it asks for a design, a report, a history or an advice. After a refusal the book is as it was. After a row was stored no
-    /// two facts have one id.
+    /// two facts have one id. Unless a row says that the session is of version 2, the answer is that of version 1.
     pub fn accept(&mut self, at: u32, row: &Row) -> Result<Accepted, NotAccepted>
         ensures answer { result ≢ Err NoMemory → result ≡ said_of (answer_of self.old row.now) }
         ensures stored { result ≢ Err NoMemory → self.new ≡ after self.old at row.now }
         ensures unchanged { result ≡ Err NoMemory → self.new ≡ self.old }
         ensures no_repeats { result ≡ Ok Stored → NoRepeats (facts_of self.new) }
         ensures accepted { AreAccepted self.new }
+        ensures version_1 { version_of (declared_of self.old) ≡ One
+            → says_version (answer_of self.old row.now) ≡ false → result ≢ Err NoMemory
+            → result ≡ said_of (first_answer_of self.old row.now) }
     {
         match read_request(self.version(), row) {
             Ok(request) => self.answer(at, row, &request),

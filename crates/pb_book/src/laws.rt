@@ -5,6 +5,7 @@ ghost use Rattle.pb_book.specs.Live.{LiveLaw};
 ghost use Rattle.pb_book.specs.Named.{NamedLaw, RangesLaw};
 ghost use Rattle.pb_book.specs.Plain.{PlainLaw};
 ghost use Rattle.pb_book.specs.TakenOut.{TouchedLaw};
+ghost use Rattle.pb_book.specs.VersionOne.{VersionOneLaw};
 
 use pb_kinds::{named_costs_law, stored_law};
 
@@ -51,3 +52,9 @@ pub fn meter_costs_law()
 {
     named_costs_law();
 }
+
+/// The law that a record gets the answer that it has in a session of version 1, unless it or one before it says that the session is
+/// of version 2.
+pub fn version_one_law()
+    ensures { VersionOneLaw }
+{}

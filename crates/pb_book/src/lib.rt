@@ -19,5 +19,6 @@ pub use answer::{Accepted, NotAccepted, Refused};
 pub use book::Book;
 pub use laws::{
     accepted_law, live_law, meter_costs_law, named_law, plain_law, ranges_law, touched_law,
+    version_one_law,
 };
 pub use rows::{Period, StoredRow};

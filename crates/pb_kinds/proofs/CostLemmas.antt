@@ -25,9 +25,8 @@ use Rattle.pb_form.specs.declared.session.SessionKind.TheVariants as kind
 use Rattle.pb_site.specs.declared.declared.Declared.TheVariants.{Version2}
 use Rattle.pb_site.specs.declared.declared.Version.{Version}
 use Rattle.pb_kinds.specs.declared.costs.NamedCost.{NamedCost}
-use Rattle.pb_kinds.specs.declared.rows.Request.{Request}
 use Rattle.pb_kinds.specs.declared.rows.Request.TheVariants.{Advise}
-use Rattle.pb_kinds.specs.Costs.{IsMeterCost, costs_by, costs_in, named_costs}
+use Rattle.pb_kinds.specs.Costs.{IsMeterCost, costs_by, costs_in}
 use Rattle.pb_kinds.specs.Laws.{NamedCostsLaw}
 use Rattle.pb_kinds.specs.Requests.{asked_by, asked_in, declares, kinds_of, name_there, number_there, request_by, request_if, request_in, request_of}
 use Rattle.pb_kinds.specs.There.{ArePairs, IsNameThere, IsNumberThere, pairs_read}

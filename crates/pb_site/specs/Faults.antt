@@ -14,7 +14,8 @@ use Rattle.pb_site.specs.Site.{arc_names, arcs_of, boundary_names, global_of, is
 
 -- a name is the environment's, or that of a declared boundary, unit or tank
 abbrev pub is_node : List Declared → List ℕ → Bool
-is_node declared name = is_among (boundary_names declared) name || is_among (node_names declared) name
+is_node declared name =
+    is_among (boundary_names declared) name || is_among (node_names declared) name
 
 -- a name is the environment's, or that of a declared boundary, unit, tank or stream
 abbrev pub is_taken : List Declared → List ℕ → Bool
@@ -83,7 +84,8 @@ has_most_arcs version declared = nat_le (most_arcs version) (length (arcs_of dec
 abbrev pub is_full : Version → List Declared → Declared → Bool
 is_full version declared (UnitRow name) = has_most_nodes declared
 is_full version declared (Boundary name) = has_most_boundaries declared
-is_full version declared (Tank name base service) = has_most_nodes declared || has_most_arcs version declared
+is_full version declared (Tank name base service) =
+    has_most_nodes declared || has_most_arcs version declared
 is_full version declared (Strap tank mm ml) = is_full_table (points_of declared tank)
 is_full version declared (Stream name from to kind base service) = has_most_arcs version declared
 is_full version declared row = false

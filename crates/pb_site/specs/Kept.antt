@@ -38,7 +38,8 @@ has_node index name = is_among index.boundaries.keys name || is_among (nodes_in 
 -- the node of a name by the index
 abbrev pub node_by : Index → List ℕ → Option ℕ
 node_by index name =
-    if is_among index.boundaries.keys name then Some 0 else position (same_name name) (nodes_in index)
+    if is_among index.boundaries.keys name then Some 0
+    else position (same_name name) (nodes_in index)
 
 -- the index gives the version, names, arcs, tables and critical values of a plant, and no table is of a tank that isn't declared
 pub record IsKept (declared : List Declared) (index : Index) : Type 0 where
@@ -99,7 +100,8 @@ pub record Notes (old new : Index) (row : Declared) : Type 0 where
   pub boundaries : new.boundaries.keys ≡ old.boundaries.keys ++ filter_map boundary_name (row ∷ [])
   pub nodes : new.nodes.keys ≡ old.nodes.keys ++ filter_map node_name (row ∷ [])
   pub arc_names : new.arc_names.keys ≡ old.arc_names.keys ++ filter_map arc_name (row ∷ [])
-  pub arcs : new.arcs.items ≡ old.arcs.items ++ filter_map (arc_in new.boundaries.keys (nodes_in new)) (row ∷ [])
+  pub arcs : new.arcs.items
+      ≡ old.arcs.items ++ filter_map (arc_in new.boundaries.keys (nodes_in new)) (row ∷ [])
   pub straps : (name : List ℕ)
       → get same_name new.straps name ≡ table_with row name (get same_name old.straps name)
   pub global : (dof : ℕ)

@@ -30,7 +30,8 @@ PlantLaw =
     → fault_of (version_of declared) declared row ≡ None → IsPlant (declared ++ row ∷ []))
 
 -- one more declaration leaves the nodes and arcs that were there, and the version unless it says it
-pub record GrowsBy (declared : List Declared) (row : Declared) (grown : List Declared) : Type 0 where
+pub record GrowsBy (declared : List Declared) (row : Declared) (grown : List Declared)
+    : Type 0 where
   pub nodes : node_names grown ≡ node_names declared ++ filter_map node_name (row ∷ [])
   pub arcs : arcs_of grown
       ≡ arcs_of declared ++ filter_map (arc_in (boundary_names grown) (node_names grown)) (row ∷ [])
@@ -39,7 +40,8 @@ pub record GrowsBy (declared : List Declared) (row : Declared) (grown : List Dec
 abbrev pub GrowthLaw : Type 0
 GrowthLaw =
     (declared : List Declared) (row : Declared) → IsPlant declared
-    → fault_of (version_of declared) declared row ≡ None → GrowsBy declared row (declared ++ row ∷ [])
+    → fault_of (version_of declared) declared row ≡ None
+    → GrowsBy declared row (declared ++ row ∷ [])
 
 -- an arc joins two of these nodes
 pub record JoinsPlaces (nodes : List ℕ) (arc : Arc) : Type 0 where
@@ -49,11 +51,14 @@ pub record JoinsPlaces (nodes : List ℕ) (arc : Arc) : Type 0 where
 
 -- the nodes of some days are nodes of the plant, in order, each arc of these days joins two of them, and the names of the nodes are
 -- distinct, and those of the arcs
-pub record IsPartOnDays (version : Version) (declared : List Declared) (first last : ℤ) : Type 0 where
+pub record IsPartOnDays (version : Version) (declared : List Declared) (first last : ℤ)
+    : Type 0 where
   pub few : length (nodes_on version declared first last) ≤ length (node_names declared)
-  pub within : All (λ node. node < length (node_names declared)) (nodes_on version declared first last)
+  pub within : All (λ node. node < length (node_names declared))
+      (nodes_on version declared first last)
   pub order : IsStrictlyIncreasing (nodes_on version declared first last)
-  pub joined : All (JoinsPlaces (nodes_on version declared first last)) (arcs_on version declared first last)
+  pub joined : All (JoinsPlaces (nodes_on version declared first last))
+      (arcs_on version declared first last)
   pub nodes : AreDistinct (names_on version declared first last).nodes
   pub streams : AreDistinct (names_on version declared first last).streams
 
@@ -72,5 +77,6 @@ pub record IsSamePart (declared other : List Declared) (first last : ℤ) : Type
 abbrev pub SamePartLaw : Type 0
 SamePartLaw =
     (declared : List Declared) (row : Declared) (first last : ℤ) → IsPlant declared
-    → fault_of (version_of declared) declared row ≡ None → declares_in_service first last row ≡ false
+    → fault_of (version_of declared) declared row ≡ None
+    → declares_in_service first last row ≡ false
     → IsSamePart declared (declared ++ row ∷ []) first last

@@ -32,7 +32,8 @@ places_of declared = range_with_len 1 (length (node_names declared) - 1)
 -- an end of an arc of these days.
 abbrev pub nodes_on : Version → List Declared → ℤ → ℤ → List ℕ
 nodes_on One declared first last = 0 ∷ places_of declared
-nodes_on Two declared first last = 0 ∷ filter (is_end_of (arcs_on Two declared first last)) (places_of declared)
+nodes_on Two declared first last =
+    0 ∷ filter (is_end_of (arcs_on Two declared first last)) (places_of declared)
 
 -- the name of a node of the plant
 abbrev pub name_at_node : List Declared → ℕ → List ℕ
@@ -56,6 +57,8 @@ place_among nodes node = position_or_len (λ (n : ℕ). n == node) nodes
 
 -- a declaration of a stream or tank that is in service on some day from a first to a last one
 abbrev pub declares_in_service : ℤ → ℤ → Declared → Bool
-declares_in_service first last (Tank name base service) = is_in_service_within service first last
-declares_in_service first last (Stream name from to kind base service) = is_in_service_within service first last
+declares_in_service first last (Tank name base service) =
+    is_in_service_within service first last
+declares_in_service first last (Stream name from to kind base service) =
+    is_in_service_within service first last
 declares_in_service first last row = false

@@ -29,7 +29,8 @@ arc_kind Plain = PlainArc
 abbrev pub IsInRange : Declared → Type 0
 IsInRange (Tank name base service) = IsBaseVariance base × IfSome service IsService
 IsInRange (Strap tank mm ml) = IsLevel mm × IsVolume ml
-IsInRange (Stream name from to kind base service) = IsArcBase (arc_kind kind) base × IfSome service IsService
+IsInRange (Stream name from to kind base service) =
+    IsArcBase (arc_kind kind) base × IfSome service IsService
 IsInRange (CritGlobal dof value) = (1 ≤ dof) × (dof ≤ most_freedom) × IsCriticalValue value
 IsInRange (CritNodal value) = IsCriticalValue value
 IsInRange (CritMeasure value) = IsCriticalValue value
@@ -74,11 +75,25 @@ node_at boundaries nodes name =
 abbrev pub arc_in : List (List ℕ) → List (List ℕ) → Declared → Option Arc
 arc_in boundaries nodes (Tank name base service) =
     let begins = node_at boundaries nodes name in
-    Some (record { name = name; from = begins; to = 0; kind = TankArc; base = base; service = service })
+    Some (record {
+      name = name;
+      from = begins;
+      to = 0;
+      kind = TankArc;
+      base = base;
+      service = service;
+    })
 arc_in boundaries nodes (Stream name from to kind base service) =
     let begins = node_at boundaries nodes from in
     let ends = node_at boundaries nodes to in
-    Some (record { name = name; from = begins; to = ends; kind = arc_kind kind; base = base; service = service })
+    Some (record {
+      name = name;
+      from = begins;
+      to = ends;
+      kind = arc_kind kind;
+      base = base;
+      service = service;
+    })
 arc_in boundaries nodes row = None
 
 -- a declaration of the tank of this name

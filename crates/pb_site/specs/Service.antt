@@ -23,12 +23,14 @@ is_in_service_on (Some service) day = int_le service.since day && int_le day ser
 -- in service on each day from a first to a last one
 abbrev pub is_in_service_throughout : Option Service → ℤ → ℤ → Bool
 is_in_service_throughout None first last = true
-is_in_service_throughout (Some service) first last = int_le service.since first && int_le last service.until
+is_in_service_throughout (Some service) first last =
+    int_le service.since first && int_le last service.until
 
 -- in service on some day from a first to a last one, which doesn't come before it
 abbrev pub is_in_service_within : Option Service → ℤ → ℤ → Bool
 is_in_service_within None first last = true
-is_in_service_within (Some service) first last = int_le service.since last && int_le first service.until
+is_in_service_within (Some service) first last =
+    int_le service.since last && int_le first service.until
 
 -- the day before the first one in service
 abbrev pub is_eve : Option Service → ℤ → Bool

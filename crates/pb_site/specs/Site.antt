@@ -60,7 +60,8 @@ kind_of declared name = option_map (λ (arc : Arc). arc.kind) (arc_named declare
 -- the days on which the arc of this name is in service: version 1 has none
 abbrev pub service_in : Version → List Declared → List ℕ → Option Service
 service_in One declared name = None
-service_in Two declared name = option_and_then (λ (arc : Arc). arc.service) (arc_named declared name)
+service_in Two declared name =
+    option_and_then (λ (arc : Arc). arc.service) (arc_named declared name)
 
 -- the names of the nodes and arcs
 abbrev pub names_of : List Declared → Names

@@ -36,7 +36,8 @@ impl Model for OnDays {
 impl OnDays {
     /// The part of a plant that is in service on the days from a first to a last one.
     pub fn of(alloc: Global, site: &Site, first: i32, last: i32) -> Result<OnDays, AllocError>
-        ensures value { IfOk result (λ nodes. nodes ≡ nodes_on (version_of site.now) site.now first last) }
+        ensures value { IfOk result (λ nodes. nodes
+            ≡ nodes_on (version_of site.now) site.now first last) }
         ensures part { IsPartOnDays (version_of site.now) site.now first last }
     {
         let marks = marks_on(alloc, site, first, last)?;
@@ -65,7 +66,8 @@ impl OnDays {
 
 /// The names of the nodes and arcs of the part of a plant that is in service on the days from a first to a last one, in order.
 pub fn names_on(alloc: Global, site: &Site, first: i32, last: i32) -> Result<Names, AllocError>
-    ensures value { IfOk result (λ names. names ≡ names_on (version_of site.now) site.now first last) }
+    ensures value { IfOk result (λ names. names
+        ≡ names_on (version_of site.now) site.now first last) }
     ensures part { IsPartOnDays (version_of site.now) site.now first last }
 {
     match site.version() {
@@ -95,7 +97,8 @@ fn node_names(alloc: Global, site: &Site, nodes: &[u32]) -> Result<NameList, All
 // The names of the arcs that are in service on these days.
 fn arc_names_on(alloc: Global, site: &Site, first: i32, last: i32) -> Result<NameList, AllocError>
     ensures { IfOk result (λ names. names
-        ≡ map (λ (arc : Arc). arc.name) (filter (is_arc_in_service first last) (arcs_of site.now))) }
+        ≡ map (λ (arc : Arc). arc.name)
+        (filter (is_arc_in_service first last) (arcs_of site.now))) }
 {
     let mut names = NameList::new(alloc);
     for place in 0..site.arcs() {

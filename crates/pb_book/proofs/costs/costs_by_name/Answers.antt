@@ -1,6 +1,6 @@
 use Rattle.std.specs.Prelude.{IfSome}
 use Rattle.std.specs.HashMap.{get}
-use Rattle.std.proofs.Common.{◌≡◌, ◌∙◌, List, ℕ, ℤ, Option, Some, FitsSigned, to_z, of_z, ap, arith, subst, sym}
+use Rattle.std.proofs.Common.{ℤ, Option, FitsSigned, arith, subst, sym}
 use mir.Syntax.{w64}
 use Rattle.std.proofs.lemmas.Int.{ints, to_z-of_z}
 use Rattle.pb_rows.specs.Name.{same_name}

@@ -1,6 +1,6 @@
 use Rattle.std.specs.Prelude.{All, map, unwrap_or}
 use Rattle.std.specs.HashMap.{get}
-use Rattle.std.proofs.Common.{◌≡◌, ◌∙◌, ◌∷◌, ◌++◌, ◌+◌, [], drop, List, ℕ, ℤ, pos, Option, FitsSigned, to_z, of_z, ap, arith, subst, sym}
+use Rattle.std.proofs.Common.{◌≡◌, ◌∙◌, ◌∷◌, ◌++◌, ◌+◌, [], drop, List, ℤ, pos, FitsSigned, ap, arith, subst, sym}
 use mir.Syntax.{w64}
 use Rattle.std.proofs.lemmas.Int.{ints, to_z-of_z}
 use Rattle.std.proofs.lemmas.List.Elements.{All-push}

@@ -1,6 +1,5 @@
 use Rattle.std.specs.Prelude.{not, if◌then◌else◌}
-use Rattle.std.proofs.Common.{◌≡◌, ◌∙◌, ◌∷◌, ◌++◌, ◌+◌, [], Bool, true, false, List, ℕ, drop, ap, refl, subst, sym}
-use Rattle.pb_book.specs.Costs.{names_twice}
+use Rattle.std.proofs.Common.{◌≡◌, ◌∙◌, ◌∷◌, ◌++◌, ◌+◌, [], Bool, true, false, List, ℕ, drop, ap, refl, sym}
 use Rattle.pb_book.proofs.CostLemmas.{is_seen, none_seen, one_is_new, one_repeats, repeats}
 use Rattle.pb_book.proofs.costs.some_twice.Goals as goal
 

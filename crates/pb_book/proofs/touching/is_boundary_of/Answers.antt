@@ -1,5 +1,5 @@
 use Rattle.std.specs.Ordering.{int_eq}
-use Rattle.std.proofs.Common.{◌≡◌, ◌∙◌, FitsSigned, nat_eq, of_z, ap, false, arith}
+use Rattle.std.proofs.Common.{◌≡◌, ◌∙◌, FitsSigned, ap, false, arith}
 use mir.Syntax.{w32}
 use Rattle.std.proofs.lemmas.Int.{ints, to_z-of_z}
 use Rattle.pb_site.specs.Service.{day_of_closing, day_of_opening}

@@ -1,11 +1,23 @@
-use Rattle.std.specs.Prelude.{Option}
+use Rattle.std.specs.Prelude.{Option, Result, Ok, Err}
 use Rattle.std.proofs.Common.{◌≡◌, ◌∙◌, true, ap, sym}
+use Rattle.pb_form.specs.declared.fault.FormFault.{FormFault}
 use Rattle.pb_site.specs.declared.declared.Version.{Version}
 use Rattle.pb_kinds.specs.Costs.{named_costs}
 use Rattle.pb_kinds.specs.Versions.{may_ask}
+use Rattle.pb_kinds.specs.Requests.{request_in}
+use Rattle.pb_kinds.specs.declared.rows.Request.{Request}
+use Rattle.pb_book.specs.declared.answer.Accepted.{Accepted}
+use Rattle.pb_book.specs.declared.answer.NotAccepted.{NotAccepted}
+use Rattle.pb_book.specs.declared.answer.NotAccepted.TheVariants.{Refused as RefusedFor}
+use Rattle.pb_book.specs.declared.answer.Refused.{Refused as Refusal}
+use Rattle.pb_book.specs.Answer.{answer_if, said_of}
 use Rattle.pb_book.specs.Rows.{version_at}
 use Rattle.pb_book.proofs.AcceptedLemmas.{accepted_answer}
+use Rattle.pb_book.proofs.VersionOneLemmas.{version_one}
 use Rattle.pb_book.proofs.book.Book.accept.Goals as goal
+
+abbrev asked_as : Result Request FormFault → Result Request FormFault
+asked_as asked = asked
 
 pub returns-in-Ok-clause-accepted : goal.returns-in-Ok-clause-accepted
 returns-in-Ok-clause-accepted c =
@@ -16,3 +28,21 @@ returns-in-Ok-clause-accepted c =
 
 pub returns-in-Err-clause-accepted : goal.returns-in-Err-clause-accepted
 returns-in-Err-clause-accepted c = c.version.ensures.accepted
+
+pub returns-in-Ok-clause-version_1 : goal.returns-in-Ok-clause-version_1
+returns-in-Ok-clause-version_1 c = λ one unsaid known.
+    let old = c.args.self.now in
+    let fields = c.args.row.now in
+    let asks : request_in (version_at old) fields ≡ asked_as (Ok c.in-Ok.request) =
+    ap (λ (v : Option Version). request_in v fields) (sym c.version.ensures.value) ∙ sym c.read_request.ensures.value ∙ c.in-Ok.is in
+    c.answer.ensures.answer known ∙ ap said_of (sym (ap (answer_if old (named_costs fields)) asks) ∙ version_one old fields one unsaid)
+
+pub returns-in-Err-clause-version_1 : goal.returns-in-Err-clause-version_1
+returns-in-Err-clause-version_1 c = λ one unsaid known.
+    let old = c.args.self.now in
+    let fields = c.args.row.now in
+    let asks : request_in (version_at old) fields ≡ asked_as (Err c.in-Err.fault) =
+    ap (λ (v : Option Version). request_in v fields) (sym c.version.ensures.value) ∙ sym c.read_request.ensures.value ∙ c.in-Err.is in
+    let told : (let result : Result Accepted NotAccepted = Err (RefusedFor c.from.result) in result) ≡ said_of (answer_if old (named_costs fields) (asked_as (Err c.in-Err.fault))) =
+    ap (λ (cause : Refusal). (let result : Result Accepted NotAccepted = Err (RefusedFor cause) in result)) c.from.ensures in
+    told ∙ ap said_of (sym (ap (answer_if old (named_costs fields)) asks) ∙ version_one old fields one unsaid)

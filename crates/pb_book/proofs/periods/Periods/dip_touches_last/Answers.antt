@@ -1,7 +1,7 @@
 use Rattle.std.specs.Prelude.{All}
-use Rattle.std.proofs.Common.{◌≡◌, ◌∙◌, FitsSigned, List, subst, sym, arith, rules}
+use Rattle.std.proofs.Common.{◌≡◌, ◌∙◌, FitsSigned, List, subst, sym, rules}
 use mir.Syntax.{w32}
-use Rattle.std.proofs.lemmas.Int.{ints, to_z-of_z}
+use Rattle.std.proofs.lemmas.Int.{to_z-of_z}
 use Rattle.pb_book.specs.Ranges.{IsPeriod}
 use Rattle.pb_book.specs.Touching.{dip_touches}
 use Rattle.pb_book.specs.declared.rows.Period.{Period}

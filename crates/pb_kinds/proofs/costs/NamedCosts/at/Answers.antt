@@ -1,5 +1,4 @@
-use Rattle.std.specs.Prelude.{Ok, Result}
-use Rattle.std.proofs.Common.{◌≡◌, ◌∙◌, ◌<◌, ◌≤◌, ◌/◌, ◌*◌, List, length, drop, length-drop, ap, sym, rules, arith}
+use Rattle.std.proofs.Common.{◌*◌, length, length-drop, ap, rules, arith}
 use Rattle.std.proofs.lemmas.Int.{ints}
 use Rattle.pb_kinds.proofs.CostLemmas.{cost_is, cost_read, pair_there, two_columns, within_pairs}
 use Rattle.pb_kinds.proofs.costs.NamedCosts.at.Goals as goal

@@ -1,4 +1,4 @@
-use Rattle.std.proofs.Common.{◌≡◌, ◌∙◌, ◌≤◌, ◌/◌, ℕ, List, length, drop, ap, sym, arith}
+use Rattle.std.proofs.Common.{◌∙◌, ◌/◌, ℕ, length, drop, ap, arith}
 use Rattle.pb_rows.specs.Records.{without_trailing_empty}
 use Rattle.pb_kinds.specs.There.{pairs_read}
 use Rattle.pb_kinds.proofs.CostLemmas.{advise_read, after_word}
