@@ -22,7 +22,7 @@ LIBRARY = lib/$(PYTHON_FOLDER)/dist-packages
 
 PROGRAM_DOCUMENTS = README.md CHANGELOG.md docs/GUIDE.md docs/FORMAT.md docs/DEFINITIONS.md docs/STATEMENT.md docs/ASSURANCE.md docs/DECISIONS.md
 DESK_DOCUMENTS = docs/MONTH_END.md docs/PYTHON.md docs/OPERATIONS.md
-WORKBOOKS = examples/month_end examples/refinery_workbook
+WORKBOOKS = examples/month_end examples/refinery_workbook examples/terminal_workbook
 
 .PHONY: install install-program install-desk deb check-packages clean
 

@@ -1,8 +1,9 @@
-/* The flows of one month, in plain C: reads the rows of a session (unit, stream, period, reading, report), sweeps best prices in 128
- * bits until the gap is met, and writes one row `flow,STREAM,GRAMS` for each stream. With the word `tests` it goes on and solves the
- * plant once more for each redundant stream, without its measurement. It stands beside plantbal in bench/c, and knows metered and
- * plain streams alone. It is plain: each step asks the box of all its streams, and each sweep makes the flows, whose gap is left at
- * the first stream that is too far. */
+/* The flows of one month, in plain C: reads the rows of a session (boundary, unit, stream, period, reading, report), sweeps best prices
+ * in 128 bits until the gap is met, at most 5,000 times or as often as the words `sweeps N` say, and writes one row
+ * `flow,STREAM,GRAMS` for each stream; with the word `cuts` with the streams of a cut behind it, as a report has them. With the word
+ * `tests` it goes on and solves the plant once more for each redundant stream, without its measurement. It stands beside plantbal in
+ * bench/c, and knows metered and plain streams alone, all of them in service. It is plain: each step asks the box of all its streams,
+ * and each sweep makes the flows, whose gap is left at the first stream that is too far. */
 #include <stdint.h>
 #include <stdio.h>
 #include <stdlib.h>
@@ -11,7 +12,7 @@
 typedef __int128 wide;
 typedef unsigned __int128 uwide;
 
-enum { MOST_NODES = 1001, MOST_STREAMS = 2000, MOST_DAYS = 366 };
+enum { MOST_NODES = 1001, MOST_STREAMS = 4000, MOST_DAYS = 366 };
 
 typedef struct { char name[64]; int from, to, metered, days; wide value, variance; } Stream;
 typedef struct { int stream, other, enters; wide variance, room; } Border;
@@ -81,7 +82,12 @@ static void read_row(char *line)
     char *field[8] = {0};
     int count = 0;
     for (char *p = line; p && count < 8; count++) { field[count] = p; p = strchr(p, ','); if (p) *p++ = 0; }
-    if (!strcmp(field[0], "unit")) {
+    if (!strcmp(field[0], "boundary")) {
+        static char boundaries[100][64];
+        static int boundary_count;
+        strcpy(boundaries[boundary_count], field[1]);
+        put(node_slots, boundaries[boundary_count++], 0);
+    } else if (!strcmp(field[0], "unit")) {
         strcpy(nodes[node_count], field[1]);
         put(node_slots, nodes[node_count], node_count);
         node_count++;
@@ -296,7 +302,9 @@ static void print_wide(wide x)
     fwrite(p, 1, text + sizeof text - p, stdout);
 }
 
-/* sweeps from prices of 0 until the gap is met, at most 5,000 times, and writes the flows */
+static int most_sweeps = 5000;
+
+/* sweeps from prices of 0 until the gap is met, or as often as is allowed, and writes the flows */
 static int solve(void)
 {
     group_count = 0;
@@ -308,8 +316,8 @@ static int solve(void)
     walk_forest();
     make_borders();
     int k = 0, met = is_met(10);
-    for (; !met && k < 5000; k++) {
-        if (!sweep()) { k = 5000; break; }
+    for (; !met && k < most_sweeps; k++) {
+        if (!sweep()) { k = most_sweeps; break; }
         met = is_met(10);
     }
     write_flows();
@@ -331,16 +339,38 @@ static void solve_without_each(void)
     printf("tests,%d,%d\n", count, sweeps);
 }
 
+/* the streams with one end in the group of a stream's begin, with their signs */
+static void write_cut(int j)
+{
+    int k = group[streams[j].from];
+    for (int i = border_at[k]; i < border_at[k + 1]; i++) {
+        putchar_unlocked(i == border_at[k] ? ',' : ' ');
+        putchar_unlocked(border[i].enters ? '+' : '-');
+        for (char *c = streams[border[i].stream].name; *c; c++) putchar_unlocked(*c);
+    }
+}
+
 int main(int count, char **words)
 {
     static char line[4096];
+    int tests = 0, cuts = 0;
+    for (int i = 1; i < count; i++) {
+        tests |= !strcmp(words[i], "tests");
+        cuts |= !strcmp(words[i], "cuts");
+        if (!strcmp(words[i], "sweeps") && i + 1 < count) most_sweeps = atoi(words[++i]);
+    }
     strcpy(nodes[0], "env");
     put(node_slots, nodes[0], 0);
     while (fgets(line, sizeof line, stdin)) { line[strcspn(line, "\n")] = 0; read_row(line); }
     if (!asked) return 0;
     add_readings();
     solve();
-    for (int j = 0; j < stream_count; j++) { printf("flow,%s,", streams[j].name); print_wide(flow[j]); putchar('\n'); }
-    if (count > 1 && !strcmp(words[1], "tests")) solve_without_each();
+    for (int j = 0; j < stream_count; j++) {
+        printf("flow,%s,", streams[j].name);
+        print_wide(flow[j]);
+        if (cuts) write_cut(j);
+        putchar('\n');
+    }
+    if (tests) solve_without_each();
     return 0;
 }

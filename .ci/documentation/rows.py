@@ -15,6 +15,8 @@ from typing import Any
 from .expressions import Made, Values
 from .sources import Sources, Unknown
 
+Data = dict[str, Any]
+
 SCHEMA = "python/plantbal/schema.json"
 # The columns of sessions that the guide calls otherwise than the table does.
 LABELS = {"base": "BASEVAR", "day": "DATE"}
@@ -22,8 +24,6 @@ LABELS = {"base": "BASEVAR", "day": "DATE"}
 ITEMS = {"side": "names", "parts": "parts"}
 # The rows that another command than `run` writes.
 WRITERS = {"summary": "make", "yes": "check", "no": "check", "unreadable": "check"}
-
-Data = dict[str, Any]
 
 
 @dataclass
@@ -36,10 +36,14 @@ class Kind:
     tail: list[Data]
 
     def variant(self) -> str:
-        """Return what the kind's name has after its word, such as `metered` of `StreamMetered`."""
-        if not self.name.lower().startswith(self.word):
+        """Return what distinguishes the kind among those of its word: `metered` of `StreamMetered`.
+
+        A kind with dates of service may have a name without its word, such as `MeteredInService`.
+        """
+        front = len(self.word) if self.name.lower().startswith(self.word) else 0
+        if not front and not self.name.endswith("InService"):
             raise Unknown(f"rows: the kind {self.name} isn't named for its word {self.word}")
-        return "-".join(re.findall(r"[A-Z][a-z0-9]*", self.name[len(self.word) :])).lower()
+        return "-".join(re.findall(r"[A-Z][a-z0-9]*", self.name[front:])).lower()
 
 
 def column_of(column: Data) -> Data:
@@ -85,8 +89,13 @@ def labelled(column: Data) -> Data:
     return {"name": column["name"], "label": label, **column}
 
 
+def is_dated(row: Data) -> bool:
+    """Say whether a row of a session has dates of service."""
+    return any(column["name"] == "since" for column in row["columns"])
+
+
 def session(sources: Sources) -> list[Data]:
-    """Return the rows of a session; kinds of one word are its variants."""
+    """Return the rows of a session; kinds of one word are its variants, and stand together."""
     kinds, found = kinds_of(sources, "pb_form.specs.SessionRows", "session"), []
     words = [kind.word for kind in kinds]
     for kind in kinds:
@@ -97,6 +106,8 @@ def session(sources: Sources) -> list[Data]:
         if kind.tail:
             row["tail"] = [labelled(column) for column in kind.tail]
         found.append({**row, "columns": [labelled(column) for column in kind.columns]})
+    first = {row["kind"]: place for place, row in enumerate(found) if not is_dated(row)}
+    found.sort(key=lambda row: (first[row["kind"]], is_dated(row)))
     shown = [(row["kind"], row.get("variant")) for row in found]
     if len(set(shown)) < len(shown):
         raise Unknown(f"rows: two kinds of a session have one word and one variant: {shown}")

@@ -26,7 +26,7 @@ _plantbal_desk() {
     fi
     for ((at = 1; at < COMP_CWORD; at++)); do
         case ${COMP_WORDS[at]} in
-        run|lint|explain|check|archive|audit|report|solve|convert|book|template|from-spreadsheet|tables|uncertainty|draw|chart|page|fleet|critical|from-scipy|schema) word=${COMP_WORDS[at]}; break ;;
+        run|lint|explain|check|archive|audit|report|solve|convert|book|template|from-spreadsheet|tables|uncertainty|advise|draw|chart|page|fleet|critical|from-scipy|schema) word=${COMP_WORDS[at]}; break ;;
         esac
     done
     case $word:$before in
@@ -35,7 +35,7 @@ _plantbal_desk() {
         run:--gap) :; return ;;
         run:--sweeps) :; return ;;
         run:--eliminate) :; return ;;
-        lint:--ignore) _plantbal_words 'refused nothing-asked missing-reading missing-dip no-period after-report one-sided near-names magnitude small-deviation large-deviation density worse-class no-critical nearly-full untested no-elimination no-transfer unused-dip not-reported'; return ;;
+        lint:--ignore) _plantbal_words 'refused nothing-asked missing-reading missing-dip no-period after-report one-sided never-served near-names magnitude small-deviation large-deviation density worse-class no-critical nearly-full untested no-elimination no-transfer unused-dip not-reported'; return ;;
         explain:--program) _plantbal_files -f; return ;;
         check:--program) _plantbal_files -f; return ;;
         archive:--period) :; return ;;
@@ -79,6 +79,10 @@ _plantbal_desk() {
         from-spreadsheet:--skip) :; return ;;
         from-spreadsheet:--before) _plantbal_files -f; return ;;
         uncertainty:--form) _plantbal_words 'text csv json'; return ;;
+        advise:--form) _plantbal_words 'text csv'; return ;;
+        advise:--draw) _plantbal_files -f; return ;;
+        advise:--locale) :; return ;;
+        advise:--program) _plantbal_files -f; return ;;
         draw:--period) :; return ;;
         draw:--round) :; return ;;
         draw:--mark) :; return ;;
@@ -197,12 +201,18 @@ _plantbal_desk() {
             return
         fi
         _plantbal_words '-h --help --form' ;;
+    advise)
+        if [[ $here != -* ]]; then
+            _plantbal_files -f
+            return
+        fi
+        _plantbal_words '-h --help --form --draw --locale --program' ;;
     draw)
         if [[ $here != -* ]]; then
             _plantbal_files -f
             return
         fi
-        _plantbal_words '-h --help --period --round --mark --dot --out' ;;
+        _plantbal_words '-h --help --period --round --advice --mark --dot --out' ;;
     chart)
         if [[ $here != -* ]]; then
             _plantbal_files -f
@@ -231,7 +241,7 @@ _plantbal_desk() {
         _plantbal_words '-h --help --period --change --without-least' ;;
     schema)
         _plantbal_words '-h --help' ;;
-    *) _plantbal_words 'run lint explain check archive audit report solve convert book template from-spreadsheet tables uncertainty draw chart page fleet critical from-scipy schema -h --help --version' ;;
+    *) _plantbal_words 'run lint explain check archive audit report solve convert book template from-spreadsheet tables uncertainty advise draw chart page fleet critical from-scipy schema -h --help --version' ;;
     esac
 }
 

@@ -5,7 +5,7 @@ _plantbal_desk() {
     local -a specifications
     local word at
     for ((at = 2; at < CURRENT; at++)); do
-        case $words[at] in run|lint|explain|check|archive|audit|report|solve|convert|book|template|from-spreadsheet|tables|uncertainty|draw|chart|page|fleet|critical|from-scipy|schema) word=$words[at]; break ;; esac
+        case $words[at] in run|lint|explain|check|archive|audit|report|solve|convert|book|template|from-spreadsheet|tables|uncertainty|advise|draw|chart|page|fleet|critical|from-scipy|schema) word=$words[at]; break ;; esac
     done
     case $word in
     run)
@@ -27,7 +27,7 @@ _plantbal_desk() {
             '--help[show this help message and exit]'
             '--json[a list of objects in place of lines]'
             '--strict[status 1 on warnings too]'
-            '--ignore=[leave findings of this code out; may be said several times]:CODE:(refused nothing-asked missing-reading missing-dip no-period after-report one-sided near-names magnitude small-deviation large-deviation density worse-class no-critical nearly-full untested no-elimination no-transfer unused-dip not-reported)'
+            '--ignore=[leave findings of this code out; may be said several times]:CODE:(refused nothing-asked missing-reading missing-dip no-period after-report one-sided never-served near-names magnitude small-deviation large-deviation density worse-class no-critical nearly-full untested no-elimination no-transfer unused-dip not-reported)'
             '1:word:(lint)'
             '*:SESSION:_files'
         ) ;;
@@ -176,12 +176,25 @@ _plantbal_desk() {
             '1:word:(uncertainty)'
             '*:OUTPUT:_files'
         ) ;;
+    advise)
+        specifications=(
+            '-h[show this help message and exit]'
+            '--help[show this help message and exit]'
+            '--form=[how it is written]:FORM:(text csv)'
+            '--draw=[a drawing of the plant, as SVG]:FILE:_files'
+            '--locale=[how numbers are written, such as de]:NAME:'
+            '--program=[the program (default\: that of PLANTBAL, of the path, or of this checkout)]:PATH:_files'
+            '1:word:(advise)'
+            '2:SESSION:_files'
+            '*:COSTS:'
+        ) ;;
     draw)
         specifications=(
             '-h[show this help message and exit]'
             '--help[show this help message and exit]'
             '--period=[the period to draw]:NAME:'
             '--round=[the round to draw, 0 for the one before any meter was taken]:N:'
+            '--advice[draw which streams to meter]'
             '--mark=[the stream whose cut or cycle is marked]:STREAM:'
             '--dot[write the text for Graphviz in place of SVG]'
             '--out=[the picture]:FILE:_files'
@@ -266,7 +279,7 @@ _plantbal_desk() {
             '-h[show this help message and exit]'
             '--help[show this help message and exit]'
             '--version[write the version and end]'
-            "1:word:((run\:'run a session, and say what has to be looked at' lint\:'say what of a session is accepted and looks wrong' explain\:'say of each refused row what is wrong with it' check\:'check a report, of CSV or of JSON lines' archive\:'put a month into a bundle with digests' audit\:'say whether a bundle, or a report and its session, holds' report\:'turn a report into CSV, SQLite or a workbook' solve\:'reconcile by scipy what sweeps don'\''t come near' convert\:'a session from a plant'\''s workbook' book\:'keep a plant'\''s book, a session for each year' template\:'an empty workbook for convert' from-spreadsheet\:'a session from daily readings and tags' tables\:'tables of flows, classes, suspects, imbalances' uncertainty\:'how good each flow is, and the meters that it rests on' draw\:'draw a report or a design' chart\:'chart the periods of a session' page\:'the month'\''s statement\: a page, a workbook, a PDF' fleet\:'run a folder of sessions' critical\:'critical values as rows of a session' from-scipy\:'another program'\''s figures in the form of a report' schema\:'the rows of sessions and outputs as data'))"
+            "1:word:((run\:'run a session, and say what has to be looked at' lint\:'say what of a session is accepted and looks wrong' explain\:'say of each refused row what is wrong with it' check\:'check a report, of CSV or of JSON lines' archive\:'put a month into a bundle with digests' audit\:'say whether a bundle, or a report and its session, holds' report\:'turn a report into CSV, SQLite or a workbook' solve\:'reconcile by scipy what sweeps don'\''t come near' convert\:'a session from a plant'\''s workbook' book\:'keep a plant'\''s book, a session for each year' template\:'an empty workbook for convert' from-spreadsheet\:'a session from daily readings and tags' tables\:'tables of flows, classes, suspects, imbalances' uncertainty\:'how good each flow is, and the meters that it rests on' advise\:'which streams to meter so that each is observable, at least cost' draw\:'draw a report, a design, or which streams to meter' chart\:'chart the periods of a session' page\:'the month'\''s statement\: a page, a workbook, a PDF' fleet\:'run a folder of sessions' critical\:'critical values as rows of a session' from-scipy\:'another program'\''s figures in the form of a report' schema\:'the rows of sessions and outputs as data'))"
         ) ;;
     esac
     _arguments -s : $specifications

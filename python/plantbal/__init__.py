@@ -17,6 +17,7 @@ import importlib
 from typing import TYPE_CHECKING, Any
 
 if TYPE_CHECKING:
+    from plantbal.advice import advise
     from plantbal.conversion import convert
     from plantbal.faults import Fault, InputFault, ProgramFault, Refusal, ToolMissing
     from plantbal.lint import lint_session
@@ -37,6 +38,7 @@ __all__ = [
     "Session",
     "ToolMissing",
     "__version__",
+    "advise",
     "check",
     "convert",
     "find_program",
@@ -56,6 +58,7 @@ _HOMES = {
     "Refusal": "faults",
     "Session": "session",
     "ToolMissing": "faults",
+    "advise": "advice",
     "check": "program",
     "convert": "conversion",
     "find_program": "program",

@@ -23,10 +23,12 @@ from typing import Any
 
 UNREADABLE = "kind fields name number unknown duplicate word shape count env ended".split()
 MOST_BYTES = 67_108_864
-MOST_NODES, MOST_STREAMS = 1001, 2000
+MOST_NODES, MOST_STREAMS, MOST_DOF = 1001, 4000, 2000
 GRAM = 2**56  # what a price and a dual flow are parts of
 PART = 2**20  # what a deviation, a gap and a root are parts of
-PASSED_OVER = {"refused", "over", "design", "class", "history", "edit", "taken", "stop"}
+PASSED_OVER = set(
+    "refused over design class history edit taken stop advise meter window place component".split()
+)
 MEASURED = {"redundant", "nonredundant"}
 CLASSES = {"observable", "unobservable"} | MEASURED
 VERDICTS = {"reject", "accept", "undecided", "nocritical", "notest"}
@@ -409,7 +411,7 @@ COLUMNS: dict[str, Sequence[Callable[[str], Any]]] = {
     "report": (named, ROUND, ANY, ANY, whole(1, 10**6), SWEEPS),
     "node": (named, whole(-(2**120), 2**120)),
     "stream": (named, named, named, *MEASURED_AS, str, FLOW, *[maybe(ANY)] * 4, str, str, str),
-    "solved": (SWEEPS, str, whole(0, 2**63), whole(0, 32), whole(0, 2000), ANY, maybe(ANY)),
+    "solved": (SWEEPS, str, whole(0, 2**63), whole(0, 32), whole(0, MOST_DOF), ANY, maybe(ANY)),
     "global": (CRITICAL, str),
     "nodal": (named, ANY, ANY, CRITICAL, str),
     "measure": (named, ANY, maybe(ANY), CRITICAL, str),
@@ -475,37 +477,52 @@ def read_block(rows: Rows, fields: list[str]) -> Block:
 def read_streams(rows: Rows, count: int, nodes: dict[str, Node]) -> dict[str, Stream]:
     """Return the streams of a block by their names; their rows have as many fields as the first."""
     streams: dict[str, Stream] = {}
-    said: list[tuple[int, Stream, list[str]]] = []
+    said: list[tuple[int, Stream, str]] = []
     width = 0
+    # Half of the streams of a plant may have one cut, of thousands of parts: each is read once.
+    steps_of: dict[str, list[str]] = {}
+    members_of: dict[str, list[Member]] = {}
     for _ in range(count):
         fields = rows.take("stream")
         width = width or len(fields)
         ask(len(fields) == width and width in (13, 15), 2)
-        stream, steps = read_stream(fields, nodes, streams)
+        stream, parts = read_stream(fields, nodes, streams, steps_of)
         streams[stream.name] = stream
-        said.append((rows.number, stream, steps))
-    for number, stream, steps in said:  # they may name streams that come later
-        if any(step[1:] not in streams for step in steps):
-            raise Bad(5, number)
-        stream.parts = [(streams[step[1:]], 1 if step[0] == "+" else -1) for step in steps]
+        said.append((rows.number, stream, parts))
+    for number, stream, parts in said:  # they may name streams that come later
+        if parts not in members_of:
+            steps = steps_of.pop(parts)
+            if any(step[1:] not in streams for step in steps):
+                raise Bad(5, number)
+            members_of[parts] = [(streams[step[1:]], 1 if step[0] == "+" else -1) for step in steps]
+        stream.parts = members_of[parts]
     return streams
 
 
 def read_stream(
-    fields: list[str], nodes: dict[str, Node], streams: Collection[str]
-) -> tuple[Stream, list[str]]:
-    """Return the stream of a `stream` row, and its parts as they are written."""
+    fields: list[str],
+    nodes: dict[str, Node],
+    streams: Collection[str],
+    steps_of: dict[str, list[str]],
+) -> tuple[Stream, str]:
+    """Return the stream of a `stream` row, and its parts as they are written.
+
+    The steps of parts that are of their form are kept by the text.
+    """
     if len(fields) == 13:
         fields[10:10] = ["", ""]
     called, start, end, value, variance, kind, flow, *ends, shape, side, parts = values_of(fields)
     pair(value, variance)
     bounds, least = pair(*ends[:2]), pair(*ends[2:])
-    names, steps = pieces(side), pieces(parts)
+    names = pieces(side)
     ask(start in nodes and end in nodes, 5)
     ask(all(each in nodes or not NAME.fullmatch(each) for each in names), 5)
     ask(called not in streams, 6)
     ask(kind in CLASSES and shape in ("cut", "cycle"), 7)
-    ask(all(each[:1] in ("+", "-") and NAME.fullmatch(each[1:]) for each in steps), 8)
+    if parts not in steps_of:
+        steps = pieces(parts)
+        ask(all(each[:1] in ("+", "-") and NAME.fullmatch(each[1:]) for each in steps), 8)
+        steps_of[parts] = steps
     ask(all(each in nodes for each in names) and not (names and shape == "cycle"), 8)
     places = [nodes[each].place for each in names]
     ask(places == sorted(set(places)), 8)
@@ -513,7 +530,7 @@ def read_stream(
     measured = value is not None, value or 0, variance or 0
     shown = shape, frozenset(nodes[each] for each in names)
     stream = Stream(called, nodes[start], nodes[end], *measured, kind, flow, bounds, least, *shown)
-    return stream, steps
+    return stream, parts
 
 
 def pair(one: int | None, other: int | None) -> Ends | None:

@@ -19,9 +19,10 @@ from plantbal.workbook import read_workbook
 
 HELP = """
 WORKBOOK is an xlsx file, or a folder of CSV files, of which each is a sheet by its name:
-  streams    tag, stream, from, to, kind, unit, density, error, base
+  streams    tag, stream, from, to, kind, unit, density, error, base, since, until
   units      name (without it, units are the ends of streams that are no tanks)
-  tanks      tank, error, base, density
+  boundaries name: further names of env, for a jetty, a rail head, a pipeline
+  tanks      tank, error, base, density, since, until
   straps     tank, level, volume, unit (m3 without it)
   readings   the days down and a column for each tag; or days across; or long: day, tag, value, unit
   dips       tank, day, level, density, error
@@ -34,8 +35,10 @@ WORKBOOK is an xlsx file, or a folder of CSV files, of which each is a sheet by 
 Columns stand in any order; titles above, a row of units, sums below and remarks are passed over.
 Units are t, kt, kg, g, lb, klb, and with a density m3, L, mL, bbl; densities are in kg/m3, levels
 in mm, if no unit stands after them. An error is `1.5 %`, `0.2 t`, or both with `or` between; a
-tank's may be `3 mm`. What is finer than a gram is rounded, and that is said. If there is a fault,
-no session is written; all faults are said at once.
+tank's may be `3 mm`. What is finer than a gram is rounded, and that is said. A stream or tank is in
+service from its day `since` to its day `until`, both counted; without a day there is no such end.
+With these columns, or with boundaries, the session is of version 2. If there is a fault, no session
+is written; all faults are said at once.
 
 examples:
   plantbal-desk convert april.xlsx --out april.csv

@@ -13,7 +13,7 @@ from plantbal.conversion_readings import Readings
 from plantbal.conversion_tables import Row
 from plantbal.faults import InputFault, Place
 from plantbal.schema import Column, schema
-from plantbal.session import period_days
+from plantbal.session import Service, dip_days, in_service, is_served, period_days
 from plantbal.workbook import Cell, Sheet
 
 
@@ -161,6 +161,8 @@ class Converter(Readings):
         """Read rows of a session as they are, with numbers and days as a spreadsheet left them."""
         for sheet in self.sheets["rows"]:
             for cells in sheet.rows():
+                if [cell.text for cell in cells] == ["version", "2"] and len(self.session):
+                    continue  # it has begun so
                 with self.kept():
                     columns = self._columns_of(cells)
                     texts = [cells[0].text]
@@ -174,9 +176,10 @@ class Converter(Readings):
         """Return the columns of a row of a session, as far as its kind and words say them."""
         texts = [cell.text for cell in cells]
         for row in schema().session:
-            if row.kind == texts[0] and len(row.columns) + 1 == len(texts):
-                if all(c.type != "word" or t in c.words for c, t in zip(row.columns, texts[1:])):
-                    return row.columns
+            if row.kind == texts[0] and row.takes(len(texts) - 1):
+                columns = row.columns_for(len(texts) - 1)
+                if all(c.type != "word" or t in c.words for c, t in zip(columns, texts[1:])):
+                    return columns
         return ()
 
     def _field(self, cell: Cell, column: Column | None) -> str:
@@ -231,8 +234,10 @@ class Converter(Readings):
             if stream.kind != "metered":
                 continue
             read = self.days.get(stream.name, {})
-            lacks = [day for day in days if day not in read]
-            if len(lacks) == len(days):
+            service = self.session.service(stream.name)
+            served = [day for day in days if in_service(service, day.toordinal())]
+            lacks = [day for day in served if day not in read]
+            if lacks and len(lacks) == len(served):
                 self.notes.append(f"{period}: no reading of {stream.said}")
             elif lacks:
                 self.notes.append(
@@ -243,10 +248,20 @@ class Converter(Readings):
     def _missing_dips(self, period: str, first: datetime.date, last: datetime.date) -> None:
         for name in self.tanks:
             dips = self.dips.get(name, {})
-            eve = first - datetime.timedelta(1)
-            lacks = [day for day in (eve, last) if day not in dips]
+            ends = tank_days(self.session.service(name), first, last)
+            lacks = [day for day in ends if day not in dips]
             if lacks:
                 self.notes.append(f"{period}: no dip of {name} on {spans(lacks)}")
+
+
+def tank_days(
+    service: Service, first: datetime.date, last: datetime.date
+) -> list[datetime.date]:
+    """Return the days whose dips open and close a tank over a period; none out of service."""
+    days = first.toordinal(), last.toordinal()
+    if not is_served(service, *days):
+        return []
+    return list(map(datetime.date.fromordinal, dip_days(service, *days)))
 
 
 def days_of(first: datetime.date, last: datetime.date) -> list[datetime.date]:

@@ -11,7 +11,7 @@ from fractions import Fraction
 from plantbal.cells import GRAMS, VOLUMES, Error, Reader
 from plantbal.conversion_tables import Row, Tables
 from plantbal.schema import schema
-from plantbal.session import ENV
+from plantbal.session import ENV, dates_of_service, most_streams
 from plantbal.workbook import Cell, Sheet
 
 _MOST_ID = schema().limits["most_name"] - len("_2024-04-01")
@@ -79,14 +79,49 @@ class Plant(Tables):
         self.tanks: dict[str, Tank] = {}
         self.bad: set[str] = set()
 
+    def begin(self, known: Iterable[tuple[str, ...]] = ()) -> None:
+        """Begin the session: it is of version 2 if the workbook needs it, or what is known already.
+
+        Parameters
+        ----------
+        known : iterable of tuple of str
+            The rows of a plant that is known. Its boundaries are taken if the workbook has none.
+        """
+        rows = list(known)
+        if ("version", "2") in rows or self._needs_version_2():
+            self.session.row("version", "2")
+        if not self.sheets["boundaries"]:
+            for row in rows:
+                if row[0] == "boundary":
+                    self.session.row(*row)
+
+    def _needs_version_2(self) -> bool:
+        """Say whether there are boundaries, columns of dates of service, or very many streams."""
+        sheets = [*self.sheets["streams"], *self.sheets["tanks"]]
+        heads = {
+            value.strip().casefold()
+            for sheet in sheets
+            for _, values in sheet.lines[:40]
+            for value in values
+            if isinstance(value, str)
+        }
+        many = sum(len(sheet.lines) for sheet in sheets) > most_streams(1)
+        said = any(cells[0].text == "version" for s in self.sheets["rows"] for cells in s.rows())
+        return bool(self.sheets["boundaries"]) or bool({"since", "until"} & heads) or many or said
+
     def read_plant(self) -> None:
-        """Read units, tanks, tables, streams and critical values."""
+        """Read boundaries, units, tanks, tables, streams and critical values."""
+        if not len(self.session):
+            self.begin()
+        for row in self.rows("boundaries"):
+            if not self.put(["boundary", row.text("name")], {"name": row["name"]}):
+                self.bad.add(row.text("name"))
         self._read_tanks()
         ends = [(row, self._stream_of(row)) for row in self.rows("streams")]
         self._declare_units([row for row, _ in ends])
-        for tank, base, cells in self._tank_rows:
-            if not self.put(["tank", tank, base], cells):
-                self.bad.add(tank)
+        for fields, cells in self._tank_rows:
+            if not self.put(["tank", *fields], cells):
+                self.bad.add(fields[0])
         self._read_straps()
         for row, stream in ends:
             if stream is not None:
@@ -132,8 +167,16 @@ class Plant(Tables):
             return 1
         return max(1, self.reader.error(cell, density, head="base").variance(0))
 
+    def _service(self, row: Row) -> tuple[str, ...]:
+        """Return the dates of service of a row as fields; none if it has no date."""
+        since, until = (
+            None if self.reader.is_missing(row[head]) else self.reader.day(row[head], head)
+            for head in ("since", "until")
+        )
+        return dates_of_service(since, until)
+
     def _read_tanks(self) -> None:
-        self._tank_rows: list[tuple[str, str, dict[str, Cell]]] = []
+        self._tank_rows: list[tuple[tuple[str, ...], dict[str, Cell]]] = []
         for row in self.rows("tanks"):
             name = row.text("tank")
             self.bad.add(name)
@@ -146,9 +189,10 @@ class Plant(Tables):
                 if error is not None and error.share:
                     what = "a tank's error in percent says nothing of a level"
                     raise self.reader.fault(row["error"], what, "write `3 mm` or `8 t`", "error")
+                service = self._service(row)
                 self.tanks.setdefault(name, Tank(name, error, density))
-                cells = {"name": row["tank"], "base": row["base"]}
-                self._tank_rows.append((name, str(base), cells))
+                cells = {"name": row["tank"], "base": row["base"], "since": row["since"]}
+                self._tank_rows.append(((name, str(base), *service), cells))
                 self.bad.discard(name)
 
     def _read_straps(self) -> None:
@@ -192,7 +236,7 @@ class Plant(Tables):
 
     def _declare_units(self, rows: list[Row]) -> None:
         listed = [row["name"] for row in self.rows("units")]
-        seen = set(self.tanks) | self.bad | {ENV}
+        seen = {*self.tanks, *self.bad, *self.session.boundaries, ENV}
         if not self.sheets["units"]:
             ends = [row[head] for row in rows for head in ("from", "to")]
             listed = list({cell.text: cell for cell in reversed(ends) if cell.text}.values())
@@ -223,8 +267,9 @@ class Plant(Tables):
                     )
                 base = 0
             cells = {"name": row["stream"], "from": ends[0], "to": ends[1], "base": row["base"]}
+            cells["since"] = row["since"]
             fields = [stream.name, ends[0].text, ends[1].text, stream.kind, str(base)]
-            if self.put(["stream", *fields], cells):
+            if self.put(["stream", *fields, *self._service(row)], cells):
                 self.streams[stream.name] = stream
                 if stream.tag:
                     self.tags[stream.tag] = stream
@@ -242,6 +287,7 @@ class Plant(Tables):
             cell = ins.get(name) or outs.get(name)
             lacks = "going out" if name in ins else "coming in"
             others = [*(other for other in self.session.nodes if other != name), ENV]
+            others += self.session.boundaries
             near = difflib.get_close_matches(name, others, n=1, cutoff=0.75)
             remedy = f"did you mean {near[0]}?" if near else "`env` is the world outside"
             if cell is None:

@@ -17,9 +17,13 @@ from plantbal.workbook import Cell, Sheet
 
 # The columns of each sheet: those that it needs, and others.
 SHEETS: dict[str, tuple[tuple[str, ...], tuple[str, ...]]] = {
-    "streams": (("stream", "from", "to"), ("tag", "kind", "unit", "density", "error", "base")),
+    "streams": (
+        ("stream", "from", "to"),
+        ("tag", "kind", "unit", "density", "error", "base", "since", "until"),
+    ),
+    "boundaries": (("name",), ()),
     "units": (("name",), ()),
-    "tanks": (("tank",), ("error", "base", "density")),
+    "tanks": (("tank",), ("error", "base", "density", "since", "until")),
     "straps": (("tank", "level", "volume"), ("unit",)),
     "readings": ((), ()),
     "dips": (("tank", "day", "level"), ("density", "error")),

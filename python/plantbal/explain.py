@@ -17,7 +17,7 @@ from plantbal.meant import number_meant
 from plantbal.records import Record, read_records, without_empty_end
 from plantbal.report import Values, read_rows
 from plantbal.schema import Column, Row, schema
-from plantbal.session import Session, field_fits, kind_near, rows_of_kind
+from plantbal.session import Session, field_fits, kind_near, rows_of_kind, rows_of_word
 
 HELP = """
 SESSION is a file as plantbal reads it; `-` is standard input. Each refused row is shown with its
@@ -36,7 +36,13 @@ examples:
   plantbal-desk explain day.csv
   plantbal check < report.csv | plantbal-desk explain report.csv -
 """
-_NAMED = {"unit": "node", "tank": "node", "stream": "stream", "period": "period"}
+_NAMED = {
+    "unit": "node",
+    "tank": "node",
+    "boundary": "node",
+    "stream": "stream",
+    "period": "period",
+}
 _FACTS = ("reading", "transfer", "dip")
 # A column that names something, and what it names.
 _USES = {
@@ -270,16 +276,15 @@ def picture(
 
 def _row_of(record: tuple[str, ...]) -> Row | None:
     """Return the row that a record is meant to be, or None."""
-    rows = rows_of_kind(record[0]) if record else []
-    if len(rows) < 2:
-        return rows[0] if rows else None
-    place = next((i for i, c in enumerate(rows[0].columns, 1) if c.type == "word"), 0)
-    for row in rows:
-        if place and len(record) > place and record[place] == row.variant:
-            return row
-        if not place and len(record) == len(row.columns) + 1:
-            return row
-    return rows[0]
+    rows = (rows_of_word(record) or rows_of_kind(record[0])[:1]) if record else []
+    count = len(record) - 1
+
+    def unlike(row: Row) -> tuple[bool, int, int]:
+        """Return how far a record is from a row: by its count of fields, then by their forms."""
+        fit = sum(map(field_fits, row.columns, record[1:]))
+        return not row.takes(count), abs(len(row.columns) - count), -fit
+
+    return min(rows, key=unlike) if rows else None
 
 
 def _place(refusal: Refusal) -> tuple[int, str] | None:
@@ -292,6 +297,13 @@ def _place(refusal: Refusal) -> tuple[int, str] | None:
         column = "first" if "first" in row.names else "day"
     if refusal.code == 7 and row.kind == "critical":
         column = "dof" if "dof" in row.names else "word"
+    repeated = [each.name for each in row.tail]
+    if column in repeated:
+        begin = len(row.columns) + repeated.index(column) + 1
+        places = range(begin, len(refusal.row), len(repeated))
+        said = [at for at in places if refusal.row[at] == refusal.text]
+        # what stands there twice is at fault the second time
+        return said[-1 if refusal.code == 7 else 0], row.tail[repeated.index(column)].label
     if column not in row.names:
         return None
     place = row.names.index(column) + 1
@@ -388,11 +400,16 @@ def count_of_fields(record: tuple[str, ...]) -> _Count:
         row = rows[0] if len(record) < 6 else rows[-1]
     fields = record[1:]
     extra = len(fields) - len(row.columns)
-    if len(rows) > 1 and len(record) == 1:
-        words = [each.variant for each in rows if each.variant]
-        return _Count(
-            f"it has no other field; write {' or '.join(r.pattern for r in rows)}", words[0]
-        )
+    if len(record) == 1 and row.word:
+        words = [each.columns[each.word - 1].words[0] for each in rows]
+        patterns = " or ".join(each.pattern for each in rows if each.version == 1)
+        return _Count(f"it has no other field; write {patterns}", words[0])
+    if row.tail:
+        lacks = row.tail[extra % len(row.tail)].label
+        return _Count(f"{lacks} is missing at its end; write {row.pattern}", lacks)
+    if not extra:  # in a session of version 1
+        said = "SINCE and UNTIL are of sessions of version 2; write version,2 as the first row"
+        return _Count(said, "SINCE", len(fields) - 1, len(fields))
     return _too_many(row, fields, extra) if extra > 0 else _too_few(row, fields, -extra)
 
 
@@ -414,7 +431,8 @@ def _others(record: tuple[str, ...], place: int) -> str:
 
 def _word_elsewhere(record: tuple[str, ...], place: int) -> str:
     """Return what is said if a word stands in another field than its own, or nothing."""
-    words = {row.variant for row in rows_of_kind(record[0])}
+    rows = rows_of_kind(record[0])
+    words = {row.columns[row.word - 1].words[0] for row in rows if row.word}
     for number, text in enumerate(record):
         if number and number != place and text in words:
             few = "a field is missing before it"
@@ -456,6 +474,8 @@ def told_of(text: Text, record: Record, refusal: Refusal, instead: str = "") -> 
             value = row[first] if first < len(row) else ""
             if label == "KIND":
                 said = f"KIND is {quoted(value)}, and there is no such kind of row"
+                if value == "version":
+                    said = f"KIND is 'version': {refusal.said}"
                 if not value:
                     said = "KIND is empty"
                 remedy = _of_no_kind(row, remedy, record.number)
@@ -580,7 +600,7 @@ def whole_file(text: Text, refused: dict[int, Refusal]) -> list[Told]:
         if last.number in refused:
             made.under = [_short(text, last, refused)]
         found.append(made)
-    asks = {"report", "design", "history"}
+    asks = {"report", "design", "advise", "history"}
     asked = any(record.fields[0] in asks for record in text.records)
     if not asked and not by_sign:
         found.append(_told("it asks for nothing; add a row report,PERIOD after the facts"))
@@ -774,7 +794,7 @@ def is_report(data: bytes) -> bool:
     if first is None:
         return False
     kind, count = first.fields[0], len(without_empty_end(first.fields))
-    if kind in ("report", "design", "history"):
+    if kind in ("report", "design", "advise", "history"):
         return count > 2 or (kind == "design" and count > 1)
     return kind in schema().output
 

@@ -9,7 +9,7 @@ from typing import TYPE_CHECKING, Any
 from plantbal.amounts import day_text, decimal_of, grams_of, variance_of, whole_of
 from plantbal.faults import Fault, InputFault, Place
 from plantbal.memory import uncollected
-from plantbal.session import ENV
+from plantbal.session import ENV, dates_of_service, most_streams
 
 if TYPE_CHECKING:
     import pandas
@@ -142,6 +142,19 @@ class Table:
                 return list(texts[places])
         return self.texts(head, lambda value: day_text(value, head))
 
+    def services(self) -> list[tuple[str, ...]]:
+        """Return the dates of service of each row, as fields; none of a row without a date."""
+        ends = []
+        for head in ("since", "until"):
+            found: list[Any] = [None] * len(self.frame)
+            if self.has(head):
+                there = self.frame[head].notna()
+                texts = Table(self.name, self.frame[there]).days(head)
+                for place, text in zip(there.to_numpy().nonzero()[0], texts):
+                    found[place] = text
+            ends.append(found)
+        return [dates_of_service(since, until) for since, until in zip(*ends)]
+
     def amounts(self) -> list[str]:
         """Return the amounts, in grams."""
         head = self.need("grams", "tonnes")
@@ -166,6 +179,12 @@ def _take(session: Session, table: Table, kind: str, *columns: list[str]) -> Non
         session.row(kind, *fields, place=table.place(number))
 
 
+def _take_served(session: Session, table: Table, kind: str, *columns: list[str]) -> None:
+    """Take rows that may have dates of service."""
+    for number, (fields, service) in enumerate(zip(zip(*columns), table.services())):
+        session.row(kind, *fields, *service, place=table.place(number))
+
+
 def _take_streams(session: Session, table: Table) -> None:
     kinds = table.names("kind") if table.has("kind") else ["metered"] * len(table.frame)
     head = table.need("variance", "deviation_grams", "deviation_tonnes")
@@ -176,7 +195,7 @@ def _take_streams(session: Session, table: Table) -> None:
     column[plain] = 0
     frame[head] = column
     bases = Table(table.name, frame).variances()
-    _take(
+    _take_served(
         session,
         table,
         "stream",
@@ -213,6 +232,7 @@ def _thousandths(value: Any, head: str) -> str:
 def fill(
     session: Session,
     *,
+    boundaries: Iterable[str] | None,
     units: Iterable[str] | pandas.DataFrame | None,
     tanks: pandas.DataFrame | None,
     straps: pandas.DataFrame | None,
@@ -229,18 +249,25 @@ def fill(
     ----------
     session : Session
         The session.
-    units, tanks, straps, streams, periods, critical, readings, transfers, dips
+    boundaries, units, tanks, straps, streams, periods, critical, readings, transfers, dips
         As in `plantbal.Session.from_frames`.
     """
     tank_table = None if tanks is None else Table("tanks", tanks)
     stream_table = None if streams is None else Table("streams", streams)
     tank_names = tank_table.names("name", "tank") if tank_table else []
+    outside = list(boundaries or ())
+    plants = [table for table in (tank_table, stream_table) if table is not None]
+    dated = any(table.has(head) for table in plants for head in ("since", "until"))
+    if outside or dated or sum(len(table.frame) for table in plants) > most_streams(1):
+        session.row("version", "2")
+    for number, name in enumerate(outside):
+        session.row("boundary", name, place=Place(file="boundaries", row=str(number)))
     if units is None:
         ends: list[str] = []
         if stream_table:
             for one, other in zip(stream_table.names("from", "from_"), stream_table.names("to")):
                 ends += [one, other]
-        known = {ENV, *tank_names}
+        known = {ENV, *tank_names, *outside}
         names = [name for name in dict.fromkeys(ends) if name not in known]
     elif hasattr(units, "columns"):
         names = Table("units", units).names("name", "unit")
@@ -249,7 +276,7 @@ def fill(
     for number, name in enumerate(names):
         session.row("unit", name, place=Place(file="units", row=str(number)))
     if tank_table:
-        _take(session, tank_table, "tank", tank_names, tank_table.variances())
+        _take_served(session, tank_table, "tank", tank_names, tank_table.variances())
     if straps is not None:
         table = Table("straps", straps)
         _take(session, table, "strap", table.names("tank"), table.wholes("mm"), table.wholes("ml"))

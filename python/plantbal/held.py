@@ -113,10 +113,10 @@ class Ledger(Book):
         for fact in self._touching(period):
             facts[fact.of].append(fact)
         streams = {
-            stream: self._measured(each, period, facts[stream])
-            for stream, each in self.streams.items()
+            each.arc.name: self._measured(each, period, facts[each.arc.name])
+            for each in self.served(period)
         }
-        self.seen.append(Seen(period, line, list(self.nodes), streams, dict(self.values)))
+        self.seen.append(Seen(period, line, self.nodes_in(period), streams, dict(self.values)))
 
     def _take_fact(self, row: list[str], line: int) -> None:
         super()._take_fact(row, line)
@@ -138,7 +138,7 @@ class Ledger(Book):
             return self._tank(stream, period, facts)
         found = [fact for fact in facts if fact.last >= period.first]
         lines = tuple(fact.line for fact in found)
-        days = period.last - period.first + 1
+        days = len(stream.days_in(period))
         if stream.kind == "plain" or (stream.kind == "metered" and len(found) < days):
             return Measured(stream.arc, None, None, lines)
         grams = sum(share(fact.grams, fact, period) for fact in found)
@@ -147,7 +147,7 @@ class Ledger(Book):
 
     def _tank(self, stream: Stream, period: Period, facts: list[Fact]) -> Measured:
         dips = {fact.first: fact for fact in facts}
-        opening, closing = dips.get(period.first - 1), dips.get(period.last)
+        opening, closing = map(dips.get, stream.ends_of(period))
         lines = tuple(dip.line for dip in (opening, closing) if dip)
         if opening is None or closing is None:
             return Measured(stream.arc, None, None, lines)

@@ -11,7 +11,16 @@ from functools import cached_property, lru_cache
 
 from plantbal.faults import Place, Refusal
 from plantbal.records import read_records, without_empty_end
-from plantbal.session import ENV, Period, Session
+from plantbal.session import (
+    ENV,
+    Period,
+    Service,
+    Session,
+    days_in_service,
+    dip_days,
+    is_served,
+    service_of,
+)
 from plantbal.topology import Arc
 
 
@@ -28,12 +37,29 @@ def day_text(day: int) -> str:
 
 @dataclass(frozen=True, slots=True)
 class Stream:
-    """A declared stream, or a tank's gain (`kind` is ``tank``)."""
+    """A declared stream, or a tank's gain (`kind` is ``tank``).
+
+    A boundary at one of its ends stands there as ``env``.
+    """
 
     arc: Arc
     kind: str
     base: int
     line: int
+    service: Service = None
+
+    def is_in(self, period: Period) -> bool:
+        """Say whether it is in service on some day of a period."""
+        return is_served(self.service, period.first, period.last)
+
+    def days_in(self, period: Period) -> range:
+        """Return the days of a period on which it is in service."""
+        first, last = days_in_service(self.service, period.first, period.last)
+        return range(first, last + 1)
+
+    def ends_of(self, period: Period) -> tuple[int, int]:
+        """Return the days whose dips open and close a tank over a period."""
+        return dip_days(self.service, period.first, period.last)
 
 
 @dataclass(slots=True)
@@ -128,23 +154,25 @@ class Book:
             self._take_fact(row, line)
         elif kind in ("amend", "strike"):
             self._take_edit(row, line)
-        elif kind in ("unit", "tank"):
+        elif kind in ("unit", "tank", "boundary"):
             self.lines[row[1]] = line
             if kind == "tank":
                 self.tables[row[1]] = []
-                self.streams[row[1]] = Stream(Arc(row[1], row[1], ENV), "tank", int(row[2]), line)
+                arc = Arc(row[1], row[1], ENV)
+                self.streams[row[1]] = Stream(arc, "tank", int(row[2]), line, service_of(row))
         elif kind == "strap":
             self.tables[row[1]].append((int(row[2]), int(row[3])))
         elif kind == "stream":
             self.lines[row[1]] = line
-            self.streams[row[1]] = Stream(Arc(*row[1:4]), row[4], int(row[5]), line)
+            arc = Arc(row[1], *map(self.session.node_of, row[2:4]))
+            self.streams[row[1]] = Stream(arc, row[4], int(row[5]), line, service_of(row))
         elif kind == "period":
             self.periods[row[1]] = Period(row[1], day_number(row[2]), day_number(row[3]))
         elif kind == "critical":
             self.critical.add((row[1], int(row[2]) if row[1] == "global" else 0))
         elif kind == "report":
             self._take_report(row[1], line)
-        if kind in ("report", "design", "history"):
+        if kind in ("report", "design", "advise", "history"):
             self.asked.add(kind)
 
     def _take_fact(self, row: list[str], line: int) -> None:
@@ -180,23 +208,19 @@ class Book:
 
     def _take_report(self, name: str, line: int) -> None:
         period = self.periods[name]
-        metered = {name for name, stream in self.streams.items() if stream.kind == "metered"}
         missing: dict[str, list[int]] = {}
-        for day in range(period.first, period.last + 1):
-            for stream in metered - self._read.get(day, set()):
-                missing.setdefault(stream, []).append(day)
         undipped: dict[str, list[int]] = {}
-        for day in (period.first - 1, period.last):
-            for tank in self.tables.keys() - self._dipped.get(day, set()):
-                undipped.setdefault(tank, []).append(day)
+        for stream in self.served(period):
+            of = stream.arc.name
+            if stream.kind == "metered":
+                days = [day for day in stream.days_in(period) if of not in self._read.get(day, ())]
+                missing.update({of: days} if days else {})
+            elif stream.kind == "tank":
+                ends = stream.ends_of(period)
+                days = [day for day in ends if of not in self._dipped.get(day, ())]
+                undipped.update({of: days} if days else {})
         refused = len(self.session.refused)
-        self.reported[name] = Reported(
-            period, line, refused, self._ordered(missing), self._ordered(undipped)
-        )
-
-    def _ordered(self, days: dict[str, list[int]]) -> dict[str, list[int]]:
-        """Return streams in the order in which they are declared."""
-        return {name: days[name] for name in self.streams if name in days}
+        self.reported[name] = Reported(period, line, refused, missing, undipped)
 
     # ---- what follows
 
@@ -214,6 +238,21 @@ class Book:
     def arcs(self) -> list[Arc]:
         """The streams, and the gains of the tanks."""
         return [stream.arc for stream in self.streams.values()]
+
+    def served(self, period: Period) -> list[Stream]:
+        """Return the streams and the tanks' gains that are in service on a day of a period."""
+        return [stream for stream in self.streams.values() if stream.is_in(period)]
+
+    def arcs_in(self, period: Period) -> list[Arc]:
+        """Return the arcs of a period's report."""
+        return [stream.arc for stream in self.served(period)]
+
+    def nodes_in(self, period: Period) -> list[str]:
+        """Return the nodes of a period's report: in version 2 the ends of its streams alone."""
+        if self.session.version == 1:
+            return list(self.nodes)
+        ends = {end for arc in self.arcs_in(period) for end in (arc.from_, arc.to)}
+        return [node for node in self.nodes if node == ENV or node in ends]
 
     def measured(self, reported: Reported | None = None) -> set[str]:
         """Return what is measured by design, or in a period as its report saw it."""
@@ -241,8 +280,9 @@ class Book:
         """Return the periods that a fact counts in; a dip closes one and opens the next."""
         if fact.kind == "dip":
             day = fact.first
+            tank = self.streams[fact.of]
             near = self.periods_within(day, day + 1)
-            return [each for each in near if each.last == day or each.first == day + 1]
+            return [each for each in near if tank.is_in(each) and day in tank.ends_of(each)]
         return self.periods_within(fact.first, fact.last)
 
     def periods_within(self, first: int, last: int) -> list[Period]:

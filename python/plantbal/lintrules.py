@@ -15,7 +15,7 @@ from plantbal.amounts import tonnes_text
 from plantbal.faults import Place, Refusal
 from plantbal.lintbook import Book, Fact, Reported, day_text
 from plantbal.schema import schema
-from plantbal.session import ENV, LIMITS
+from plantbal.session import ENV, LIMITS, Period, most_streams
 from plantbal.topology import classes_of, degrees_of_freedom
 
 # A standard deviation below this part of a value is one that was taken for a variance.
@@ -57,12 +57,13 @@ RULES: dict[str, Rule] = {
     rule.code: rule
     for rule in (
         Rule("refused", "error", "rows are refused, and reports are made without them"),
-        Rule("nothing-asked", "error", "no report, design or history is asked for"),
+        Rule("nothing-asked", "error", "no report, design, advice or history is asked for"),
         Rule("missing-reading", "warning", "a meter has no value in a period that is reported"),
         Rule("missing-dip", "warning", "a tank has no value in a period that is reported"),
         Rule("no-period", "warning", "a fact is in no period, so it counts nowhere"),
         Rule("after-report", "warning", "a fact comes after the last report of its period"),
         Rule("one-sided", "warning", "nothing comes in at a unit, or nothing goes out"),
+        Rule("never-served", "warning", "a stream or tank is in service in no period"),
         Rule("near-names", "warning", "two names differ in one letter"),
         Rule("magnitude", "warning", "a value is 50 times its stream's median or more, or 1/500"),
         Rule("small-deviation", "warning", "a standard deviation is below 0.00001 of its value"),
@@ -232,14 +233,14 @@ def _whole_file(book: Book) -> str:
 
 
 def _nothing_asked(book: Book) -> Iterator[Finding]:
-    if book.asked - {"design"} or ("design" in book.asked and not book.facts):
+    if book.asked - {"design", "advise"} or (book.asked and not book.facts):
         return
     if not book.rows:
         text = "there is no row"
     elif book.facts:
         text = f"{len(book.facts)} facts are there, and no report is asked for"
     else:
-        text = "no report, design or history is asked for"
+        text = "no report, design, advice or history is asked for"
     periods = list(book.periods)
     remedy = f"add `report,{periods[-1]}`" if periods else "add a period, its facts and its report"
     yield Finding("nothing-asked", text, remedy, _place(book, None))
@@ -251,8 +252,8 @@ def _missing_readings(book: Book) -> Iterator[Finding]:
             continue
         classes = _classes(book, reported)
         period = reported.period
-        count = period.last - period.first + 1
         for name, days in reported.missing.items():
+            count = len(book.streams[name].days_in(period))
             if count == 1:
                 lacks = f"no reading on {_days(days)}"
             elif len(days) == count:
@@ -276,15 +277,22 @@ def _missing_dips(book: Book) -> Iterator[Finding]:
     for reported in book.reported.values():
         for name, days in reported.undipped.items():
             period = reported.period
-            which = {True: "the last day of", False: "the day before"}
-            what = " and none ".join(
-                f"of {which[day == period.last]} {period.name}, {day_text(day)}" for day in days
-            )
+            what = " and none ".join(_which_dip(book, name, period, day) for day in days)
             text = f"tank {name} has no value in {period.name}: it has no dip {what}"
             remedy = "book the dip; a tank that stood still has the same dip on both days"
             yield Finding(
                 "missing-dip", text, remedy, _place(book, reported.line), name, period.name
             )
+
+
+def _which_dip(book: Book, tank: str, period: Period, day: int) -> str:
+    """Return which dip is missing: of an end of the period, or of the days in service."""
+    opens = day == book.streams[tank].ends_of(period)[0]
+    if day in (period.first - 1, period.last):
+        which = f"the day before {period.name}" if opens else f"the last day of {period.name}"
+    else:
+        which = "the day before its first in service" if opens else "its last day in service"
+    return f"of {which}, {day_text(day)}"
 
 
 def _in_no_period(book: Book) -> Iterator[Finding]:
@@ -367,7 +375,8 @@ def _no_transfers(book: Book) -> Iterator[Finding]:
     for reported in book.reported.values():
         name = reported.period.name
         for stream, declared in book.streams.items():
-            if declared.kind == "batch" and name not in of[stream]:
+            served = declared.is_in(reported.period)
+            if declared.kind == "batch" and served and name not in of[stream]:
                 text = f"{stream} has no transfer in {name}, and counts as 0 there"
                 yield Finding(
                     "no-transfer",
@@ -423,6 +432,17 @@ def _one_sided(book: Book) -> Iterator[Finding]:
         if near:
             remedy = f"did you mean {near[0]}?"
         yield Finding("one-sided", text, remedy, _place(book, book.lines.get(unit)), unit)
+
+
+def _never_served(book: Book) -> Iterator[Finding]:
+    for name, stream in book.streams.items():
+        if stream.service is None or not book.periods:
+            continue
+        if not any(stream.is_in(period) for period in book.periods.values()):
+            since, until = map(day_text, stream.service)
+            text = f"{name} is in service from {since} to {until}, on no day of a period"
+            remedy = "mend its dates of service, or declare a period of them"
+            yield Finding("never-served", text, remedy, _place(book, stream.line), name)
 
 
 def _zero(book: Book, streams: list[str]) -> str:
@@ -501,7 +521,8 @@ def near_pairs(names: Sequence[str]) -> list[tuple[str, str]]:
 
 def _near_names(book: Book) -> Iterator[Finding]:
     streams = [name for name, stream in book.streams.items() if stream.kind != "tank"]
-    for what, names in (("nodes", list(book.session.nodes)), ("streams", streams)):
+    nodes = [*book.session.nodes, *book.session.boundaries]
+    for what, names in (("nodes", nodes), ("streams", streams)):
         for one, other in near_pairs(names):
             first, second = sorted((one, other), key=lambda name: book.lines[name])
             text = f"the {what} {first} and {second} have nearly the same name"
@@ -631,7 +652,15 @@ def _densities(book: Book) -> Iterator[Finding]:
 
 def _classes(book: Book, reported: Reported | None = None) -> dict[str, str]:
     """Return the classes by design, or in a period."""
-    return classes_of(book.nodes, book.arcs, book.measured(reported))
+    if reported is None:
+        return classes_of(book.nodes, book.arcs, book.measured())
+    nodes, arcs = book.nodes_in(reported.period), book.arcs_in(reported.period)
+    return classes_of(nodes, arcs, book.measured(reported))
+
+
+def _classes_if_whole(book: Book, period: Period) -> dict[str, str]:
+    """Return the classes of a period if nothing of its facts were missing."""
+    return classes_of(book.nodes_in(period), book.arcs_in(period), book.measured())
 
 
 _RANKS = {"redundant": 0, "observable": 1, "nonredundant": 1, "unobservable": 2}
@@ -641,8 +670,8 @@ def _worse_classes(book: Book) -> Iterator[Finding]:
     lacking = [each for each in book.reported.values() if each.missing or each.undipped]
     if not lacking:
         return
-    design = _classes(book)
     for reported in lacking:
+        design = _classes_if_whole(book, reported.period)
         without = [*reported.missing, *reported.undipped]
         period = reported.period.name
         worse: dict[tuple[str, str], list[str]] = defaultdict(list)
@@ -674,8 +703,9 @@ def _critical(book: Book) -> Iterator[Finding]:
         return
     by_freedom: dict[int, list[Reported]] = defaultdict(list)
     for reported in book.reported.values():
+        nodes, arcs = book.nodes_in(reported.period), book.arcs_in(reported.period)
         measured = book.measured(reported)
-        by_freedom[degrees_of_freedom(book.nodes, book.arcs, measured)].append(reported)
+        by_freedom[degrees_of_freedom(nodes, arcs, measured)].append(reported)
     there = {dof for test, dof in book.critical if test == "global"}
     for dof, some in by_freedom.items():
         if dof and dof not in there:
@@ -712,7 +742,8 @@ def _nearly_full(book: Book) -> Iterator[Finding]:
         (len(book.facts), LIMITS["most_facts"], "readings, transfers and dips", another),
         (len(book.periods), LIMITS["most_periods"], "periods", another),
         (len(book.nodes) - 1, LIMITS["most_units_and_tanks"], "units and tanks", split),
-        (len(book.streams), LIMITS["most_streams"], "streams and tanks", split),
+        (len(book.streams), most_streams(book.session.version), "streams and tanks", split),
+        (len(book.session.boundaries), LIMITS["most_boundaries"], "boundaries", split),
         (points, LIMITS["most_points"], "points of a tank's table", "leave some points out"),
         (len(book.data), LIMITS["most_bytes"], "bytes", another),
     ):
@@ -730,6 +761,7 @@ _FINDERS: tuple[Callable[[Book], Iterator[Finding]], ...] = (
     _no_transfers,
     _not_reported,
     _one_sided,
+    _never_served,
     _near_names,
     _magnitudes,
     _deviations,

@@ -339,6 +339,24 @@ class Output:
         return _frame("class", rows, {"design": designs})
 
     @cached_property
+    def advice(self) -> pandas.DataFrame:
+        """The streams to meter of each `advise` row, with what each costs and its cycle.
+
+        `advice` is the number of the row, counted from 0; `parts` is the stream and the way back
+        over streams that stay without a meter, none of which costs less.
+        """
+        rows: list[Values] = []
+        numbers: list[int] = []
+        number = -1
+        for row in self.rows:
+            if row["row"] == "advise":
+                number += 1
+            elif row["row"] == "meter":
+                rows.append(row)
+                numbers.append(number)
+        return _frame("meter", rows, {"advice": numbers})
+
+    @cached_property
     def verdicts(self) -> pandas.DataFrame:
         """What a check found, of the output of a check."""
         return verdict_frame(self.rows)
@@ -398,7 +416,7 @@ class Output:
     def tables(self) -> dict[str, pandas.DataFrame]:
         """Return the tables that have rows, by their names."""
         names = "blocks streams uncertainty nodes tests refused over taken stops histories history"
-        found = {name: getattr(self, name) for name in [*names.split(), "classes"]}
+        found = {name: getattr(self, name) for name in [*names.split(), "classes", "advice"]}
         found["verdicts"] = self.verdicts
         return {name: table for name, table in found.items() if len(table)}
 

@@ -1,5 +1,5 @@
 """Draws a report or a design by Graphviz: units, tanks, streams by class, flows in tonnes, one
-certificate marked."""
+certificate marked, and which streams to meter."""
 
 from __future__ import annotations
 
@@ -10,7 +10,7 @@ from collections.abc import Iterable
 from plantbal.amounts import tonnes_text
 from plantbal.faults import Fault, ToolMissing
 from plantbal.files import write_bytes
-from plantbal.report import Block, Values, blocks_of, designs_of, read_rows
+from plantbal.report import Block, Values, advice_of, blocks_of, designs_of, read_rows
 
 HELP = """
 OUTPUT is what plantbal wrote, as CSV or as JSON lines; without it standard input is read. The last
@@ -25,8 +25,12 @@ the global test), or what was taken. With --mark the certificate of a stream is 
 its cut or cycle are drawn thick, and the units of the cut's side are filled. A plant of 300 streams
 takes a second or two, one of 2,000 some minutes.
 
+With --advice the last design is drawn with the last advice: the streams to meter are violet, with a
+`+` and what the meter costs; --mark shows the cycle for which one of them is metered.
+
 examples:
   plantbal run < day.csv | plantbal-desk draw --mark KEROSENE > day.svg
+  plantbal run < plant.csv | plantbal-desk draw --advice --mark RES > meters.svg
 """
 # Each has at least 4.5 to 1 on white, and a sign, so that none is known by its colour alone.
 COLOURS = {
@@ -38,6 +42,7 @@ COLOURS = {
 SIGNS = {"redundant": "●", "nonredundant": "○", "observable": "△", "unobservable": "?"}
 STYLES = {"nonredundant": "dashed", "observable": "dashed", "unobservable": "dotted"}
 SUSPECT, SUSPECT_SIGN = "#a3001b", "!"
+METER, METER_SIGN = "#6a1b9a", "+"
 # Arrows are as wide as their tonnes, between these.
 THINNEST, WIDEST = 1.2, 6.0
 # Above this many streams Graphviz is asked for its fast layout: its best one of 300 takes a minute.
@@ -72,6 +77,8 @@ class Picture:
         The streams that are red.
     prefix : str
         What the names of its elements begin with, so that a page may have several.
+    meters : iterable of dict
+        The rows of the streams to meter.
     """
 
     def __init__(
@@ -81,8 +88,10 @@ class Picture:
         nodes: Iterable[str] = (),
         suspects: Iterable[str] = (),
         prefix: str = "",
+        meters: Iterable[Values] = (),
     ) -> None:
         self.title, self.streams, self.prefix = title, streams, prefix
+        self.meters = {meter["stream"]: meter for meter in meters}
         self.suspects = list(dict.fromkeys(suspects))
         names = list(nodes) + [end for stream in streams for end in (stream["from"], stream["to"])]
         self.nodes = [name for name in dict.fromkeys(names) if name != "env"]
@@ -93,7 +102,11 @@ class Picture:
         self.parts: set[str] = set()
 
     def mark(self, name: str) -> None:
-        """Mark the certificate of a stream."""
+        """Mark the certificate of a stream, or the cycle for which it is to be metered."""
+        if name in self.meters:
+            self.parts = {part[1:] for part in self.meters[name]["parts"].split(" ")}
+            self.title += f": cycle of {name}"
+            return
         for stream in self.streams:
             if stream["name"] == name:
                 self.side = set(stream["side"].split(" ")) if stream["side"] else set()
@@ -112,10 +125,15 @@ class Picture:
 
     def colour(self, stream: Values) -> str:
         """Return the colour of a stream."""
+        if stream["name"] in self.meters:
+            return METER
         return SUSPECT if stream["name"] in self.suspects else COLOURS[stream["class"]]
 
     def label(self, stream: Values) -> str:
-        """Return a stream's name after its sign, and its tonnes if it has a figure to book."""
+        """Return a stream's name after its sign, and its tonnes or what its meter costs."""
+        if stream["name"] in self.meters:
+            cost = int(self.meters[stream["name"]]["cost"])
+            return f"{METER_SIGN} {stream['name']}\nmeter: {cost:,}"
         sign = SUSPECT_SIGN if stream["name"] in self.suspects else SIGNS[stream["class"]]
         if "flow" not in stream or stream["class"] == "unobservable":
             return f"{sign} {stream['name']}"
@@ -129,9 +147,10 @@ class Picture:
 
     def legend(self) -> str:
         """Return what the signs mean, of the classes that are there."""
-        there = {stream["class"] for stream in self.streams}
+        there = {s["class"] for s in self.streams if s["name"] not in self.meters}
         said = [f"{sign} {name}" for name, sign in SIGNS.items() if name in there]
-        return "    ".join([*said, *([f"{SUSPECT_SIGN} suspect"] if self.suspects else [])])
+        said += [f"{SUSPECT_SIGN} suspect"] if self.suspects else []
+        return "    ".join(said + ([f"{METER_SIGN} to meter"] if self.meters else []))
 
     def node(self, name: str) -> str:
         """Return the line of a unit or a tank; a tank's stream is drawn as the tank itself."""
@@ -209,6 +228,26 @@ def picture_of(block: Block, prefix: str = "") -> Picture:
     return Picture(block.title, block.streams, nodes, suspects + block.taken, prefix)
 
 
+def advised(rows: list[Values]) -> Picture:
+    """Return the picture of the last design with the streams that the last advice says to meter.
+
+    Raises
+    ------
+    Fault
+        If there is no advice, or no design, which has the ends of the streams.
+    """
+    meters, designs = advice_of(rows), designs_of(rows)
+    if meters is None or not designs:
+        lacks = "advice" if meters is None else "design"
+        raise Fault(
+            f"there is no {lacks} in what was read",
+            remedy="write the rows design and advise at the end of the session",
+        )
+    total = sum(int(meter["cost"]) for meter in meters)
+    count = "1 meter" if len(meters) == 1 else f"{len(meters)} meters"
+    return Picture(f"{count} to buy, for {total:,}", designs[-1], meters=meters)
+
+
 def chosen(rows: list[Values], period: str | None, number: int | None) -> Picture:
     """Return the picture of the last report of the period and the round, or of the last design."""
     blocks = [
@@ -250,6 +289,7 @@ def add_arguments(parser: argparse.ArgumentParser) -> None:
         type=int,
         help="the round to draw, 0 for the one before any meter was taken",
     )
+    parser.add_argument("--advice", action="store_true", help="draw which streams to meter")
     parser.add_argument("--mark", metavar="STREAM", help="the stream whose cut or cycle is marked")
     parser.add_argument(
         "--dot", action="store_true", help="write the text for Graphviz in place of SVG"
@@ -259,7 +299,10 @@ def add_arguments(parser: argparse.ArgumentParser) -> None:
 
 def run(options: argparse.Namespace) -> int:
     """Write the picture."""
-    picture = chosen(read_rows(options.output, "report", "design"), options.period, options.round)
+    rows = read_rows(options.output, "report", "design")
+    if options.advice and (options.period is not None or options.round is not None):
+        raise Fault("--advice is of a plant, not of a report", remedy="leave --period and --round out")
+    picture = advised(rows) if options.advice else chosen(rows, options.period, options.round)
     if options.mark is not None:
         picture.mark(options.mark)
     dot = picture.dot()

@@ -240,10 +240,13 @@ def refuse_parts(source: str, rows: list[Values], *, checks: bool = False) -> No
         )
     cut = [block.title for block in blocks_of(rows) if not block.ended or block.solved is None]
     cut = [f"the report of {title}" for title in cut]
-    designs = [row for row in rows if row["row"] == "design"]
-    classes = sum(row["row"] == "class" for row in rows)
-    if classes < sum(int(row["streams"]) for row in designs):
-        cut.append("the design")
+    for head, below, count, what in (
+        ("design", "class", "streams", "the design"),
+        ("advise", "meter", "count", "the advice"),
+    ):
+        wanted = sum(int(row[count]) for row in rows if row["row"] == head)
+        if sum(row["row"] == below for row in rows) < wanted:
+            cut.append(what)
     if cut:
         raise InputFault(f"{cut[0]} is cut off", place=place, remedy="run the session again")
 
@@ -351,3 +354,11 @@ def designs_of(rows: list[Values]) -> list[list[Values]]:
     """Return the streams of each design in order."""
     places = [place for place, row in enumerate(rows) if row["row"] == "design"]
     return [rows[place + 1 : place + 1 + int(rows[place]["streams"])] for place in places]
+
+
+def advice_of(rows: list[Values]) -> list[Values] | None:
+    """Return the meters of the last advice, or None if there is no advice."""
+    places = [place for place, row in enumerate(rows) if row["row"] == "advise"]
+    if not places:
+        return None
+    return rows[places[-1] + 1 : places[-1] + 1 + int(rows[places[-1]]["count"])]

@@ -66,6 +66,11 @@ class Row:
         The columns that an older form of the row hasn't.
     about, example : str
         What it says, and a row of the kind.
+    names : tuple of str
+        The names of the columns.
+    word : int
+        The place of the column whose word chooses among the rows of a kind, counted from 1; 0 if
+        there is none.
     """
 
     kind: str
@@ -77,9 +82,28 @@ class Row:
     about: str = ""
     example: str = ""
     names: tuple[str, ...] = field(init=False, default=())
+    word: int = field(init=False, default=0)
 
     def __post_init__(self) -> None:
         object.__setattr__(self, "names", tuple(column.name for column in self.columns))
+        places = (at for at, column in enumerate(self.columns, 1) if column.type == "word")
+        object.__setattr__(self, "word", next(places, 0))
+
+    @property
+    def version(self) -> int:
+        """The version of sessions from which on there are such rows."""
+        return 2 if self.kind in ("version", "boundary") or "since" in self.names else 1
+
+    def takes(self, count: int) -> bool:
+        """Say whether a row of the kind may have that many fields after its kind."""
+        more = count - len(self.columns)
+        return more == 0 or (more > 0 and bool(self.tail) and more % len(self.tail) == 0)
+
+    def columns_for(self, count: int) -> tuple[Column, ...]:
+        """Return the columns of that many fields, those of the tail as often as they come."""
+        if count <= len(self.columns) or not self.tail:
+            return self.columns
+        return self.columns + self.tail * ((count - len(self.columns)) // len(self.tail))
 
     @property
     def older(self) -> tuple[str, ...]:
@@ -147,7 +171,7 @@ class Schema:
     unreadable: Mapping[int, Code]
 
     def row(self, kind: str, variant: str = "") -> Row:
-        """Return the row of a session of a kind and a variant."""
+        """Return the row of a session of a kind and a variant; without dates of service."""
         for row in self.session:
             if (row.kind, row.variant) == (kind, variant):
                 return row

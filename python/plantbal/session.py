@@ -11,8 +11,8 @@ import datetime
 import difflib
 import io
 import re
-from bisect import bisect_left, bisect_right, insort
-from collections.abc import Callable, Iterable, Iterator, Sequence
+from bisect import bisect_right, insort
+from collections.abc import Callable, Iterable, Iterator, Mapping, Sequence
 from dataclasses import dataclass
 from functools import lru_cache
 from itertools import repeat
@@ -30,11 +30,17 @@ if TYPE_CHECKING:
     import pandas
 
 LIMITS = schema().limits
+# The days that a date may be: dates of service that aren't said are these.
+FIRST_DAY = datetime.date(LIMITS["first_year"], 1, 1)
+LAST_DAY = datetime.date(LIMITS["last_year"], 12, 31)
 _NAME = re.compile(rf"[A-Za-z0-9_.-]{{1,{LIMITS['most_name']}}}")
 _REASON = re.compile(rf"[ -~]{{1,{LIMITS['most_reason']}}}")
 _WHOLE = re.compile(r"0|-?[1-9][0-9]*")
 _DATE = re.compile(r"[0-9]{4}-[0-9]{2}-[0-9]{2}")
 ENV = "env"
+# From the first to the last day on which a stream or tank is in service, both counted; None is
+# every day.
+Service = tuple[int, int] | None
 
 
 @dataclass(slots=True)
@@ -108,19 +114,71 @@ def _bad(column: Column, text: str) -> int:
     return 0
 
 
-def _rows_by_kind() -> dict[str, list[Row]]:
+def _rows_by_kind(version: int) -> dict[str, list[Row]]:
     found: dict[str, list[Row]] = {}
     for row in schema().session:
-        found.setdefault(row.kind, []).append(row)
+        if row.version <= version:
+            found.setdefault(row.kind, []).append(row)
     return found
 
 
-_ROWS = _rows_by_kind()
+_ROWS_OF = {version: _rows_by_kind(version) for version in (1, 2)}
+_ROWS = _ROWS_OF[2]
+_ASKS = ("design", "advise", "report", "history")
 
 
 def rows_of_kind(kind: str) -> list[Row]:
-    """Return the rows of a kind, or none if there is no such kind."""
+    """Return the rows of a kind, of whatever version, or none if there is no such kind."""
     return _ROWS.get(kind, [])
+
+
+def rows_of_word(record: Sequence[str]) -> list[Row]:
+    """Return the rows of a record's kind that have its word; none if the kind has no such word."""
+    rows = rows_of_kind(record[0]) if record else []
+    return [
+        row
+        for row in rows
+        if not row.word or tuple(record[row.word : row.word + 1]) == _word_of(row)
+    ]
+
+
+def _word_of(row: Row) -> tuple[str, ...]:
+    """Return the word that chooses a row among those of its kind."""
+    return row.columns[row.word - 1].words
+
+
+def in_service(service: Service, day: int) -> bool:
+    """Say whether something is in service on a day."""
+    return service is None or service[0] <= day <= service[1]
+
+
+def days_in_service(service: Service, first: int, last: int) -> tuple[int, int]:
+    """Return the first and the last of some days on which something is in service.
+
+    The first comes after the last if it is in service on none of them.
+    """
+    return (first, last) if service is None else (max(first, service[0]), min(last, service[1]))
+
+
+def is_served(service: Service, first: int, last: int) -> bool:
+    """Say whether something is in service on some day from the first to the last."""
+    begin, end = days_in_service(service, first, last)
+    return begin <= end
+
+
+def dip_days(service: Service, first: int, last: int) -> tuple[int, int]:
+    """Return the days whose dips open and close a tank over a period.
+
+    These are the day before the first on which it is in service, and the last one.
+    """
+    begin, end = days_in_service(service, first, last)
+    return begin - 1, end
+
+
+def service_of(fields: Sequence[str]) -> Service:
+    """Return the days of service of a row of a tank or a stream that was accepted."""
+    count = {"tank": 5, "stream": 8}.get(fields[0], 0)
+    return (_number(fields[-2]), _number(fields[-1])) if len(fields) == count else None
 
 
 def kind_near(text: str) -> str:
@@ -151,6 +209,7 @@ def _near(name: str, names: Iterable[str]) -> str:
 
 _DECLARE = "declare it in a row before this one, or mend the name"
 _ANOTHER = "begin another session, with the plant's rows again"
+_OF_VERSION_2 = "are of sessions of version 2: write version,2 as the first row"
 
 
 def _of_no_kind(first: str) -> str:
@@ -164,6 +223,8 @@ def _of_no_kind(first: str) -> str:
         return "the whole row stands between double quotes: take them out"
     if not first:
         return "a row begins with its kind: take the comma in front out, or the row"
+    if plain.lower() in ("jetty", "port", "rail", "pipeline", "terminal", "border"):
+        return "in a session of version 2 a row boundary,NAME declares one"
     if first in schema().output:
         return "plantbal writes rows of this kind, and reads none: is this an output?"
     return ""
@@ -203,11 +264,16 @@ class Session:
     ----------
     strict : bool
         Whether a refused row raises `Refusal`. Otherwise it is left out and kept in `refused`.
+    version : {1, 2}
+        Its version. One of version 2 begins with the row ``version,2``, and may have boundaries,
+        dates of service and 4,000 streams.
 
     Attributes
     ----------
     refused : list of Refusal
         The rows that were refused, of a session that isn't strict.
+    version : int
+        Its version; the row ``version,2``, if no row is stored before it, makes it 2.
 
     Examples
     --------
@@ -223,8 +289,9 @@ class Session:
     reading,f1,FEED,2024-05-01,102500000,1000000000000
     """
 
-    def __init__(self, *, strict: bool = True) -> None:
+    def __init__(self, *, strict: bool = True, version: int = 1) -> None:
         self.strict = strict
+        self.version = 1
         self.refused: list[Refusal] = []
         self._rows: list[tuple[str, ...]] = []
         self._nodes: dict[str, str] = {}
@@ -236,6 +303,12 @@ class Session:
         self._critical: set[tuple[str, int]] = set()
         self._facts: dict[str, _Fact] = {}
         self._days: set[tuple[str, int]] = set()
+        self._boundaries: dict[str, None] = {}
+        self._service: dict[str, tuple[int, int]] = {}
+        if version not in (1, 2):
+            raise Fault(f"there is no version {version} of sessions", remedy="say 1 or 2")
+        if version == 2:
+            self.row("version", "2")
 
     # ---- what is there
 
@@ -267,6 +340,30 @@ class Session:
     def nodes(self) -> dict[str, str]:
         """What each declared node is: ``unit`` or ``tank``."""
         return dict(self._nodes)
+
+    @property
+    def boundaries(self) -> tuple[str, ...]:
+        """The boundaries, which are further names of ``env``, in order."""
+        return tuple(self._boundaries)
+
+    def service(self, name: str) -> Service:
+        """Return the days on which a stream or tank is in service, as their numbers.
+
+        Parameters
+        ----------
+        name : str
+            The stream or tank.
+
+        Returns
+        -------
+        tuple of int or None
+            Its first and its last day, both counted; None for every day.
+        """
+        return self._service.get(name)
+
+    def node_of(self, name: str) -> str:
+        """Return the node that a name stands for: ``env`` for a boundary, else the name itself."""
+        return ENV if name in self._boundaries else name
 
     def to_csv(self, path: str | Path | None = None) -> str:
         """Return the session as the program reads it, and write it to a file if one is named.
@@ -350,13 +447,11 @@ class Session:
         if not record:
             return _Judged(())
         row = self._kind(record)
-        if len(record) != len(row.columns) + 1:
-            self._refuse(2, record, f"it has {len(record)} fields", remedy=f"write {row.pattern}")
         self._judge_fields(row, record)
         values = dict(zip(row.names, record[1:]))
         kind, late = row.kind, row.kind == "late"
         if late:
-            kind = row.variant
+            kind = record[1]
         judge = getattr(self, f"_judge_{kind}")
         store: Callable[[], None] | None = (
             judge(record, values, late) if kind in _FACTS else judge(record, values)
@@ -365,42 +460,62 @@ class Session:
 
     def _kind(self, record: tuple[str, ...]) -> Row:
         """Return the row of a record's kind, or refuse it with 1 or 2."""
-        rows = _ROWS.get(record[0])
-        if rows is None:
-            words = sorted(_ROWS)
-            remedy = _of_no_kind(record[0]) or _near(record[0], words)
-            remedy = remedy or f"a row begins with one of {', '.join(words)}"
-            self._refuse(
-                1, record, f"there is no kind of row {record[0]!r}", "kind", record[0], remedy
-            )
-        if len(rows) == 1:
-            return rows[0]
-        place = next((i for i, c in enumerate(rows[0].columns, 1) if c.type == "word"), None)
-        if place is None:  # the number of fields says which
-            for row in rows:
-                if len(record) == len(row.columns) + 1:
-                    return row
-            patterns = " or ".join(row.pattern for row in rows)
-            self._refuse(2, record, f"it has {len(record)} fields", remedy=f"write {patterns}")
+        rows = _ROWS_OF[self.version].get(record[0], [])
+        if not rows or record[0] == "version":
+            rows = self._of_version(record)
+        place = rows[0].word if len(rows) > 1 else 0
+        if place:
+            rows = self._of_word(record, rows, place)
+        for row in rows:
+            if row.takes(len(record) - 1):
+                return row
+        patterns = " or ".join(row.pattern for row in rows)
+        remedy = f"write {patterns}"
+        if any(row.takes(len(record) - 1) for row in rows_of_word(record)):
+            remedy = f"dates of service {_OF_VERSION_2}"
+        self._refuse(2, record, f"it has {len(record)} fields", remedy=remedy)
+
+    def _of_word(self, record: tuple[str, ...], rows: list[Row], place: int) -> list[Row]:
+        """Return the rows of a kind that have a record's word, or refuse it with 1 or 2."""
         if len(record) <= place:
             self._refuse(
                 2, record, f"it has {len(record)} fields", remedy=f"write {rows[0].pattern}"
             )
-        for row in rows:
-            if record[place] == row.variant:
-                return row
-        words = [row.variant for row in rows]
+        found = [row for row in rows if (record[place],) == _word_of(row)]
+        if found:
+            return found
+        words = list(dict.fromkeys(_word_of(row)[0] for row in rows))
         remedy = _near(record[place], words) or f"write {', '.join(words[:-1])} or {words[-1]}"
         name = rows[0].columns[place - 1].name
         self._refuse(
             1, record, f"field {place + 1} is {record[place]!r}", name, record[place], remedy
         )
 
+    def _of_version(self, record: tuple[str, ...]) -> list[Row]:
+        """Return the row that makes a session one of version 2, or refuse a record with 1."""
+        what, word = f"there is no kind of row {record[0]!r}", record[0]
+        if word == "version":
+            what, remedy = "it isn't the row version,2", "write version,2 as the first row"
+            if record == ("version", "2"):
+                if all(row[0] in _ASKS for row in self._rows):
+                    return _ROWS["version"]
+                what, remedy = "rows are stored before it", "write it as the first row"
+                if self.version == 2:
+                    what, remedy = "this session is of version 2 already", "leave it out"
+        elif word in _ROWS:
+            remedy = f"boundaries {_OF_VERSION_2}"
+        else:
+            words = sorted(_ROWS_OF[self.version])
+            remedy = _of_no_kind(word) or _near(word, words)
+            remedy = remedy or f"a row begins with one of {', '.join(words)}"
+        self._refuse(1, record, what, "kind", word, remedy)
+
     def _judge_fields(self, row: Row, record: tuple[str, ...]) -> None:
         """Refuse a record whose fields aren't of their forms: names first, then numbers, then
         dates."""
         worst = 0
-        for column, text in zip(row.columns, record[1:]):
+        columns = row.columns_for(len(record) - 1) if row.tail else row.columns
+        for column, text in zip(columns, record[1:]):
             code = _bad(column, text)
             if code and (not worst or code < worst):
                 worst, at, said = code, column, text
@@ -461,6 +576,14 @@ class Session:
 
     # ---- the plant
 
+    def _judge_version(
+        self, record: tuple[str, ...], values: dict[str, str]
+    ) -> Callable[[], None]:
+        def store() -> None:
+            self.version = 2
+
+        return store
+
     def _judge_name(self, record: tuple[str, ...], name: str) -> None:
         """Refuse a name that is taken."""
         what = "the world outside" if name == ENV else None
@@ -468,15 +591,29 @@ class Session:
             what = f"a {self._nodes[name]}"
         elif name in self._streams:
             what = f"a {self._streams[name]} stream"
+        elif name in self._boundaries:
+            what = "a boundary"
         if what is not None:
             said = f"{name} is {what} already" if name != ENV else f"{name} is {what}"
             self._refuse(
                 7, record, said, "name", name, "choose another name, or leave this row out"
             )
 
-    def _judge_sealed(self, record: tuple[str, ...]) -> None:
-        """Refuse a part of the plant once a period is closed."""
-        if self._closed:
+    def _judge_service(self, record: tuple[str, ...], values: dict[str, str]) -> Service:
+        """Return the days of service of a row, or refuse it if they aren't in order."""
+        if "since" not in values:
+            return None
+        service = _number(values["since"]), _number(values["until"])
+        if service[1] < service[0]:
+            what = "its first day in service is after its last"
+            self._refuse(8, record, what, "since", values["since"], "exchange the days")
+        return service
+
+    def _judge_sealed(self, record: tuple[str, ...], service: Service = None) -> None:
+        """Refuse a part of the plant that would change what a closed period was made of."""
+        if not self._closed:
+            return
+        if self.version == 1:
             self._refuse(
                 10,
                 record,
@@ -484,33 +621,64 @@ class Session:
                 remedy="put it before the first close row, if no report that went out changes by "
                 "it; else begin a new session with the changed plant",
             )
+        closed = self._closed[0][2] if service is None else self._touched(*service)
+        if closed is not None:
+            last = self._closed[-1][1]
+            self._refuse(
+                10,
+                record,
+                f"period {closed} is closed, and it is in service on days of it",
+                "" if service is None else "since",
+                "" if service is None else record[-2],
+                "give it dates of service after the closed periods: "
+                f"SINCE {day_of_number(last + 1)} or later, and UNTIL",
+            )
 
     def _judge_room(self, record: tuple[str, ...], nodes: bool, arcs: bool) -> None:
         """Refuse a unit, tank or stream beyond the limits."""
         if nodes and len(self._nodes) >= LIMITS["most_units_and_tanks"]:
             what = f"{len(self._nodes):,} units and tanks are there, and no more may be"
             self._refuse(13, record, what, remedy="join units between which nothing is measured")
-        if arcs and len(self._streams) + len(self._tables) >= LIMITS["most_streams"]:
-            count = len(self._streams) + len(self._tables)
+        count = len(self._streams) + len(self._tables)
+        if arcs and count >= most_streams(self.version):
             what = f"{count:,} streams and tanks are there, and no more may be"
-            self._refuse(13, record, what, remedy="split the plant into two sessions")
+            remedy = "split the plant into two sessions"
+            if self.version == 1:
+                most = most_streams(2)
+                remedy = f"write version,2 as the first row: {most:,} may be then"
+            self._refuse(13, record, what, remedy=remedy)
+
+    def _judge_boundary(
+        self, record: tuple[str, ...], values: dict[str, str]
+    ) -> Callable[[], None]:
+        name = values["name"]
+        self._judge_name(record, name)
+        if len(self._boundaries) >= LIMITS["most_boundaries"]:
+            what = f"{len(self._boundaries)} boundaries are there, and no more may be"
+            remedy = "streams over one border may share a boundary"
+            self._refuse(13, record, what, remedy=remedy)
+        return lambda: self._boundaries.update({name: None})
 
     def _judge_unit(self, record: tuple[str, ...], values: dict[str, str]) -> Callable[[], None]:
         name = values["name"]
         self._judge_name(record, name)
-        self._judge_sealed(record)
+        if self.version == 1:
+            self._judge_sealed(record)
         self._judge_room(record, True, False)
         return lambda: self._nodes.update({name: "unit"})
 
     def _judge_tank(self, record: tuple[str, ...], values: dict[str, str]) -> Callable[[], None]:
         name = values["name"]
         self._judge_name(record, name)
-        self._judge_sealed(record)
+        service = self._judge_service(record, values)
+        self._judge_sealed(record, service)
         self._judge_room(record, True, True)
 
         def store() -> None:
             self._nodes[name] = "tank"
             self._tables[name] = []
+            if service is not None:
+                self._service[name] = service
 
         return store
 
@@ -527,7 +695,8 @@ class Session:
                 values[column],
                 "write the table from bottom to top",
             )
-        self._judge_sealed(record)
+        if self.version == 1:
+            self._judge_sealed(record)
         if len(table) >= LIMITS["most_points"]:
             what = f"the table of {tank} has {len(table):,} points, and no more may be"
             self._refuse(13, record, what, remedy="leave points out that lie on a line")
@@ -549,20 +718,30 @@ class Session:
     def _judge_stream(self, record: tuple[str, ...], values: dict[str, str]) -> Callable[[], None]:
         name, kind = values["name"], record[4]
         for end in ("from", "to"):
-            if values[end] != ENV and values[end] not in self._nodes:
-                what, other = f"there is no unit or tank {values[end]}", _DECLARE
-                if values[end] in self._streams:
-                    what = f"{values[end]} is a stream, not a unit or tank"
+            named = values[end]
+            if named != ENV and named not in self._nodes and named not in self._boundaries:
+                what, other = f"there is no unit or tank {named}", _DECLARE
+                if named in self._streams:
+                    what = f"{named} is a stream, not a unit or tank"
                     other = "name the unit or tank at which it ends"
-                remedy = _near(values[end], [ENV, *self._nodes]) or other
-                self._refuse(6, record, what, end, values[end], remedy)
+                remedy = _near(named, [ENV, *self._nodes, *self._boundaries]) or other
+                self._refuse(6, record, what, end, named, remedy)
         self._judge_name(record, name)
-        if values["from"] == values["to"]:
+        service = self._judge_service(record, values)
+        if self.node_of(values["from"]) == self.node_of(values["to"]):
             what = f"it leads from {values['from']} to itself"
+            if values["from"] != values["to"]:
+                what = f"{values['from']} and {values['to']} are both the world outside"
             self._refuse(9, record, what, "to", values["to"], "give it two different ends")
-        self._judge_sealed(record)
+        self._judge_sealed(record, service)
         self._judge_room(record, False, True)
-        return lambda: self._streams.update({name: kind})
+
+        def store() -> None:
+            self._streams[name] = kind
+            if service is not None:
+                self._service[name] = service
+
+        return store
 
     def _judge_critical(
         self, record: tuple[str, ...], values: dict[str, str]
@@ -633,6 +812,22 @@ class Session:
     def _judge_design(self, record: tuple[str, ...], values: dict[str, str]) -> None:
         return None
 
+    def _judge_advise(self, record: tuple[str, ...], values: dict[str, str]) -> None:
+        names = record[1::2]
+        for name in names:
+            self._judge_stream_of(record, name)
+        seen: set[str] = set()
+        for name in names:
+            if name in seen:
+                what = f"{name} has a cost already"
+                self._refuse(7, record, what, "stream", name, "leave one of the two costs out")
+            seen.add(name)
+        for name in names:
+            if self._streams[name] != "plain":
+                what = f"{name} is a {self._streams[name]} stream, which is measured already"
+                remedy = "costs are those of meters for plain streams: leave it out"
+                self._refuse(9, record, what, "stream", name, remedy)
+
     def _judge_report(self, record: tuple[str, ...], values: dict[str, str]) -> None:
         self._period(record, values["period"])
 
@@ -649,13 +844,18 @@ class Session:
             return self._closed[place - 1][2]
         return None
 
-    def _touched_by_dip(self, day: int) -> str | None:
-        """Return the name of a closed period that ends on a day or begins on the next, or None."""
-        place = bisect_left(self._closed, (day + 1, 0, ""))
-        if place < len(self._closed) and self._closed[place][0] == day + 1:
-            return self._closed[place][2]
-        if place and self._closed[place - 1][1] == day:
-            return self._closed[place - 1][2]
+    def _touched_by_dip(self, tank: str, day: int) -> str | None:
+        """Return the name of a closed period that a tank's dip of a day opens or closes, or
+        None."""
+        service = self._service.get(tank)
+        # Of the periods that share no day only those of this day and of the next can be meant.
+        for near in (day + 1, day):
+            place = bisect_right(self._closed, (near, 10**9, "")) - 1
+            if place < 0:
+                continue
+            first, last, name = self._closed[place]
+            if is_served(service, first, last) and day in dip_days(service, first, last):
+                return name
         return None
 
     def _judge_fact(
@@ -726,6 +926,7 @@ class Session:
         fact = _Fact("reading", stream, day, day)
         closed = None if late else self._touched(day, day)
         self._judge_fact(record, fact, values["id"], values["day"], closed)
+        self._judge_served(record, stream, day, day, "day")
         self._judge_full(record)
         return self._keep(values["id"], fact)
 
@@ -741,6 +942,7 @@ class Session:
             most = LIMITS["most_days_of_transfer"]
             what = f"it has {last - first + 1} days, and at most {most} may be"
             self._refuse(12, record, what, "last", values["last"], "split it")
+        self._judge_served(record, stream, first, last, "first")
         self._judge_full(record)
         return self._keep(values["id"], fact)
 
@@ -750,11 +952,28 @@ class Session:
         tank, day = values["tank"], _number(values["day"])
         self._table(record, tank)
         fact = _Fact("dip", tank, day, day)
-        closed = None if late else self._touched_by_dip(day)
+        closed = None if late else self._touched_by_dip(tank, day)
         self._judge_fact(record, fact, values["id"], values["day"], closed)
         self._judge_level(record, tank, int(values["mm"]))
+        if not in_service(self._service.get(tank), day + 1):  # the eve of its first day is taken
+            self._judge_served(record, tank, day, day, "day")
         self._judge_full(record)
         return self._keep(values["id"], fact)
+
+    def _judge_served(
+        self, record: tuple[str, ...], name: str, first: int, last: int, column: str
+    ) -> None:
+        """Refuse a fact of a day on which its stream or tank isn't in service."""
+        service = self._service.get(name)
+        if service is None or service[0] <= first <= last <= service[1]:
+            return
+        days = " to ".join(day_of_number(day).isoformat() for day in service)
+        outside = last if in_service(service, first) else first
+        at = "last" if outside != first else column
+        said = day_of_number(outside).isoformat()
+        what = f"{name} isn't in service on {said}: it is from {days}"
+        remedy = "mend the date, or leave the row out"
+        self._refuse(12, record, what, at, said, remedy)
 
     def _judge_level(self, record: tuple[str, ...], tank: str, mm: int) -> None:
         """Refuse a level outside the table of its tank."""
@@ -814,6 +1033,16 @@ class Session:
         """
         self.row("unit", name)
 
+    def boundary(self, name: str) -> None:
+        """Declare a boundary: a further name of ``env``, for a jetty, a rail head or a pipeline.
+
+        Parameters
+        ----------
+        name : str
+            Its name. The session has to be of version 2.
+        """
+        self.row("boundary", name)
+
     def tank(
         self,
         name: str,
@@ -821,6 +1050,8 @@ class Session:
         variance: int | None = None,
         deviation_grams: Tonnes | None = None,
         deviation_tonnes: Tonnes | None = None,
+        since: Day | None = None,
+        until: Day | None = None,
     ) -> None:
         """Declare a tank.
 
@@ -832,8 +1063,12 @@ class Session:
             The variance that its content's change has in every period, in squared grams. Or:
         deviation_grams, deviation_tonnes : Decimal, int or str, optional
             The standard deviation of it.
+        since, until : datetime.date or str, optional
+            The first and the last day on which it is in service, both counted; without them each
+            day. With one of them the session has to be of version 2.
         """
-        self.row("tank", name, _variance(variance, deviation_grams, deviation_tonnes))
+        base = _variance(variance, deviation_grams, deviation_tonnes)
+        self.row("tank", name, base, *dates_of_service(since, until))
 
     def strap(self, tank: str, mm: int, ml: int) -> None:
         """Add a point to a tank's strapping table.
@@ -859,6 +1094,8 @@ class Session:
         variance: int | None = None,
         deviation_grams: Tonnes | None = None,
         deviation_tonnes: Tonnes | None = None,
+        since: Day | None = None,
+        until: Day | None = None,
     ) -> None:
         """Declare a stream.
 
@@ -867,7 +1104,7 @@ class Session:
         name : str
             Its name.
         from_, to : str
-            Its ends: units or tanks, or ``env``, the world outside.
+            Its ends: units or tanks, or ``env``, the world outside, or a boundary.
         kind : {'metered', 'batch', 'plain'}
             Whether it has a meter that is read daily, flows in batches, or isn't measured.
         variance : int, optional
@@ -875,12 +1112,14 @@ class Session:
             Or:
         deviation_grams, deviation_tonnes : Decimal, int or str, optional
             The standard deviation of it. A plain stream has none of them.
+        since, until : datetime.date or str, optional
+            As in `tank`.
         """
         if kind == "plain" and variance is deviation_grams is deviation_tonnes is None:
             base = "0"
         else:
             base = _variance(variance, deviation_grams, deviation_tonnes)
-        self.row("stream", name, from_, to, kind, base)
+        self.row("stream", name, from_, to, kind, base, *dates_of_service(since, until))
 
     def period(self, name: str, first: Day, last: Day) -> None:
         """Declare a period of booking, from its first to its last day.
@@ -1089,6 +1328,18 @@ class Session:
         """Ask for the classes of all streams declared so far."""
         self.row("design")
 
+    def advise(self, costs: Mapping[str, int] | None = None) -> None:
+        """Ask which plain streams to meter so that each stream is observable, at the least cost.
+
+        Parameters
+        ----------
+        costs : mapping of str to int, optional
+            What a meter of each plain stream costs, from 0 to 10^12 in any unit; of those that
+            aren't named it is 1.
+        """
+        pairs = [(name, whole_of(cost, "COST")) for name, cost in (costs or {}).items()]
+        self.row("advise", *(text for pair in pairs for text in pair))
+
     def report(self, period: str) -> None:
         """Ask for the report of a period."""
         self.row("report", period)
@@ -1112,6 +1363,7 @@ class Session:
         readings: pandas.DataFrame | None = None,
         transfers: pandas.DataFrame | None = None,
         dips: pandas.DataFrame | None = None,
+        boundaries: Iterable[str] | None = None,
         reports: bool | Iterable[str] = True,
         design: bool = False,
         strict: bool = True,
@@ -1122,7 +1374,8 @@ class Session:
         has parameters: ``grams`` or ``tonnes``; ``variance``, ``deviation_grams`` or
         ``deviation_tonnes``; ``from`` and ``to``; ``day`` or ``date``. Without a column ``id``
         facts are called STREAM_DAY. Amounts are whole numbers, Decimals or texts; floats are
-        refused.
+        refused. The session is of version 2 if there are boundaries, columns ``since`` or
+        ``until``, or more streams than one of version 1 may have.
 
         Parameters
         ----------
@@ -1131,6 +1384,8 @@ class Session:
             streams that are neither tanks nor ``env``.
         tanks, straps, streams, periods, critical, readings, transfers, dips : DataFrame, optional
             The other rows.
+        boundaries : iterable of str, optional
+            The boundaries, which are further names of ``env``.
         reports : bool or iterable of str
             Whether each period is reported, or the periods that are.
         design : bool
@@ -1150,6 +1405,7 @@ class Session:
         session = cls(strict=strict)
         fill(
             session,
+            boundaries=boundaries,
             units=units,
             tanks=tanks,
             straps=straps,
@@ -1203,6 +1459,7 @@ class Session:
             and self._facts.keys().isdisjoint(ids)
             and len(pairs) == len(ids)
             and self._days.isdisjoint(pairs)
+            and self._all_served(pairs)
             and _all_within(grams, row.column("grams"))
             and _all_within(variances, row.column("variance"))
         )
@@ -1212,6 +1469,13 @@ class Session:
             self._days |= pairs
             self._rows.extend(zip(repeat("reading"), *columns))
         return accepted
+
+
+    def _all_served(self, pairs: set[tuple[str, int]]) -> bool:
+        """Say whether each stream is in service on the day beside it."""
+        if not self._service:
+            return True
+        return all(in_service(self._service.get(stream), day) for stream, day in pairs)
 
 
 Readings = tuple[list[str], list[str], list[str], list[str], list[str]]
@@ -1236,6 +1500,21 @@ def _all_within(texts: list[str], column: Column) -> bool:
 
 
 _FACTS = ("reading", "transfer", "dip")
+
+
+def dates_of_service(since: Day | None, until: Day | None) -> tuple[str, ...]:
+    """Return the fields of dates of service: none without a date, else both."""
+    if since is until is None:
+        return ()
+    return (
+        day_text(FIRST_DAY if since is None else since, "SINCE"),
+        day_text(LAST_DAY if until is None else until, "UNTIL"),
+    )
+
+
+def most_streams(version: int) -> int:
+    """Return how many streams and tanks a session of a version may have."""
+    return LIMITS["most_streams" if version == 2 else "most_streams_of_version_1"]
 
 
 def _number(day: str) -> int:

@@ -344,7 +344,7 @@ class ReadingSheet:
 
 
 def read_before(path: str) -> tuple[list[list[str]], set[str]]:
-    """Return the rows of a file of further rows, and the units and tanks that they declare."""
+    """Return the rows of a file of further rows, and the nodes and boundaries that they declare."""
     source, text = read_text(path)
     rows = []
     reader = csv.reader(io.StringIO(text, newline=""))
@@ -356,7 +356,8 @@ def read_before(path: str) -> tuple[list[list[str]], set[str]]:
                 remedy="write rows of a session there, with commas between fields",
             )
         rows.append(row)
-    return rows, {row[1] for row in rows if row[0] in ("unit", "tank") and len(row) > 1}
+    kinds = ("unit", "tank", "boundary")
+    return rows, {row[1] for row in rows if row[0] in kinds and len(row) > 1}
 
 
 def session_rows(
@@ -373,7 +374,7 @@ def session_rows(
     before : list of list of str
         Rows to put in front.
     declared : set of str
-        The units and tanks that these declare.
+        The units, tanks and boundaries that these declare.
     """
     rows = list(before)
     for name in dict.fromkeys(end for tag in tags for end in tag.ends):

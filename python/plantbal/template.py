@@ -28,6 +28,7 @@ _LAST = 2000  # the last row that has a list
 
 KINDS: dict[str, tuple[str, ...]] = {
     "refinery": (
+        "boundaries",
         "units",
         "tanks",
         "straps",
@@ -44,6 +45,7 @@ KINDS: dict[str, tuple[str, ...]] = {
 }
 # What each sheet is for, and what each column holds.
 ABOUT = {
+    "boundaries": "further names of env, such as a jetty, a rail head and a pipeline",
     "units": "the units of the plant; without a row they are the ends of the streams",
     "tanks": "the tanks, with the error of their gauges",
     "straps": "the strapping tables, from the bottom of each tank to its top",
@@ -59,8 +61,10 @@ _HEADS = {
     "name": "1 to 32 letters, digits, _, - or .",
     "tag": "the meter's tag, which stands over its column of readings; empty for none",
     "stream": "the stream's name: 1 to 32 letters, digits, _, - or .",
-    "from": "a unit, a tank, or env",
-    "to": "a unit, a tank, or env",
+    "from": "a unit, a tank, env, or a boundary",
+    "to": "a unit, a tank, env, or a boundary",
+    "since": "the first day on which it is in service; empty for always",
+    "until": "the last day on which it is in service, counted too; empty for no end",
     "kind": "metered: read daily; batch: booked by tickets; plain: not measured",
     "unit": "of the figures: t without it; volumes want a density",
     "density": "in kg/m3, or with its unit: 0.862 t/m3",
@@ -120,7 +124,7 @@ def heads(sheet: str) -> tuple[str, ...]:
         return ("day",)
     needed, others = SHEETS[sheet]
     order = {
-        "streams": "tag stream from to kind unit density error base",
+        "streams": "tag stream from to kind unit density error base since until",
         "tickets": "id stream first last amount unit density error",
         "estimates": "tag stream day amount unit density error",
         "critical": "test dof value",
@@ -181,7 +185,7 @@ def _write_sheet(sheet: Any, name: str, lists: dict[tuple[str, str], Choice]) ->
         cell = sheet.cell(1, column)
         cell.comment = Comment(_HEADS[head], "plantbal")
         letter = cell.column_letter
-        if head in ("day", "first", "last"):
+        if head in ("day", "first", "last", "since", "until"):
             sheet.column_dimensions[letter].number_format = "yyyy-mm-dd"
         choice = lists.get((name, head))
         if choice is not None:

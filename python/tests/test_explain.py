@@ -11,7 +11,7 @@ import pytest
 from conftest import Desk, example
 from hypothesis import given, settings
 from hypothesis import strategies as st
-from test_program import PLANT, QUICK, lines_of, record, refused_by
+from test_program import PLANT, PLANT_2, QUICK, lines_of, record, refused_by
 
 from plantbal.explain import Explanation, Text, Told, explain_bytes
 from plantbal.session import LIMITS
@@ -287,11 +287,74 @@ def test_cases_are_all() -> None:
     assert found == KINDS
 
 
+SMALL_2 = (
+    "version,2\nboundary,J\nboundary,R\n"
+    + SMALL
+    + """tank,Y,1,2024-03-05,2024-03-20
+strap,Y,0,0
+strap,Y,1000,5000
+stream,Z,J,U,metered,1,2024-03-05,2024-03-20
+stream,N,V,R,batch,1,2024-03-05,2024-03-20
+close,p
+"""
+)
+# The same of boundaries, dates of service and advice, with the session before the row.
+LATER = [
+    (SMALL, 1, "boundary,J", "KIND", "boundaries are of sessions of version 2"),
+    (SMALL, 1, "version,2", "KIND", "rows are stored before it"),
+    (SMALL, 2, "tank,X,1,2024-03-05,2024-03-20", "SINCE", "are of sessions of version 2"),
+    (SMALL, 2, "stream,X,env,U,plain,0,2024-03-05,2024-03-20", "SINCE", "write version,2 as the"),
+    (SMALL, 2, "advise,P", "COST", "COST is missing at its end"),
+    (SMALL, 3, "advise,a b,1", "STREAM", "such as a_b"),
+    (SMALL, 4, "advise,P,1.50", "COST", "a whole number in digits alone"),
+    (SMALL, 6, "advise,Q,1", "STREAM", "there is no stream Q"),
+    (SMALL, 6, "advise,P,1,T,1", "STREAM", "T is a tank, not a stream"),
+    (SMALL, 7, "advise,P,1,P,2", "STREAM", "P has a cost already"),
+    (SMALL, 9, "advise,P,1,S,2", "STREAM", "S is a metered stream, which is measured already"),
+    (SMALL_2, 1, "version,2", "KIND", "this session is of version 2 already"),
+    (SMALL_2, 1, "version,3", "KIND", "it isn't the row version,2"),
+    (SMALL_2, 1, "boundry,K", "KIND", "did you mean boundary?"),
+    (SMALL_2, 1, "jetty,K", "KIND", "a row boundary,NAME declares one"),
+    (SMALL_2, 1, "stream,X,J,U,truck,0,2024-03-05,2024-03-20", "field 5", "write metered, batch"),
+    (SMALL_2, 2, "boundary", "NAME", "NAME is missing; write boundary,NAME"),
+    (SMALL_2, 2, "tank,X,1,2024-03-05", "SINCE or UNTIL", "is missing"),
+    (SMALL_2, 2, "stream,X,J,U,plain,0,2024-03-05", "SINCE or UNTIL", "is missing"),
+    (SMALL_2, 3, "boundary,a b", "NAME", "such as a_b"),
+    (SMALL_2, 5, "tank,X,1,,2024-03-20", "SINCE", "SINCE is empty"),
+    (SMALL_2, 5, "tank,X,1,2024-03-05,20.3.2024", "UNTIL", "write 2024-03-20"),
+    (SMALL_2, 6, "stream,X,QUAY,U,plain,0", "FROM", "there is no unit or tank QUAY"),
+    (SMALL_2, 7, "boundary,J", "NAME", "J is a boundary already"),
+    (SMALL_2, 7, "unit,R", "NAME", "R is a boundary already"),
+    (SMALL_2, 8, "tank,X,1,2024-03-20,2024-03-05", "SINCE", "exchange the days"),
+    (SMALL_2, 8, "stream,X,J,J,plain,0,2024-03-20,2024-03-05", "SINCE", "exchange the days"),
+    (SMALL_2, 9, "stream,X,J,R,plain,0", "TO", "J and R are both the world outside"),
+    (SMALL_2, 10, "tank,X,1", "", "period p is closed"),
+    (SMALL_2, 10, "stream,X,J,U,plain,0,2024-01-31,2024-12-31", "SINCE", "SINCE 2024-02-01 or la"),
+    (SMALL_2, 12, "reading,q,Z,2024-03-04,5,5", "DATE", "it is from 2024-03-05 to 2024-03-20"),
+    (SMALL_2, 12, "transfer,q,N,2024-03-20,2024-03-21,5,5", "LAST", "isn't in service on 2024-03-21"),
+    (SMALL_2, 12, "transfer,q,N,2024-03-04,2024-03-06,5,5", "FIRST", "isn't in service on 2024-03-0"),
+    (SMALL_2, 12, "late,dip,q,Y,2024-03-03,5,5,5", "DATE", "Y isn't in service on 2024-03-03"),
+]
+
+
+@pytest.mark.parametrize("before, code, row, label, said", LATER, ids=[one[2] for one in LATER])
+def test_each_later(
+    program: Path, before: str, code: int, row: str, label: str, said: str
+) -> None:
+    data = (before + row + "\nreport,o\n").encode()
+    told = only(explain_bytes("day.csv", data))
+    assert [(told.record, told.code, told.word)] == refused_by(program, data)
+    assert (told.code, told.column) == (code, label), told.sentence
+    assert said in told.sentence
+    if label and code not in (1, 2):
+        assert marked(told) in row.split(",")
+
+
 FULL = [
     ("most_units_and_tanks", 4, "unit,X"),
     ("most_units_and_tanks", 4, "tank,X,1"),
-    ("most_streams", 5, "tank,X,1"),
-    ("most_streams", 5, "stream,X,env,U,plain,0"),
+    ("most_streams_of_version_1", 5, "tank,X,1"),
+    ("most_streams_of_version_1", 5, "stream,X,env,U,plain,0"),
     ("most_points", 2, "strap,T,2000,9000"),
     ("most_periods", 2, "period,x,2024-06-01,2024-06-01"),
     ("most_facts", 3, "reading,q,S,2024-01-06,5,5"),
@@ -310,10 +373,16 @@ def test_full(monkeypatch: pytest.MonkeyPatch, limit: str, most: int, row: str) 
 
 
 @settings(QUICK, max_examples=20)
-@given(st.sets(st.sampled_from(PLANT), max_size=2), st.lists(record(), min_size=5, max_size=30))
-def test_whatever_is_refused(program: Path, missing: set[str], records: list[list[str]]) -> None:
+@given(
+    st.sampled_from([PLANT, PLANT_2]),
+    st.sets(st.sampled_from(PLANT_2), max_size=2),
+    st.lists(record(), min_size=5, max_size=30),
+)
+def test_whatever_is_refused(
+    program: Path, whole: list[str], missing: set[str], records: list[list[str]]
+) -> None:
     """Each refused row is explained: the field is named, or it is said that it can't be."""
-    plant = [row for row in PLANT if row not in missing]
+    plant = [row for row in whole if row not in missing]
     data = ("".join(f"{row}\n" for row in plant) + lines_of(records)).encode()
     found = explain_bytes("day.csv", data)
     all_told = [told for each in [*found.whole, *found.rows] for told in [each, *each.under]]

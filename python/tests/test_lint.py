@@ -100,7 +100,7 @@ CASES = [
         "9 facts are there, and no report is asked for: add `report,d1`",
     ),
     ("nothing-asked", "", "there is no row"),
-    ("nothing-asked", "unit,U\n", "no report, design or history is asked for"),
+    ("nothing-asked", "unit,U\n", "no report, design, advice or history is asked for"),
     (
         "missing-reading",
         changed("reading,u1,", "reading,u1,FEED,x\n#"),
@@ -171,6 +171,12 @@ CASES = [
         "one-sided",
         changed("unit,MILL\n", "unit,MILL\nunit,KILN\n"),
         "no stream leads to unit KILN, and none from it",
+    ),
+    (
+        "never-served",
+        "version,2\n"
+        + changed("period,d1", "stream,VENT,MILL,env,plain,0,2042-03-01,2042-03-02\nperiod,d1"),
+        "VENT is in service from 2042-03-01 to 2042-03-02, on no day of a period",
     ),
     (
         "near-names",
@@ -315,7 +321,8 @@ def test_nearly_full(monkeypatch: pytest.MonkeyPatch) -> None:
     said = [str(each) for each in lint_session(rows.encode()) if each.code == "nearly-full"]
     assert len(said) == 1 and "800 units and tanks are there, and at most 1,000 may be" in said[0]
     assert "nearly-full" not in codes(rows.replace("unit,u799\n", ""))
-    for limit, most in (("facts", 10), ("periods", 1), ("streams", 6), ("points", 2)):
+    streams = "streams_of_version_1"
+    for limit, most in (("facts", 10), ("periods", 1), (streams, 6), ("points", 2)):
         monkeypatch.setitem(LIMITS, f"most_{limit}", most)
     monkeypatch.setitem(LIMITS, "most_bytes", len(GOOD))
     said = [each.text.split(" are there")[0] for each in lint_session(GOOD.encode())]

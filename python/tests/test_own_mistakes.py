@@ -76,7 +76,7 @@ OF_LINT = {
             "garbage": "refused",
             "a report": "refused",
             "a check": "refused",
-            "nothing asked": "no report, design or history is asked for",
+            "nothing asked": "no report, design, advice or history is asked for",
         }.items()
         for data in [OF_SESSIONS[name][0]]
     },
@@ -106,6 +106,7 @@ OF_REPORTS = {
     ),
     "cut off": (REPORT[: REPORT.rindex(b"end,")], "the report of may1 is cut off: run the session"),
     "cut in the design": (b"design,9,23\n", "the design is cut off: run the session again"),
+    "cut in the advice": (b"design,1,0\nadvise,2,9\n", "the advice is cut off: run the session"),
     "refused rows alone": (b"refused,2,3,name\n", "there is no report .*: ask for one"),
 }
 
@@ -128,6 +129,7 @@ OF_CHECKS = but(
     commas_at_ends="not all of it passes: plantbal-desk explain FILE shows the rows",
     cut_off="not all of it passes: plantbal-desk explain FILE shows the rows",
     cut_in_the_design="there is no block to check: ask for a report",
+    cut_in_the_advice="there is no block to check: ask for a report",
     refused_rows_alone="there is no block to check: ask for a report",
 )
 # What is turned into tables may be a check's rows.
@@ -149,6 +151,28 @@ OF_TAGS = {
 OF_READINGS = but(OF_TAGS, workbook="") | {
     name: (OF_TAGS[name][0], "the table of tags has no tag '.*; say --skip '.*'")
     for name in ("a session", "a report", "JSON lines")
+}
+# Of a session the plant alone is wanted.
+OF_PLANTS = but(
+    OF_SESSIONS,
+    nothing_asked="it has no stream: is it a session?",
+    **dict.fromkeys(("a_report", "a_check", "JSON_lines"), "this is an output: name the session"),
+)
+NO_HEADS = "no row has the heads stream and cost: write stream,cost over the columns"
+OF_COSTS = {
+    "not there": ABSENT["not there"],
+    "folder": (FOLDER, "there is no CSV file in this folder"),
+    "empty": (b"", NO_HEADS),
+    "garbage": (GARBAGE, 'this is no text: save it as "CSV UTF-8" or as xlsx'),
+    "a session": (SESSION, NO_HEADS),
+    "no such stream": (b"stream,cost\nRESI,9000\n", "there is no stream RESI: mend the name"),
+    "no name": (b"stream,cost\n,9000\n", "there is no name of a stream: mend the name"),
+    "a tank": (b"stream,cost\nTK1,9000\n", "there is no stream TK1"),
+    "a meter": (b"stream,cost\nSHIP,9000\n", "SHIP is a batch stream: it is measured already"),
+    "twice": (b"stream,cost\nRES,1\nRES,2\n", "RES stands above too: leave one of both out"),
+    "decimals": (b"stream,cost\nRES,9.50\n", "9.50 is no cost: write a whole number from 0 to"),
+    "below 0": (b"stream,cost\nRES,-1\n", "-1 is no cost: write a whole number from 0 to"),
+    "no cost": (b"stream,cost\nRES,\n", "'' is no figure"),
 }
 NO_SHEET = "there is no sheet streams: plantbal-desk template writes one"
 OF_WORKBOOKS = {
@@ -178,6 +202,8 @@ INPUTS = [
     ),
     Input(("uncertainty", "FILE"), OF_REPORTS),
     Input(("draw", "FILE"), OF_REPORTS),
+    Input(("advise", "FILE"), OF_PLANTS),
+    Input(("advise", str(example("crude_unit_meters.csv")), "FILE"), OF_COSTS),
     Input(("chart", "FILE"), OF_REPORTS),
     Input(("page", "FILE"), OF_PAGES),
     Input(("from-scipy", "FILE"), OF_REPORTS),
@@ -219,6 +245,7 @@ OUTPUTS = [
     ("chart", example("refinery_day.out.csv"), "--out", "OUT.svg"),
     ("convert", example("refinery_workbook"), "--out", "OUT.csv"),
     ("template", "refinery", "OUT.xlsx"),
+    ("advise", example("crude_unit_meters.csv"), "--draw", "OUT.svg"),
 ]
 WHERE = {
     "no folder": ("nowhere/OUT", "No such file or directory: make its folder first"),
@@ -260,6 +287,7 @@ FULL = [
     ("schema",),
     ("convert", example("refinery_workbook")),
     ("from-scipy", example("refinery_day.out.csv")),
+    ("advise", example("crude_unit_meters.csv")),
 ]
 
 
@@ -281,11 +309,13 @@ def test_full_device(program: Path, words: tuple[object, ...]) -> None:
 
 
 DAY, OUTPUT = example("refinery_day.csv"), example("refinery_day.out.csv")
+METERS = example("crude_unit_meters.csv")
 TOOLS = [
     (("run", DAY), "PLANTBAL", "there is no program nowhere: install plantbal, or name it in"),
     (("solve", DAY), "PLANTBAL", "there is no program nowhere: install plantbal, or name it in"),
     (("check", OUTPUT), "PLANTBAL", "there is no program nowhere: install plantbal, or name it in"),
     (("fleet", "--out", "OUT", DAY.parent), "PLANTBAL", "there is no program nowhere: install"),
+    (("advise", METERS), "PLANTBAL", "there is no program nowhere: install plantbal, or name it"),
     (("draw", OUTPUT), "dot", "there is no `dot`: install graphviz"),
     (("page", OUTPUT), "jinja2", "there is no jinja2: install python3-jinja2"),
     (("chart", OUTPUT), "matplotlib", "there is no matplotlib: install python3-matplotlib"),
@@ -348,6 +378,7 @@ WORDS = [
     (["from-spreadsheet", "tags.csv"], "the following arguments are required: READINGS"),
     (["from-spreadsheet", "--decimal", "x", "a", "b"], "argument --decimal: invalid choice: 'x'"),
     (["tables", "all"], "argument what: invalid choice: 'all'"),
+    (["advise", "--form", "xml", "a"], "argument --form: invalid choice: 'xml'"),
     (["draw", "--round", "first"], "argument --round: invalid int value: 'first'"),
     (["chart", "--most", "many"], "argument --most: invalid int value: 'many'"),
     (["page", "--titel", "x"], "unrecognized arguments: --titel"),
@@ -372,6 +403,8 @@ def test_words(say: Desk, words: list[str], said: str) -> None:
 NAMES = [
     (["draw", OUTPUT, "--period", "may2"], "no report of this period and round: there are may1"),
     (["draw", OUTPUT, "--mark", "KEROSENES"], "there is no stream KEROSENES"),
+    (["draw", OUTPUT, "--advice"], "there is no advice in what was read: write the rows design"),
+    (["draw", OUTPUT, "--period", "may1", "--advice"], "--advice is of a plant, not of a report"),
     (["from-scipy", OUTPUT, "--period", "may2"], "there is no report of may2: there are may1"),
     (["run", DAY, "--out", "a.pdf"], "a.pdf ends with '.pdf': say .csv, .sqlite or .xlsx"),
     (["solve", DAY, "--out", "a.pdf"], "a.pdf ends with '.pdf': say .csv, .sqlite or .xlsx"),

@@ -20,11 +20,11 @@ from plantbal.schema import Column, Row, schema
 QUICK = settings(max_examples=40, deadline=None, suppress_health_check=list(HealthCheck))
 # Names of a column, those that are declared more often.
 NAMES = {
-    "name": ["W", "X", "q", "U", "S", "env", "p"],
-    "from": ["env", "U", "V", "T", "W"],
-    "to": ["env", "U", "V", "T", "S"],
-    "stream": ["S", "R", "B", "P", "T", "Q"],
-    "tank": ["T", "T", "U", "S", "K"],
+    "name": ["W", "X", "q", "U", "S", "env", "p", "J"],
+    "from": ["env", "U", "V", "T", "W", "J"],
+    "to": ["env", "U", "V", "T", "S", "Y", "L"],
+    "stream": ["S", "R", "B", "P", "T", "Q", "Z", "N", "C"],
+    "tank": ["T", "T", "U", "S", "K", "Y", "Y"],
     "period": ["p", "p", "o", "q"],
     "id": ["a", "b", "c", "d"],
 }
@@ -70,7 +70,10 @@ def field_of(column: Column) -> st.SearchStrategy[str]:
 def fields_of(row: Row) -> st.SearchStrategy[list[str]]:
     """Records of a kind; at times one has a field too few or too many."""
     whole = st.tuples(*(field_of(column) for column in row.columns))
-    made = whole.map(lambda fields: [row.kind, *fields])
+    pairs = st.lists(st.tuples(*map(field_of, row.tail)), max_size=3 if row.tail else 0)
+    made = st.tuples(whole, pairs).map(
+        lambda drawn: [row.kind, *drawn[0], *(field for pair in drawn[1] for field in pair)]
+    )
     change = st.integers(0, 29)
     return st.tuples(made, change).map(
         lambda drawn: drawn[0][:-1]
@@ -107,6 +110,21 @@ dip,b,T,2024-01-31,500,5,5
 """.splitlines()
 
 
+# The same in version 2, with boundaries and dates of service.
+PLANT_2 = [
+    "version,2",
+    "boundary,J",
+    "boundary,L",
+    *PLANT,
+    "stream,C,J,V,plain,0",
+    "tank,Y,5,2024-01-31,2024-02-01",
+    "strap,Y,0,0",
+    "strap,Y,1000,1000000",
+    "stream,Z,J,Y,metered,5,2024-02-01,2024-05-31",
+    "stream,N,Y,L,batch,5,2024-01-31,2024-02-01",
+]
+
+
 def lines_of(records: list[list[str]]) -> str:
     out = io.StringIO()
     csv.writer(out, lineterminator="\n").writerows(records)
@@ -131,12 +149,16 @@ def judged(data: bytes, room: Path) -> Session:
 
 
 @QUICK
-@given(st.sets(st.sampled_from(PLANT), max_size=2), st.lists(record(), min_size=10, max_size=40))
+@given(
+    st.sampled_from([PLANT, PLANT_2]),
+    st.sets(st.sampled_from(PLANT_2), max_size=2),
+    st.lists(record(), min_size=10, max_size=40),
+)
 def test_refusals(
-    program: Path, tmp_path: Path, missing: set[str], records: list[list[str]]
+    program: Path, tmp_path: Path, whole: list[str], missing: set[str], records: list[list[str]]
 ) -> None:
     """What is refused of a random session, with which code, is what the program refuses of it."""
-    plant = [row for row in PLANT if row not in missing]
+    plant = [row for row in whole if row not in missing]
     data = ("".join(f"{row}\n" for row in plant) + lines_of(records)).encode()
     session = judged(data, tmp_path)
     assert refusals(session) == refused_by(program, data)
@@ -150,6 +172,11 @@ FULL = [
     ([f"unit,U{i}" for i in range(999)] + ["tank,T,1"], "tank,W,1"),
     (["unit,U", *(f"stream,S{i},env,U,plain,0" for i in range(2000))], "stream,W,U,env,plain,0"),
     (["unit,U", *(f"stream,S{i},env,U,plain,0" for i in range(2000))], "tank,W,1"),
+    (
+        ["version,2", "unit,U", *(f"stream,S{i},env,U,plain,0" for i in range(4000))],
+        "stream,W,U,env,plain,0,2024-01-01,2024-01-01",
+    ),
+    (["version,2", *(f"boundary,B{i}" for i in range(100))], "boundary,W"),
     (["tank,T,1", *(f"strap,T,{i},0" for i in range(2000))], "strap,T,2000,0"),
     (
         [

@@ -174,7 +174,7 @@ UNREADABLE = [
     ("-A +C", "A +C", 8, 6, "parts", "each with `+` or `-` in front"),
     ("cycle,,+B -D", "cycle,U,+B -D", 8, 7, "side", "a cycle has no side"),
     ("report,p,0,3,5", "report,p,0,0,5", 9, 2, "nodes", "1 to 1,001 nodes"),
-    ("report,p,0,3,5", "report,p,0,3,2001", 9, 2, "streams", "2,000 streams"),
+    ("report,p,0,3,5", "report,p,0,3,4001", 9, 2, "streams", "4,000 streams"),
     ("B,U,V,60", "B,U,U,60", 9, 7, "from", "from a node to itself"),
     ("node,env", "node,evn", 10, 3, "name", "has to be env"),
     ("end,p,0\n", "", 11, 15, "", "the file ends within a block"),

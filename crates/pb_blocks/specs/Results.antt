@@ -2,7 +2,7 @@
 use Rattle.std.specs.Prelude.{ℕ, Bool, not, List, map}
 use Rattle.std.specs.List.{list_any}
 use Rattle.pb_graph.specs.declared.records.Witness.{Witness}
-use Rattle.pb_graph.specs.declared.records.Witness.TheVariants.{Cut as CutWitness, Cycle as CycleWitness}
+use Rattle.pb_graph.specs.declared.records.Witness.TheVariants as witness
 use Rattle.pb_graph.specs.declared.results.StreamResult.{StreamResult}
 use Rattle.pb_choices.specs.declared.places.Shape.{Shape}
 use Rattle.pb_choices.specs.declared.places.Shape.TheVariants.{Cut, Cycle}
@@ -11,8 +11,8 @@ use Rattle.pb_blocks.specs.Lists.{is_among, items, member_of, part_name, step_of
 
 -- a certificate: the members of a cut with its side, or the steps of a cycle
 abbrev pub witness_by : Shape → List (List ℕ) → StreamRow → Witness
-witness_by Cut streams row = CutWitness row.side (map (member_of streams) (items row.parts))
-witness_by Cycle streams row = CycleWitness (map (step_of streams) (items row.parts))
+witness_by Cut streams row = witness.Cut row.side (map (member_of streams) (items row.parts))
+witness_by Cycle streams row = witness.Cycle (map (step_of streams) (items row.parts))
 
 -- a stream's result, with the streams of its certificate looked up by their names
 abbrev pub result_of : List (List ℕ) → StreamRow → StreamResult

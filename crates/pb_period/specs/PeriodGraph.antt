@@ -105,10 +105,10 @@ abbrev pub assembly_of : List StoredRow → Days → Result ProcessGraph Assembl
 assembly_of rows days = assembly_in (version_of (declared_of rows)) rows days
 
 -- a stream that is over the limits is one of a graph's
-abbrev pub IsStreamOf : ProcessGraph → Assembly → Type 0
-IsStreamOf graph (Over stream) = stream < length graph.streams
-IsStreamOf graph NoMemory = Unit {0}
+abbrev pub IsStreamOfGraph : ProcessGraph → Assembly → Type 0
+IsStreamOfGraph graph (Over stream) = stream < length graph.streams
+IsStreamOfGraph graph NoMemory = Unit {0}
 
 -- it is one of the graph's of some days
 abbrev pub NamesAStream : List StoredRow → Days → Assembly → Type 0
-NamesAStream rows days why = IsStreamOf (period_graph rows days) why
+NamesAStream rows days why = IsStreamOfGraph (period_graph rows days) why

@@ -14,7 +14,7 @@ ghost use Rattle.pb_period.specs.Amounts.{IsAmount};
 ghost use Rattle.pb_period.specs.Days.{AreDays, days_of};
 ghost use Rattle.pb_period.specs.Laws.{AreGraphNames};
 ghost use Rattle.pb_period.specs.Measurement.{amount_of, measured};
-ghost use Rattle.pb_period.specs.PeriodGraph.{IsStreamOf, NamesAStream, assembly_in, assembly_of, base_of, base_of_kind, design_graph, graph_in, is_over, measured_served, period_graph, period_names, stream_among, stream_with};
+ghost use Rattle.pb_period.specs.PeriodGraph.{IsStreamOfGraph, NamesAStream, assembly_in, assembly_of, base_of, base_of_kind, design_graph, graph_in, is_over, measured_served, period_graph, period_names, stream_among, stream_with};
 
 use crate::amount::Amount;
 use crate::days::Days;
@@ -124,7 +124,7 @@ fn base_of(kind: ArcKind, base: i128) -> Option<Meas>
 fn measured_graph(alloc: Global, book: &Book, days: Days) -> Result<Graph, Assembly>
     requires { AreDays days }
     ensures answer { result ≢ Err Assembly.NoMemory → result ≡ assembly_in One book.now days }
-    ensures over { IfErr result (IsStreamOf (graph_in One book.now days)) }
+    ensures over { IfErr result (IsStreamOfGraph (graph_in One book.now days)) }
 {
     let site = book.site();
     let mut graph = Graph::new(alloc, site.nodes());
@@ -143,7 +143,7 @@ fn served_graph(alloc: Global, book: &Book, days: Days) -> Result<Graph, Assembl
     requires days { AreDays days }
     requires version { version_of (declared_of book.now) ≡ Two }
     ensures answer { result ≢ Err Assembly.NoMemory → result ≡ assembly_in Two book.now days }
-    ensures over { IfErr result (IsStreamOf (graph_in Two book.now days)) }
+    ensures over { IfErr result (IsStreamOfGraph (graph_in Two book.now days)) }
 {
     let site = book.site();
     let part = OnDays::of(alloc, site, days.first, days.last)?;

@@ -11,7 +11,7 @@ use Rattle.pb_book.specs.Edits.{history_of}
 use Rattle.pb_report.specs.declared.history.HistoryRow.{HistoryRow}
 use Rattle.pb_report.specs.declared.history.HistoryWord.{HistoryWord}
 use Rattle.pb_report.specs.declared.history.HistoryWord.TheVariants as word
-use Rattle.pb_report.specs.declared.history.Period.{Period as PeriodTold}
+use Rattle.pb_report.specs.declared.history.Period as history
 use Rattle.pb_report.specs.History.{history_rows}
 use Rattle.pb_report.specs.Row.{OutputRow}
 
@@ -34,7 +34,7 @@ abbrev pub told : StoredRow → Option HistoryRow
 told row = told_as row.at row.effect
 
 -- a period: its name, and whether it is closed
-abbrev pub told_period : Period → PeriodTold
+abbrev pub told_period : Period → history.Period
 told_period period = record { name = period.name; closed = period.closed }
 
 -- The rows that tell the history of a period: its state, and the edits that touch it, in the order of their records.

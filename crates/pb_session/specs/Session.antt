@@ -15,7 +15,7 @@ use Rattle.pb_site.specs.Site.{AreDistinct, names_of}
 use Rattle.pb_kinds.specs.declared.costs.NamedCost.{NamedCost}
 use Rattle.pb_kinds.specs.Costs.{named_costs}
 use Rattle.pb_book.specs.declared.answer.Accepted.{Accepted}
-use Rattle.pb_book.specs.declared.answer.Accepted.TheVariants.{Blank, Stored as StoredAccepted, Design, Report, History, Advise}
+use Rattle.pb_book.specs.declared.answer.Accepted.TheVariants as answered
 use Rattle.pb_book.specs.declared.rows.Period.{Period}
 use Rattle.pb_book.specs.declared.rows.StoredRow.{StoredRow}
 use Rattle.pb_book.specs.Rows.{declared_of, periods_of}
@@ -106,12 +106,12 @@ Tells state None text = ⊥
 
 -- the text that an accepted record adds, by the costs that it names
 abbrev pub AddsAccepted : SessionState → List NamedCost → Accepted → List ℕ → Type 0
-AddsAccepted state costs Blank text = text ≡ []
-AddsAccepted state costs StoredAccepted text = text ≡ []
-AddsAccepted state costs Design text = IsDesign state (names_of (declared_of state.rows)) (design_graph state.rows) text
-AddsAccepted state costs (Report i) text = Reports state (slice_get (periods_of state.rows) i) text
-AddsAccepted state costs (History i) text = Tells state (slice_get (periods_of state.rows) i) text
-AddsAccepted state costs Advise text =
+AddsAccepted state costs answered.Blank text = text ≡ []
+AddsAccepted state costs answered.Stored text = text ≡ []
+AddsAccepted state costs answered.Design text = IsDesign state (names_of (declared_of state.rows)) (design_graph state.rows) text
+AddsAccepted state costs (answered.Report i) text = Reports state (slice_get (periods_of state.rows) i) text
+AddsAccepted state costs (answered.History i) text = Tells state (slice_get (periods_of state.rows) i) text
+AddsAccepted state costs answered.Advise text =
     IsAdviceText state (names_of (declared_of state.rows)) (design_graph state.rows) (meter_costs (declared_of state.rows) costs) text
 
 -- the text that an answer to the record with this number adds

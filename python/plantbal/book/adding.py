@@ -20,6 +20,8 @@ from plantbal.faults import Fault, Refusal
 from plantbal.records import text_of
 from plantbal.session import Period
 
+_SEALED = 10  # the code of what would change a closed period
+
 
 def add_arguments(parser: argparse.ArgumentParser) -> None:
     """Add the words of the command."""
@@ -176,7 +178,8 @@ def put_plant(ledger: Ledger, work: Converter) -> int:
     if not work.sheets["streams"] and not work.sheets["rows"]:
         return 0
     there = set(ledger.plant)
-    names = {row[1]: row for row in ledger.plant if row[0] not in ("strap", "critical")}
+    others = ("version", "strap", "critical")
+    names = {row[1]: row for row in ledger.plant if row[0] not in others}
     count = 0
     for row in work.session:
         if row[0] not in PLANT_KINDS or row in there:
@@ -192,13 +195,20 @@ def put_plant(ledger: Ledger, work: Converter) -> int:
         try:
             ledger.put(*row)
         except Refusal as refusal:
-            refusal.remedy = (
-                "what is new of the plant comes before the first close, or with the next year: "
-                "plantbal-desk book next YEAR --plant WORKBOOK"
-            )
+            refusal.remedy = _instead(row, refusal)
             raise
         count += 1
     return count
+
+
+def _instead(row: tuple[str, ...], refusal: Refusal) -> str:
+    """Return what to do if a year doesn't take a row of the plant any more."""
+    then = "plantbal-desk book next YEAR --plant WORKBOOK"
+    if row[0] == "version":
+        return f"dates of service and boundaries come with the next year: {then}"
+    if refusal.code == _SEALED and "SINCE" in refusal.remedy:
+        return "write a day after the closed periods into its column since"
+    return f"what is new of the plant comes before the first close, or with the next year: {then}"
 
 
 def put_periods(years: Years, work: Converter, facts: list[Fact]) -> None:

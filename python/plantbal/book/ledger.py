@@ -14,9 +14,18 @@ from plantbal.amounts import tonnes_of
 from plantbal.faults import Fault, InputFault, Place, Refusal
 from plantbal.memory import uncollected
 from plantbal.records import read_records, text_of, without_empty_end
-from plantbal.session import Period, Session, period_days
+from plantbal.session import (
+    Period,
+    Service,
+    Session,
+    day_of_number,
+    dip_days,
+    is_served,
+    period_days,
+    service_of,
+)
 
-PLANT_KINDS = ("unit", "tank", "strap", "stream", "critical")
+PLANT_KINDS = ("version", "boundary", "unit", "tank", "strap", "stream", "critical")
 FACT_KINDS = ("reading", "transfer", "dip")
 _DAY = datetime.timedelta(1)
 _AGAIN = re.compile(r"\.[0-9]+$")  # how the id ends of what was struck and came again
@@ -145,6 +154,7 @@ class Ledger:
         self.count = 0
         self._slots: dict[tuple[str, datetime.date], str] = {}
         self._lost: dict[tuple[str, datetime.date], list[Fact]] = {}
+        self._declared: list[tuple[Service, int]] = []
         self._latest: defaultdict[datetime.date, int] = defaultdict(int)
         self._latest_dip: defaultdict[datetime.date, int] = defaultdict(int)
 
@@ -226,6 +236,8 @@ class Ledger:
         kind = fields[1] if fields[0] == "late" else fields[0]
         if kind in PLANT_KINDS:
             self.plant.append(fields)
+            if kind in ("tank", "stream"):
+                self._declared.append((service_of(fields), self.count))
         elif kind in FACT_KINDS:
             self._keep(Fact.of(fields))
         elif kind == "amend":
@@ -338,9 +350,18 @@ class Ledger:
             yield identity[: 32 - len(end)] + end
 
     def touched(self, period: Period) -> int:
-        """Return the number of the last row that a report of a period depends on."""
+        """Return the number of the last row that a report of a period depends on.
+
+        Of the plant these are the streams and tanks in service on its days, of dips those of its
+        ends and of the ends of such services.
+        """
         first, last = period_days(period)
-        numbers = [self._latest_dip.get(first - _DAY, 0), self._latest_dip.get(last, 0)]
+        days = period.first, period.last
+        served = [(at, number) for at, number in self._declared if is_served(at, *days)]
+        numbers = [number for _, number in served]
+        ends = {day for service, _ in served for day in dip_days(service, *days)}
+        for day_number in ends | set(dip_days(None, *days)):
+            numbers.append(self._latest_dip.get(day_of_number(day_number), 0))
         day = first
         while day <= last:
             numbers.append(self._latest.get(day, 0))

@@ -18,7 +18,7 @@ from plantbal.faults import Fault, InputFault
 from plantbal.memory import uncollected
 from plantbal.workbook import Sheet, read_workbook
 
-_PLANT = ("units", "tanks", "straps", "critical")
+_PLANT = ("boundaries", "units", "tanks", "straps", "critical")
 _FIRST = 12  # faults that are said; the others are counted
 
 
@@ -125,6 +125,7 @@ def _read_plant(
             what = "the sheet is passed over: without a sheet streams the plant is the book's"
             work.notes.append(f"{sheet.place()} {what}")
         return
+    work.begin(plant)
     if not work.sheets["tanks"]:
         rows = [row for row in plant if row[0] == "tank"]
         work.take_tanks(rows, [replace(tank, points=[]) for tank in tanks])

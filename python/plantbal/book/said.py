@@ -9,10 +9,10 @@ from collections.abc import Iterable
 from plantbal.book.changes import Changes
 from plantbal.book.ledger import PLANT_KINDS, Fact, Ledger
 from plantbal.book.meters import Meter
-from plantbal.conversion_facts import days_of, spans
+from plantbal.conversion_facts import days_of, spans, tank_days
 from plantbal.lint import lint_session
 from plantbal.lintrules import RULES
-from plantbal.session import Period, period_days
+from plantbal.session import Period, in_service, period_days
 
 FIRST = 12  # things of which each is shown; the others are counted
 _NEW = {"period": "period", "reading": "reading", "transfer": "ticket", "dip": "dip"}
@@ -109,14 +109,16 @@ def lacks(ledger: Ledger, period: Period, meters: dict[str, Meter]) -> list[str]
     """Return which readings and dips of a period are missing, those of the same days in a line."""
     first, last = period_days(period)
     days = days_of(first, last)
-    eve = first - datetime.timedelta(1)
     groups: dict[tuple[str, str], list[str]] = {}
     for name, kind in ledger.session.streams.items():
         if kind == "metered":
-            _group(groups, "reading", ledger, name, meters, days)
+            service = ledger.session.service(name)
+            served = [day for day in days if in_service(service, day.toordinal())]
+            _group(groups, "reading", ledger, name, meters, served)
     for name, kind in ledger.session.nodes.items():
         if kind == "tank":
-            _group(groups, "dip", ledger, name, meters, [eve, last])
+            ends = tank_days(ledger.session.service(name), first, last)
+            _group(groups, "dip", ledger, name, meters, ends)
     return [
         f"{period.name}: no {kind} of {listed(names)} on {when}"
         for (kind, when), names in groups.items()

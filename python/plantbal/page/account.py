@@ -20,7 +20,7 @@ from plantbal.page.statement import (
     Worth,
 )
 from plantbal.page.verdict import Lost, Verdict, names_of, verdict_of
-from plantbal.report import Block, Values, blocks_of, designs_of
+from plantbal.report import Block, Values, advice_of, blocks_of, designs_of
 
 if TYPE_CHECKING:
     from plantbal.lintrules import Finding
@@ -230,11 +230,24 @@ def account_of(
     ]
     return Account(
         statements=statements,
-        designs=[[line_of(row) for row in design] for design in designs_of(rows)],
+        designs=_designs_of(rows),
+        is_advised=advice_of(rows) is not None,
         refused=list(refused),
         findings=wanted,
         ledger=ledger,
     )
+
+
+def _designs_of(rows: list[Values]) -> list[list[Line]]:
+    """Return the designs; in the last one each stream to meter has its cost and its cycle."""
+    found = [[line_of(row) for row in design] for design in designs_of(rows)]
+    meters = {meter["stream"]: meter for meter in advice_of(rows) or ()}
+    for at, line in enumerate(found[-1] if found else ()):
+        if line.name in meters:
+            meter = meters[line.name]
+            cycle = {"shape": "cycle", "side": "", "parts": meter["parts"]}
+            found[-1][at] = replace(line, mark="meter", cost=int(meter["cost"]), **cycle)
+    return found
 
 
 def _statement(

@@ -82,7 +82,9 @@ class Drawing:
 
 
 def figure_of(line: Line) -> str:
-    """Return the tonnes below a stream's name; nothing without a figure to book."""
+    """Return the tonnes below a stream's name, or what its meter costs; nothing without both."""
+    if line.cost is not None:
+        return f"meter: {line.cost:,}"
     if line.flow is None:
         return ""
     sign = "+" if line.is_tank and line.flow > 0 else ""

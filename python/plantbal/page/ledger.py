@@ -192,13 +192,14 @@ class Ledger(Book):
     def _take_report(self, name: str, line: int) -> None:
         super()._take_report(name, line)
         period = self.periods[name]
-        dips = {tank: self._dips_of(tank, period) for tank in self.tables}
+        tanks = [each.arc.name for each in self.served(period) if each.kind == "tank"]
+        dips = {tank: self._dips_of(tank, period) for tank in tanks}
         self.reports.append(Asked(self.rows, name, dips))
 
     def _dips_of(self, tank: str, period: Period) -> Dips:
-        """Return what a tank held on the eve of a period and on its last day, by its dips."""
-        opening = self._contents.get((tank, period.first - 1))
-        closing = self._contents.get((tank, period.last))
+        """Return what a tank held at the beginning and the end of a period, by its dips."""
+        ends = self.streams[tank].ends_of(period)
+        opening, closing = (self._contents.get((tank, day)) for day in ends)
         return Dips(
             None if opening is None else self.content(opening),
             None if closing is None else self.content(closing),

@@ -10,6 +10,8 @@ from plantbal.schema import Column, schema
 from plantbal.session import field_fits
 
 REMEDY = "plantbal-desk check says more"
+# A row that says how many rows of a kind follow: what these are together, their kind, the column.
+_HEADS = {"design": ("design", "class", "streams"), "advise": ("advice", "meter", "count")}
 
 
 def _wanted(column: Column) -> str:
@@ -37,7 +39,7 @@ def check_rows(rows: Sequence[Values], source: str) -> None:
     ------
     InputFault
         If the rows are a check's, a field isn't of its column, a stream stands twice in a report
-        or has a value without a variance, or a design is cut off.
+        or has a value without a variance, or a design or an advice is cut off.
     """
     if any(row["row"] in ("yes", "no", "unreadable") for row in rows):
         raise InputFault(
@@ -46,16 +48,17 @@ def check_rows(rows: Sequence[Values], source: str) -> None:
             remedy="give the report that was checked",
         )
     streams: set[str] = set()
-    classes = 0
+    of, below, left = "", "", 0
     for number, row in enumerate(rows, 1):
         kind = row["row"]
         place = Place(file=source, record=number)
         _check_fields(row, place)
-        if classes and kind != "class":
-            raise InputFault("the design before this row is cut off", place=place, remedy=REMEDY)
-        classes -= kind == "class"
-        if kind == "design":
-            classes = int(row["streams"])
+        if left and kind != below:
+            raise InputFault(f"the {of} before this row is cut off", place=place, remedy=REMEDY)
+        left -= bool(left)
+        if kind in _HEADS:
+            of, below, count = _HEADS[kind]
+            left = int(row[count])
         if kind in ("report", "design"):
             streams.clear()
         elif kind in ("stream", "class"):
@@ -66,8 +69,8 @@ def check_rows(rows: Sequence[Values], source: str) -> None:
             if bool(row.get("value")) != bool(row.get("variance")):
                 what = f"{row['name']} has a value without a variance, or the other way round"
                 raise InputFault(what, place=place, remedy=REMEDY)
-    if classes > 0:
-        raise InputFault("its last design is cut off", place=Place(file=source), remedy=REMEDY)
+    if left > 0:
+        raise InputFault(f"its last {of} is cut off", place=Place(file=source), remedy=REMEDY)
 
 
 def _check_fields(row: Values, place: Place) -> None:

@@ -115,8 +115,8 @@ def is_huge(lines: Iterable[Line]) -> bool:
 
 
 def sign_of(line: Line) -> str:
-    """Return the sign of a stream: of its class, or that it is suspect or taken out."""
-    return {"suspect": "!", "taken": "×"}.get(line.mark) or KINDS[line.class_].sign
+    """Return the sign of a stream: of its class, or that it is suspect, taken out or to meter."""
+    return {"suspect": "!", "taken": "×", "meter": "+"}.get(line.mark) or KINDS[line.class_].sign
 
 
 def fact_text(fact: Fact | None, ledger: Ledger | None) -> str:
@@ -166,6 +166,7 @@ def marks(lines: Iterable[Line]) -> dict[str, Any]:
         "classes": {line.class_ for line in some},
         "suspect": any(line.mark == "suspect" for line in some),
         "taken": any(line.mark == "taken" for line in some),
+        "meter": any(line.mark == "meter" for line in some),
     }
 
 
@@ -254,7 +255,7 @@ def render(
         each.number: draftsman.draw(each.report.last.lines if each.report.last else [])
         for each in account.statements
     }
-    designs = account.designs[-1:] if not rounds else []
+    designs = account.designs[-1:] if account.is_advised or not rounds else []
     return (
         environment()
         .get_template("page.html.j2")
@@ -267,6 +268,8 @@ def render(
             statements=account.statements,
             drawings=drawings,
             designs=[(lines, draftsman.draw(lines)) for lines in designs],
+            is_advised=account.is_advised,
+            meters=account.meters,
             findings=account.findings,
             is_empty=account.is_empty,
             ledger=account.ledger,

@@ -56,9 +56,11 @@ class Line:
         The statistic of its measurement test, at least.
     mark : str
         ``suspect`` if its test rejects, under a global test that rejects; ``taken`` if it was
-        taken out.
+        taken out; ``meter`` if it is to be metered.
     worth : Worth or None
         How good the flow is, if that is known.
+    cost : int or None
+        What its meter costs, if it is to be metered.
     """
 
     name: str
@@ -76,6 +78,7 @@ class Line:
     statistic: Decimal | None = None
     mark: str = ""
     worth: Worth | None = None
+    cost: int | None = None
 
     @property
     def is_tank(self) -> bool:
@@ -237,7 +240,9 @@ class Account:
     statements : list of Statement
         The periods in the order of their last days, or of their reports.
     designs : list of list of Line
-        The designs.
+        The designs; with an advice the last one has the streams to meter marked.
+    is_advised : bool
+        Whether there is an advice on what to meter.
     refused : list of Refused
         The refused rows.
     findings : sequence of Finding
@@ -248,9 +253,15 @@ class Account:
 
     statements: list[Statement]
     designs: list[list[Line]] = field(default_factory=list)
+    is_advised: bool = False
     refused: list[Refused] = field(default_factory=list)
     findings: Sequence[Finding] = ()
     ledger: Ledger | None = None
+
+    @property
+    def meters(self) -> list[Line]:
+        """The streams to meter."""
+        return [line for design in self.designs[-1:] for line in design if line.mark == "meter"]
 
     @property
     def is_empty(self) -> bool:

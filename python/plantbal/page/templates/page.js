@@ -14,7 +14,7 @@ function streamsOf(section) {
     const [from, to] = way ? way.textContent.split(' → ') : [name, 'env'];
     const word = row.querySelector('td.class span:last-of-type');
     section.streams.set(name, {
-      name, from, to, row, kind: word.className, mark: (row.className.match(/of-(suspect|taken)/) || ['', ''])[1],
+      name, from, to, row, kind: word.className, mark: (row.className.match(/of-(suspect|taken|meter)/) || ['', ''])[1],
       figure: text(row.querySelector(way ? 'td.booked' : 'td.gain, td.booked')),
     });
   }

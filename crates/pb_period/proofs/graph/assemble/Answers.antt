@@ -7,7 +7,7 @@ use Rattle.pb_book.specs.declared.rows.Period.{Period}
 use Rattle.pb_book.specs.Rows.{declared_of}
 use Rattle.pb_period.specs.declared.days.Days.{Days}
 use Rattle.pb_period.specs.Days.{days_of}
-use Rattle.pb_period.specs.PeriodGraph.{IsStreamOf, assembly_in, graph_in}
+use Rattle.pb_period.specs.PeriodGraph.{IsStreamOfGraph, assembly_in, graph_in}
 use Rattle.pb_period.proofs.graph.assemble.Goals as goal
 
 -- what holds of the version and the days of a period that is found holds of the period
@@ -28,5 +28,5 @@ pub returns-in-Two-clause-over : goal.returns-in-Two-clause-over
 returns-in-Two-clause-over c =
     let rows = c.args.book.now in
     let version_is : version_of (declared_of rows) ≡ Two = sym (c.in-Two.ensures.value ∙ ap version_of c.site.ensures.value) in
-    found_at (λ version days. IfErr c.served_graph.result (IsStreamOf (graph_in version rows days))) Two (version_of (declared_of rows)) c.of-days.result _ c.period.result version_is
+    found_at (λ version days. IfErr c.served_graph.result (IsStreamOfGraph (graph_in version rows days))) Two (version_of (declared_of rows)) c.of-days.result _ c.period.result version_is
     c.of-days.ensures c.period.ensures.value c.served_graph.ensures.over
