@@ -1,6 +1,6 @@
 -- An edited file stands for the edits.
-use Rattle.std.proofs.Common.{◌≡◌, ◌∙◌, ◌↔◌, ◌+◌, ◌<◌, ℕ, zero, suc, Bool, false, true, List, [], ◌∷◌, ◌++◌, length, take, map, Option, Some, None, Result, Ok, Err, slice_get, position, cond, refl, sym, ap, ap₂, subst, arith}
-use Rattle.std.specs.Prelude.{◌||◌, nat_lt, option_map}
+use Rattle.std.proofs.Common.{◌≡◌, ◌∙◌, ◌+◌, ◌<◌, ℕ, suc, Bool, false, List, [], ◌∷◌, ◌++◌, length, map, Option, Some, None, Result, Ok, Err, slice_get, position, refl, sym, ap, ap₂, subst, arith}
+use Rattle.std.specs.Prelude.{◌||◌, option_map}
 use Rattle.std.specs.List.{position_or_len}
 use Rattle.std.proofs.lemmas.List.{append-nil, append_assoc, length-map}
 use Rattle.std.proofs.lemmas.Option.{slice_get-get_or, slice_get-map}
@@ -12,7 +12,6 @@ use Rattle.pb_elim.specs.Study.{IsStudyOf}
 use Rattle.pb_site.specs.declared.declared.Declared.{Declared}
 use Rattle.pb_site.specs.declared.declared.Version.{Version}
 use Rattle.pb_site.specs.Site.{version_of}
-use Rattle.pb_book.specs.declared.answer.Accepted.{Accepted}
 use Rattle.pb_book.specs.declared.answer.Accepted.TheVariants.{Report}
 use Rattle.pb_book.specs.declared.answer.Refused.{Refused as Refusal}
 use Rattle.pb_form.specs.declared.fault.FormFault.{FormFault}
@@ -24,7 +23,7 @@ use Rattle.pb_book.specs.Accepted.{AreAccepted, IsAcceptable}
 use Rattle.pb_kinds.specs.declared.costs.NamedCost.{NamedCost}
 use Rattle.pb_kinds.specs.Costs.{named_costs}
 use Rattle.pb_book.specs.Costs.{refusal_of_costs}
-use Rattle.pb_book.specs.Answer.{Answer, Refused, Says, Stored, advise_or_refused, after_answer, answer_if, answer_of, history_or_refused, is_refused, report_or_refused, stored_or_refused}
+use Rattle.pb_book.specs.Answer.{Answer, Says, Stored, advise_or_refused, after_answer, answer_if, answer_of, history_or_refused, is_refused, report_or_refused, stored_or_refused}
 use Rattle.pb_book.specs.Apart.{is_named}
 use Rattle.pb_book.specs.Plain.{ArePlain, PlainLaw, numbered, opened, plain_rows, plain_stored}
 use Rattle.pb_book.specs.Refusals.{refusal_of}
@@ -43,7 +42,7 @@ use Rattle.pb_report.specs.Over.{over_row}
 use Rattle.pb_session.proofs.RowLemmas.{AnswersOf, answers}
 use Rattle.pb_session.specs.Criticals.{declared_critical}
 use Rattle.pb_session.specs.Edited.{EditedFileLaw, begun}
-use Rattle.pb_session.specs.Session.{Adds, AddsAccepted, AddsBy, IsReport, IsSessionText, Reports, ReportsBy, SessionState, refuses_some, state_after}
+use Rattle.pb_session.specs.Session.{Adds, AddsBy, IsReport, IsSessionText, Reports, ReportsBy, SessionState, refuses_some, state_after}
 
 -- a session with these rows in place of its own
 abbrev with_rows : SessionState → List StoredRow → SessionState

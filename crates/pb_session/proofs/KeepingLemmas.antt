@@ -1,8 +1,8 @@
 -- What a session keeps, behind a row and behind a report.
-use Rattle.std.specs.Prelude.{◌==◌, ◌-◌, Contains, IsSome, IfOk, IfSome, filter, find, map, not, option_map, slice_index_or, if◌then◌else◌}
-use Rattle.std.specs.List.{AllByRecursion, fold}
+use Rattle.std.specs.Prelude.{◌-◌, IsSome, IfOk, IfSome, find, option_map, slice_index_or}
+use Rattle.std.specs.List.{AllByRecursion}
 use Rattle.std.specs.Option.{option_map_or}
-use Rattle.std.proofs.Common.{◌≡◌, ◌≢◌, ◌∙◌, ◌<◌, ◌≤◌, ◌+◌, ℕ, zero, suc, Bool, true, false, List, [], ◌∷◌, ◌++◌, length, All, Option, Some, None, Result, Ok, Err, slice_get, refl, sym, ap, ap₂, subst, arith, inl, inr, length-append}
+use Rattle.std.proofs.Common.{◌≡◌, ◌≢◌, ◌∙◌, ◌≤◌, ℕ, zero, suc, false, List, [], ◌∷◌, ◌++◌, length, Option, Some, None, Result, Ok, Err, slice_get, refl, sym, ap, ap₂, subst, arith, inl, inr, length-append}
 use Rattle.std.proofs.lemmas.Bool.{cases_Bool}
 use Rattle.std.proofs.lemmas.List.Sums.{fold_push}
 use Rattle.std.proofs.lemmas.Option.{slice_get-get_or, slice_get-map}
@@ -14,14 +14,10 @@ use Rattle.pb_graph.specs.declared.results.Stage.{Stage}
 use Rattle.pb_graph.specs.declared.results.Study.{Study}
 use Rattle.pb_graph.specs.Alike.{AreAlike}
 use Rattle.pb_graph.specs.ProcessGraph.{ProcessGraph, IsProcessGraph}
-use Rattle.pb_graph.specs.WellFormed.{IsWellFormedStudy}
 use Rattle.pb_classify.specs.Classification.{IsClassification}
 use Rattle.pb_classify.specs.Laws.{AlikeLaw}
-use Rattle.pb_elim.specs.Certified.{IsCertifiedStage}
-use Rattle.pb_elim.specs.Options.{AreOptions}
 use Rattle.pb_elim.specs.Printed.{printed_classes}
 use Rattle.pb_elim.specs.Study.{IsStudyOf}
-use Rattle.pb_site.specs.declared.declared.Declared.{Declared}
 use Rattle.pb_facts.specs.Facts.{NoRepeats}
 use Rattle.pb_book.specs.declared.answer.Accepted.{Accepted}
 use Rattle.pb_book.specs.declared.answer.Accepted.TheVariants.{Blank, Stored as StoredAccepted, Design, Report, History, Advise}
@@ -46,7 +42,6 @@ use Rattle.pb_period.specs.Days.{days_of}
 use Rattle.pb_book.specs.Accepted.{AreAccepted}
 use Rattle.pb_book.specs.TakenOut.{row_takes_out, takes_out, touched_at, touching_of}
 use Rattle.pb_period.specs.Laws.{AreGraphNames, UntouchedLaw}
-use Rattle.pb_period.specs.declared.days.Days.{Days}
 use Rattle.pb_period.specs.declared.graph.Assembly.{Assembly}
 use Rattle.pb_period.specs.PeriodGraph.{assembly_of, period_graph, period_names}
 use Rattle.pb_session.specs.declared.classes.Classes.{Classes}

@@ -1,17 +1,15 @@
 -- Which periods a session keeps: one list of them, and few.
-use Rattle.std.specs.Prelude.{filter, not, ◌==◌, if◌then◌else◌}
-use Rattle.std.proofs.Common.{◌≡◌, ◌≢◌, ◌∙◌, ◌≤◌, ◌<◌, ℕ, ◌+◌, List, [], ◌∷◌, length, All, IfOk, Option, Some, None, Result, Ok, Err, slice_get, get_or, refl, sym, ap, subst, arith, inl, inr}
+use Rattle.std.specs.Prelude.{not, ◌==◌}
+use Rattle.std.proofs.Common.{◌≡◌, ◌∙◌, ◌≤◌, ℕ, ◌+◌, List, [], ◌∷◌, length, IfOk, Option, Some, None, Result, Ok, Err, slice_get, get_or, refl, sym, ap, subst, inl, inr}
 use Rattle.std.proofs.lemmas.Bool.{cases_Bool}
 use Rattle.std.proofs.lemmas.Option.{get_or_from_slice_get, slice_get-get_or, slice_get_within}
 use Rattle.pb_graph.specs.declared.results.Study.{Study}
 use Rattle.pb_graph.specs.ProcessGraph.{ProcessGraph, IsProcessGraph}
 use Rattle.pb_elim.specs.Laws.{OneStudyLaw, SomeStudyLaw}
 use Rattle.pb_elim.specs.Options.{AreOptions}
-use Rattle.pb_elim.specs.Study.{IsStudyOf}
 use Rattle.pb_book.specs.declared.answer.Accepted.{Accepted}
 use Rattle.pb_book.specs.declared.answer.Accepted.TheVariants.{Blank, Stored as StoredAccepted, Design, Report, History, Advise}
 use Rattle.pb_book.specs.declared.rows.Period.{Period}
-use Rattle.pb_book.specs.Accepted.{AreAccepted}
 use Rattle.pb_book.specs.Answer.{Answer, Refused, Says, Stored, answer_of}
 use Rattle.pb_book.specs.Laws.{AcceptedLaw}
 use Rattle.pb_book.specs.declared.rows.StoredRow.{StoredRow}
@@ -21,7 +19,7 @@ use Rattle.pb_period.specs.Laws.{GraphsLaw, HaveGraphs}
 use Rattle.pb_period.specs.declared.graph.Assembly.{Assembly}
 use Rattle.pb_period.specs.PeriodGraph.{assembly_of}
 use Rattle.pb_session.specs.Criticals.{critical_of}
-use Rattle.pb_session.specs.Kept.{AreKept, Held, Keeps, KeepsAccepted, KeepsBy, KeepsReport, KeepsReportOf, kept_behind, most_kept, untouched, without}
+use Rattle.pb_session.specs.Kept.{AreKept, KeepsAccepted, KeepsBy, KeepsReport, KeepsReportOf, kept_behind, most_kept, untouched, without}
 use Rattle.pb_session.specs.KeptLaws.{FewKeptLaw, KeptTextLaw, OneKeptLaw, SomeKeptLaw}
 use Rattle.pb_session.specs.Laws.{OneTextLaw}
 use Rattle.pb_session.specs.Session.{Adds, SessionState, state_after}

@@ -1,7 +1,7 @@
 -- Lists of studies that are kept, and of their periods.
 use Rattle.std.specs.Prelude.{◌==◌, ◌↔◌, Contains, filter, find, map, not, IsSome, nat_lt, slice_index_or, if◌then◌else◌}
 use Rattle.std.specs.List.{AllByRecursion, position_or_len, remove}
-use Rattle.std.proofs.Common.{◌≡◌, ◌∙◌, ◌<◌, ◌≤◌, ◌+◌, ℕ, zero, suc, cond, Bool, true, false, true≢false, List, [], ◌∷◌, ◌++◌, drop, length, take, Option, Some, None, slice_get, refl, sym, ap, subst, arith, inl, inr}
+use Rattle.std.proofs.Common.{◌≡◌, ◌∙◌, ◌<◌, ◌≤◌, ℕ, zero, suc, cond, Bool, true, false, true≢false, List, [], ◌∷◌, length, take, Option, Some, None, slice_get, refl, sym, ap, subst, arith, inl, inr}
 use Rattle.std.proofs.lemmas.Bool.{cases_Bool, eq-eqb, eqb-true, ltb-false, ltb-true}
 use Rattle.std.proofs.lemmas.List.{take-map}
 use Rattle.std.proofs.lemmas.List.Folds.{find_at}

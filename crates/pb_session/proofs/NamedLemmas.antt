@@ -1,5 +1,5 @@
 -- The names of the declared plant are those of its graphs.
-use Rattle.std.proofs.Common.{◌≡◌, ◌∙◌, ◌<◌, ℕ, List, length, sym, refl, subst, Option, Some, None, Result, Ok, Err}
+use Rattle.std.proofs.Common.{◌≡◌, ◌∙◌, ◌<◌, ℕ, List, length, sym, refl, subst, Option, Some, None, Ok}
 use Rattle.std.proofs.lemmas.List.{length-map}
 use Rattle.pb_graph.specs.ProcessGraph.{ProcessGraph}
 use Rattle.pb_graph.specs.declared.records.Meas.{Meas}
@@ -13,9 +13,8 @@ use Rattle.pb_kinds.specs.Costs.{IsMeterCost}
 use Rattle.pb_book.specs.Costs.{cost_of_arc, meter_costs}
 use Rattle.pb_book.specs.Rows.{declared_of}
 use Rattle.pb_period.specs.declared.days.Days.{Days}
-use Rattle.pb_period.specs.declared.graph.Assembly.{Assembly}
 use Rattle.pb_period.specs.Laws.{AreGraphNames}
-use Rattle.pb_period.specs.PeriodGraph.{assembly_of, graph_with, is_over, period_graph, period_names, stream_with, unless_over}
+use Rattle.pb_period.specs.PeriodGraph.{assembly_of, graph_with, period_graph, period_names, stream_with, unless_over}
 use Rattle.pb_session.specs.Session.{AreNamesOf}
 
 as_many : (measure : Arc → Option Meas) (rows : List StoredRow) → length (arc_names (declared_of rows)) ≡ length (graph_with measure rows).streams

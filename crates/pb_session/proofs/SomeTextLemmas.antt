@@ -11,7 +11,6 @@ use Rattle.pb_kinds.specs.declared.costs.NamedCost.{NamedCost}
 use Rattle.pb_kinds.specs.Costs.{IsMeterCost, named_costs}
 use Rattle.pb_book.specs.Costs.{meter_costs}
 use Rattle.pb_book.specs.declared.rows.StoredRow.{StoredRow}
-use Rattle.pb_book.specs.declared.answer.Accepted.{Accepted}
 use Rattle.pb_book.specs.declared.answer.Accepted.TheVariants.{Blank, Stored as StoredAccepted, Design, Report, History, Advise}
 use Rattle.pb_book.specs.declared.rows.Period.{Period}
 use Rattle.pb_book.specs.Rows.{declared_of, periods_of}
@@ -21,11 +20,11 @@ use Rattle.pb_period.specs.Laws.{GraphsLaw, HaveGraphs}
 use Rattle.pb_period.specs.Days.{days_of}
 use Rattle.pb_period.specs.declared.graph.Assembly.{Assembly}
 use Rattle.pb_period.specs.declared.graph.Assembly.TheVariants.{Over, NoMemory}
-use Rattle.pb_period.specs.PeriodGraph.{assembly_of, base_of, design_graph, period_graph, period_names, unless_over}
+use Rattle.pb_period.specs.PeriodGraph.{assembly_of, base_of, design_graph, period_graph, unless_over}
 use Rattle.pb_report.specs.Form.{text_in}
 use Rattle.pb_session.specs.Criticals.{critical_of}
 use Rattle.pb_session.specs.History.{told_history}
-use Rattle.pb_session.specs.Session.{AddsAccepted, AddsBy, AreNamesOf, SessionState, Reports, ReportsBy, Tells, state_after}
+use Rattle.pb_session.specs.Session.{AddsAccepted, AddsBy, SessionState, Reports, ReportsBy, Tells, state_after}
 use Rattle.pb_session.specs.Laws.{SomeTextLaw, SomeSessionTextLaw}
 use Rattle.pb_session.proofs.NamedLemmas.{costs_are, names_are, period_names_are}
 use Rattle.pb_session.proofs.RowLemmas.{AnswersOf, answers, some_period}

@@ -1,5 +1,5 @@
 -- Inside. Of what periods reports and histories are.
-use Rattle.std.specs.Prelude.{ℕ, ◌<◌, List, length}
+use Rattle.std.specs.Prelude.{◌<◌, List, length}
 use Rattle.pb_book.specs.declared.answer.Accepted.{Accepted}
 use Rattle.pb_book.specs.declared.answer.Accepted.TheVariants.{Report, History}
 use Rattle.pb_book.specs.declared.rows.StoredRow.{StoredRow}

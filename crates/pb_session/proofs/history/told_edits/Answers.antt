@@ -1,4 +1,4 @@
-use Rattle.std.proofs.Common.{◌≡◌, ◌∙◌, ◌+◌, List, length, sym, subst}
+use Rattle.std.proofs.Common.{◌∙◌, ◌+◌, List, length, sym, subst}
 use Rattle.pb_report.specs.declared.history.HistoryRow.{HistoryRow}
 use Rattle.std.proofs.Common.{◌<◌, arith}
 use Rattle.pb_book.specs.Edits.{edits_of}

@@ -1,6 +1,5 @@
-use Rattle.std.proofs.Common.{◌≡◌, ◌∙◌, ◌∷◌, length, take, List, Option, None, ap, sym, subst}
+use Rattle.std.proofs.Common.{◌∙◌, Option, ap, sym}
 use Rattle.pb_graph.specs.declared.results.Study.{Study}
-use Rattle.pb_session.specs.declared.kept.KeptStudy.{KeptStudy}
 use Rattle.pb_session.specs.Keeping.{place_in, settled, studies_behind}
 use Rattle.pb_session.proofs.KeptLemmas.{settled_none, settled_place}
 use Rattle.pb_session.proofs.kept.settle.Goals as goal

@@ -1,4 +1,4 @@
-use Rattle.std.proofs.Common.{◌≡◌, ◌∙◌, List, subst, sym}
+use Rattle.std.proofs.Common.{List, subst, sym}
 use Rattle.pb_graph.specs.declared.records.Classified.{Classified}
 use Rattle.pb_classify.specs.Classification.{IsClassification}
 use Rattle.pb_session.proofs.KeepingLemmas.{known_classes, such_copy}

@@ -1,4 +1,4 @@
-use Rattle.std.proofs.Common.{◌≡◌, ◌≢◌, ◌∙◌, ◌<◌, ℕ, List, length, IfErr, IfSome, Result, Ok, Err, slice_get, ap, refl, sym, subst}
+use Rattle.std.proofs.Common.{◌≡◌, ◌≢◌, ℕ, List, IfErr, IfSome, Result, Ok, Err, slice_get, ap, refl, subst}
 use Rattle.pb_graph.specs.declared.results.Stage.{Stage}
 use Rattle.pb_graph.specs.ProcessGraph.{ProcessGraph}
 use Rattle.pb_book.specs.declared.rows.StoredRow.{StoredRow}

@@ -1,4 +1,4 @@
-use Rattle.std.proofs.Common.{◌≡◌, ◌∙◌, ◌↔◌, ◌<◌, ℕ, List, Contains, IsSome, Option, Some, None, slice_get, ap, sym, subst}
+use Rattle.std.proofs.Common.{◌∙◌, ◌↔◌, ℕ, Contains, IsSome, Option, Some, None, slice_get, ap, sym, subst}
 use Rattle.pb_book.specs.Rows.{periods_of}
 use Rattle.pb_session.specs.Keeping.{place_in}
 use Rattle.pb_session.specs.Kept.{Held, IsKeptAt}

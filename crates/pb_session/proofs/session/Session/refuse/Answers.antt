@@ -1,10 +1,10 @@
-use Rattle.std.proofs.Common.{◌≡◌, ◌∷◌, [], ap, ap₂, ℕ, List}
+use Rattle.std.proofs.Common.{◌∷◌, [], ap, ap₂, ℕ, List}
 use Rattle.pb_book.specs.Answer.{code_of}
 use Rattle.pb_report.specs.declared.form.Form.{Form}
 use Rattle.pb_report.specs.Form.{text_in}
 use Rattle.pb_report.specs.Refusal.{refused_row}
 use Rattle.pb_session.specs.Kept.{Held}
-use Rattle.pb_session.specs.Session.{IsTextOf, SessionState}
+use Rattle.pb_session.specs.Session.{IsTextOf}
 use Rattle.pb_session.proofs.AppendingLemmas.{appends_such}
 use Rattle.pb_session.proofs.session.Session.refuse.Goals as goal
 

@@ -15,7 +15,7 @@ use Rattle.pb_report.specs.Form.{text_in}
 use Rattle.pb_report.specs.Names.{name_at}
 use Rattle.pb_report.specs.Over.{over_row}
 use Rattle.pb_session.specs.Kept.{Held}
-use Rattle.pb_session.specs.Session.{IsReport, Reports, SessionState}
+use Rattle.pb_session.specs.Session.{IsReport, Reports}
 use Rattle.pb_session.proofs.KeepingLemmas.{passed_at, reported_at}
 use Rattle.pb_session.proofs.NamedLemmas.{period_names_are, stream_named}
 use Rattle.pb_session.proofs.ReportLemmas.{at_found, reports_at}

@@ -1,4 +1,4 @@
-use Rattle.std.proofs.Common.{◌≡◌, ◌∙◌, List, Some, None, Ok, ℕ, Option, refl, slice_get, sym, ap, ap₂, subst}
+use Rattle.std.proofs.Common.{◌≡◌, ◌∙◌, List, Some, None, Ok, ℕ, Option, slice_get, sym, ap, ap₂, subst}
 use Rattle.pb_rows.specs.declared.name.Names.{Names}
 use Rattle.pb_graph.specs.declared.results.Options.{Options}
 use Rattle.pb_graph.specs.ProcessGraph.{ProcessGraph}
@@ -7,8 +7,6 @@ use Rattle.pb_elim.specs.Printed.{printed_classes}
 use Rattle.pb_book.specs.declared.rows.Period.{Period}
 use Rattle.pb_book.specs.declared.rows.StoredRow.{StoredRow}
 use Rattle.pb_book.specs.Rows.{periods_of}
-use Rattle.pb_period.specs.Days.{days_of}
-use Rattle.pb_period.specs.PeriodGraph.{period_names}
 use Rattle.pb_report.specs.declared.form.Form.{Form}
 use Rattle.pb_report.specs.Form.{text_in}
 use Rattle.pb_report.specs.Study.{study_rows}
@@ -16,8 +14,8 @@ use Rattle.pb_session.specs.declared.session.Reported.{Reported}
 use Rattle.pb_session.specs.Criticals.{critical_of}
 use Rattle.pb_session.specs.Keeping.{IsRenewal, IsReportedOf}
 use Rattle.pb_session.specs.Kept.{Held}
-use Rattle.pb_session.specs.Session.{IsReport, Reports, SessionState}
-use Rattle.pb_session.proofs.KeepingLemmas.{HasGraph, first_classes, has_graph, kept_names, reported_at}
+use Rattle.pb_session.specs.Session.{IsReport, Reports}
+use Rattle.pb_session.proofs.KeepingLemmas.{first_classes, has_graph, kept_names, reported_at}
 use Rattle.pb_session.proofs.ReportLemmas.{reports_at}
 use Rattle.pb_session.proofs.session.Session.report_kept.Goals as goal
 

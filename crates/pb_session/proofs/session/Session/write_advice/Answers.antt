@@ -1,18 +1,16 @@
-use Rattle.std.proofs.Common.{◌≡◌, ◌∙◌, ap, subst, sym, List, ℕ, ℤ, length}
+use Rattle.std.proofs.Common.{◌≡◌, ◌∙◌, ap, subst, List, ℤ}
 use Rattle.std.specs.Prelude.{All}
 use Rattle.pb_rows.specs.declared.name.Names.{Names}
 use Rattle.pb_graph.specs.ProcessGraph.{ProcessGraph}
 use Rattle.pb_advise.specs.Choice.{AreCosts}
 use Rattle.pb_site.specs.Site.{HasDistinctNames, names_of}
 use Rattle.pb_kinds.specs.Costs.{IsMeterCost, named_costs}
-use Rattle.pb_book.specs.declared.answer.Accepted.TheVariants.{Advise}
 use Rattle.pb_book.specs.declared.rows.StoredRow.{StoredRow}
-use Rattle.pb_book.specs.Answer.{Says, answer_of}
 use Rattle.pb_book.specs.Costs.{meter_costs}
 use Rattle.pb_book.specs.Rows.{declared_of}
 use Rattle.pb_period.specs.PeriodGraph.{base_of, design_graph}
 use Rattle.pb_session.specs.Kept.{Held}
-use Rattle.pb_session.specs.Session.{AreNamesOf, IsAdviceText, SessionState}
+use Rattle.pb_session.specs.Session.{IsAdviceText}
 use Rattle.pb_session.proofs.AppendingLemmas.{appends_so}
 use Rattle.pb_session.proofs.NamedLemmas.{costs_are, names_are}
 use Rattle.pb_session.proofs.session.Session.write_advice.Goals as goal

@@ -4,7 +4,7 @@ use Rattle.pb_graph.proofs.CertificateLemmas.{witness_within}
 use Rattle.pb_report.specs.Form.{text_in}
 use Rattle.pb_report.specs.Design.{design_rows}
 use Rattle.pb_session.specs.Kept.{Held}
-use Rattle.pb_session.specs.Session.{IsDesign, SessionState}
+use Rattle.pb_session.specs.Session.{IsDesign}
 use Rattle.pb_session.proofs.AppendingLemmas.{appends_such}
 use Rattle.pb_session.proofs.session.Session.write_classes.Goals as goal
 

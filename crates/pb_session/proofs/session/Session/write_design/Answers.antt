@@ -1,4 +1,4 @@
-use Rattle.std.proofs.Common.{◌≡◌, ◌∙◌, ap, subst, List, ℕ}
+use Rattle.std.proofs.Common.{◌≡◌, ◌∙◌, ap, subst, List}
 use Rattle.pb_rows.specs.declared.name.Names.{Names}
 use Rattle.pb_graph.specs.ProcessGraph.{ProcessGraph}
 use Rattle.pb_site.specs.Site.{HasDistinctNames, names_of}
@@ -6,7 +6,7 @@ use Rattle.pb_book.specs.declared.rows.StoredRow.{StoredRow}
 use Rattle.pb_book.specs.Rows.{declared_of}
 use Rattle.pb_period.specs.PeriodGraph.{base_of, design_graph}
 use Rattle.pb_session.specs.Kept.{Held}
-use Rattle.pb_session.specs.Session.{AreNamesOf, IsDesign, SessionState}
+use Rattle.pb_session.specs.Session.{IsDesign}
 use Rattle.pb_session.proofs.AppendingLemmas.{appends_so}
 use Rattle.pb_session.proofs.NamedLemmas.{names_are}
 use Rattle.pb_session.proofs.session.Session.write_design.Goals as goal

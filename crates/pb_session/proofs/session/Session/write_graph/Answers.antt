@@ -1,11 +1,4 @@
-use Rattle.std.proofs.Common.{◌≡◌, ◌∙◌, ◌<◌, refl, subst, ap, arith, length}
-use Rattle.pb_graph.specs.declared.results.Critical.{Critical}
-use Rattle.pb_elim.specs.Study.{IsStudyOf}
-use Rattle.pb_report.specs.Form.{text_in}
-use Rattle.pb_report.specs.Study.{study_rows}
-use Rattle.pb_session.specs.Criticals.{critical_of, declared_critical}
-use Rattle.pb_session.specs.Kept.{Held}
-use Rattle.pb_session.specs.Session.{SessionState, IsReport}
+use Rattle.std.proofs.Common.{arith}
 use Rattle.pb_session.proofs.KeepingLemmas.{first_classes}
 use Rattle.pb_session.proofs.session.Session.write_graph.Goals as goal
 
