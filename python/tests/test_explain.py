@@ -331,8 +331,8 @@ LATER = [
     (SMALL_2, 10, "tank,X,1", "", "period p is closed"),
     (SMALL_2, 10, "stream,X,J,U,plain,0,2024-01-31,2024-12-31", "SINCE", "SINCE 2024-02-01 or la"),
     (SMALL_2, 12, "reading,q,Z,2024-03-04,5,5", "DATE", "it is from 2024-03-05 to 2024-03-20"),
-    (SMALL_2, 12, "transfer,q,N,2024-03-20,2024-03-21,5,5", "LAST", "isn't in service on 2024-03-21"),
-    (SMALL_2, 12, "transfer,q,N,2024-03-04,2024-03-06,5,5", "FIRST", "isn't in service on 2024-03-0"),
+    (SMALL_2, 12, "transfer,q,N,2024-03-20,2024-03-21,5,5", "LAST", "in service on 2024-03-21"),
+    (SMALL_2, 12, "transfer,q,N,2024-03-04,2024-03-06,5,5", "FIRST", "in service on 2024-03-0"),
     (SMALL_2, 12, "late,dip,q,Y,2024-03-03,5,5,5", "DATE", "Y isn't in service on 2024-03-03"),
 ]
 

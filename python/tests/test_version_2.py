@@ -1,4 +1,4 @@
-"""Sessions of version 2 in each part of the package: boundaries, dates of service, 4,000 streams."""
+"""Sessions of version 2 in each part of the package: boundaries, dates of service, many streams."""
 
 from __future__ import annotations
 
