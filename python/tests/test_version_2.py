@@ -1,4 +1,4 @@
-"""Sessions of version 2 in each part of the package: boundaries, dates of service, 4,000 streams."""
+"""Sessions of version 2 in each part of the package: boundaries, dates of service, many streams."""
 
 from __future__ import annotations
 
@@ -341,7 +341,7 @@ def test_from_spreadsheet(say: Desk, tmp_path: Path) -> None:
 BAD_CELLS = [
     ("streams", 2, 6, "2.4.24 x", "streams.csv: line 3, column 7 (since): '2.4.24 x' is no day"),
     ("streams", 2, 7, "2024-04-01", "streams.csv: line 3, column 7: stream PRODUCT: its first day"),
-    ("streams", 1, 2, "QUAY", "there is no unit or tank QUAY"),
+    ("streams", 1, 2, "QUAY", "there is no unit, tank or boundary QUAY"),
     ("boundaries", 1, 0, "JE TTY", "boundaries.csv: line 2, column 1: boundary JE TTY: NAME is"),
     ("readings", 1, 2, "9", "PRODUCT isn't in service on 2024-04-01: it is from 2024-04-02"),
 ]
