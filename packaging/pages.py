@@ -19,7 +19,9 @@ RELEASE = re.compile(r"^## \[([0-9.]+)\] - (\d{4}-\d{2}-\d{2})$", re.M)
 LIMITS = {
     "most_bytes": "bytes of an input",
     "most_units_and_tanks": "units and tanks",
-    "most_streams": "streams and tanks",
+    "most_streams_of_version_1": "streams and tanks in version 1",
+    "most_streams": "streams and tanks in version 2",
+    "most_boundaries": "boundaries",
     "most_points": "points in a strapping table",
     "most_periods": "periods",
     "most_days_of_period": "days of a period",
@@ -136,6 +138,12 @@ A byte order mark in front of the file is taken off, empty lines are no records,
 at the end of a record are dropped.
 Spaces are never dropped, there is no heading and no comment.
 .PP
+A session is of version 2 if the row
+.B version,2
+stands before all rows that are stored, and else of version 1.
+One of version 2 may have boundaries, and tanks and streams that are in service from the day SINCE to
+the day UNTIL, both counted; its reports have what is in service on some day of their period.
+.PP
 A row that can't be accepted writes one
 .B refused
 row with the number of its record and a code, changes nothing, and the session goes on.
@@ -144,7 +152,7 @@ FIELDS = """
 A
 .B name
 is 1 to 32 letters of ASCII, digits, underscores, hyphens or full stops.
-Units, tanks and streams share one space of names, in which
+Units, tanks, streams and boundaries share one space of names, in which
 .B env
 stands for the world outside; periods have a space of their own, and so have the ids of facts.
 A

@@ -26,9 +26,10 @@ table, CSV or xlsx, with the columns stream and cost: what a meter on this strea
 whole number in any unit. A stream without a meter that isn't in it costs 1; without COSTS all do.
 
 The program is asked which streams to meter. No other choice that makes every stream observable
-costs less: that is proved. Each stream to meter has a line with its cost, and with the other streams
-on its cycle: they stay without a meter, and none of them costs less. With --form csv the columns
-are stream, cost and cycle; with --draw the plant is drawn, with the streams to meter in violet.
+costs less: that is proved. Each stream to meter has a line with its cost, and with the other
+streams on its cycle: they stay without a meter, and none of them costs less. With --form csv the
+columns are stream, cost and cycle; with --draw the plant is drawn, with the streams to meter in
+violet.
 
 examples:
   plantbal-desk advise plant.csv costs.csv --draw meters.svg
@@ -132,7 +133,8 @@ def read_costs(path: str | Path, plant: Session, locale: str = "") -> dict[str, 
             what = f"{name} is a {kind} stream: it is measured already"
             raise reader.fault(stream, what, "take the row out", "stream")
         if name in found:
-            raise reader.fault(stream, f"{name} stands above too", "leave one of both out", "stream")
+            what = f"{name} stands above too"
+            raise reader.fault(stream, what, "leave one of both out", "stream")
         number, column = reader.number(cost, "cost"), schema().row("advise").tail[1]
         low, high = column.low or 0, column.high or 0
         if number != int(number) or not low <= number <= high:

@@ -301,7 +301,8 @@ def run(options: argparse.Namespace) -> int:
     """Write the picture."""
     rows = read_rows(options.output, "report", "design")
     if options.advice and (options.period is not None or options.round is not None):
-        raise Fault("--advice is of a plant, not of a report", remedy="leave --period and --round out")
+        what = "--advice is of a plant, not of a report"
+        raise Fault(what, remedy="leave --period and --round out")
     picture = advised(rows) if options.advice else chosen(rows, options.period, options.round)
     if options.mark is not None:
         picture.mark(options.mark)

@@ -209,6 +209,10 @@ def _near(name: str, names: Iterable[str]) -> str:
 
 _DECLARE = "declare it in a row before this one, or mend the name"
 _ANOTHER = "begin another session, with the plant's rows again"
+_NO_END = {
+    "since": f"write {FIRST_DAY} if it was always in service",
+    "until": f"write {LAST_DAY} if there is no end",
+}
 _OF_VERSION_2 = "are of sessions of version 2: write version,2 as the first row"
 
 
@@ -541,7 +545,7 @@ class Session:
         elif at.type == "date":
             first, last = LIMITS["first_year"], LIMITS["last_year"]
             remedy = f"a day of the calendar, of the years {first} to {last}, such as 2024-03-01"
-            meant = day_meant(said)
+            meant = _NO_END.get(at.name, "") if not said else day_meant(said)
             if meant.startswith("write "):
                 remedy = meant
             elif meant:
@@ -720,7 +724,8 @@ class Session:
         for end in ("from", "to"):
             named = values[end]
             if named != ENV and named not in self._nodes and named not in self._boundaries:
-                what, other = f"there is no unit or tank {named}", _DECLARE
+                which = "unit or tank" if self.version == 1 else "unit, tank or boundary"
+                what, other = f"there is no {which} {named}", _DECLARE
                 if named in self._streams:
                     what = f"{named} is a stream, not a unit or tank"
                     other = "name the unit or tank at which it ends"

@@ -30,7 +30,8 @@ def written() -> Output:
 
 def test_lines(program: Path) -> None:
     found = advise(plant_of("a", METERS.read_bytes()), COSTS, program=str(program))
-    assert (found.total, [each["stream"] for each in found.meters]) == (13300, ["RES", "NAPH", "SLOP"])
+    assert found.total == 13300
+    assert [each["stream"] for each in found.meters] == ["RES", "NAPH", "SLOP"]
     assert list(found.lines()) == [
         "3 meters for 13,300 make every stream observable; no cheaper choice does",
         "RES   9,000  on its cycle: CRUDE 12,000",
@@ -59,7 +60,7 @@ STREAMS = st.lists(st.tuples(ENDS, st.integers(0, 4)), min_size=1, max_size=6)
 @QUICK
 @given(STREAMS)
 def test_no_choice_is_cheaper(program: Path, streams: list[tuple[tuple[str, str], int]]) -> None:
-    """Of all choices that make each stream observable none costs less; each meter's cycle is one."""
+    """Of all choices that make each stream observable none costs less."""
     session = Session()
     for name in "UVW":
         session.unit(name)

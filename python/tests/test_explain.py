@@ -320,9 +320,9 @@ LATER = [
     (SMALL_2, 2, "tank,X,1,2024-03-05", "SINCE or UNTIL", "is missing"),
     (SMALL_2, 2, "stream,X,J,U,plain,0,2024-03-05", "SINCE or UNTIL", "is missing"),
     (SMALL_2, 3, "boundary,a b", "NAME", "such as a_b"),
-    (SMALL_2, 5, "tank,X,1,,2024-03-20", "SINCE", "SINCE is empty"),
+    (SMALL_2, 5, "tank,X,1,,2024-03-20", "SINCE", "write 1900-01-01 if it was"),
     (SMALL_2, 5, "tank,X,1,2024-03-05,20.3.2024", "UNTIL", "write 2024-03-20"),
-    (SMALL_2, 6, "stream,X,QUAY,U,plain,0", "FROM", "there is no unit or tank QUAY"),
+    (SMALL_2, 6, "stream,X,QUAY,U,plain,0", "FROM", "there is no unit, tank or boundary QUAY"),
     (SMALL_2, 7, "boundary,J", "NAME", "J is a boundary already"),
     (SMALL_2, 7, "unit,R", "NAME", "R is a boundary already"),
     (SMALL_2, 8, "tank,X,1,2024-03-20,2024-03-05", "SINCE", "exchange the days"),
@@ -331,8 +331,8 @@ LATER = [
     (SMALL_2, 10, "tank,X,1", "", "period p is closed"),
     (SMALL_2, 10, "stream,X,J,U,plain,0,2024-01-31,2024-12-31", "SINCE", "SINCE 2024-02-01 or la"),
     (SMALL_2, 12, "reading,q,Z,2024-03-04,5,5", "DATE", "it is from 2024-03-05 to 2024-03-20"),
-    (SMALL_2, 12, "transfer,q,N,2024-03-20,2024-03-21,5,5", "LAST", "isn't in service on 2024-03-21"),
-    (SMALL_2, 12, "transfer,q,N,2024-03-04,2024-03-06,5,5", "FIRST", "isn't in service on 2024-03-0"),
+    (SMALL_2, 12, "transfer,q,N,2024-03-20,2024-03-21,5,5", "LAST", "in service on 2024-03-21"),
+    (SMALL_2, 12, "transfer,q,N,2024-03-04,2024-03-06,5,5", "FIRST", "in service on 2024-03-0"),
     (SMALL_2, 12, "late,dip,q,Y,2024-03-03,5,5,5", "DATE", "Y isn't in service on 2024-03-03"),
 ]
 

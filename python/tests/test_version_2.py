@@ -1,4 +1,4 @@
-"""Sessions of version 2 in each part of the package: boundaries, dates of service, 4,000 streams."""
+"""Sessions of version 2 in each part of the package: boundaries, dates of service, many streams."""
 
 from __future__ import annotations
 
@@ -325,10 +325,23 @@ def test_workbook(tmp_path: Path) -> None:
     ]
 
 
+def test_from_spreadsheet(say: Desk, tmp_path: Path) -> None:
+    """Rows in front may have boundaries, which are no units then."""
+    concentrator = example("concentrator")
+    before, tags = tmp_path / "before.csv", tmp_path / "tags.csv"
+    before.write_text("version,2\nboundary,MINE\n", encoding="ascii")
+    text = text_of(concentrator / "tags.csv")
+    tags.write_text(text.replace("ORE;env;", "ORE;MINE;"), encoding="utf-8")
+    words = ("--decimal", "comma", "--date", "%d.%m.%Y", "--skip", "Remark", "--before", before)
+    said = say("from-spreadsheet", *words, tags, concentrator / "readings.csv")
+    assert said.status == 0, said.err
+    assert "stream,ORE,MINE,GRINDING,metered" in said.out and "unit,MINE" not in said.out
+
+
 BAD_CELLS = [
     ("streams", 2, 6, "2.4.24 x", "streams.csv: line 3, column 7 (since): '2.4.24 x' is no day"),
     ("streams", 2, 7, "2024-04-01", "streams.csv: line 3, column 7: stream PRODUCT: its first day"),
-    ("streams", 1, 2, "QUAY", "there is no unit or tank QUAY"),
+    ("streams", 1, 2, "QUAY", "there is no unit, tank or boundary QUAY"),
     ("boundaries", 1, 0, "JE TTY", "boundaries.csv: line 2, column 1: boundary JE TTY: NAME is"),
     ("readings", 1, 2, "9", "PRODUCT isn't in service on 2024-04-01: it is from 2024-04-02"),
 ]

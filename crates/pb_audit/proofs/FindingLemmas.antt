@@ -23,10 +23,8 @@ fewer_found records rest block found =
     omega (arith, whole, length-append found.passed (found.first ∷ (found.rows ++ rest)), length-append found.rows rest)
 
 some_refused : (at : ℕ) (records left : List Record) (number : ℕ) (fault : RowFault) → IsNext at records (Refused number fault left) → 0 < length records
-some_refused at records left number fault (inl r) =
-    omega (arith, ap (λ (l : List Record). length l) r.split, length-append r.passed (r.first ∷ left))
-some_refused at records left number fault (inr r) =
-    omega (arith, ap (λ (l : List Record). length l) r.split, length-append r.passed (r.first ∷ (r.rows ++ r.rest)))
+some_refused at records left number fault r =
+    omega (arith, ap (λ (l : List Record). length l) r.split, length-append r.passed (r.first ∷ r.behind))
 
 pub fewer_behind : (at : ℕ) (records behind : List Record) (finding : Finding) → Finds at records finding behind → length behind < length records
 fewer_behind at records behind (passed block) found = fewer_found records behind block found.0

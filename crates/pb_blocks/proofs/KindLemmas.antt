@@ -1,7 +1,7 @@
 -- The kind of a row among one.
 use denote.Enum.Bare.{sameb}
-use Rattle.std.specs.Prelude.{◌&&◌, ◌||◌, not, is_ok, position, if◌then◌else◌}
-use Rattle.std.proofs.Common.{◌≡◌, ℕ, Bool, true, false, List, [], ◌∷◌, length, Some, None, Result, Ok, Err, refl, sym, inl, inr}
+use Rattle.std.specs.Prelude.{◌||◌, not, is_ok, position, if◌then◌else◌}
+use Rattle.std.proofs.Common.{◌≡◌, ℕ, Bool, true, false, List, [], ◌∷◌, length, Some, None, Result, Err, refl, sym, inl, inr}
 use Rattle.std.proofs.lemmas.Bool.{and_parts, cases_Bool}
 use Rattle.pb_form.specs.contracts.fault.FormFault.{the_type}
 use Rattle.pb_form.specs.Columns.{Schema}

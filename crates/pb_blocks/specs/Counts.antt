@@ -1,5 +1,5 @@
 -- Inside. What the code's own contracts say of headings, of counts and of what a row that was read gives.
-use Rattle.std.specs.Prelude.{◌≡◌, ◌≤◌, ◌<◌, ◌≤ℤ◌, ◌^◌, ℕ, ℤ, pos, List, Option, Some, None, Result, Ok, Err, IfSome}
+use Rattle.std.specs.Prelude.{◌≤◌, ◌≤ℤ◌, ℕ, ℤ, pos, List, Option, Some, None, Result, Ok, Err, IfSome}
 use Rattle.pb_limits.specs.Limits.{most_nodes, most_streams}
 use Rattle.pb_form.specs.Value.{Value}
 use Rattle.pb_form.specs.declared.output.OutputKind.{OutputKind}

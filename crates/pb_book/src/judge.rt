@@ -28,7 +28,8 @@ use pb_site::{
 /// there is none.
 pub fn judge(site: &Site, facts: &Facts, periods: &Periods, effect: &Effect) -> Option<Refused>
     requires { IsEffectInRange effect.now }
-    ensures { result ≡ refusal_behind (version_of site.now) site.now facts.now periods.now effect.now }
+    ensures { result ≡ refusal_behind (version_of site.now) site.now facts.now periods.now
+        effect.now }
 {
     match effect {
         Effect::Declares(declared) => judge_declaration(site, periods, declared),

@@ -1,5 +1,5 @@
 -- What comes next: there is one thing, and no other; blocks put behind others.
-use Rattle.std.specs.Prelude.{◌≢◌, ◌⊎◌, ◌&&◌, bytes_eq, codes, Result, Ok, Err, if◌then◌else◌}
+use Rattle.std.specs.Prelude.{◌≢◌, ◌⊎◌, bytes_eq, codes, Result, Ok, Err, if◌then◌else◌}
 use Rattle.std.specs.Cmp.Lexicographic.{bytes_decides}
 use Rattle.std.specs.List.{list_all}
 use Rattle.std.proofs.Common.{◌≡◌, ◌∙◌, ℕ, ◌+◌, ◌≤◌, List, [], ◌∷◌, ◌++◌, length, drop, Bool, true, false, true≢false, Option, Some, None, refl, sym, ap, ap₂, arith, inl, inr, append_assoc, length-append}

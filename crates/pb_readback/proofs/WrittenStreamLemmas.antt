@@ -2,7 +2,7 @@
 use Rattle.std.specs.Prelude.{◌&&◌, not, ◌^◌, codes, bytes_eq, IfSome}
 use Rattle.std.specs.List.{list_all, list_any}
 use Rattle.std.specs.Option.{option_and}
-use Rattle.std.proofs.Common.{◌≡◌, ◌∙◌, ℕ, ◌<◌, List, [], ◌∷◌, length, Bool, true, false, Option, None, Some, refl, sym, ap, ap₂, subst, arith, inl, inr}
+use Rattle.std.proofs.Common.{◌≡◌, ◌∙◌, ℕ, ◌<◌, List, [], length, Bool, true, false, Option, None, Some, refl, sym, ap, ap₂, subst, arith, inl, inr}
 use Rattle.std.proofs.lemmas.Bool.{and_from, cases_Bool, or_from}
 use Rattle.std.specs.Cmp.Lexicographic.{bytes_decides}
 use Rattle.pb_limits.specs.Limits.{most_value, most_wide}

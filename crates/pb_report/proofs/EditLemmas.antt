@@ -1,5 +1,4 @@
 -- The table of edits and the places of their words.
-use Rattle.std.specs.Prelude.{slice_get}
 use Rattle.std.proofs.Common.{◌≡◌, ◌<◌, ℕ, zero, suc, Some, refl, sym, ap, arith}
 use Rattle.pb_form.specs.Words.{edit_words}
 use Rattle.pb_form.specs.Writing.{IsFirst}

@@ -2,7 +2,7 @@
 -- meter costs and the cycle that shows why it needs one.
 use Rattle.std.specs.Prelude.{pos, List, [], ◌∷◌, length, map}
 use Rattle.pb_rows.specs.declared.name.Names.{Names}
-use Rattle.pb_form.specs.Value.{Value, Name, Number, Items}
+use Rattle.pb_form.specs.Value.{Name, Number, Items}
 use Rattle.pb_form.specs.declared.output.OutputKind.TheVariants as kind
 use Rattle.pb_graph.specs.ProcessGraph.{ProcessGraph}
 use Rattle.pb_advise.specs.declared.advice.Advice.{Advice}

@@ -1,4 +1,4 @@
-use Rattle.std.proofs.Common.{◌≡◌, ◌∙◌, ℕ, List, Ok, true, false, true≢false, codes, ap, ap₂, refl, sym}
+use Rattle.std.proofs.Common.{◌≡◌, ◌∙◌, ℕ, List, Ok, false, true≢false, codes, ap, ap₂, refl, sym}
 use Rattle.pb_rows.specs.Name.{is_name}
 use Rattle.pb_form.specs.Columns.{Schema}
 use Rattle.pb_form.specs.OutputRows.{output_schema}

@@ -1,5 +1,5 @@
 use Rattle.std.specs.Prelude.{All}
-use Rattle.std.proofs.Common.{◌≡◌, ◌<◌, ℕ, List, length, subst, sym}
+use Rattle.std.proofs.Common.{◌<◌, ℕ, subst, sym}
 use Rattle.std.proofs.lemmas.List.Elements.{All-weaker}
 use Rattle.pb_rows.specs.declared.name.Names.{Names}
 use Rattle.pb_graph.specs.declared.records.Step.{Step}
