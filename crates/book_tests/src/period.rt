@@ -4,7 +4,7 @@ use crate::book::first_refused;
 use pb_book::Book;
 use pb_graph::Graph;
 use pb_period::{Assembly, assemble, design, names};
-use pb_rows::{NameList, Rows};
+use pb_rows::{NameList, Names, Rows};
 use std::alloc::Global;
 use std::test::Fail;
 
@@ -216,20 +216,32 @@ fn push_names(out: &mut Vec<u8>, names: &NameList) -> Result<(), Fail> {
     Ok(())
 }
 
-// The names of the nodes and streams of a period, each after a space, with a stroke between.
-fn named(alloc: Global, text: &[u8], period: u32) -> Result<Vec<u8>, Fail> {
-    let mut book = Book::new(alloc);
-    if let Some(place) = first_refused(&mut book, 0, &Rows::of(alloc, text)?) {
+// Appends the names of the nodes and streams of a graph, each after a space, with a stroke between.
+fn push_both(out: &mut Vec<u8>, names: &Names) -> Result<(), Fail> {
+    push_names(out, &names.nodes)?;
+    out.extend_from_slice(b" |")?;
+    push_names(out, &names.streams)
+}
+
+// The names of a period of a book that is given these rows.
+fn names_of(alloc: Global, book: &mut Book, text: &[u8], period: u32) -> Result<Names, Fail> {
+    if let Some(place) = first_refused(book, 0, &Rows::of(alloc, text)?) {
         return Err(place)?;
     }
     if period >= book.periods() {
         return Err("no such period")?;
     }
-    let names = names(alloc, &book, period)?;
+    Ok(names(alloc, book, period)?)
+}
+
+fn push_named(alloc: Global, out: &mut Vec<u8>, text: &[u8], period: u32) -> Result<(), Fail> {
+    let mut book = Book::new(alloc);
+    push_both(out, &names_of(alloc, &mut book, text, period)?)
+}
+
+fn named(alloc: Global, text: &[u8], period: u32) -> Result<Vec<u8>, Fail> {
     let mut out = Vec::new(alloc);
-    push_names(&mut out, &names.nodes)?;
-    out.extend_from_slice(b" |")?;
-    push_names(&mut out, &names.streams)?;
+    push_named(alloc, &mut out, text, period)?;
     Ok(out)
 }
 

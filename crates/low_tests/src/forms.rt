@@ -53,7 +53,7 @@ fn tells_kinds(rt: HostRuntime) -> Result<(), Fail> {
 }
 
 // The fault of a record of a schema.
-fn fault_of(schema: &Schema, row: &Row) -> Option<FormFault> {
+fn fault_of<'a>(schema: &'a Schema, row: &'a Row) -> Option<FormFault> {
     if schema.columns.len() > 16 {
         return None;
     }

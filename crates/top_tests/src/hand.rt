@@ -49,13 +49,20 @@ fn judged(
 }
 
 const PLANT: &str = "unit,U\nstream,P,U,env,plain,0\nstream,R,U,env,plain,0\ndesign\n";
-const CLASSES: &str = "design,2,2\nclass,P,U,env,no,unobservable,cycle,,+R -P\nclass,R,U,env,no,unobservable,cycle,,+R -P\n";
+
+const CLASSES: &str =
+    "design,2,2\nclass,P,U,env,no,unobservable,cycle,,+R -P\nclass,R,U,env,no,unobservable,cycle,,+R -P\n";
 
 #[test]
 fn answers_bytes_in_hand(rt: HostRuntime) -> Result<(), AllocError> {
     let cases = [
         (PLANT, 0, Status::Done, CLASSES),
-        ("unit,U\nunit,U\n", 0, Status::DoneRefused, "refused,2,7,duplicate\n"),
+        (
+            "unit,U\nunit,U\n",
+            0,
+            Status::DoneRefused,
+            "refused,2,7,duplicate\n",
+        ),
         (PLANT, 1, Status::WriteFault, ""),
     ];
     for (text, failing_put, status, wanted) in cases {
@@ -70,7 +77,8 @@ fn answers_bytes_in_hand(rt: HostRuntime) -> Result<(), AllocError> {
 }
 
 /// The report of a unit with one unmeasured stream.
-const REPORT: &str = "report,d1,0,2,1,10,5000\nnode,env,0\nnode,U,0\nstream,A,U,env,,,observable,0,0,0,0,0,cut,U,-A\nsolved,0,converged,0,0,0,0,0\nend,d1,0\n";
+const REPORT: &str =
+    "report,d1,0,2,1,10,5000\nnode,env,0\nnode,U,0\nstream,A,U,env,,,observable,0,0,0,0,0,cut,U,-A\nsolved,0,converged,0,0,0,0,0\nend,d1,0\n";
 
 #[test]
 fn judges_bytes_in_hand(rt: HostRuntime) -> Result<(), AllocError> {
