@@ -53,6 +53,23 @@ const PLANT: &str = "unit,U\nstream,P,U,env,plain,0\nstream,R,U,env,plain,0\ndes
 const CLASSES: &str =
     "design,2,2\nclass,P,U,env,no,unobservable,cycle,,+R -P\nclass,R,U,env,no,unobservable,cycle,,+R -P\n";
 
+fn assert_answered(
+    rt: &impl Abort,
+    alloc: Global,
+    text: &str,
+    failing_put: u32,
+    status: Status,
+    wanted: &str,
+) -> Result<(), AllocError> {
+    let (ended, written) = answered(rt, alloc, text, failing_put)?;
+    assert_eq!(rt;
+        (ended, written.as_slice()),
+        (status, wanted.as_bytes()),
+        "{text}, put {failing_put} failing"
+    );
+    Ok(())
+}
+
 #[test]
 fn answers_bytes_in_hand(rt: HostRuntime) -> Result<(), AllocError> {
     let cases = [
@@ -66,12 +83,7 @@ fn answers_bytes_in_hand(rt: HostRuntime) -> Result<(), AllocError> {
         (PLANT, 1, Status::WriteFault, ""),
     ];
     for (text, failing_put, status, wanted) in cases {
-        let (ended, written) = answered(&rt, rt.alloc(), text, failing_put)?;
-        assert_eq!(rt;
-            (ended, written.as_slice()),
-            (status, wanted.as_bytes()),
-            "{text}, put {failing_put} failing"
-        );
+        assert_answered(&rt, rt.alloc(), text, failing_put, status, wanted)?;
     }
     Ok(())
 }
@@ -79,6 +91,23 @@ fn answers_bytes_in_hand(rt: HostRuntime) -> Result<(), AllocError> {
 /// The report of a unit with one unmeasured stream.
 const REPORT: &str =
     "report,d1,0,2,1,10,5000\nnode,env,0\nnode,U,0\nstream,A,U,env,,,observable,0,0,0,0,0,cut,U,-A\nsolved,0,converged,0,0,0,0,0\nend,d1,0\n";
+
+fn assert_judged(
+    rt: &impl Abort,
+    alloc: Global,
+    text: &str,
+    failing_put: u32,
+    status: Status,
+    wanted: &str,
+) -> Result<(), AllocError> {
+    let (ended, written) = judged(rt, alloc, text, failing_put)?;
+    assert_eq!(rt;
+        (ended, written.as_slice()),
+        (status, wanted.as_bytes()),
+        "{text}, put {failing_put} failing"
+    );
+    Ok(())
+}
 
 #[test]
 fn judges_bytes_in_hand(rt: HostRuntime) -> Result<(), AllocError> {
@@ -88,12 +117,7 @@ fn judges_bytes_in_hand(rt: HostRuntime) -> Result<(), AllocError> {
         (REPORT, 1, Status::WriteFault, ""),
     ];
     for (text, failing_put, status, wanted) in cases {
-        let (ended, written) = judged(&rt, rt.alloc(), text, failing_put)?;
-        assert_eq!(rt;
-            (ended, written.as_slice()),
-            (status, wanted.as_bytes()),
-            "{text}, put {failing_put} failing"
-        );
+        assert_judged(&rt, rt.alloc(), text, failing_put, status, wanted)?;
     }
     Ok(())
 }
