@@ -24,7 +24,7 @@ use Rattle.pb_elim.specs.Options.{AreOptions}
 use Rattle.pb_check.specs.Laws.{OwnLaw}
 use Rattle.pb_check.specs.Verdict.{IsPassed}
 use Rattle.pb_book.specs.declared.answer.Accepted.{Accepted}
-use Rattle.pb_book.specs.declared.answer.Accepted.TheVariants.{Blank, Stored as StoredAccepted, Design, Report, History, Advise}
+use Rattle.pb_book.specs.declared.answer.Accepted.TheVariants.{Blank, Stored as StoredAccepted, Design, Report, History, Advise, Component}
 use Rattle.pb_kinds.specs.Costs.{named_costs}
 use Rattle.pb_book.specs.declared.rows.Period.{Period}
 use Rattle.pb_book.specs.Accepted.{AreAccepted}
@@ -50,13 +50,14 @@ use Rattle.pb_readback.specs.Next.{AreBlocks}
 use Rattle.pb_readback.specs.Written.{BeginWithWords, HasBoundsForLeast, IsReportable, PassedRowsLaw, RowTextLaw, RowWordsLaw, StudyRowsLaw, block_with, blocks_from, records_in}
 use Rattle.pb_session.specs.Criticals.{critical_of}
 use Rattle.pb_report.specs.Advice.{advice_rows}
+use Rattle.pb_report.specs.Component.{component_row}
 use Rattle.pb_report.specs.Design.{design_rows}
 use Rattle.pb_report.specs.Names.{name_at}
 use Rattle.pb_report.specs.Over.{over_row}
 use Rattle.pb_report.specs.Refusal.{refused_row}
 use Rattle.pb_site.specs.Site.{names_of, version_of}
 use Rattle.pb_session.specs.History.{told, told_history, told_period}
-use Rattle.pb_session.specs.Session.{Adds, AddsAccepted, AddsBy, AreNamesOf, IsReport, IsSessionText, Reports, ReportsBy, SessionState, Tells, state_after}
+use Rattle.pb_session.specs.Session.{Adds, AddsAccepted, AddsBy, AreNamesOf, Balances, BalancesBy, IsReport, IsSessionText, IsTextOf, Reports, ReportsBy, SessionState, Tells, state_after}
 use Rattle.pb_audit.specs.Judgement.{AreFindings, Finding, IsJudgement, IsPassedBlock, finds_wrong, passed}
 use Rattle.pb_audit.specs.Laws.{OneFindingsLaw, PassedLaw}
 use Rattle.pb_cli.proofs.ServedLemmas.{days_named}
@@ -199,6 +200,17 @@ report_read known state days period graph text sound named name report =
           (known.own graph state.options (critical_of state.rows) report.study report.limits report.is_study);
     }
 
+-- a period's name is one
+period_named : NamedLaw → (state : SessionState) (i : ℕ) (period : Period) → IsSound state → slice_get (periods_of state.rows) i ≡ Some period → is_name period.name ≡ true
+period_named law state i period sound at =
+    at_place (λ (p : Period). is_name p.name ≡ true) (periods_of state.rows) i period at (law.named state.rows sound.named).periods
+
+-- the row of a stream beyond the limits
+over_read : AreKnown → (state : SessionState) (period stream text : List ℕ) → IsSound state → IsTextOf state (over_row period stream ∷ []) text → ReadsBack text
+over_read known state period stream text sound is =
+    let rows : List OutputRow = over_row period stream ∷ [] in
+    passed_over rows text (in_csv state rows text sound.form is) (known.words.over period stream) (known.others.over period stream)
+
 reports_read : AreKnown → NamedLaw → (state : SessionState) (i : ℕ) (text : List ℕ) → IsSound state → (found : Option Period) → slice_get (periods_of state.rows) i ≡ found
     → Reports state found text → ReadsBack text
 reports_read known law state i text sound None at reports = absurd reports
@@ -208,14 +220,26 @@ reports_read known law state i text sound (Some period) at reports = by (assembl
     named = law.named state.rows sound.named
 
     by : (a : Result ProcessGraph Assembly) → ReportsBy state period a text → ReadsBack text
-    by (Ok graph) report =
-        report_read known state (days_of period) period.name graph text sound named
-        (at_place (λ (p : Period). is_name p.name ≡ true) (periods_of state.rows) i period at named.periods) report
-    by (Err (Over j)) is =
-        let stream = name_at (period_names state.rows (days_of period)).streams j in
-        let rows : List OutputRow = over_row period.name stream ∷ [] in
-        passed_over rows text (in_csv state rows text sound.form is) (known.words.over period.name stream) (known.others.over period.name stream)
+    by (Ok graph) report = report_read known state (days_of period) period.name graph text sound named (period_named law state i period sound at) report
+    by (Err (Over j)) is = over_read known state period.name (name_at (period_names state.rows (days_of period)).streams j) text sound is
     by (Err NoMemory) is = absurd is
+
+-- ---- the balance of a component
+
+-- the report of its graph after the row of the component
+balances_read : AreKnown → NamedLaw → (state : SessionState) (component : List ℕ) (i : ℕ) (text : List ℕ) → IsSound state → (found : Option Period) → slice_get (periods_of state.rows) i ≡ found
+    → Balances state component found text → ReadsBack text
+balances_read known law state component i text sound None at balance = absurd balance
+balances_read known law state component i text sound (Some period) at (answer, of, by) = read answer by
+  where
+    read : (a : Result ProcessGraph Assembly) → BalancesBy state component period a text → ReadsBack text
+    read (Ok graph) both =
+        let rows : List OutputRow = component_row component period.name ∷ [] in
+        let front = passed_over rows both.front (in_csv state rows both.front sound.form both.before) (known.words.components component period.name) (known.others.components component period.name) in
+        let rest = report_read known state (days_of period) period.name graph both.rest sound (law.named state.rows sound.named) (period_named law state i period sound at) both.report in
+        subst (λ (t : List ℕ). ReadsBack t) (sym both.whole) (both_read known.join both.front both.rest front rest)
+    read (Err (Over j)) is = over_read known state period.name (name_at (period_names state.rows (days_of period)).streams j) text sound is
+    read (Err NoMemory) is = absurd is
 
 -- ---- one record, and all of them
 
@@ -242,6 +266,7 @@ record_read known law state at fields text sound adds = by (answer_of state.rows
         passed_over rows text (in_csv state rows text sound.form design.rows) (known.words.designs names graph design.classes) (known.others.designs names graph design.classes)
     said (Report i) reports = reports_read known law state i text sound (slice_get (periods_of state.rows) i) refl reports
     said (History i) is = tells (slice_get (periods_of state.rows) i) is
+    said (Component component i) balance = balances_read known law state component i text sound (slice_get (periods_of state.rows) i) refl balance
     said Advise advised =
         let names = names_of (declared_of state.rows) in
         let rows : List OutputRow = advice_rows names advised.advice in
