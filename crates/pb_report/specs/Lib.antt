@@ -5,6 +5,7 @@ pub mod Names
 pub mod Rows
 pub mod Refusal
 pub mod Over
+pub mod Window
 pub mod Certificate
 pub mod Design
 pub mod Advice
