@@ -8,7 +8,7 @@ use Rattle.pb_graph.specs.Alike.{AreAlike}
 use Rattle.pb_graph.specs.ProcessGraph.{ProcessGraph, IsProcessGraph}
 use Rattle.pb_graph.specs.WellFormed.{IsWellFormedStudy}
 use Rattle.pb_classify.specs.Classification.{IsClassification}
-use Rattle.pb_elim.specs.Certified.{IsCertifiedStage}
+use Rattle.pb_elim.specs.Certified.{IsCertifiedStage, HasLeastThroughout, TestsEachRedundant}
 use Rattle.pb_elim.specs.Options.{AreOptions}
 use Rattle.pb_elim.specs.Study.{IsStudyOf}
 use Rattle.pb_book.specs.declared.answer.Accepted.{Accepted}
@@ -88,7 +88,17 @@ abbrev pub IsRenewal : Option ProcessGraph → ProcessGraph → Option (List Cla
 IsRenewal reported graph (Some list) = IsClassification graph list
 IsRenewal reported graph None = KeepsAlike reported graph
 
--- ---- what a report leaves to be kept
+-- ---- a study and what a report leaves to be kept
+
+-- A study is that of a graph, by what the session asks and the critical values of the stored rows, with all that a report promises of its
+-- stages; and it is well formed.
+pub record IsStudied (state : SessionState) (graph : ProcessGraph) (study : Study) : Type 0 where
+  pub limits : IsProcessGraph graph
+  pub is_study : IsStudyOf graph state.options (critical_of state.rows) study
+  pub certified : All IsCertifiedStage study.stages
+  pub least : All HasLeastThroughout study.stages
+  pub tested : All TestsEachRedundant study.stages
+  pub formed : IsWellFormedStudy graph study
 
 -- the study is that of the graph, and it isn't kept; or none was made, since one is kept
 abbrev pub IsMade : Held → ℕ → ProcessGraph → Option Study → Type 0

@@ -72,7 +72,7 @@ impl Session {
     ghost use Rattle.pb_session.specs.Appending.{AppendsText, KeepsText};
     ghost use Rattle.pb_session.specs.Closed.{LeavesClosed};
     ghost use Rattle.pb_session.specs.FirstStage.{Begins, IsFirstStage, TellsAStream};
-    ghost use Rattle.pb_session.specs.Keeping.{IsRenewal, IsReportedAt, IsReportedOf, KeepsAlike};
+    ghost use Rattle.pb_session.specs.Keeping.{IsRenewal, IsReportedAt, IsReportedOf, IsStudied, KeepsAlike};
     ghost use Rattle.pb_session.specs.Kept.{IsKeptAt, Keeps, KeepsAccepted, KeepsReportOf, most_kept, reported_after, reported_behind, reported_of};
     ghost use Rattle.pb_session.specs.Session.{Adds, AddsAccepted, AreNamesOf, IsAdviceText, IsDesign, IsReport, IsTextOf, Reports, Tells, state_after};
 
@@ -393,7 +393,7 @@ impl Session {
         let names = pb_period::names(self.alloc, &self.book, i)?;
         let period = self.book.period(i).name;
         match assemble(self.alloc, &self.book, i) {
-            Ok(graph) => Ok(Some(self.write_graph(i, &names, &period, graph, out)?)),
+            Ok(graph) => Ok(Some(self.report_graph(i, &names, &period, graph, out)?)),
             Err(Assembly::Over(j)) => {
                 write_over(
                     self.alloc,
@@ -408,8 +408,9 @@ impl Session {
         }
     }
 
-    // Appends the report of a period of this name, whose graph this is, with the names of its nodes and streams.
-    fn write_graph(
+    // Appends the report of a period of this name, whose graph this is, with the names of its nodes and streams, and says what it leaves
+    // to be kept.
+    fn report_graph(
         &self,
         i: u32,
         names: &Names,
@@ -424,9 +425,7 @@ impl Session {
         ensures leaves { IfOk result (IsReportedOf self.now i graph) }
         ensures err { OnErr result (KeepsText out.old out.new) }
     {
-        let critical = declared_critical(self.alloc, self.book.site())?;
-        let classes = self.classes_of(&graph)?;
-        let study = study_classed(self.alloc, &graph, classes, &self.options, &critical)?;
+        let study = self.study_of(&graph)?;
         let classes = self.renewal(&graph, study.stages.at(0))?;
         write_study(
             self.alloc,
@@ -442,6 +441,43 @@ impl Session {
             graph,
             classes,
         })
+    }
+
+    // Appends the report of a graph under this name, with the names of its nodes and streams. Nothing of it is kept.
+    fn write_graph(
+        &self,
+        names: &Names,
+        period: &Name,
+        graph: &Graph,
+        out: &mut Vec<u8>,
+    ) -> Result<(), AllocError>
+        requires names { AreNamesOf names.now graph.now }
+        requires limits { IsProcessGraph graph.now }
+        ensures ok { OnOk result (AppendsText
+            (IsReport self.now.state names.now period.now graph.now) out.old out.new) }
+        ensures err { OnErr result (KeepsText out.old out.new) }
+    {
+        let study = self.study_of(graph)?;
+        write_study(
+            self.alloc,
+            names,
+            period,
+            &self.options,
+            &study,
+            self.form,
+            out,
+        )
+    }
+
+    // The study of a graph, with what the session asks of its studies.
+    fn study_of(&self, graph: &Graph) -> Result<Study, AllocError>
+        requires { IsProcessGraph graph.now }
+        ensures { IfOk result (IsStudied self.now.state graph.now) }
+    {
+        let critical = declared_critical(self.alloc, self.book.site())?;
+        let classes = self.classes_of(graph)?;
+        let study = study_classed(self.alloc, graph, classes, &self.options, &critical)?;
+        Ok(study)
     }
 
     // Whether the graph of the kept classes is alike this one, so that they are its classes too.
