@@ -1,5 +1,5 @@
 -- Statement. What the facts say of the streams of a window, and its graph.
-use Rattle.std.specs.Prelude.{ℕ, ℤ, ◌-◌, List, filter_map, find, map, slice_get, option_and_then, option_map, Option, None, Result}
+use Rattle.std.specs.Prelude.{ℕ, ◌<◌, ℤ, ◌-◌, List, length, filter_map, find, map, slice_get, option_and_then, option_map, Option, None, Result}
 use Rattle.pb_strap.specs.declared.strap.Point.{Point}
 use Rattle.pb_graph.specs.declared.records.Meas.{Meas}
 use Rattle.pb_graph.specs.ProcessGraph.{ProcessGraph}
@@ -22,6 +22,7 @@ use Rattle.pb_book.specs.Rows.{declared_of, facts_of, periods_of}
 use Rattle.pb_period.specs.declared.amount.Amount.{Amount}
 use Rattle.pb_period.specs.declared.days.Days.{Days}
 use Rattle.pb_period.specs.declared.graph.Assembly.{Assembly}
+use Rattle.pb_period.specs.declared.graph.Assembly.TheVariants.{NoMemory, Over}
 use Rattle.pb_period.specs.Days.{days_of}
 use Rattle.pb_period.specs.Facts.{content_of}
 use Rattle.pb_period.specs.Measurement.{measured, measurement}
@@ -81,3 +82,8 @@ measured_window rows periods window = window_graph window (window_measured rows 
 -- The graph, or its first stream that is over the limits.
 abbrev pub window_assembly : List StoredRow → List Period → Window → Result ProcessGraph Assembly
 window_assembly rows periods window = within_limits (measured_window rows periods window)
+
+-- a stream that is over the limits is one of the window's
+abbrev pub IsStreamOfWindow : Window → Assembly → Type 0
+IsStreamOfWindow window (Over stream) = stream < length window.streams
+IsStreamOfWindow window NoMemory = Unit {0}

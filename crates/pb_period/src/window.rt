@@ -7,8 +7,7 @@ ghost use Rattle.pb_book.specs.Rows.{declared_of, periods_of};
 ghost use Rattle.pb_window.specs.Places.{HasStreamNames};
 ghost use Rattle.pb_window.specs.Window.{IsWindow};
 ghost use Rattle.pb_period.specs.declared.graph.Assembly.TheVariants.{NoMemory};
-ghost use Rattle.pb_period.specs.PeriodGraph.{IsStreamOfGraph};
-ghost use Rattle.pb_period.specs.WindowGraph.{content_measured, flow_measured, measured_window, names_of_periods, periods_at, stream_measured, window_assembly, window_measured};
+ghost use Rattle.pb_period.specs.WindowGraph.{IsStreamOfWindow, content_measured, flow_measured, names_of_periods, periods_at, stream_measured, window_assembly, window_measured};
 
 use crate::days::Days;
 use crate::graph::{Assembly, measured};
@@ -35,8 +34,7 @@ pub fn assemble_window(
         (names_of_periods (periods_at book.now places.now))) window.now.streams }
     ensures answer { result ≢ Err Assembly.NoMemory
         → result ≡ window_assembly book.now (periods_at book.now places.now) window.now }
-    ensures over { IfErr result
-        (IsStreamOfGraph (measured_window book.now (periods_at book.now places.now) window.now)) }
+    ensures over { IfErr result (IsStreamOfWindow window.now) }
 {
     let measured = window_measured(alloc, book, window, places)?;
     match window_graph(alloc, window, &measured) {

@@ -5,10 +5,10 @@ ghost use Rattle.pb_session.specs.KeptLaws.{FewKeptLaw, KeptTextLaw, OneKeptLaw,
 ghost use Rattle.pb_session.specs.Laws.{CriticalsLaw, OneTextLaw, OneSessionTextLaw, SomeTextLaw, SomeSessionTextLaw};
 
 use pb_advise::{cheapest_law, one_advice_law, some_advice_law};
-use pb_book::{accepted_law, meter_costs_law, plain_law, ranges_law};
+use pb_book::{accepted_law, book_windows_law, meter_costs_law, plain_law, ranges_law};
 use pb_classify::{one_classification_law, some_classification_law};
 use pb_elim::{certified_law, least_throughout_law, one_study_law, some_study_law, tested_law};
-use pb_period::{graphs_law, plain_graphs_law};
+use pb_period::{graphs_law, plain_graphs_law, window_graphs_law};
 
 /// The law that what a record adds to the output is one text, and so is the output of a session: the classes of a design and
 /// their certificates leave no choice, and neither does the advice for a graph at its costs, nor the study of a graph.
@@ -22,7 +22,7 @@ pub fn one_text_law()
 }
 
 /// The law that each record adds some text to the output, and that each session has some text: accepted rows make process
-/// graphs, and each of them has classes with certificates, an advice at any costs, and a study.
+/// graphs, also of windows, and each of them has classes with certificates, an advice at any costs, and a study.
 pub fn some_text_law()
     ensures of_a_record { SomeTextLaw }
     ensures of_a_session { SomeSessionTextLaw }
@@ -36,6 +36,8 @@ pub fn some_text_law()
     least_throughout_law();
     tested_law();
     graphs_law();
+    book_windows_law();
+    window_graphs_law();
     accepted_law();
 }
 

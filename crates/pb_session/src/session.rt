@@ -7,21 +7,27 @@ ghost use Rattle.pb_kinds.specs.Costs.{named_costs};
 ghost use Rattle.pb_advise.specs.Choice.{AreCosts};
 ghost use Rattle.pb_report.specs.Refusal.{refused_row};
 ghost use Rattle.pb_book.specs.Rows.{periods_of};
+ghost use Rattle.pb_book.specs.Windows.{IsWindowAsked, OfEnds};
 
 use crate::classes::{Classes, classes_in, copied, renew};
 use crate::criticals::declared_critical;
 use crate::history::{told_edits, told_period};
 use crate::kept::{KeptStudy, drop_study, drop_touched, place_of, settle};
+use crate::windows::places_of;
 use pb_advise::advise;
 use pb_book::{Accepted, Book, NotAccepted, Refused};
 use pb_classify::{alike_law, classify};
 use pb_elim::{least_throughout_law, stage, study_classed, tested_law};
 use pb_graph::{Classified, Graph, List, Options, Stage, Study};
-use pb_period::{Assembly, assemble, closed_graphs_law, design, untouched_law};
+use pb_period::{
+    Assembly, assemble, assemble_window, closed_graphs_law, design, untouched_law,
+};
 use pb_report::{
     Form, write_advice, write_design, write_history, write_over, write_refused, write_study,
+    write_window,
 };
 use pb_rows::{Name, Names, Row};
+use pb_window::{Window, window_names};
 use std::alloc::{AllocError, Global};
 use std::marker::Model;
 
@@ -74,7 +80,8 @@ impl Session {
     ghost use Rattle.pb_session.specs.FirstStage.{Begins, IsFirstStage, TellsAStream};
     ghost use Rattle.pb_session.specs.Keeping.{IsRenewal, IsReportedAt, IsReportedOf, IsStudied, KeepsAlike};
     ghost use Rattle.pb_session.specs.Kept.{IsKeptAt, Keeps, KeepsAccepted, KeepsReportOf, most_kept, reported_after, reported_behind, reported_of};
-    ghost use Rattle.pb_session.specs.Session.{Adds, AddsAccepted, AreNamesOf, IsAdviceText, IsDesign, IsReport, IsTextOf, Reports, Tells, state_after};
+    ghost use Rattle.pb_session.specs.Session.{Adds, AddsAccepted, AreNamesOf, IsAdviceText, IsDesign, IsReport, IsReportAfter, IsTextOf, Reports, Tells, Windows, state_after, window_head};
+    ghost use Rattle.pb_session.specs.Windowed.{IsWindowAt};
 
     /// A session that has stored nothing.
     pub fn new(alloc: Global, options: Options, form: Form) -> Session
@@ -218,6 +225,7 @@ impl Session {
             Accepted::Report(i) => self.write_report(i, out),
             Accepted::History(i) => self.write_history(i, out),
             Accepted::Advise => self.write_advice(row, out),
+            Accepted::Window { first, last } => self.write_window(first, last, out),
         }
     }
 
@@ -478,6 +486,69 @@ impl Session {
         let classes = self.classes_of(graph)?;
         let study = study_classed(self.alloc, graph, classes, &self.options, &critical)?;
         Ok(study)
+    }
+
+    // Appends the window from the period at one place to the period at another, or the row that names its first stream beyond the limits.
+    // Nothing of it is kept.
+    fn write_window(&self, first: u32, last: u32, out: &mut Vec<u8>) -> Result<(), AllocError>
+        requires { IsWindowAsked self.now.state.rows first last }
+        ensures ok { OnOk result (AppendsText (Windows self.now.state
+            (slice_get (periods_of self.now.state.rows) first)
+            (slice_get (periods_of self.now.state.rows) last)) out.old out.new) }
+        ensures err { OnErr result (KeepsText out.old out.new) }
+    {
+        let periods = self.book.periods_between(self.alloc, first, last)?;
+        let window = self.book.window(self.alloc, first, last)?;
+        let names = window_names(self.alloc, &window)?;
+        match assemble_window(self.alloc, &self.book, &window, &periods) {
+            Ok(graph) => self.report_window(first, last, &periods, &window, &names, &graph, out),
+            Err(Assembly::Over(j)) => write_over(
+                self.alloc,
+                &self.book.period(first).name,
+                names.streams.at(j as usize),
+                self.form,
+                out,
+            ),
+            Err(Assembly::NoMemory) => Err(AllocError),
+        }
+    }
+
+    // Appends the rows before the report of a window, and the report of its graph under the name of its first period.
+    fn report_window(
+        &self,
+        first: u32,
+        last: u32,
+        periods: &[u32],
+        window: &Window,
+        names: &Names,
+        graph: &Graph,
+        out: &mut Vec<u8>,
+    ) -> Result<(), AllocError>
+        requires window { IsWindowAt self.now.state.rows first last periods.now window.now }
+        requires names { AreNamesOf names.now graph.now }
+        requires limits { IsProcessGraph graph.now }
+        ensures ok { OnOk result (OfEnds self.now.state.rows first last (λ one other. AppendsText
+            (IsReportAfter self.now.state (window_head self.now.state.rows one other) names.now
+            one.name graph.now) out.old out.new)) }
+        ensures err { OnErr result (KeepsText out.old out.new) }
+    {
+        let places = places_of(self.alloc, &self.book, periods, window)?;
+        let name = self.book.period(first).name;
+        let before = out.len();
+        write_window(
+            self.alloc,
+            &name,
+            &self.book.period(last).name,
+            periods.len() as u32,
+            places.as_slice(),
+            self.form,
+            out,
+        )?;
+        if let Err(fault) = self.write_graph(names, &name, graph, out) {
+            out.truncate(before);
+            return Err(fault);
+        }
+        Ok(())
     }
 
     // Whether the graph of the kept classes is alike this one, so that they are its classes too.
