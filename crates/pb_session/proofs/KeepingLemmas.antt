@@ -20,7 +20,7 @@ use Rattle.pb_elim.specs.Printed.{printed_classes}
 use Rattle.pb_elim.specs.Study.{IsStudyOf}
 use Rattle.pb_facts.specs.Facts.{NoRepeats}
 use Rattle.pb_book.specs.declared.answer.Accepted.{Accepted}
-use Rattle.pb_book.specs.declared.answer.Accepted.TheVariants.{Blank, Stored as StoredAccepted, Design, Report, History, Advise}
+use Rattle.pb_book.specs.declared.answer.Accepted.TheVariants.{Blank, Stored as StoredAccepted, Design, Report, History, Advise, Window}
 use Rattle.pb_book.specs.declared.answer.NotAccepted.{NotAccepted}
 use Rattle.pb_book.specs.declared.answer.Refused.{Refused as Refusal}
 use Rattle.pb_form.specs.declared.fault.FormFault.{FormFault}
@@ -203,6 +203,7 @@ left_same StoredAccepted rows kept said = absurd said
 left_same Design rows kept said = refl
 left_same (Report i) rows kept said = refl
 left_same (History i) rows kept said = refl
+left_same (Window first last) rows kept said = refl
 left_same Advise rows kept said = refl
 
 -- what the book says of a record that it takes
@@ -216,6 +217,7 @@ left_other StoredAccepted rows kept other = absurd (other refl)
 left_other Design rows kept other = refl
 left_other (Report i) rows kept other = refl
 left_other (History i) rows kept other = refl
+left_other (Window first last) rows kept other = refl
 left_other Advise rows kept other = refl
 
 same_accepted : (a b : Accepted) → said_ok a ≡ said_ok b → a ≡ b
@@ -243,6 +245,7 @@ left_few Blank rows kept few = few
 left_few Design rows kept few = few
 left_few (Report i) rows kept few = few
 left_few (History i) rows kept few = few
+left_few (Window first last) rows kept few = few
 left_few Advise rows kept few = few
 
 -- the periods that are kept behind an accepted record are those that are kept behind the record

@@ -5,6 +5,7 @@ mod CriticalLemmas
 mod EditedLemmas
 mod HistoryLemmas
 mod NamedLemmas
+mod WindowedLemmas
 mod ReportLemmas
 mod RowLemmas
 mod SomeTextLemmas

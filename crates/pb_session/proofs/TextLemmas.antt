@@ -1,5 +1,7 @@
 -- What a record adds to the output is one text.
-use Rattle.std.proofs.Common.{◌≡◌, ◌∙◌, ℕ, ◌+◌, List, [], ◌∷◌, ◌++◌, Option, Some, None, Result, Ok, Err, slice_get, sym, ap}
+use Rattle.std.proofs.Common.{◌≡◌, ◌∙◌, ℕ, ◌+◌, List, [], ◌∷◌, ◌++◌, Option, Some, None, Result, Ok, Err, slice_get, sym, ap, ap₂}
+use Rattle.pb_rows.specs.declared.name.Names.{Names}
+use Rattle.pb_window.specs.Codes.{window_names}
 use Rattle.pb_graph.specs.declared.records.Classified.{Classified}
 use Rattle.pb_graph.specs.ProcessGraph.{ProcessGraph}
 use Rattle.pb_classify.specs.Laws.{OneClassificationLaw}
@@ -12,9 +14,10 @@ use Rattle.pb_kinds.specs.declared.costs.NamedCost.{NamedCost}
 use Rattle.pb_kinds.specs.Costs.{named_costs}
 use Rattle.pb_book.specs.Costs.{meter_costs}
 use Rattle.pb_book.specs.declared.answer.Accepted.{Accepted}
-use Rattle.pb_book.specs.declared.answer.Accepted.TheVariants.{Blank, Stored as StoredAccepted, Design, Report, History, Advise}
+use Rattle.pb_book.specs.declared.answer.Accepted.TheVariants.{Blank, Stored as StoredAccepted, Design, Report, History, Advise, Window}
 use Rattle.pb_book.specs.declared.rows.Period.{Period}
 use Rattle.pb_book.specs.Rows.{declared_of, periods_of}
+use Rattle.pb_book.specs.Windows.{window_between}
 use Rattle.pb_book.specs.Answer.{Answer, Refused, Says, Stored, answer_of}
 use Rattle.pb_period.specs.Days.{days_of}
 use Rattle.pb_period.specs.declared.graph.Assembly.{Assembly}
@@ -25,7 +28,8 @@ use Rattle.pb_report.specs.Advice.{advice_rows}
 use Rattle.pb_report.specs.Design.{design_rows}
 use Rattle.pb_report.specs.Study.{study_rows}
 use Rattle.pb_session.specs.Criticals.{critical_of}
-use Rattle.pb_session.specs.Session.{AddsAccepted, AddsBy, SessionState, Reports, ReportsBy, Tells, state_after}
+use Rattle.pb_report.specs.Row.{OutputRow}
+use Rattle.pb_session.specs.Session.{AddsAccepted, AddsBy, IsReportAfter, SessionState, Reports, ReportsBy, Tells, Windows, WindowsBy, assembly_between, state_after, window_head}
 use Rattle.pb_session.specs.Laws.{OneTextLaw, OneSessionTextLaw}
 
 reports_by_text : OneStudyLaw → (state : SessionState) (period : Period) (assembly : Result ProcessGraph Assembly) (one other : List ℕ)
@@ -40,6 +44,28 @@ report_text : OneStudyLaw → (state : SessionState) (period : Option Period) (o
 report_text law state (Some period) one other a b = reports_by_text law state period (assembly_of state.rows (days_of period)) one other a b
 report_text law state None one other a b = absurd a
 
+-- rows, and a report after them
+pub report_after_text : OneStudyLaw → (state : SessionState) (rows : List OutputRow) (names : Names) (period : List ℕ) (graph : ProcessGraph) (one other : List ℕ)
+    → IsReportAfter state rows names period graph one → IsReportAfter state rows names period graph other → one ≡ other
+report_after_text law state rows names period graph one other a b =
+    let text : Study → List ℕ = λ study. text_in state.form (study_rows names period state.options study) in
+    let front : a.front ≡ b.front = a.head ∙ sym b.head in
+    let rest : a.rest ≡ b.rest =
+    a.report.rows ∙ ap text (law graph state.options (critical_of state.rows) a.report.study b.report.study a.report.limits a.report.is_study b.report.is_study) ∙ sym b.report.rows in
+    a.whole ∙ ap₂ (λ (x y : List ℕ). x ++ y) front rest ∙ sym b.whole
+
+windows_by_text : OneStudyLaw → (state : SessionState) (first last : Period) (assembly : Result ProcessGraph Assembly) (one other : List ℕ) → WindowsBy state first last assembly one
+    → WindowsBy state first last assembly other → one ≡ other
+windows_by_text law state first last (Ok graph) one other a b =
+    report_after_text law state (window_head state.rows first last) (window_names (window_between state.rows first last)) first.name graph one other a b
+windows_by_text law state first last (Err (Over j)) one other a b = a ∙ sym b
+windows_by_text law state first last (Err NoMemory) one other a b = absurd a
+
+window_text : OneStudyLaw → (state : SessionState) (first last : Option Period) (one other : List ℕ) → Windows state first last one → Windows state first last other → one ≡ other
+window_text law state (Some first) (Some last) one other a b = windows_by_text law state first last (assembly_between state.rows first last) one other a b
+window_text law state (Some first) None one other a b = absurd a
+window_text law state None last one other a b = absurd a
+
 history_text : (state : SessionState) (period : Option Period) (one other : List ℕ) → Tells state period one → Tells state period other → one ≡ other
 history_text state (Some period) one other a b = a ∙ sym b
 history_text state None one other a b = absurd a
@@ -53,6 +79,8 @@ accepted_text law advices studies state costs Design one other a b =
     a.rows ∙ ap text (law (design_graph state.rows) a.classes b.classes a.are b.are) ∙ sym b.rows
 accepted_text law advices studies state costs (Report i) one other a b = report_text studies state (slice_get (periods_of state.rows) i) one other a b
 accepted_text law advices studies state costs (History i) one other a b = history_text state (slice_get (periods_of state.rows) i) one other a b
+accepted_text law advices studies state costs (Window first last) one other a b =
+    window_text studies state (slice_get (periods_of state.rows) first) (slice_get (periods_of state.rows) last) one other a b
 accepted_text law advices studies state costs Advise one other a b =
     let text : Advice → List ℕ = λ advice. text_in state.form (advice_rows (names_of (declared_of state.rows)) advice) in
     a.rows ∙ ap text (advices (design_graph state.rows) (meter_costs (declared_of state.rows) costs) a.advice b.advice a.is_advice b.is_advice) ∙ sym b.rows
