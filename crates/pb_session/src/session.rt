@@ -1,6 +1,6 @@
 // The state of a session.
 
-ghost use Rattle.std.specs.Prelude.{◌≡◌, ◌≢◌, ◌<◌, ◌≤◌, ◌↔◌, ◌∷◌, [], None, length, slice_get, option_map, OnOk, OnErr, IfErr, IfOk, IfSome, IsSome, IsTrue, Contains, Err};
+ghost use Rattle.std.specs.Prelude.{◌≡◌, ◌≢◌, ◌<◌, ◌≤◌, ◌↔◌, ◌∷◌, [], None, length, slice_get, take, option_map, OnOk, OnErr, IfErr, IfOk, IfSome, IsSome, IsTrue, Contains, Err};
 ghost use Rattle.pb_book.specs.declared.answer.Accepted.TheVariants.{Advise, Design, Stored};
 ghost use Rattle.pb_book.specs.Answer.{Says, code_of};
 ghost use Rattle.pb_kinds.specs.Costs.{named_costs};
@@ -544,7 +544,25 @@ impl Session {
             self.form,
             out,
         )?;
-        if let Err(fault) = self.write_graph(names, &name, graph, out) {
+        self.report_after(before, names, &name, graph, out)
+    }
+
+    // Appends the report of a graph after the rows from a place on, which stay only if there is memory for all of it.
+    fn report_after(
+        &self,
+        before: usize,
+        names: &Names,
+        period: &Name,
+        graph: &Graph,
+        out: &mut Vec<u8>,
+    ) -> Result<(), AllocError>
+        requires names { AreNamesOf names.now graph.now }
+        requires limits { IsProcessGraph graph.now }
+        ensures ok { OnOk result (AppendsText
+            (IsReport self.now.state names.now period.now graph.now) out.old out.new) }
+        ensures err { OnErr result (out.new.items ≡ take before out.old.items) }
+    {
+        if let Err(fault) = self.write_graph(names, period, graph, out) {
             out.truncate(before);
             return Err(fault);
         }
