@@ -5,11 +5,8 @@ pub mod Names
 pub mod Rows
 pub mod Refusal
 pub mod Over
-<<<<<<< HEAD
 pub mod Window
-=======
 pub mod Component
->>>>>>> b2d58305d765d7eb250baa659b84088d3050906e
 pub mod Certificate
 pub mod Design
 pub mod Advice
