@@ -1,7 +1,7 @@
 -- A window of a book: the places of its periods, the names of its graph, and its text.
 use Rattle.std.specs.Prelude.{filter_map, map, IfOk, OnOk}
 use Rattle.std.specs.List.{cons_option}
-use Rattle.std.proofs.Common.{◌≡◌, ◌≢◌, ◌∙◌, ◌+◌, ◌<◌, ◌≤◌, ℕ, List, [], ◌∷◌, ◌++◌, length, slice_get, All, Option, Some, None, Result, Ok, Err, refl, sym, ap, subst, arith}
+use Rattle.std.proofs.Common.{◌≡◌, ◌≢◌, ◌∙◌, ◌+◌, ◌<◌, ◌≤◌, ℕ, List, [], ◌∷◌, ◌++◌, length, slice_get, All, Option, Some, None, Result, Ok, Err, refl, sym, ap, ap₂, subst, arith, append_assoc}
 use Rattle.std.proofs.lemmas.List.{length-map}
 use Rattle.std.proofs.lemmas.List.Elements.{All-cons, All-nil}
 use Rattle.std.proofs.lemmas.Option.{slice_get_within}
@@ -9,11 +9,12 @@ use Rattle.pb_limits.specs.Limits.{most_periods_of_window}
 use Rattle.pb_rows.specs.declared.name.Names.{Names}
 use Rattle.pb_graph.specs.declared.records.Meas.{Meas}
 use Rattle.pb_graph.specs.ProcessGraph.{ProcessGraph}
+use Rattle.pb_window.specs.declared.names.WindowPlace.{WindowPlace}
 use Rattle.pb_window.specs.declared.window.Window.{Window}
 use Rattle.pb_window.specs.declared.window.WindowStream.{WindowStream}
 use Rattle.pb_window.specs.Codes.{AreWindowNames, node_code, stream_code, window_names}
 use Rattle.pb_window.specs.Graph.{graph_streams}
-use Rattle.pb_window.specs.Places.{HaveNames}
+use Rattle.pb_window.specs.Places.{HaveNames, window_places}
 use Rattle.pb_window.specs.Window.{IsWindow}
 use Rattle.pb_site.specs.Site.{names_of}
 use Rattle.pb_book.specs.declared.rows.Period.{Period}
@@ -23,7 +24,10 @@ use Rattle.pb_book.specs.Windows.{ArePlacesBetween, HavePlaceNames, IsWindowAske
 use Rattle.pb_period.specs.declared.graph.Assembly.{Assembly}
 use Rattle.pb_period.specs.PeriodGraph.{unless_over}
 use Rattle.pb_period.specs.WindowGraph.{measured_window, periods_at, stream_measured, window_assembly}
-use Rattle.pb_session.specs.Session.{AreNamesOf, IsReportAfter, SessionState, Windows, WindowsBy, assembly_between, window_head}
+use Rattle.pb_report.specs.Form.{text_in}
+use Rattle.pb_report.specs.Row.{OutputRow}
+use Rattle.pb_report.specs.Window.{window_rows}
+use Rattle.pb_session.specs.Session.{AreNamesOf, IsReport, IsReportAfter, SessionState, Windows, WindowsBy, assembly_between, window_head}
 use Rattle.pb_session.specs.Windowed.{IsWindowAt}
 
 -- ---- the periods at some places
@@ -71,6 +75,25 @@ window_at rows first last places window asked between few is form codes named =
           (named asked.one asked.other asked.first_is asked.last_is);
     }
 
+same_found : {A : Type 0} (a b : A) (found : Option A) → found ≡ Some a → found ≡ Some b → a ≡ b
+same_found a b found one other = cc (one, other)
+
+-- the rows before the report of a window, as they are written
+pub head_is : (rows : List StoredRow) (first last : ℕ) (places : List ℕ) (window : Window) (a b one other : Period) (stand_for : List WindowPlace) → IsWindowAt rows first last places window
+    → slice_get (periods_of rows) first ≡ Some a → slice_get (periods_of rows) last ≡ Some b → slice_get (periods_of rows) first ≡ Some one → slice_get (periods_of rows) last ≡ Some other
+    → stand_for ≡ window_places (names_of (declared_of rows)) (names_of_periods (periods_at rows places)) window
+    → window_rows a.name b.name (length places) stand_for ≡ window_head rows one other
+head_is rows first last places window a b one other stand_for at a_is b_is first_is last_is stand_is =
+    let periods = periods_of rows in
+    let one_is : at.one ≡ one = same_found at.one one (slice_get periods first) at.first_is first_is in
+    let other_is : at.other ≡ other = same_found at.other other (slice_get periods last) at.last_is last_is in
+    let between : periods_between periods at.one at.other ≡ periods_between periods one other = ap₂ (periods_between periods) one_is other_is in
+    let stand_now : stand_for ≡ window_places (names_of (declared_of rows)) (names_of_periods (periods_between periods one other)) (window_between rows one other) =
+    stand_is ∙ ap₂ (λ (ps : List Period) (w : Window). window_places (names_of (declared_of rows)) (names_of_periods ps) w) (at.periods ∙ between) (at.window_is ∙ ap₂ (window_between rows) one_is other_is) in
+    let many : length places ≡ length (periods_between periods one other) = at.many ∙ ap (λ (ps : List Period). length ps) between in
+    ap₂ (λ (x y : Period). window_rows x.name y.name (length places) stand_for) (same_found a one (slice_get periods first) a_is first_is) (same_found b other (slice_get periods last) b_is last_is)
+    ∙ ap₂ (λ (n : ℕ) (ps : List WindowPlace). window_rows one.name other.name n ps) many stand_now
+
 -- ---- names
 
 pub as_many_streams : (f : WindowStream → Option Meas) (streams : List WindowStream) → length (graph_streams streams (map f streams)) ≡ length streams
@@ -104,6 +127,18 @@ pub windows_at : (state : SessionState) (first last : ℕ) (one other : Period) 
 windows_at state first last one other assembly text first_is last_is is by =
     subst (λ (o : Option Period). Windows state o (slice_get (periods_of state.rows) last) text) (sym first_is)
     (subst (λ (o : Option Period). Windows state (Some one) o text) (sym last_is) (subst (λ (a : Result ProcessGraph Assembly). WindowsBy state one other a text) is by))
+
+-- rows were appended, and then a report
+pub after_ok : {T E : Type 0} (r : Result T E) (state : SessionState) (rows : List OutputRow) (names : Names) (period : List ℕ) (graph : ProcessGraph) (old middle new : List ℕ)
+    → middle ≡ old ++ text_in state.form rows → OnOk r ((t : List ℕ) × (new ≡ middle ++ t) × IsReport state names period graph t)
+    → OnOk r ((t : List ℕ) × (new ≡ old ++ t) × IsReportAfter state rows names period graph t)
+after_ok (Ok x) state rows names period graph old middle new begun (text, written, report) =
+    let head = text_in state.form rows in (
+      head ++ text,
+      written ∙ ap (λ (t : List ℕ). t ++ text) begun ∙ append_assoc old head text,
+      record { front = head; rest = text; head = refl; report = report; whole = refl },
+    )
+after_ok (Err e) state rows names period graph old middle new begun appended = tt
 
 -- a report after the rows of a window was appended
 pub windows_ok : {T E : Type 0} (r : Result T E) (state : SessionState) (first last : ℕ) (one other : Period) (names : Names) (graph : ProcessGraph) (old new : List ℕ)
