@@ -83,6 +83,7 @@ accepted_to rows at costs asked.Design right range may = right
 accepted_to rows at costs (asked.Report name) right range may = reported rows at right (period_place rows name)
 accepted_to rows at costs (asked.History name) right range may = told rows at right (period_place rows name)
 accepted_to rows at costs asked.Advise right range may = advised rows at right (refusal_of_costs (declared_of rows) costs)
+accepted_to rows at costs (asked.Window first last) right range may = right
 accepted_to rows at costs (asked.Component component period) right range may = balanced rows at right component (has_assay rows component period) (period_place rows period)
 
 -- the rows after a record

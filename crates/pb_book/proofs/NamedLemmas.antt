@@ -75,6 +75,7 @@ after_named law rows at fields named = by (request_in (version_at rows) fields) 
     by (Ok (asked.Report name)) is = reported (period_place rows name)
     by (Ok (asked.History name)) is = told (period_place rows name)
     by (Ok asked.Advise) is = advised (refusal_of_costs (declared_of rows) (named_costs fields))
+    by (Ok (asked.Window first last)) is = named
     by (Ok (asked.Component component period)) is = balanced component (has_assay rows component period) (period_place rows period)
 
 -- ---- what follows
@@ -245,6 +246,7 @@ component_named rows fields component period named is = by (request_in (version_
     by (Ok (asked.Report name)) is = absurd (no_report (period_place rows name) component period is)
     by (Ok (asked.History name)) is = absurd (no_history (period_place rows name) component period is)
     by (Ok asked.Advise) is = absurd (no_advice (refusal_of_costs (declared_of rows) (named_costs fields)) component period is)
+    by (Ok (asked.Window first last)) is = cc is
     by (Ok (asked.Component name over)) is =
         balance_named name (has_assay rows name over) (period_place rows over) component period
         (assayed_named name over (assays_of rows) (assays_named rows named)) is

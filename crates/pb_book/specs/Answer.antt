@@ -84,6 +84,7 @@ answer_to rows costs asked.Design = Says Design
 answer_to rows costs (asked.Report period) = report_or_refused (period_place rows period)
 answer_to rows costs (asked.History period) = history_or_refused (period_place rows period)
 answer_to rows costs asked.Advise = advise_or_refused (refusal_of_costs (declared_of rows) costs)
+answer_to rows costs (asked.Window first last) = Refused Unknown
 answer_to rows costs (asked.Component component period) =
     component_or_refused component (has_assay rows component period) (period_place rows period)
 

@@ -39,8 +39,8 @@ use crate::plain::plain_records;
 use crate::rows::{Edited, Part, Period, Place, StoredRow};
 use crate::shelves::row_at;
 use crate::touching::touches_in;
-use pb_facts::{Fact, Facts};
 use pb_assay::Grade;
+use pb_facts::{Fact, Facts};
 use pb_kinds::{Assay, Edit, Effect, NamedCosts, Request, read_request};
 use pb_rows::{Name, Reason, Row, Rows};
 use pb_site::{Declared, Site, Version};
@@ -327,6 +327,7 @@ impl Book {
                 None => Err(NotAccepted::Refused(Refused::Unknown)),
             },
             Request::Advise => self.advise(row),
+            Request::Window(..) => Err(NotAccepted::Refused(Refused::Unknown)),
             Request::Component(component, period) => self.component(component, period),
         }
     }
