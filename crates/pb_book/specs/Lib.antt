@@ -7,6 +7,7 @@ pub mod Edits
 pub mod Ranges
 pub mod Refusals
 pub mod Costs
+pub mod Windows
 pub mod Answer
 pub mod VersionOne
 pub mod Accepted
