@@ -139,6 +139,14 @@ output_columns kind.Advise =
 output_columns kind.Meter =
     word_column (codes "row") (codes "meter") ∷ column (codes "stream") Name ∷ column (codes "cost") cost_range
     ∷ column (codes "parts") Items ∷ []
+output_columns kind.Window =
+    word_column (codes "row") (codes "window") ∷ column (codes "first") Name ∷ column (codes "last") Name
+    ∷ column (codes "periods") natural_range ∷ []
+output_columns kind.Place =
+    word_column (codes "row") (codes "place") ∷ column (codes "code") Name ∷ column (codes "period") Name
+    ∷ column (codes "name") Name ∷ []
+output_columns kind.Component =
+    word_column (codes "row") (codes "component") ∷ column (codes "component") Name ∷ column (codes "period") Name ∷ []
 
 -- the schema of each kind
 abbrev pub output_schema : OutputKind → Schema
@@ -149,7 +157,8 @@ abbrev pub output_kinds : List OutputKind
 output_kinds =
     kind.Refused ∷ kind.Over ∷ kind.Design ∷ kind.Class ∷ kind.History ∷ kind.Edit ∷ kind.Report ∷ kind.Node ∷ kind.Stream
     ∷ kind.StreamBefore ∷ kind.Solved ∷ kind.Global ∷ kind.Nodal ∷ kind.Measure ∷ kind.End ∷ kind.Taken ∷ kind.Stop
-    ∷ kind.Summary ∷ kind.Yes ∷ kind.No ∷ kind.Unreadable ∷ kind.Advise ∷ kind.Meter ∷ []
+    ∷ kind.Summary ∷ kind.Yes ∷ kind.No ∷ kind.Unreadable ∷ kind.Advise ∷ kind.Meter ∷ kind.Window ∷ kind.Place
+    ∷ kind.Component ∷ []
 
 -- the schemas of all kinds
 abbrev pub output_schemas : List Schema

@@ -49,6 +49,9 @@ pub enum OutputKind {
     Unreadable,
     Advise,
     Meter,
+    Window,
+    Place,
+    Component,
 }
 
 // 2^126, the greatest of the numbers that aren't bounded by a plant's limits.
@@ -125,7 +128,7 @@ const CRITICAL: Holds = Holds::Number {
 };
 
 // The schemas of all kinds, in their order.
-static SCHEMAS: [Schema; 23] = [
+static SCHEMAS: [Schema; 26] = [
     schema!(
         word!("row", "refused"),
         column!("at", NATURAL),
@@ -307,6 +310,23 @@ static SCHEMAS: [Schema; 23] = [
         column!("stream", Holds::Name),
         column!("cost", COST),
         column!("parts", Holds::Items)
+    ),
+    schema!(
+        word!("row", "window"),
+        column!("first", Holds::Name),
+        column!("last", Holds::Name),
+        column!("periods", NATURAL)
+    ),
+    schema!(
+        word!("row", "place"),
+        column!("code", Holds::Name),
+        column!("period", Holds::Name),
+        column!("name", Holds::Name)
+    ),
+    schema!(
+        word!("row", "component"),
+        column!("component", Holds::Name),
+        column!("period", Holds::Name)
     ),
 ];
 
