@@ -1,4 +1,5 @@
 mod AcceptedLemmas
+mod AssayLemmas
 mod ChangeLemmas
 mod ConsistentLemmas
 mod EditLemmas

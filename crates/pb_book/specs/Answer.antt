@@ -9,12 +9,13 @@ use Rattle.pb_kinds.specs.declared.rows.Request.TheVariants as asked
 use Rattle.pb_kinds.specs.Costs.{named_costs}
 use Rattle.pb_kinds.specs.Requests.{request_in}
 use Rattle.pb_book.specs.declared.answer.Accepted.{Accepted}
-use Rattle.pb_book.specs.declared.answer.Accepted.TheVariants.{Blank, Stored as StoredAccepted, Design, Report, History, Advise}
+use Rattle.pb_book.specs.declared.answer.Accepted.TheVariants.{Blank, Stored as StoredAccepted, Design, Report, History, Advise, Component}
 use Rattle.pb_book.specs.declared.answer.NotAccepted.{NotAccepted}
 use Rattle.pb_book.specs.declared.answer.NotAccepted.TheVariants.{Refused as NotAcceptedFor}
 use Rattle.pb_book.specs.declared.answer.Refused.{Refused as Refusal}
 use Rattle.pb_book.specs.declared.answer.Refused.TheVariants.{Kind, Fields, BadName, Number, Date, Unknown, Duplicate, Order, Mismatch, Sealed, Closed, Range, Full}
 use Rattle.pb_book.specs.declared.rows.StoredRow.{StoredRow}
+use Rattle.pb_book.specs.Assays.{has_assay}
 use Rattle.pb_book.specs.Costs.{refusal_of_costs}
 use Rattle.pb_book.specs.Refusals.{refusal_of}
 use Rattle.pb_book.specs.Rows.{declared_of, period_place, version_at, with_row}
@@ -70,6 +71,11 @@ abbrev pub advise_or_refused : Option Refusal → Answer
 advise_or_refused (Some cause) = Refused cause
 advise_or_refused None = Says Advise
 
+-- a balance is of a component over a period that there is, and of which there is an assay
+abbrev pub component_or_refused : List ℕ → Bool → Option ℕ → Answer
+component_or_refused component true (Some period) = Says (Component component period)
+component_or_refused component assayed period = Refused Unknown
+
 -- the answer to a request, by the costs that its record names
 abbrev pub answer_to : List StoredRow → List NamedCost → Request → Answer
 answer_to rows costs asked.Blank = Says Blank
@@ -78,6 +84,8 @@ answer_to rows costs asked.Design = Says Design
 answer_to rows costs (asked.Report period) = report_or_refused (period_place rows period)
 answer_to rows costs (asked.History period) = history_or_refused (period_place rows period)
 answer_to rows costs asked.Advise = advise_or_refused (refusal_of_costs (declared_of rows) costs)
+answer_to rows costs (asked.Component component period) =
+    component_or_refused component (has_assay rows component period) (period_place rows period)
 
 -- the answer to a request, or to a record that has a fault
 abbrev pub answer_if : List StoredRow → List NamedCost → Result Request FormFault → Answer

@@ -4,6 +4,7 @@ pub mod Rows
 pub mod Touching
 pub mod TakenOut
 pub mod Edits
+pub mod Assays
 pub mod Ranges
 pub mod Refusals
 pub mod Costs

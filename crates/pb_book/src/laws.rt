@@ -2,7 +2,7 @@
 
 ghost use Rattle.pb_book.specs.Laws.{AcceptedLaw, MeterCostsLaw};
 ghost use Rattle.pb_book.specs.Live.{LiveLaw};
-ghost use Rattle.pb_book.specs.Named.{NamedLaw, RangesLaw};
+ghost use Rattle.pb_book.specs.Named.{GradesLaw, NamedLaw, RangesLaw};
 ghost use Rattle.pb_book.specs.Plain.{PlainLaw};
 ghost use Rattle.pb_book.specs.TakenOut.{TouchedLaw};
 ghost use Rattle.pb_book.specs.VersionOne.{VersionOneLaw};
@@ -34,7 +34,8 @@ pub fn touched_law()
     ensures { TouchedLaw }
 {}
 
-/// The law that the names of units, tanks, streams and periods in the rows of a session are names, whatever its records.
+/// The law that the names of units, tanks, streams and periods in the rows of a session are names, whatever its records, and that of a
+/// component whose balance is answered.
 pub fn named_law()
     ensures { NamedLaw }
 {
@@ -44,6 +45,11 @@ pub fn named_law()
 /// The law that the numbers that accepted rows declare lie in their ranges.
 pub fn ranges_law()
     ensures { RangesLaw }
+{}
+
+/// The law that each grade that accepted rows give is within its limits.
+pub fn grades_law()
+    ensures { GradesLaw }
 {}
 
 /// The law that what meters cost by a record that is accepted as one that asks for an advice is what meters may cost.
