@@ -1,7 +1,6 @@
 mod CodeLemmas
 mod GraphLemmas
 mod JoinLemmas
-mod JoinedLemmas
 mod ListLemmas
 mod MeaningLemmas
 mod NameLemmas

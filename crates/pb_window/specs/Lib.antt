@@ -6,5 +6,3 @@ pub mod Codes
 pub mod Places
 pub mod Meaning
 pub mod Laws
--- Inside
-pub mod Joined
