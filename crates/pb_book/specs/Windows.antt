@@ -115,17 +115,21 @@ window_between rows first last =
 
 -- ---- when it is refused
 
--- The first cause to refuse a window from one of these periods to another: the second begins before the first (Order); some day from
--- the first day of the first to the last day of the second is in no period (Mismatch); there are more periods than a window may have
--- (Range); or it would have more nodes or streams than a graph may have (Full).
+-- Full: a window over these periods would have more nodes or streams than a graph may have. Before that, Range: there are more of them
+-- than a window may have.
+unfoldable pub refusal_over : List Declared → List Period → Option Refused
+refusal_over declared periods =
+    if nat_lt most_periods_of_window (length periods) then Some Range
+    else if is_too_great (window_over declared periods) then Some Full
+    else None
+
+-- The first cause to refuse a window from one of these periods to another. Order: the second begins before the first. Mismatch: some day
+-- from the first day of the first to the last day of the second is in no period. And then those of a window over the periods between.
 unfoldable pub refusal_between : List Declared → List Period → Period → Period → Option Refused
 refusal_between declared periods first last =
-    let within = periods_between periods first last in
     if int_lt last.first first.first then Some Order
     else if has_gap periods first last then Some Mismatch
-    else if nat_lt most_periods_of_window (length within) then Some Range
-    else if is_too_great (window_over declared within) then Some Full
-    else None
+    else refusal_over declared (periods_between periods first last)
 
 abbrev pub window_refusal : List StoredRow → Period → Period → Option Refused
 window_refusal rows first last = refusal_between (declared_of rows) (periods_of rows) first last
