@@ -1,5 +1,5 @@
 -- Statement. The rows of an output: the columns of each kind.
-use Rattle.std.specs.Prelude.{◌-◌, ◌^◌, pos, neg_ℤ, List, [], ◌∷◌, codes, map}
+use Rattle.std.specs.Prelude.{◌-◌, ◌^◌, pos, neg_ℤ, List, [], ◌∷◌, codes}
 use Rattle.pb_limits.specs.Limits.{most_freedom, most_gap, most_price, most_rounds, most_sweeps, most_value, most_variance, most_wide}
 use Rattle.pb_form.specs.Columns.{Column, Schema, column, optional, word_column}
 use Rattle.pb_form.specs.Holds.{Holds, Word, Name, Reason, Number, Items}
@@ -159,7 +159,3 @@ output_kinds =
     ∷ kind.StreamBefore ∷ kind.Solved ∷ kind.Global ∷ kind.Nodal ∷ kind.Measure ∷ kind.End ∷ kind.Taken ∷ kind.Stop
     ∷ kind.Summary ∷ kind.Yes ∷ kind.No ∷ kind.Unreadable ∷ kind.Advise ∷ kind.Meter ∷ kind.Window ∷ kind.Place
     ∷ kind.Component ∷ []
-
--- the schemas of all kinds
-abbrev pub output_schemas : List Schema
-output_schemas = map output_schema output_kinds
