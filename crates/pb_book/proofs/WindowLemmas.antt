@@ -208,9 +208,9 @@ begin periods first last (k, lt, is) = record {
     begins = (Decides-int_eq first.first first.first).1 refl
 
 -- after its last day it has come to the other
-pub arrived : (periods : List Period) (first last : Period) (day : ℤ) (places : List ℕ) → All IsPeriod periods → Contains periods last
+pub arrived : (periods : List Period) (first last : Period) (day : ℤ) (places : List ℕ) → IsPeriod last
     → last.last <ℤ day → IsOnWay periods first last day places → ArePlacesOf periods first last places
-arrived periods first last day places rise (k, lt, is) past way = record {
+arrived periods first last day places days past way = record {
   no_gap = sym way.left ∙ ap (list_any (is_in_none periods)) none;
   they_are = sym (append-nil (map (slice_get periods) places))
       ∙ ap (λ (days : List ℤ). map (slice_get periods) places ++ map Some (filter_map (begun periods) days)) (sym none_begin) ∙ way.made;
@@ -219,11 +219,8 @@ arrived periods first last day places rise (k, lt, is) past way = record {
     none : days_between day last.last ≡ []
     none = days_past day (last.last +ℤ pos 1) (omega (arith, ints, past))
 
-    rises : last.first ≤ℤ last.last
-    rises = (rw is at (rise k last lt)).rises
-
     none_begin : days_between day last.first ≡ []
-    none_begin = days_past day (last.first +ℤ pos 1) (omega (arith, ints, past, rises))
+    none_begin = days_past day (last.first +ℤ pos 1) (omega (arith, ints, past, days.rises))
 
 -- on a day on which none begins there is a gap
 pub stopped : (periods : List Period) (first last : Period) (day : ℤ) (places : List ℕ) → day ≤ℤ last.last
@@ -309,3 +306,12 @@ went_on periods first last day places place period apart rise (i, last_in, last_
         let behind : day +ℤ pos (suc (int_gap day period.last)) ≡ period.last +ℤ pos 1 = omega (arith, ints, count) in
         skip_fails (is_in_none periods) (suc (int_gap day period.last)) day (last.last +ℤ pos 1) taken
         ∙ ap (λ (d : ℤ). list_any (is_in_none periods) (days_until d (last.last +ℤ pos 1))) behind
+
+-- the next day lies after the one on which it begins
+pub later : (periods : List Period) (day : ℤ) (place : ℕ) (period : Period) → IsPeriod period → position (begins_on day) periods ≡ Some place → slice_get periods place ≡ Some period
+    → day <ℤ (period.last +ℤ pos 1)
+later periods day place period days is there =
+    let at = position-Some (begins_on day) periods place period is in
+    let here = get_or_from_slice_get periods place period period there in
+    let begins : day ≡ period.first = (Decides-int_eq day period.first).0 (rw here at at.1) in
+    omega (arith, ints, begins, days.rises)

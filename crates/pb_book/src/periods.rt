@@ -108,7 +108,9 @@ impl Periods {
 
     /// The place of the period that begins on a day; `None` exactly if none does.
     pub fn begun_on(&self, day: i32) -> Option<u32>
-        ensures { result ≡ position (begins_on day) self.now }
+        ensures value { result ≡ position (begins_on day) self.now }
+        ensures days { All IsPeriod self.now }
+        ensures apart { AreApart self.now }
     {
         self.begins.get(&day).copied()
     }

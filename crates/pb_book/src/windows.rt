@@ -9,6 +9,7 @@ ghost use Rattle.pb_window.specs.Plant.{IsPlant, IsSpan};
 ghost use Rattle.pb_window.specs.Window.{IsWindow, unless_too_great};
 ghost use Rattle.pb_book.specs.Windows.{arc_service, has_gap, is_inventory, refusal_between, refusal_over, span_of_period, window_arc, window_over, window_plant};
 ghost use Rattle.pb_book.specs.Kept.{ArePlacesOf};
+ghost use Rattle.pb_book.specs.Ranges.{IsPeriod};
 
 use crate::answer::Refused;
 use crate::periods::Periods;
@@ -109,7 +110,9 @@ pub(crate) fn places_between(
     last: &Period,
 ) -> Result<Option<Vec<u32>>, AllocError>
     requires first { Contains periods.now first.now }
+    requires first_days { IsPeriod first.now }
     requires last { Contains periods.now last.now }
+    requires last_days { IsPeriod last.now }
     ensures { IfOk result (λ found. MatchOption found
         (has_gap periods.now first.now last.now ≡ true)
         (λ places. ArePlacesOf periods.now first.now last.now places.items)) }
@@ -156,7 +159,9 @@ pub(crate) fn judge_window(
     last: &Period,
 ) -> Result<Option<Refused>, AllocError>
     requires first { Contains periods.now first.now }
+    requires first_days { IsPeriod first.now }
     requires last { Contains periods.now last.now }
+    requires last_days { IsPeriod last.now }
     ensures { IfOk result (λ cause. cause
         ≡ refusal_between site.now periods.now first.now last.now) }
 {
