@@ -22,12 +22,13 @@ use Rattle.pb_kinds.specs.Requests.{request_in}
 use Rattle.pb_book.specs.declared.answer.Accepted.TheVariants.{Advise}
 use Rattle.pb_book.specs.declared.answer.Refused.{Refused as Refusal}
 use Rattle.pb_book.specs.declared.rows.StoredRow.{StoredRow}
-use Rattle.pb_book.specs.Answer.{Says, answer_if, component_or_refused, history_or_refused, report_or_refused, stored_or_refused}
+use Rattle.pb_book.specs.Answer.{Answer, Says, answer_if, component_or_refused, history_or_refused, report_or_refused, stored_or_refused}
 use Rattle.pb_book.specs.Assays.{has_assay}
 use Rattle.pb_book.specs.Costs.{cost_after, cost_named, cost_of_arc, cost_of_kind, is_cost_of, names_twice}
 use Rattle.pb_book.specs.Laws.{MeterCostsLaw}
 use Rattle.pb_book.specs.Refusals.{refusal_of}
 use Rattle.pb_book.specs.Rows.{declared_of, period_place, version_at}
+use Rattle.pb_book.proofs.WindowAnswerLemmas.{by_window}
 
 -- ---- a record that is accepted as one that asks for an advice asks for it
 
@@ -57,7 +58,8 @@ asks_advice rows costs (Ok asked.Design) is = cc is
 asks_advice rows costs (Ok (asked.Report name)) is = absurd (no_report (period_place rows name) is)
 asks_advice rows costs (Ok (asked.History name)) is = absurd (no_history (period_place rows name) is)
 asks_advice rows costs (Ok asked.Advise) is = refl
-asks_advice rows costs (Ok (asked.Window first last)) is = cc is
+asks_advice rows costs (Ok (asked.Window first last)) is =
+    absurd (by_window (λ (answer : Answer). answer ≡ Says Advise → ⊥) (λ cause says. cc says) (λ i k says. cc says) rows (period_place rows first) (period_place rows last) is)
 asks_advice rows costs (Ok (asked.Component component period)) is = absurd (no_balance component (has_assay rows component period) (period_place rows period) is)
 
 -- ---- what meters cost
