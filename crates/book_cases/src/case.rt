@@ -235,6 +235,7 @@ fn answer(told: Result<Accepted, NotAccepted>) -> &'static [u8] {
         Ok(Accepted::Report(_)) => b"report",
         Ok(Accepted::History(_)) => b"history",
         Ok(Accepted::Advise) => b"advise",
+        Ok(Accepted::Window { .. }) => b"window",
         Ok(Accepted::Component { .. }) => b"component",
         Err(NotAccepted::NoMemory) => b"memory",
         Err(NotAccepted::Refused(cause)) => refusal(cause),
