@@ -32,13 +32,14 @@ use Rattle.pb_facts.specs.Facts.{live_facts}
 use Rattle.pb_book.specs.declared.rows.Period.{Period}
 use Rattle.pb_book.specs.declared.rows.StoredRow.{StoredRow}
 use Rattle.pb_book.specs.Rows.{declared_of, facts_of, periods_of}
+use Rattle.pb_book.specs.Windows.{names_of_periods}
 use Rattle.pb_period.specs.declared.amount.Amount.{Amount}
 use Rattle.pb_period.specs.declared.graph.Assembly.TheVariants.{Over}
 use Rattle.pb_period.specs.Days.{days_of}
 use Rattle.pb_period.specs.Facts.{content_of}
 use Rattle.pb_period.specs.Measurement.{measurement}
 use Rattle.pb_period.specs.PeriodGraph.{is_over, unless_over, within_limits}
-use Rattle.pb_period.specs.WindowGraph.{flow_measured, held_at, measured_in, measured_window, names_of_periods, periods_at, source_measured, stream_measured, window_assembly}
+use Rattle.pb_period.specs.WindowGraph.{flow_measured, held_at, measured_in, measured_window, periods_at, source_measured, stream_measured, window_assembly}
 use Rattle.pb_period.proofs.GraphLemmas.{not_over, position_at, within}
 use Rattle.pb_period.proofs.VarianceLemmas.{HasLeast, IsFair, all_map, content_fair, find_has, live_have, measured_least, within_right}
 

@@ -136,7 +136,7 @@ after_ok (Ok x) state rows names period graph old middle new begun (text, writte
     let head = text_in state.form rows in (
       head ++ text,
       written ∙ ap (λ (t : List ℕ). t ++ text) begun ∙ append_assoc old head text,
-      record { front = head; rest = text; head = refl; report = report; whole = refl },
+      record { front = head; rest = text; before = refl; report = report; whole = refl },
     )
 after_ok (Err e) state rows names period graph old middle new begun appended = tt
 
