@@ -6,9 +6,7 @@ ghost use Rattle.pb_session.specs.Laws.{CriticalsLaw, OneTextLaw, OneSessionText
 
 use pb_advise::{cheapest_law, one_advice_law, some_advice_law};
 use pb_assay::component_form_law;
-use pb_book::{
-    accepted_law, book_windows_law, grades_law, meter_costs_law, plain_law, ranges_law,
-};
+use pb_book::{accepted_law, book_windows_law, grades_law, meter_costs_law, plain_law, ranges_law};
 use pb_classify::{one_classification_law, some_classification_law};
 use pb_elim::{
     certified_law, formed_law, least_throughout_law, one_study_law, some_study_law, tested_law,

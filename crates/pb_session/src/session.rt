@@ -21,9 +21,7 @@ use pb_book::{Accepted, Book, NotAccepted, Refused};
 use pb_classify::{alike_law, classify};
 use pb_elim::{least_throughout_law, stage, study_classed, tested_law};
 use pb_graph::{Classified, Graph, List, Options, Stage, Study};
-use pb_period::{
-    Assembly, assemble, assemble_window, closed_graphs_law, design, untouched_law,
-};
+use pb_period::{Assembly, assemble, assemble_window, closed_graphs_law, design, untouched_law};
 use pb_report::{
     Form, write_advice, write_component, write_design, write_history, write_over, write_refused,
     write_study, write_window,
@@ -500,12 +498,7 @@ impl Session {
     }
 
     // Appends the balance of a component in a period, or the row that names the first stream beyond the limits. Nothing of it is kept.
-    fn write_balance(
-        &self,
-        component: &Name,
-        i: u32,
-        out: &mut Vec<u8>,
-    ) -> Result<(), AllocError>
+    fn write_balance(&self, component: &Name, i: u32, out: &mut Vec<u8>) -> Result<(), AllocError>
         requires { i < length (periods_of self.now.state.rows) }
         ensures ok { OnOk result (AppendsText (Balances self.now.state component.now
             (slice_get (periods_of self.now.state.rows) i)) out.old out.new) }
@@ -564,7 +557,9 @@ impl Session {
         ensures over { IfSome (slice_get (periods_of self.now.state.rows) i)
             (λ period. IfErr result (NamesAStream self.now.state.rows (days_of period))) }
     {
-        let grades = self.book.grades(self.alloc, component, i, streams.as_slice())?;
+        let grades = self
+            .book
+            .grades(self.alloc, component, i, streams.as_slice())?;
         match self.kept(i) {
             Some(study) => self.balance_by(&study.stages.at(0).graph, study, &grades),
             None => {
