@@ -13,7 +13,7 @@ use Rattle.pb_form.specs.declared.fault.FormFault.{FormFault}
 use Rattle.pb_kinds.specs.declared.rows.Request.{Request}
 use Rattle.pb_kinds.specs.declared.rows.Request.TheVariants as asked
 use Rattle.pb_book.specs.Accepted.{AreAccepted, IsAcceptable}
-use Rattle.pb_book.specs.Answer.{advise_or_refused, after, after_answer, answer_if, answer_to, component_or_refused, history_or_refused, report_or_refused, stored_or_refused}
+use Rattle.pb_book.specs.Answer.{Answer, advise_or_refused, after, after_answer, answer_if, answer_to, component_or_refused, history_or_refused, report_or_refused, stored_or_refused}
 use Rattle.pb_book.specs.Assays.{has_assay}
 use Rattle.pb_kinds.specs.Costs.{named_costs}
 use Rattle.pb_kinds.specs.Laws.{StoredLaw}
@@ -28,6 +28,7 @@ use Rattle.pb_book.specs.declared.answer.NotAccepted.{NotAccepted}
 use Rattle.pb_book.specs.declared.answer.NotAccepted.TheVariants.{NoMemory, Refused as RefusedFor}
 use Rattle.pb_book.specs.declared.rows.StoredRow.{StoredRow}
 use Rattle.pb_book.specs.Rows.{declared_of, period_place, version_at}
+use Rattle.pb_book.proofs.WindowAnswerLemmas.{by_window}
 
 the_same : {X : Type 0} (a b : X) → Some a ≡ Some b → a ≡ b
 the_same a b is = ap (λ o. Rattle.std.specs.Prelude.unwrap_or o a) is
@@ -83,6 +84,8 @@ accepted_to rows at costs asked.Design right range may = right
 accepted_to rows at costs (asked.Report name) right range may = reported rows at right (period_place rows name)
 accepted_to rows at costs (asked.History name) right range may = told rows at right (period_place rows name)
 accepted_to rows at costs asked.Advise right range may = advised rows at right (refusal_of_costs (declared_of rows) costs)
+accepted_to rows at costs (asked.Window first last) right range may =
+    by_window (λ (answer : Answer). AreAccepted (after_answer rows at answer)) (λ cause. right) (λ i k. right) rows (period_place rows first) (period_place rows last)
 accepted_to rows at costs (asked.Component component period) right range may = balanced rows at right component (has_assay rows component period) (period_place rows period)
 
 -- the rows after a record

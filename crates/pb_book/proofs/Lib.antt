@@ -15,3 +15,6 @@ mod PlainLemmas
 mod RecordLemmas
 mod TakenOutLemmas
 mod VersionOneLemmas
+mod WindowAnswerLemmas
+mod WindowLemmas
+mod WindowPlantLemmas

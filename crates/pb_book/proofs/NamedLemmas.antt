@@ -28,7 +28,7 @@ use Rattle.pb_book.specs.declared.answer.Accepted.TheVariants.{Component}
 use Rattle.pb_book.specs.declared.answer.Refused.{Refused}
 use Rattle.pb_book.specs.declared.rows.Period.{Period}
 use Rattle.pb_book.specs.declared.rows.StoredRow.{StoredRow}
-use Rattle.pb_book.specs.Answer.{Says, advise_or_refused, after, after_answer, answer_if, answer_of, component_or_refused, history_or_refused, report_or_refused, stored_or_refused}
+use Rattle.pb_book.specs.Answer.{Answer, Says, advise_or_refused, after, after_answer, answer_if, answer_of, component_or_refused, history_or_refused, report_or_refused, stored_or_refused}
 use Rattle.pb_book.specs.Apart.{is_named}
 use Rattle.pb_book.specs.Assays.{assay_by, assays_of, has_assay, is_assay_of, is_assay_over}
 use Rattle.pb_book.specs.Costs.{refusal_of_costs}
@@ -36,6 +36,7 @@ use Rattle.pb_book.specs.Named.{AreNamed, GradesLaw, HaveNames, NamedLaw, Ranges
 use Rattle.pb_book.specs.Refusals.{refusal_of}
 use Rattle.pb_book.specs.Rows.{closed, closed_if_named, open_period, declaration_in, declared_of, period_place, periods_after, version_at}
 use Rattle.pb_book.proofs.AssayLemmas.{found_of}
+use Rattle.pb_book.proofs.WindowAnswerLemmas.{by_window}
 
 -- ---- one more record
 
@@ -75,6 +76,8 @@ after_named law rows at fields named = by (request_in (version_at rows) fields) 
     by (Ok (asked.Report name)) is = reported (period_place rows name)
     by (Ok (asked.History name)) is = told (period_place rows name)
     by (Ok asked.Advise) is = advised (refusal_of_costs (declared_of rows) (named_costs fields))
+    by (Ok (asked.Window first last)) is =
+        by_window (λ (answer : Answer). HaveNames (after_answer rows at answer)) (λ cause. named) (λ i k. named) rows (period_place rows first) (period_place rows last)
     by (Ok (asked.Component component period)) is = balanced component (has_assay rows component period) (period_place rows period)
 
 -- ---- what follows
@@ -245,6 +248,9 @@ component_named rows fields component period named is = by (request_in (version_
     by (Ok (asked.Report name)) is = absurd (no_report (period_place rows name) component period is)
     by (Ok (asked.History name)) is = absurd (no_history (period_place rows name) component period is)
     by (Ok asked.Advise) is = absurd (no_advice (refusal_of_costs (declared_of rows) (named_costs fields)) component period is)
+    by (Ok (asked.Window first last)) is =
+        absurd (by_window (λ (answer : Answer). answer ≡ Says (Component component period) → ⊥) (λ cause says. cc says) (λ i k says. cc says) rows (period_place rows first)
+        (period_place rows last) is)
     by (Ok (asked.Component name over)) is =
         balance_named name (has_assay rows name over) (period_place rows over) component period
         (assayed_named name over (assays_of rows) (assays_named rows named)) is

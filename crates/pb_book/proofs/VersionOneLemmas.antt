@@ -33,6 +33,7 @@ same_answer rows costs (Ok asked.Design) one = refl
 same_answer rows costs (Ok (asked.Report name)) one = refl
 same_answer rows costs (Ok (asked.History name)) one = refl
 same_answer rows costs (Ok asked.Advise) one = refl
+same_answer rows costs (Ok (asked.Window first last)) one = refl
 same_answer rows costs (Ok (asked.Component component period)) one = refl
 
 pub version_one : VersionOneLaw

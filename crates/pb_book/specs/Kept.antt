@@ -30,6 +30,7 @@ use Rattle.pb_book.specs.Edits.{edits_of}
 use Rattle.pb_book.specs.Ranges.{IsPeriod}
 use Rattle.pb_book.specs.Rows.{declared_of, facts_of, periods_of}
 use Rattle.pb_book.specs.Touching.{some_closed}
+use Rattle.pb_book.specs.Windows.{has_gap, periods_between}
 
 -- the places of the periods that pass a test, by the days on which these begin
 pub record AreBegun (chosen : Period → Bool) (periods : List Period) (begins : BTreeMap ℤ ℕ) : Type 0 where
@@ -173,3 +174,8 @@ settled_in declared periods assays part = None
 -- such rows at these places
 abbrev pub settled_at : List Declared → List Period → List Assay → List Place → List Effect
 settled_at declared periods assays places = filter_map (λ (place : Place). settled_in declared periods assays place.part) places
+
+-- these are the places of the periods from one to another, between which there is no gap
+pub record ArePlacesOf (periods : List Period) (first last : Period) (places : List ℕ) : Type 0 where
+  pub no_gap : has_gap periods first last ≡ false
+  pub they_are : map (slice_get periods) places ≡ map Some (periods_between periods first last)

@@ -8,6 +8,7 @@ pub mod Assays
 pub mod Ranges
 pub mod Refusals
 pub mod Costs
+pub mod Windows
 pub mod Answer
 pub mod VersionOne
 pub mod Accepted

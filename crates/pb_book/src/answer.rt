@@ -22,6 +22,8 @@ pub enum Accepted {
     History(u32),
     /// The cheapest metering of the declared plant is asked for, at the costs that the record names.
     Advise,
+    /// A window is asked for, from the period at the one place to the period at the other.
+    Window { first: u32, last: u32 },
     /// The balance of a component over the period at this place is asked for; some assay is of the component over that period.
     Component { component: Name, period: u32 },
 }

@@ -94,7 +94,10 @@ impl Assays {
         self.assays.reserve(1)?;
         self.all.reserve(1)?;
         self.overs.reserve(1)?;
-        put(&mut self.all, ((assay.component, assay.period), assay.stream));
+        put(
+            &mut self.all,
+            ((assay.component, assay.period), assay.stream),
+        );
         put(&mut self.overs, (assay.component, assay.period));
         self.assays.push_reserved(assay);
         Ok(())

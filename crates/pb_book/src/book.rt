@@ -1,7 +1,7 @@
 // The book of accepted rows.
 
 ghost use Rattle.std.specs.Prelude.{◌≡◌, ◌≢◌, ◌<◌, ◌≤◌, [], length, map, All, Err, Ok, IfOk, IfSome, OnOk, OnErr, slice_get, Some, false, true};
-ghost use Rattle.pb_limits.specs.Limits.{most_periods};
+ghost use Rattle.pb_limits.specs.Limits.{most_periods, most_periods_of_window};
 ghost use Rattle.pb_assay.specs.Grade.{IsGrade};
 ghost use Rattle.pb_site.specs.Site.{version_of};
 ghost use Rattle.pb_site.specs.declared.declared.Version.TheVariants.{One};
@@ -15,7 +15,7 @@ ghost use Rattle.pb_kinds.specs.Versions.{may_ask, may_do};
 ghost use Rattle.pb_book.specs.declared.answer.Accepted.TheVariants.{Advise, Stored};
 ghost use Rattle.pb_book.specs.declared.answer.NotAccepted.TheVariants.{NoMemory};
 ghost use Rattle.pb_book.specs.Accepted.{AreAccepted, AreInTables, IsAcceptable};
-ghost use Rattle.pb_book.specs.Answer.{Says, advise_or_refused, after, after_answer, answer_of, answer_to, component_or_refused, said_of, stored_or_refused};
+ghost use Rattle.pb_book.specs.Answer.{Says, advise_or_refused, after, after_answer, answer_of, answer_to, component_or_refused, said_of, stored_or_refused, window_or_refused, window_unless};
 ghost use Rattle.pb_book.specs.Apart.{AreApart};
 ghost use Rattle.pb_book.specs.Assays.{assays_of, grade_of, has_assay};
 ghost use Rattle.pb_book.specs.Costs.{meter_costs, refusal_of_costs};
@@ -27,7 +27,10 @@ ghost use Rattle.pb_book.specs.Rows.{declared_of, facts_of, period_place, period
 ghost use Rattle.pb_book.specs.Touching.{touches_in};
 ghost use Rattle.pb_book.specs.TakenOut.{last_row, takes_out, touched_at, touches_by_id};
 ghost use Rattle.pb_book.specs.VersionOne.{first_answer_of, says_version};
+ghost use Rattle.pb_book.specs.Windows.{ArePlacesBetween, HavePlaceNames, IsWindowAsked, IsWindowBetween, refusal_of_window};
 ghost use Rattle.pb_book.specs.Written.{WriteRows};
+ghost use Rattle.pb_window.specs.Codes.{AreWindowNames};
+ghost use Rattle.pb_window.specs.Window.{IsWindow};
 
 use crate::answer::{Accepted, NotAccepted, Refused};
 use crate::assays::Assays;
@@ -39,11 +42,13 @@ use crate::plain::plain_records;
 use crate::rows::{Edited, Part, Period, Place, StoredRow};
 use crate::shelves::row_at;
 use crate::touching::touches_in;
-use pb_facts::{Fact, Facts};
+use crate::windows::{judge_window, places_between, window_over};
 use pb_assay::Grade;
+use pb_facts::{Fact, Facts};
 use pb_kinds::{Assay, Edit, Effect, NamedCosts, Request, read_request};
 use pb_rows::{Name, Reason, Row, Rows};
 use pb_site::{Declared, Site, Version};
+use pb_window::Window;
 use std::alloc::{AllocError, Global};
 use std::collections::HashMap;
 use std::marker::Model;
@@ -268,6 +273,42 @@ impl Book {
         self.assays.grades(alloc, component, &name, streams)
     }
 
+    /// The places of the periods of a window that there is no cause to refuse, in order of days: from the period at one place to the
+    /// period at another.
+    pub fn periods_between(
+        &self,
+        alloc: Global,
+        first: u32,
+        last: u32,
+    ) -> Result<Vec<u32>, AllocError>
+        requires { IsWindowAsked self.now first last }
+        ensures value { IfOk result (λ places. ArePlacesBetween self.now first last places.items) }
+        ensures few { IfOk result (λ places. length places.items ≤ most_periods_of_window) }
+        ensures within { IfOk result (λ places.
+            All (λ place. place < length (periods_of self.now)) places.items) }
+    {
+        let (one, other) = (self.periods.at(first), self.periods.at(last));
+        match places_between(alloc, &self.periods, &one, &other)? {
+            Some(places) => Ok(places),
+            None => Ok(Vec::new(alloc)),
+        }
+    }
+
+    /// Such a window: its nodes and streams, without measurements.
+    pub fn window(&self, alloc: Global, first: u32, last: u32) -> Result<Window, AllocError>
+        requires { IsWindowAsked self.now first last }
+        ensures value { IfOk result (IsWindowBetween self.now first last) }
+        ensures form { IfOk result IsWindow }
+        ensures names { IfOk result AreWindowNames }
+        ensures there { IfOk result (HavePlaceNames self.now first last) }
+    {
+        let places = self.periods_between(alloc, first, last)?;
+        match window_over(alloc, &self.site, &self.periods, &places) {
+            Ok(window) => Ok(window),
+            Err(_) => Err(AllocError),
+        }
+    }
+
     /// The plain rows as records: the declarations, periods, critical values and assays in order, and then the live facts with
     /// their last values. None of them is refused, and a report after them is the one after the book's rows. Refused
     /// alone when out of memory.
@@ -327,7 +368,34 @@ impl Book {
                 None => Err(NotAccepted::Refused(Refused::Unknown)),
             },
             Request::Advise => self.advise(row),
+            Request::Window(first, last) => self.ask_window(first, last),
             Request::Component(component, period) => self.component(component, period),
+        }
+    }
+
+    // Says whether there is a window from the period of one name to that of another.
+    fn ask_window(&self, first: &Name, last: &Name) -> Result<Accepted, NotAccepted>
+        ensures { result ≢ Err NoMemory → result ≡ said_of (window_or_refused self.now
+            (period_place self.now first.now) (period_place self.now last.now)) }
+    {
+        match (self.period_of(first), self.period_of(last)) {
+            (Some(first), Some(last)) => self.say_window(first, last),
+            _ => Err(NotAccepted::Refused(Refused::Unknown)),
+        }
+    }
+
+    // Says whether there is a cause to refuse the window from the period at one place to that at another.
+    fn say_window(&self, first: u32, last: u32) -> Result<Accepted, NotAccepted>
+        requires first { first < length (periods_of self.now) }
+        requires last { last < length (periods_of self.now) }
+        ensures { result ≢ Err NoMemory → result
+            ≡ said_of (window_unless first last (refusal_of_window self.now first last)) }
+    {
+        let alloc = *self.places.allocator();
+        let (one, other) = (self.periods.at(first), self.periods.at(last));
+        match judge_window(alloc, &self.site, &self.periods, &one, &other)? {
+            Some(cause) => Err(NotAccepted::from(cause)),
+            None => Ok(Accepted::Window { first, last }),
         }
     }
 

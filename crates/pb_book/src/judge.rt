@@ -227,12 +227,7 @@ fn judge_closing(periods: &Periods, name: &Name) -> Option<Refused>
 }
 
 // The first cause to refuse an assay.
-fn judge_assay(
-    site: &Site,
-    periods: &Periods,
-    assays: &Assays,
-    assay: &Assay,
-) -> Option<Refused>
+fn judge_assay(site: &Site, periods: &Periods, assays: &Assays, assay: &Assay) -> Option<Refused>
     ensures { result ≡ refusal_behind (version_of site.now) site.now [] periods.now assays.now
         (AssaysEffect assay.now) }
 {

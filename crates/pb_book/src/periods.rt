@@ -11,6 +11,7 @@ ghost use Rattle.pb_book.specs.Ranges.{IsPeriod};
 ghost use Rattle.pb_book.specs.Refusals.{is_closed_named, is_unserved_in};
 ghost use Rattle.pb_book.specs.Rows.{closed_if_named};
 ghost use Rattle.pb_book.specs.Touching.{dip_touches_closed, dip_touches_closed_on, has_closed_day, is_closed_in_service, some_closed, touches, touches_closed};
+ghost use Rattle.pb_book.specs.Windows.{begins_on};
 ghost use Rattle.pb_facts.specs.Fact.{IsDay, IsInRange};
 
 use crate::rows::Period;
@@ -103,6 +104,15 @@ impl Periods {
             Some(place) => first <= self.periods[place as usize].last,
             None => false,
         }
+    }
+
+    /// The place of the period that begins on a day; `None` exactly if none does.
+    pub fn begun_on(&self, day: i32) -> Option<u32>
+        ensures value { result ≡ position (begins_on day) self.now }
+        ensures days { All IsPeriod self.now }
+        ensures apart { AreApart self.now }
+    {
+        self.begins.get(&day).copied()
     }
 
     /// Whether some period is closed.

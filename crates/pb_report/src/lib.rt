@@ -1,5 +1,5 @@
-//! The rows of a session's output: refused records, the classes of a design, advices, reports, balances of components, histories of
-//! periods, and summaries.
+//! The rows of a session's output: refused records, the classes of a design, advices, reports, balances of components, windows,
+//! histories of periods, and summaries.
 //!
 //! Each call appends whole rows to `out`, in a form. After want of memory `out` is as it was.
 //! A row is a kind and its values, one for each column of the kind; pb_form has the columns, and one function writes rows in a form.
@@ -20,6 +20,7 @@ mod study;
 mod summary;
 mod values;
 mod verdicts;
+mod window;
 
 pub use advice::write_advice;
 pub use component::write_component;
@@ -32,3 +33,4 @@ pub use over::write_over;
 pub use refused::write_refused;
 pub use study::write_study;
 pub use summary::write_summary;
+pub use window::write_window;

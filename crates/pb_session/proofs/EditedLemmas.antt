@@ -15,7 +15,7 @@ use Rattle.pb_site.specs.declared.declared.Declared.{Declared}
 use Rattle.pb_site.specs.declared.declared.Version.{Version}
 use Rattle.pb_site.specs.Site.{version_of}
 use Rattle.pb_book.specs.declared.answer.Accepted.{Accepted}
-use Rattle.pb_book.specs.declared.answer.Accepted.TheVariants.{Report, Component}
+use Rattle.pb_book.specs.declared.answer.Accepted.TheVariants.{Report, Component, Window}
 use Rattle.pb_book.specs.declared.answer.Refused.{Refused as Refusal}
 use Rattle.pb_form.specs.declared.fault.FormFault.{FormFault}
 use Rattle.pb_kinds.specs.declared.rows.Assay.{Assay}
@@ -27,11 +27,12 @@ use Rattle.pb_book.specs.Accepted.{AreAccepted, IsAcceptable}
 use Rattle.pb_kinds.specs.declared.costs.NamedCost.{NamedCost}
 use Rattle.pb_kinds.specs.Costs.{named_costs}
 use Rattle.pb_book.specs.Costs.{refusal_of_costs}
-use Rattle.pb_book.specs.Answer.{Answer, Says, Stored, advise_or_refused, after_answer, answer_if, answer_of, component_or_refused, history_or_refused, is_refused, report_or_refused, stored_or_refused}
+use Rattle.pb_book.specs.Answer.{Answer, Says, Stored, advise_or_refused, after_answer, answer_if, answer_of, component_or_refused, history_or_refused, is_refused, report_or_refused, stored_or_refused, window_or_refused, window_unless}
 use Rattle.pb_book.specs.Apart.{is_named}
 use Rattle.pb_book.specs.Assays.{assays_of, is_assay_of, is_assay_over}
 use Rattle.pb_book.specs.Plain.{ArePlain, PlainLaw, numbered, opened, plain_rows, plain_stored}
 use Rattle.pb_book.specs.Refusals.{refusal_of}
+use Rattle.pb_book.specs.Windows.{refusal_of_window}
 use Rattle.pb_kinds.specs.Requests.{request_in}
 use Rattle.pb_book.specs.declared.rows.StoredRow.{StoredRow}
 use Rattle.pb_book.specs.Rows.{declared_of, period_place, periods_of, version_at}
@@ -143,18 +144,33 @@ not_said : (effect : Effect) (cause : Option Refusal) (accepted : Accepted) → 
 not_said effect (Some cause) accepted is = cc is
 not_said effect None accepted is = cc is
 
--- what the book says of a request it says of it after the plain rows
-same_said : (rows plain : List StoredRow) (accepted : Accepted) (costs : List NamedCost) (request : Result Request FormFault) → ArePlain rows plain
+-- what is asked of one period
+abbrev IsOfOne : Accepted → Type 0
+IsOfOne (Window first last) = ⊥
+IsOfOne accepted = Unit {0}
+
+not_window : (rows : List StoredRow) (first last : Option ℕ) (accepted : Accepted) → IsOfOne accepted → window_or_refused rows first last ≡ Says accepted → ⊥
+not_window rows (Some first) (Some last) accepted one is = by (refusal_of_window rows first last) is
+  where
+    by : (cause : Option Refusal) → window_unless first last cause ≡ Says accepted → ⊥
+    by (Some cause) same = cc same
+    by None same = let said : Window first last ≡ accepted = cc same in subst IsOfOne (sym said) one
+not_window rows (Some first) None accepted one is = cc is
+not_window rows None last accepted one is = cc is
+
+-- what the book says of a request of one period it says of it after the plain rows
+same_said : (rows plain : List StoredRow) (accepted : Accepted) → IsOfOne accepted → (costs : List NamedCost) (request : Result Request FormFault) → ArePlain rows plain
     → answer_if rows costs request ≡ Says accepted → answer_if plain costs request ≡ Says accepted
-same_said rows plain accepted costs (Ok asked.Blank) are is = is
-same_said rows plain accepted costs (Ok (asked.Store effect)) are is = absurd (not_said effect (refusal_of rows effect) accepted is)
-same_said rows plain accepted costs (Ok asked.Design) are is = is
-same_said rows plain accepted costs (Ok (asked.Report name)) are is = ap report_or_refused (same_place rows plain name are.periods) ∙ is
-same_said rows plain accepted costs (Ok (asked.History name)) are is = ap history_or_refused (same_place rows plain name are.periods) ∙ is
-same_said rows plain accepted costs (Ok (asked.Component component name)) are is =
+same_said rows plain accepted one costs (Ok asked.Blank) are is = is
+same_said rows plain accepted one costs (Ok (asked.Store effect)) are is = absurd (not_said effect (refusal_of rows effect) accepted is)
+same_said rows plain accepted one costs (Ok asked.Design) are is = is
+same_said rows plain accepted one costs (Ok (asked.Report name)) are is = ap report_or_refused (same_place rows plain name are.periods) ∙ is
+same_said rows plain accepted one costs (Ok (asked.History name)) are is = ap history_or_refused (same_place rows plain name are.periods) ∙ is
+same_said rows plain accepted one costs (Ok (asked.Component component name)) are is =
     ap₂ (component_or_refused component) (ap (list_any (is_assay_over component name)) are.assays) (same_place rows plain name are.periods) ∙ is
-same_said rows plain accepted costs (Ok asked.Advise) are is = ap (λ (ds : List Declared). advise_or_refused (refusal_of_costs ds costs)) are.declared ∙ is
-same_said rows plain accepted costs (Err fault) are is = is
+same_said rows plain accepted one costs (Ok (asked.Window first last)) are is = absurd (not_window rows (period_place rows first) (period_place rows last) accepted one is)
+same_said rows plain accepted one costs (Ok asked.Advise) are is = ap (λ (ds : List Declared). advise_or_refused (refusal_of_costs ds costs)) are.declared ∙ is
+same_said rows plain accepted one costs (Err fault) are is = is
 
 -- the version, where there is a period
 version_some : (rows : List StoredRow) (i : ℕ) → i < length (periods_of rows) → version_at rows ≡ Some (version_of (declared_of rows))
@@ -162,14 +178,14 @@ version_some [] i within = absurd (omega (arith, within))
 version_some (stored ∷ rows) i within = refl
 
 -- a record of which the book says something asks for the same after the plain rows, if there is a period
-plain_answer : (rows plain : List StoredRow) (i : ℕ) (accepted : Accepted) (fields : List (List ℕ)) → ArePlain rows plain → i < length (periods_of rows)
+plain_answer : (rows plain : List StoredRow) (i : ℕ) (accepted : Accepted) → IsOfOne accepted → (fields : List (List ℕ)) → ArePlain rows plain → i < length (periods_of rows)
     → answer_of rows fields ≡ Says accepted → answer_of plain fields ≡ Says accepted
-plain_answer rows plain i accepted fields are within is =
+plain_answer rows plain i accepted one fields are within is =
     let long = ap (λ (ps : List Period). length ps) are.periods ∙ length-map (periods_of rows) opened in
     let version : version_at plain ≡ version_at rows =
     version_some plain i (omega (arith, long, within)) ∙ ap (λ (ds : List Declared). Some (version_of ds)) are.declared ∙ sym (version_some rows i within) in
     ap (λ (v : Option Version). answer_if plain (named_costs fields) (request_in v fields)) version
-    ∙ same_said rows plain accepted (named_costs fields) (request_in (version_at rows) fields) are is
+    ∙ same_said rows plain accepted one (named_costs fields) (request_in (version_at rows) fields) are is
 
 -- the study of a graph asks the declarations alone
 report_as : (state : SessionState) (rows other : List StoredRow) (names : Names) (period : List ℕ) (graph : ProcessGraph) (text : List ℕ) → declared_of rows ≡ declared_of other
@@ -308,13 +324,13 @@ balances_alike state plain component i costs are graphs = record {
 -- ---- the edited file
 
 -- what is asked has the same text after the edited file as after the rows
-same_text : (state : SessionState) (plain : List StoredRow) (records : List (List (List ℕ))) (at i : ℕ) (accepted : Accepted) (fields : List (List ℕ)) (text : List ℕ) → ArePlain state.rows plain
+same_text : (state : SessionState) (plain : List StoredRow) (records : List (List (List ℕ))) (at i : ℕ) (accepted : Accepted) → IsOfOne accepted → (fields : List (List ℕ)) (text : List ℕ) → ArePlain state.rows plain
     → StoreAll (begun state) 1 records (with_rows state plain) → i < length (periods_of state.rows) → AddsAlike state plain accepted (named_costs fields) → answer_of state.rows fields ≡ Says accepted
     → Adds state at fields text ↔ IsSessionText (begun state) 1 (records ++ fields ∷ []) text
-same_text state plain records at i accepted fields text are all within alike is =
+same_text state plain records at i accepted one fields text are all within alike is =
     let end = with_rows state plain in
     let after = 1 + length records in
-    let other = plain_answer state.rows plain i accepted fields are within is in (
+    let other = plain_answer state.rows plain i accepted one fields are within is in (
       λ adds. all.back (fields ∷ []) text (one_back end after fields text (moved state end at after accepted fields text is other (alike.to text) adds)),
       λ texts. moved end state after at accepted fields text other is (alike.back text) (one_to end after fields text (all.to (fields ∷ []) text texts)),
     )
@@ -328,8 +344,8 @@ edited_stands plain_law graphs_law state records accepted writes =
     record {
       accepted = all.none;
       reports = λ at i report text is.
-          same_text state plain records at i (Report i) report text are all (subst (AnswersOf state.rows) is (answers state.rows report)) (reports_alike state plain i (named_costs report) are graphs) is;
+          same_text state plain records at i (Report i) tt report text are all (subst (AnswersOf state.rows) is (answers state.rows report)) (reports_alike state plain i (named_costs report) are graphs) is;
       balances = λ at component i row text is.
-          same_text state plain records at i (Component component i) row text are all (subst (AnswersOf state.rows) is (answers state.rows row))
+          same_text state plain records at i (Component component i) tt row text are all (subst (AnswersOf state.rows) is (answers state.rows row))
           (balances_alike state plain component i (named_costs row) are graphs) is;
     }

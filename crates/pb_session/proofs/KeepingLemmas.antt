@@ -20,7 +20,7 @@ use Rattle.pb_elim.specs.Printed.{printed_classes}
 use Rattle.pb_elim.specs.Study.{IsStudyOf}
 use Rattle.pb_facts.specs.Facts.{NoRepeats}
 use Rattle.pb_book.specs.declared.answer.Accepted.{Accepted}
-use Rattle.pb_book.specs.declared.answer.Accepted.TheVariants.{Blank, Stored as StoredAccepted, Design, Report, History, Advise, Component}
+use Rattle.pb_book.specs.declared.answer.Accepted.TheVariants.{Blank, Stored as StoredAccepted, Design, Report, History, Advise, Component, Window}
 use Rattle.pb_book.specs.declared.answer.NotAccepted.{NotAccepted}
 use Rattle.pb_book.specs.declared.answer.Refused.{Refused as Refusal}
 use Rattle.pb_form.specs.declared.fault.FormFault.{FormFault}
@@ -33,8 +33,9 @@ use Rattle.pb_kinds.specs.declared.costs.NamedCost.{NamedCost}
 use Rattle.pb_kinds.specs.Costs.{named_costs}
 use Rattle.pb_book.specs.Assays.{has_assay}
 use Rattle.pb_book.specs.Costs.{refusal_of_costs}
-use Rattle.pb_book.specs.Answer.{Answer, Refused, Says, Stored, advise_or_refused, after_answer, answer_if, answer_of, answer_to, component_or_refused, history_or_refused, report_or_refused, said_of, stored_or_refused}
+use Rattle.pb_book.specs.Answer.{Answer, Refused, Says, Stored, advise_or_refused, after_answer, answer_if, answer_of, answer_to, component_or_refused, history_or_refused, report_or_refused, said_of, stored_or_refused, window_or_refused, window_unless}
 use Rattle.pb_book.specs.Apart.{is_named}
+use Rattle.pb_book.specs.Windows.{refusal_of_window}
 use Rattle.pb_book.specs.Refusals.{refusal_of}
 use Rattle.pb_kinds.specs.Requests.{request_in}
 use Rattle.pb_book.specs.declared.rows.StoredRow.{StoredRow}
@@ -205,6 +206,7 @@ left_same Design rows kept said = refl
 left_same (Report i) rows kept said = refl
 left_same (History i) rows kept said = refl
 left_same (Component component i) rows kept said = refl
+left_same (Window first last) rows kept said = refl
 left_same Advise rows kept said = refl
 
 -- what the book says of a record that it takes
@@ -219,6 +221,7 @@ left_other Design rows kept other = refl
 left_other (Report i) rows kept other = refl
 left_other (History i) rows kept other = refl
 left_other (Component component i) rows kept other = refl
+left_other (Window first last) rows kept other = refl
 left_other Advise rows kept other = refl
 
 same_accepted : (a b : Accepted) → said_ok a ≡ said_ok b → a ≡ b
@@ -247,6 +250,7 @@ left_few Design rows kept few = few
 left_few (Report i) rows kept few = few
 left_few (History i) rows kept few = few
 left_few (Component component i) rows kept few = few
+left_few (Window first last) rows kept few = few
 left_few Advise rows kept few = few
 
 -- the periods that are kept behind an accepted record are those that are kept behind the record
@@ -292,6 +296,15 @@ said_component component true (Some i) = tt
 said_component component true None = tt
 said_component component false found = tt
 
+said_window_unless : (first last : ℕ) (cause : Option Refusal) → IsSaid (window_unless first last cause)
+said_window_unless first last (Some cause) = tt
+said_window_unless first last None = tt
+
+said_window : (rows : List StoredRow) (first last : Option ℕ) → IsSaid (window_or_refused rows first last)
+said_window rows (Some first) (Some last) = said_window_unless first last (refusal_of_window rows first last)
+said_window rows (Some first) None = tt
+said_window rows None last = tt
+
 said_advise : (cause : Option Refusal) → IsSaid (advise_or_refused cause)
 said_advise (Some cause) = tt
 said_advise None = tt
@@ -303,6 +316,7 @@ said_to rows costs asked.Design = tt
 said_to rows costs (asked.Report name) = said_report (period_place rows name)
 said_to rows costs (asked.History name) = said_history (period_place rows name)
 said_to rows costs (asked.Component component name) = said_component component (has_assay rows component name) (period_place rows name)
+said_to rows costs (asked.Window first last) = said_window rows (period_place rows first) (period_place rows last)
 said_to rows costs asked.Advise = said_advise (refusal_of_costs (declared_of rows) costs)
 
 said_if : (rows : List StoredRow) (costs : List NamedCost) (request : Result Request FormFault) → IsSaid (answer_if rows costs request)

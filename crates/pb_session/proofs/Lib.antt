@@ -6,6 +6,7 @@ mod CriticalLemmas
 mod EditedLemmas
 mod HistoryLemmas
 mod NamedLemmas
+mod WindowedLemmas
 mod ReportLemmas
 mod RowLemmas
 mod SomeTextLemmas

@@ -5,6 +5,7 @@ use Rattle.std.proofs.lemmas.List.{length-map}
 use Rattle.std.proofs.lemmas.List.Elements.{All-map}
 use Rattle.std.proofs.lemmas.Option.{slice_get-get_or}
 use Rattle.pb_rows.specs.declared.name.Names.{Names}
+use Rattle.pb_window.specs.Codes.{window_names}
 use Rattle.pb_graph.specs.declared.results.Stage.{Stage}
 use Rattle.pb_graph.specs.declared.results.Study.{Study}
 use Rattle.pb_graph.specs.ProcessGraph.{ProcessGraph, IsProcessGraph}
@@ -26,12 +27,13 @@ use Rattle.pb_book.specs.Accepted.{AreAccepted}
 use Rattle.pb_book.specs.Assays.{grade_of}
 use Rattle.pb_book.specs.Costs.{meter_costs}
 use Rattle.pb_book.specs.declared.rows.StoredRow.{StoredRow}
-use Rattle.pb_book.specs.declared.answer.Accepted.TheVariants.{Blank, Stored as StoredAccepted, Design, Report, History, Advise, Component}
+use Rattle.pb_book.specs.declared.answer.Accepted.TheVariants.{Blank, Stored as StoredAccepted, Design, Report, History, Advise, Component, Window}
 use Rattle.pb_book.specs.declared.rows.Period.{Period}
 use Rattle.pb_book.specs.Rows.{declared_of, periods_of}
 use Rattle.pb_book.specs.Answer.{Answer, Refused, Says, Stored, answer_of}
 use Rattle.pb_book.specs.Laws.{AcceptedLaw, MeterCostsLaw}
-use Rattle.pb_period.specs.Laws.{GraphsLaw, HaveGraphs}
+use Rattle.pb_book.specs.Windows.{BookWindowsLaw, IsBookWindow, IsWindowAsked, periods_between, window_between, window_refusal}
+use Rattle.pb_period.specs.Laws.{GraphsLaw, HaveGraphs, WindowGraphsLaw}
 use Rattle.pb_period.specs.Days.{days_of}
 use Rattle.pb_period.specs.Grades.{grades_of}
 use Rattle.pb_period.specs.declared.graph.Assembly.{Assembly}
@@ -41,11 +43,12 @@ use Rattle.pb_report.specs.Component.{component_row}
 use Rattle.pb_report.specs.Form.{text_in}
 use Rattle.pb_session.specs.Criticals.{critical_of}
 use Rattle.pb_session.specs.History.{told_history}
-use Rattle.pb_session.specs.Session.{AddsAccepted, AddsBy, AreNamesOf, Balances, BalancesBy, BalancesIn, IsBalanceOf, IsReport, SessionState, Reports, ReportsBy, Tells, component_assembly, last_stage, state_after}
+use Rattle.pb_session.specs.Session.{AddsAccepted, AddsBy, AreNamesOf, Balances, BalancesBy, BalancesIn, IsBalanceOf, IsReport, Reports, ReportsBy, SessionState, Tells, Windows, WindowsBy, assembly_between, component_assembly, last_stage, state_after, window_head}
 use Rattle.pb_session.specs.Laws.{SomeTextLaw, SomeSessionTextLaw}
 use Rattle.pb_session.proofs.BalanceLemmas.{counts_of, each_result, last_there, names_as}
 use Rattle.pb_session.proofs.NamedLemmas.{costs_are, names_are, period_names_are}
 use Rattle.pb_session.proofs.RowLemmas.{AnswersOf, answers, some_period}
+use Rattle.pb_session.proofs.WindowedLemmas.{window_names_are, windows_at}
 
 -- a graph of a period is there, or a stream of it is over the limits
 never_memory : (graph : ProcessGraph) (found : Option ℕ) → unless_over graph found ≢ Err NoMemory
@@ -177,6 +180,38 @@ some_balances state known component i asked graphs there =
     let (text, balance) = some_balance state known component period (assembly_of state.rows (days_of period)) asked graphs within refl (never_memory graph _) in
     (text, subst (λ (found : Option Period). Balances state component found text) (sym (slice_get-get_or (periods_of state.rows) i some_period there)) balance)
 
+-- ---- a window of several periods
+
+-- what holds of a window that there is no cause to refuse: what a book says of it, and that its graph is within the limits, if it has one
+pub record HasWindow (rows : List StoredRow) (first last : Period) : Type 0 where
+  pub made : IsBookWindow rows first last
+  pub within : IfOk (assembly_between rows first last) IsProcessGraph
+
+abbrev pub HaveWindows : List StoredRow → Type 0
+HaveWindows rows = (first last : Period) → window_refusal rows first last ≡ None → HasWindow rows first last
+
+pub have_windows : BookWindowsLaw → WindowGraphsLaw → (rows : List StoredRow) → AreAccepted rows → HaveWindows rows
+have_windows books graphs rows accepted first last none =
+    let made = books rows first last accepted none in
+    record { made = made; within = graphs rows (periods_between (periods_of rows) first last) (window_between rows first last) accepted made.form }
+
+some_window_by : (state : SessionState) → HaveBalances state.rows → (first last : Period) (assembly : Result ProcessGraph Assembly) → AreOptions state.options → IsBookWindow state.rows first last
+    → IfOk assembly IsProcessGraph → assembly ≡ assembly_between state.rows first last → assembly ≢ Err NoMemory → (text : List ℕ) × WindowsBy state first last assembly text
+some_window_by state known first last (Ok graph) asked made within is sure =
+    let names = window_names (window_between state.rows first last) in
+    let named = window_names_are state.rows (periods_between (periods_of state.rows) first last) (window_between state.rows first last) graph made.names is in
+    let (rest, report) = some_study_text known.studies known.certified known.least known.tested state names first.name graph asked within named in
+    (_, record { front = text_in state.form (window_head state.rows first last); rest = rest; before = refl; report = report; whole = refl })
+some_window_by state known first last (Err (Over j)) asked made within is sure = (_, refl)
+some_window_by state known first last (Err NoMemory) asked made within is sure = absurd (sure refl)
+
+some_window : (state : SessionState) → HaveBalances state.rows → (i k : ℕ) → AreOptions state.options → HaveWindows state.rows → IsWindowAsked state.rows i k
+    → (text : List ℕ) × Windows state (slice_get (periods_of state.rows) i) (slice_get (periods_of state.rows) k) text
+some_window state known i k asked windows window =
+    let it = windows window.one window.other window.no_cause in
+    let (text, by) = some_window_by state known window.one window.other (assembly_between state.rows window.one window.other) asked it.made it.within refl (never_memory _ _) in
+    (text, windows_at state i k window.one window.other (assembly_between state.rows window.one window.other) text window.first_is window.last_is refl by)
+
 -- ---- a record
 
 some_history : (state : SessionState) (i : ℕ) → i < length (periods_of state.rows) → (text : List ℕ) × Tells state (slice_get (periods_of state.rows) i) text
@@ -207,18 +242,19 @@ abbrev HasCosts : List StoredRow → List NamedCost → Answer → Type 0
 HasCosts rows costs answer = answer ≡ Says Advise → All IsMeterCost (meter_costs (declared_of rows) costs)
 
 some_answer : SomeClassificationLaw → SomeAdviceLaw → CheapestLaw → (state : SessionState) → HaveBalances state.rows → (at : ℕ) (costs : List NamedCost) (answer : Answer)
-    → AreOptions state.options → HaveGraphs state.rows → AnswersOf state.rows answer → HasCosts state.rows costs answer → (text : List ℕ) × AddsBy state at costs answer text
-some_answer classifications advices cheapest state known at costs (Refused cause) asked graphs of within = (_, refl)
-some_answer classifications advices cheapest state known at costs (Stored row) asked graphs of within = ([], refl)
-some_answer classifications advices cheapest state known at costs (Says Blank) asked graphs of within = ([], refl)
-some_answer classifications advices cheapest state known at costs (Says StoredAccepted) asked graphs of within = ([], refl)
-some_answer classifications advices cheapest state known at costs (Says Design) asked graphs of within =
+    → AreOptions state.options → HaveGraphs state.rows → HaveWindows state.rows → AnswersOf state.rows answer → HasCosts state.rows costs answer → (text : List ℕ) × AddsBy state at costs answer text
+some_answer classifications advices cheapest state known at costs (Refused cause) asked graphs windows of within = (_, refl)
+some_answer classifications advices cheapest state known at costs (Stored row) asked graphs windows of within = ([], refl)
+some_answer classifications advices cheapest state known at costs (Says Blank) asked graphs windows of within = ([], refl)
+some_answer classifications advices cheapest state known at costs (Says StoredAccepted) asked graphs windows of within = ([], refl)
+some_answer classifications advices cheapest state known at costs (Says Design) asked graphs windows of within =
     let (classes, are) = classifications (design_graph state.rows) graphs.design in
     (_, record { limits = graphs.design; named = names_are base_of state.rows graphs.names; classes = classes; are = are; rows = refl })
-some_answer classifications advices cheapest state known at costs (Says (Report i)) asked graphs of within = some_reports known.studies known.certified known.least known.tested state i asked graphs of
-some_answer classifications advices cheapest state known at costs (Says (History i)) asked graphs of within = some_history state i of
-some_answer classifications advices cheapest state known at costs (Says (Component component i)) asked graphs of within = some_balances state known component i asked graphs of
-some_answer classifications advices cheapest state known at costs (Says Advise) asked graphs of within = some_advice advices cheapest state costs graphs (within refl)
+some_answer classifications advices cheapest state known at costs (Says (Report i)) asked graphs windows of within = some_reports known.studies known.certified known.least known.tested state i asked graphs of
+some_answer classifications advices cheapest state known at costs (Says (History i)) asked graphs windows of within = some_history state i of
+some_answer classifications advices cheapest state known at costs (Says (Component component i)) asked graphs windows of within = some_balances state known component i asked graphs of
+some_answer classifications advices cheapest state known at costs (Says (Window i k)) asked graphs windows of within = some_window state known i k asked windows of
+some_answer classifications advices cheapest state known at costs (Says Advise) asked graphs windows of within = some_advice advices cheapest state costs graphs (within refl)
 
 -- What is known of all accepted rows.
 pub record AreKnown : Type 0 where
@@ -229,11 +265,12 @@ pub record AreKnown : Type 0 where
   pub graphs : GraphsLaw
   pub accepted : AcceptedLaw
   pub balances : (rows : List StoredRow) → AreAccepted rows → HaveBalances rows
+  pub windows : (rows : List StoredRow) → AreAccepted rows → HaveWindows rows
 
 pub some_text : AreKnown → SomeTextLaw
 some_text known state at fields asked accepted =
     some_answer known.classifications known.advices known.cheapest state (known.balances state.rows accepted) at (named_costs fields) (answer_of state.rows fields) asked
-    (known.graphs state.rows accepted) (answers state.rows fields) (known.costs state.rows fields)
+    (known.graphs state.rows accepted) (known.windows state.rows accepted) (answers state.rows fields) (known.costs state.rows fields)
 
 pub some_session_text : AreKnown → SomeSessionTextLaw
 some_session_text known state at [] asked accepted = ([], refl)

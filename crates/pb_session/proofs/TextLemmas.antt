@@ -1,6 +1,7 @@
 -- What a record adds to the output is one text.
 use Rattle.std.proofs.Common.{◌≡◌, ◌∙◌, ℕ, ◌+◌, List, [], ◌∷◌, ◌++◌, Option, Some, None, Result, Ok, Err, slice_get, sym, ap, ap₂, subst}
 use Rattle.pb_rows.specs.declared.name.Names.{Names}
+use Rattle.pb_window.specs.Codes.{window_names}
 use Rattle.pb_graph.specs.declared.records.Classified.{Classified}
 use Rattle.pb_graph.specs.ProcessGraph.{ProcessGraph}
 use Rattle.pb_classify.specs.Laws.{OneClassificationLaw}
@@ -16,9 +17,10 @@ use Rattle.pb_kinds.specs.declared.costs.NamedCost.{NamedCost}
 use Rattle.pb_kinds.specs.Costs.{named_costs}
 use Rattle.pb_book.specs.Costs.{meter_costs}
 use Rattle.pb_book.specs.declared.answer.Accepted.{Accepted}
-use Rattle.pb_book.specs.declared.answer.Accepted.TheVariants.{Blank, Stored as StoredAccepted, Design, Report, History, Advise, Component}
+use Rattle.pb_book.specs.declared.answer.Accepted.TheVariants.{Blank, Stored as StoredAccepted, Design, Report, History, Advise, Component, Window}
 use Rattle.pb_book.specs.declared.rows.Period.{Period}
 use Rattle.pb_book.specs.Rows.{declared_of, periods_of}
+use Rattle.pb_book.specs.Windows.{window_between}
 use Rattle.pb_book.specs.Answer.{Answer, Refused, Says, Stored, answer_of}
 use Rattle.pb_period.specs.Days.{days_of}
 use Rattle.pb_period.specs.Grades.{grades_of}
@@ -32,7 +34,7 @@ use Rattle.pb_report.specs.Advice.{advice_rows}
 use Rattle.pb_report.specs.Design.{design_rows}
 use Rattle.pb_report.specs.Study.{study_rows}
 use Rattle.pb_session.specs.Criticals.{critical_of}
-use Rattle.pb_session.specs.Session.{AddsAccepted, AddsBy, Balances, BalancesBy, BalancesIn, IsBalanceOf, IsReport, IsReportAfter, SessionState, Reports, ReportsBy, Tells, component_assembly, last_stage, state_after}
+use Rattle.pb_session.specs.Session.{AddsAccepted, AddsBy, Balances, BalancesBy, BalancesIn, IsBalanceOf, IsReport, IsReportAfter, SessionState, Reports, ReportsBy, Tells, Windows, WindowsBy, assembly_between, component_assembly, last_stage, state_after, window_head}
 use Rattle.pb_session.specs.Laws.{OneTextLaw, OneSessionTextLaw}
 
 -- the report of a graph
@@ -92,6 +94,20 @@ balance_text law state component (Some period) one other (a, a_of, a_by) (b, b_o
     balance_by_text law state component period b one other (subst (λ (answer : Result ProcessGraph Assembly). BalancesBy state component period answer one) same a_by) b_by
 balance_text law state component None one other a b = absurd a
 
+-- ---- a window of several periods
+
+windows_by_text : OneStudyLaw → (state : SessionState) (first last : Period) (assembly : Result ProcessGraph Assembly) (one other : List ℕ) → WindowsBy state first last assembly one
+    → WindowsBy state first last assembly other → one ≡ other
+windows_by_text law state first last (Ok graph) one other a b =
+    after_text law state (window_head state.rows first last) (window_names (window_between state.rows first last)) first.name graph one other a b
+windows_by_text law state first last (Err (Over j)) one other a b = a ∙ sym b
+windows_by_text law state first last (Err NoMemory) one other a b = absurd a
+
+window_text : OneStudyLaw → (state : SessionState) (first last : Option Period) (one other : List ℕ) → Windows state first last one → Windows state first last other → one ≡ other
+window_text law state (Some first) (Some last) one other a b = windows_by_text law state first last (assembly_between state.rows first last) one other a b
+window_text law state (Some first) None one other a b = absurd a
+window_text law state None last one other a b = absurd a
+
 -- ---- a record
 
 history_text : (state : SessionState) (period : Option Period) (one other : List ℕ) → Tells state period one → Tells state period other → one ≡ other
@@ -108,6 +124,8 @@ accepted_text law advices studies state costs Design one other a b =
 accepted_text law advices studies state costs (Report i) one other a b = report_text studies state (slice_get (periods_of state.rows) i) one other a b
 accepted_text law advices studies state costs (History i) one other a b = history_text state (slice_get (periods_of state.rows) i) one other a b
 accepted_text law advices studies state costs (Component component i) one other a b = balance_text studies state component (slice_get (periods_of state.rows) i) one other a b
+accepted_text law advices studies state costs (Window first last) one other a b =
+    window_text studies state (slice_get (periods_of state.rows) first) (slice_get (periods_of state.rows) last) one other a b
 accepted_text law advices studies state costs Advise one other a b =
     let text : Advice → List ℕ = λ advice. text_in state.form (advice_rows (names_of (declared_of state.rows)) advice) in
     a.rows ∙ ap text (advices (design_graph state.rows) (meter_costs (declared_of state.rows) costs) a.advice b.advice a.is_advice b.is_advice) ∙ sym b.rows

@@ -1,6 +1,8 @@
 -- Statement. The output of a session.
 use Rattle.std.specs.Prelude.{◌≡◌, ℕ, ℤ, ◌+◌, Bool, ◌||◌, false, List, [], ◌∷◌, ◌++◌, Option, Some, None, slice_get, length, All, Result, Ok, Err, codes}
 use Rattle.pb_rows.specs.declared.name.Names.{Names}
+use Rattle.pb_window.specs.Codes.{window_names}
+use Rattle.pb_window.specs.Places.{window_places}
 use Rattle.pb_graph.specs.declared.records.Classified.{Classified}
 use Rattle.pb_graph.specs.declared.results.Options.{Options}
 use Rattle.pb_graph.specs.declared.results.Stage.{Stage}
@@ -25,12 +27,14 @@ use Rattle.pb_book.specs.declared.rows.Period.{Period}
 use Rattle.pb_book.specs.declared.rows.StoredRow.{StoredRow}
 use Rattle.pb_book.specs.Rows.{declared_of, periods_of}
 use Rattle.pb_book.specs.Costs.{meter_costs}
+use Rattle.pb_book.specs.Windows.{names_of_periods, periods_between, window_between}
 use Rattle.pb_book.specs.Answer.{Answer, Refused, Says, Stored, after, answer_of, code_of, is_refused}
 use Rattle.pb_period.specs.Days.{days_of}
 use Rattle.pb_period.specs.Grades.{grades_of}
 use Rattle.pb_period.specs.declared.graph.Assembly.{Assembly}
 use Rattle.pb_period.specs.declared.graph.Assembly.TheVariants.{Over, NoMemory}
 use Rattle.pb_period.specs.PeriodGraph.{assembly_of, design_graph, period_names}
+use Rattle.pb_period.specs.WindowGraph.{window_assembly}
 use Rattle.pb_session.specs.Criticals.{critical_of}
 use Rattle.pb_session.specs.History.{told_history}
 use Rattle.pb_report.specs.declared.form.Form.{Form}
@@ -43,6 +47,7 @@ use Rattle.pb_report.specs.Component.{component_row}
 use Rattle.pb_report.specs.Design.{design_rows}
 use Rattle.pb_report.specs.Over.{over_row}
 use Rattle.pb_report.specs.Study.{study_rows}
+use Rattle.pb_report.specs.Window.{window_rows}
 
 -- What a session holds: what is asked of its studies, the form of its output, and the rows stored so far.
 pub record SessionState : Type 0 where
@@ -158,6 +163,33 @@ Balances state component (Some period) text =
     × BalancesBy state component period answer text
 Balances state component None text = ⊥
 
+-- ---- a window of several periods
+
+-- the rows before the report of the window from one period to another: of which periods it is, and what its names stand for
+abbrev pub window_head : List StoredRow → Period → Period → List OutputRow
+window_head rows first last =
+    let periods = periods_between (periods_of rows) first last in
+    window_rows first.name last.name (length periods)
+    (window_places (names_of (declared_of rows)) (names_of_periods periods) (window_between rows first last))
+
+-- the graph of the window from one period to another, or its first stream beyond the limits
+abbrev pub assembly_between : List StoredRow → Period → Period → Result ProcessGraph Assembly
+assembly_between rows first last = window_assembly rows (periods_between (periods_of rows) first last) (window_between rows first last)
+
+-- the text of a window under the name of its first period: the rows before its report, and the report of its graph by the names of its
+-- nodes and streams; or the row that names the first stream beyond the limits
+abbrev pub WindowsBy : SessionState → Period → Period → Result ProcessGraph Assembly → List ℕ → Type 0
+WindowsBy state first last (Ok graph) text =
+    IsReportAfter state (window_head state.rows first last) (window_names (window_between state.rows first last)) first.name graph text
+WindowsBy state first last (Err (Over j)) text =
+    IsTextOf state (over_row first.name (name_at (window_names (window_between state.rows first last)).streams j) ∷ []) text
+WindowsBy state first last (Err NoMemory) text = ⊥
+
+-- the text of the window from the period at one place to the period at another
+abbrev pub Windows : SessionState → Option Period → Option Period → List ℕ → Type 0
+Windows state (Some first) (Some last) text = WindowsBy state first last (assembly_between state.rows first last) text
+Windows state first last text = ⊥
+
 -- ---- what a record adds
 
 -- the text of the history of the period at a place
@@ -173,6 +205,8 @@ AddsAccepted state costs answered.Design text = IsDesign state (names_of (declar
 AddsAccepted state costs (answered.Report i) text = Reports state (slice_get (periods_of state.rows) i) text
 AddsAccepted state costs (answered.History i) text = Tells state (slice_get (periods_of state.rows) i) text
 AddsAccepted state costs (answered.Component component i) text = Balances state component (slice_get (periods_of state.rows) i) text
+AddsAccepted state costs (answered.Window first last) text =
+    Windows state (slice_get (periods_of state.rows) first) (slice_get (periods_of state.rows) last) text
 AddsAccepted state costs answered.Advise text =
     IsAdviceText state (names_of (declared_of state.rows)) (design_graph state.rows) (meter_costs (declared_of state.rows) costs) text
 
@@ -183,7 +217,8 @@ AddsBy state at costs (Stored row) text = text ≡ []
 AddsBy state at costs (Says accepted) text = AddsAccepted state costs accepted text
 
 -- The text that a record adds to the output: a refused one its row, `design` the rows of the design, `report` those of the report,
--- `history` those of the history, `advise` those of the advice, `component` its row and the report of the component's graph.
+-- `history` those of the history, `advise` those of the advice, `component` its row and the report of the component's graph,
+-- `window` its rows and the report of its graph.
 abbrev pub Adds : SessionState → ℕ → List (List ℕ) → List ℕ → Type 0
 Adds state at fields text = AddsBy state at (named_costs fields) (answer_of state.rows fields) text
 

@@ -1,4 +1,4 @@
-use Rattle.pb_session.proofs.SomeTextLemmas.{AreKnown, some_session_text, some_text}
+use Rattle.pb_session.proofs.SomeTextLemmas.{AreKnown, have_windows, some_session_text, some_text}
 use Rattle.pb_session.proofs.laws.some_text_law.Goals as goal
 
 known : goal.After-accepted_law → AreKnown
@@ -19,6 +19,7 @@ known c = record {
     critical = c.criticals_law.ensures rows accepted;
     grades = λ component period stream. c.grades_law.ensures rows component period stream accepted;
   };
+  windows = have_windows c.book_windows_law.ensures c.window_graphs_law.ensures;
 }
 
 pub returns-clause-of_a_record : goal.returns-clause-of_a_record
