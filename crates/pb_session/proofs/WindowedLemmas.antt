@@ -118,6 +118,11 @@ window_names_are rows periods window graph codes is =
       streams = codes.streams.differ;
     })
 
+-- what is assembled of a window that was made is what the two periods have
+pub assembled_at : (rows : List StoredRow) (first last : ℕ) (places : List ℕ) (window : Window) (r : Result ProcessGraph Assembly) (at : IsWindowAt rows first last places window)
+    → r ≡ window_assembly rows (periods_at rows places) window → r ≡ assembly_between rows at.one at.other
+assembled_at rows first last places window r at is = is ∙ ap₂ (window_assembly rows) at.periods at.window_is
+
 -- ---- the text
 
 -- the text of a window whose ends are found

@@ -24,3 +24,9 @@ pub places_of-requires-clause-named : goal.places_of-requires-clause-named
 places_of-requires-clause-named c =
     let rows_is : c.self.inside.book ≡ c.args.self.now.state.rows = ap (λ (h : Held). h.state.rows) c.self.view_is in
     subst (λ (rows : List StoredRow). HaveNames (names_of (declared_of rows)) (names_of_periods (periods_at rows c.args.periods.now)) c.args.window.now) (sym rows_is) c.requires.window.named
+
+pub returns-clause-ok : goal.returns-clause-ok
+returns-clause-ok c = ?
+
+pub returns-clause-err : goal.returns-clause-err
+returns-clause-err c = ?
