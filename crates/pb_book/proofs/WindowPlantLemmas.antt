@@ -37,7 +37,7 @@ use Rattle.pb_book.specs.Assays.{assays_of}
 use Rattle.pb_book.specs.Kept.{AreOf}
 use Rattle.pb_book.specs.Ranges.{IsPeriod}
 use Rattle.pb_book.specs.Rows.{declared_of, facts_of, periods_of}
-use Rattle.pb_book.specs.Windows.{BookWindowsLaw, IsBookWindow, begins_on, days_between, has_gap, is_inventory, period_names, periods_between, plant_of, refusal_between, refusal_over, span_of_period, window_arc, window_between, window_over, window_plant}
+use Rattle.pb_book.specs.Windows.{BookWindowsLaw, IsBookWindow, begins_on, days_between, has_gap, is_inventory, names_of_periods, periods_between, plant_of, refusal_between, refusal_over, span_of_period, window_arc, window_between, window_over, window_plant}
 use Rattle.pb_book.proofs.ConsistentLemmas.{consistent}
 use Rattle.pb_book.proofs.FactLemmas.{no_site_fault_of}
 use Rattle.pb_book.proofs.KeptLemmas.{declared_more, declared_same}
@@ -205,7 +205,7 @@ book_windows law form_law names_law places_law rows first last accepted none = r
   made = made;
   form = form_law (plant_of rows) spans (window_between rows first last) plant made;
   names = names_law (plant_of rows) spans (window_between rows first last) plant few_spans made;
-  there = places_law (plant_of rows) spans (window_between rows first last) (names_of (declared_of rows)) (period_names periods) made each_node each_arc each_period;
+  there = places_law (plant_of rows) spans (window_between rows first last) (names_of (declared_of rows)) (names_of_periods periods) made each_node each_arc each_period;
 }
   where
     periods : List Period
@@ -235,5 +235,5 @@ book_windows law form_law names_law places_law rows first last accepted none = r
     each_arc : length (names_of (declared_of rows)).streams ≡ length (plant_of rows).arcs
     each_arc = length-map (arcs_of (declared_of rows)) (λ (arc : Arc). arc.name) ∙ sym (length-map (arcs_of (declared_of rows)) (window_arc (version_of (declared_of rows))))
 
-    each_period : length (period_names periods) ≡ length spans
+    each_period : length (names_of_periods periods) ≡ length spans
     each_period = length-map periods (λ (period : Period). period.name) ∙ sym (length-map periods span_of_period)
