@@ -197,6 +197,7 @@ fits_ok : (window : Window) → is_too_great window ≡ false → unless_too_gre
 fits_ok window fits = rw fits refl
 
 pub book_windows : PlantLaw → WindowFormLaw → WindowNamesLaw → WindowPlacesLaw → BookWindowsLaw
+unfolding window_between window_plant
 book_windows law form_law names_law places_law rows first last accepted none = record {
   plant = plant;
   spans = All-map IsSpan span_of_period periods (between_all (λ (period : Period). IsSpan (span_of_period period)) (periods_of rows) first last days);
@@ -226,15 +227,12 @@ book_windows law form_law names_law places_law rows first last accepted none = r
     few_spans = omega (arith, fine.few, length-map periods span_of_period)
 
     made : window_of (plant_of rows) spans ≡ Ok (window_between rows first last)
-    unfolding window_between
     made = fits_ok (window_over (declared_of rows) periods) fine.fits
 
     each_node : length (names_of (declared_of rows)).nodes ≡ 1 + (plant_of rows).nodes
-    unfolding window_plant
     each_node = omega arith
 
     each_arc : length (names_of (declared_of rows)).streams ≡ length (plant_of rows).arcs
-    unfolding window_plant
     each_arc = length-map (arcs_of (declared_of rows)) (λ (arc : Arc). arc.name) ∙ sym (length-map (arcs_of (declared_of rows)) (window_arc (version_of (declared_of rows))))
 
     each_period : length (period_names periods) ≡ length spans
