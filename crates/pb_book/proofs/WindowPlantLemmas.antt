@@ -311,7 +311,7 @@ book_windows law form_law names_law places_law rows first last accepted none = r
     plant = plant_is (declared_of rows) (site_plant law rows accepted)
 
     days : All (λ (period : Period). IsSpan (span_of_period period)) (periods_of rows)
-    days i d lt = ((consistent rows accepted).days i d lt).begins.0
+    days i d lt = ((consistent rows accepted).days i d lt).begins
 
     few_spans : length spans ≤ most_periods_of_window
     few_spans = omega (arith, fine.few, length-map periods span_of_period)

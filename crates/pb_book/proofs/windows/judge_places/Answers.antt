@@ -18,6 +18,6 @@ returns c =
     let few : length these ≤ most_periods_of_window = omega (arith, as_many c.args.periods.now c.args.places.now c.requires, c.if-places-gt-MOST_PERIODS_OF_WINDOW.false) in
     elim c.match-window_over.branch [
       | in-Ok w ↦ rw w.result-is (over_fits site these w.in-Ok.field-0 few (w.in-Ok.ensures.answer (λ is. cc is)))
-      | in-Err-TooGreat w ↦ rw w.result-is (over_great site these few (w.in-Err-TooGreat.ensures.answer (λ is. cc is)))
+      | in-Err-TooGreat w ↦ rw w.result-is (over_great site these few ((rw w.in-Err-TooGreat.field-0-is at w.in-Err-TooGreat.ensures.answer) (λ is. cc is)))
       | in-Err-NoMemory w ↦ rw w.result-is tt
     ]

@@ -1,9 +1,9 @@
 use Rattle.std.specs.Prelude.{filter_map, slice_get}
-use Rattle.std.proofs.Common.{◌≡◌, ◌∙◌, List, FitsSigned, Some, All, ◌<◌, ℕ, ap, arith, length, subst, sym}
+use Rattle.std.proofs.Common.{◌≡◌, ◌∙◌, List, FitsSigned, Option, Some, All, ◌<◌, ℕ, ap, arith, length, subst, sym}
 use mir.Syntax.{w32}
 use Rattle.std.proofs.lemmas.Int.{ints, to_z-of_z}
-use Rattle.std.proofs.lemmas.Result.{IfOk_then}
-use Rattle.pb_book.specs.declared.rows.Period.{Period}
+use Rattle.std.proofs.lemmas.Result.{IfOk-weaker}
+use Rattle.pb_book.specs.declared.answer.Refused.{Refused}
 use Rattle.pb_book.specs.Windows.{periods_between, refusal_between, refusal_over}
 use Rattle.pb_book.proofs.WindowPlantLemmas.{between_gap, between_order, between_over, periods_at, within_of}
 use Rattle.pb_book.proofs.windows.judge_window.Goals as goal
@@ -37,7 +37,8 @@ returns-in-Some c =
     ap (filter_map (slice_get periods)) c.deref.ensures.value ∙ periods_at periods c.in-Some.places.items (periods_between periods first last) found.they_are in
     let same : refusal_over site (filter_map (slice_get periods) c.deref.result.now) ≡ refusal_between site periods first last =
     ap (refusal_over site) these ∙ between_over site periods first last after found.no_gap in
-    IfOk_then c.judge_places.result c.judge_places.ensures (λ cause is. is ∙ same)
+    IfOk-weaker c.judge_places.result (λ (cause : Option Refused). cause ≡ refusal_over site (filter_map (slice_get periods) c.deref.result.now))
+    (λ (cause : Option Refused). cause ≡ refusal_between site periods first last) (λ cause is. is ∙ same) c.judge_places.ensures
 
 pub returns-in-None : goal.returns-in-None
 returns-in-None c =
