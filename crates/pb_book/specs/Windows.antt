@@ -95,8 +95,8 @@ periods_between periods first last =
     filter_map (λ day. find (begins_on day) periods) (days_between first.first last.first)
 
 -- their names
-abbrev pub period_names : List Period → List (List ℕ)
-period_names periods = map (λ (period : Period). period.name) periods
+abbrev pub names_of_periods : List Period → List (List ℕ)
+names_of_periods periods = map (λ (period : Period). period.name) periods
 
 -- ---- the window
 
@@ -175,7 +175,7 @@ IsWindowBetween rows first last window =
 abbrev pub HavePlaceNames : List StoredRow → ℕ → ℕ → Window → Type 0
 HavePlaceNames rows first last window =
     OfEnds rows first last (λ one other.
-    HaveNames (names_of (declared_of rows)) (period_names (periods_between (periods_of rows) one other)) window)
+    HaveNames (names_of (declared_of rows)) (names_of_periods (periods_between (periods_of rows) one other)) window)
 
 -- What holds of the window between two periods of accepted rows: it is one of a plant and of at most as many periods as a window may
 -- have, its streams join two of its nodes, the names of its nodes and streams are names, no two of them the same, and each of these
@@ -189,7 +189,7 @@ pub record IsBookWindow (rows : List StoredRow) (first last : Period) : Type 0 w
   pub form : IsWindow (window_between rows first last)
   pub names : AreWindowNames (window_between rows first last)
   pub there : HaveNames (names_of (declared_of rows))
-      (period_names (periods_between (periods_of rows) first last)) (window_between rows first last)
+      (names_of_periods (periods_between (periods_of rows) first last)) (window_between rows first last)
 
 -- Such is each window that there is no cause to refuse.
 abbrev pub BookWindowsLaw : Type 0
