@@ -215,7 +215,7 @@ fn edit_word(effect: &Effect) -> &'static [u8] {
             Edit::Change(_) => b"amend",
             Edit::Strike => b"strike",
         },
-        Effect::Declares(_) | Effect::Opens { .. } => b"none",
+        Effect::Declares(_) | Effect::Opens { .. } | Effect::Assays(_) => b"none",
     }
 }
 
@@ -235,6 +235,8 @@ fn answer(told: Result<Accepted, NotAccepted>) -> &'static [u8] {
         Ok(Accepted::Report(_)) => b"report",
         Ok(Accepted::History(_)) => b"history",
         Ok(Accepted::Advise) => b"advise",
+        Ok(Accepted::Window { .. }) => b"window",
+        Ok(Accepted::Component { .. }) => b"component",
         Err(NotAccepted::NoMemory) => b"memory",
         Err(NotAccepted::Refused(cause)) => refusal(cause),
     }

@@ -1,7 +1,7 @@
 -- Rows that were accepted, and one more.
 use Rattle.std.specs.Prelude.{filter_map, All, take, is_none, not, option_and_then, is_some}
 use Rattle.std.specs.List.{list_any}
-use Rattle.std.proofs.Common.{◌≡◌, ◌≢◌, ◌⊎◌, ◌∙◌, ℕ, ◌<◌, true, List, [], ◌∷◌, ◌++◌, length, slice_get, Option, Some, None, Result, Ok, Err, refl, sym, ap, subst, arith, inl, inr, length-append, append_assoc}
+use Rattle.std.proofs.Common.{◌≡◌, ◌≢◌, ◌⊎◌, ◌∙◌, ℕ, ◌<◌, Bool, true, false, List, [], ◌∷◌, ◌++◌, length, slice_get, Option, Some, None, Result, Ok, Err, refl, sym, ap, subst, arith, inl, inr, length-append, append_assoc}
 use Rattle.std.proofs.lemmas.Bool.{cases_lt}
 use Rattle.std.proofs.lemmas.List.{append-nil, take-append-le}
 use Rattle.std.proofs.lemmas.Option.{get_or_from_slice_get, slice_get-get_or, slice_get_within}
@@ -13,7 +13,8 @@ use Rattle.pb_form.specs.declared.fault.FormFault.{FormFault}
 use Rattle.pb_kinds.specs.declared.rows.Request.{Request}
 use Rattle.pb_kinds.specs.declared.rows.Request.TheVariants as asked
 use Rattle.pb_book.specs.Accepted.{AreAccepted, IsAcceptable}
-use Rattle.pb_book.specs.Answer.{advise_or_refused, after, after_answer, answer_if, answer_to, history_or_refused, report_or_refused, stored_or_refused}
+use Rattle.pb_book.specs.Answer.{Answer, advise_or_refused, after, after_answer, answer_if, answer_to, component_or_refused, history_or_refused, report_or_refused, stored_or_refused}
+use Rattle.pb_book.specs.Assays.{has_assay}
 use Rattle.pb_kinds.specs.Costs.{named_costs}
 use Rattle.pb_kinds.specs.Laws.{StoredLaw}
 use Rattle.pb_book.specs.Costs.{refusal_of_costs}
@@ -27,6 +28,7 @@ use Rattle.pb_book.specs.declared.answer.NotAccepted.{NotAccepted}
 use Rattle.pb_book.specs.declared.answer.NotAccepted.TheVariants.{NoMemory, Refused as RefusedFor}
 use Rattle.pb_book.specs.declared.rows.StoredRow.{StoredRow}
 use Rattle.pb_book.specs.Rows.{declared_of, period_place, version_at}
+use Rattle.pb_book.proofs.WindowAnswerLemmas.{by_window}
 
 the_same : {X : Type 0} (a b : X) → Some a ≡ Some b → a ≡ b
 the_same a b is = ap (λ o. Rattle.std.specs.Prelude.unwrap_or o a) is
@@ -69,6 +71,11 @@ advised : (rows : List StoredRow) (at : ℕ) → AreAccepted rows → (cause : O
 advised rows at right (Some cause) = right
 advised rows at right None = right
 
+balanced : (rows : List StoredRow) (at : ℕ) → AreAccepted rows → (component : List ℕ) (assayed : Bool) (place : Option ℕ) → AreAccepted (after_answer rows at (component_or_refused component assayed place))
+balanced rows at right component true (Some place) = right
+balanced rows at right component true None = right
+balanced rows at right component false place = right
+
 accepted_to : (rows : List StoredRow) (at : ℕ) (costs : List NamedCost) (request : Request) → AreAccepted rows → IsRequestInRange request → may_ask (version_at rows) request ≡ true
     → AreAccepted (after_answer rows at (answer_to rows costs request))
 accepted_to rows at costs asked.Blank right range may = right
@@ -77,6 +84,9 @@ accepted_to rows at costs asked.Design right range may = right
 accepted_to rows at costs (asked.Report name) right range may = reported rows at right (period_place rows name)
 accepted_to rows at costs (asked.History name) right range may = told rows at right (period_place rows name)
 accepted_to rows at costs asked.Advise right range may = advised rows at right (refusal_of_costs (declared_of rows) costs)
+accepted_to rows at costs (asked.Window first last) right range may =
+    by_window (λ (answer : Answer). AreAccepted (after_answer rows at answer)) (λ cause. right) (λ i k. right) rows (period_place rows first) (period_place rows last)
+accepted_to rows at costs (asked.Component component period) right range may = balanced rows at right component (has_assay rows component period) (period_place rows period)
 
 -- the rows after a record
 pub accepted_after : StoredLaw → (rows : List StoredRow) (at : ℕ) (fields : List (List ℕ)) → AreAccepted rows → AreAccepted (after rows at fields)

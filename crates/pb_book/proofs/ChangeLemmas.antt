@@ -73,12 +73,12 @@ some_live id kept i d is = let found = position_at_first (is_live_with id) kept 
 
 -- an edit of no live fact
 pub edit_unknown : (declared : List Declared) (kept : List KeptFact) (id : List ℕ) (edit : Edit) → None ≡ position (is_live_with id) kept
-    → Some Unknown ≡ refusal_behind One declared kept [] (Edits id edit [])
+    → Some Unknown ≡ refusal_behind One declared kept [] [] (Edits id edit [])
 edit_unknown declared kept id edit is = rw (none_at_first (is_live_with id) kept is) refl
 
 change_cause : (declared : List Declared) (kept : List KeptFact) (id : List ℕ) (change : Change) (i : ℕ) (k : KeptFact) (cause : Option Refused)
     → Some i ≡ position (is_live_with id) kept → slice_get kept i ≡ Some k → NoRepeats kept → cause ≡ cause_of_change declared k.fact change
-    → cause ≡ refusal_behind One declared kept [] (Edits id (edits.Change change) [])
+    → cause ≡ refusal_behind One declared kept [] [] (Edits id (edits.Change change) [])
 change_cause declared kept id change i k cause is at apart cause_is =
     let misfit : list_any (is_misfit id change) kept ≡ not (fits change k.fact) = any_live id (λ (x : KeptFact). not (fits change x.fact)) kept i k apart is at in
     let outside : list_any (is_moved_outside declared id change) kept ≡ is_outside_table declared (changed change k.fact) =
@@ -88,6 +88,6 @@ change_cause declared kept id change i k cause is at apart cause_is =
 -- an edit of the live fact at a place
 pub edit_cause : (declared : List Declared) (kept : List KeptFact) (id : List ℕ) (edit : Edit) (i : ℕ) (k : KeptFact) (cause : Option Refused)
     → Some i ≡ position (is_live_with id) kept → slice_get kept i ≡ Some k → NoRepeats kept → cause ≡ cause_of_edit declared k.fact edit
-    → cause ≡ refusal_behind One declared kept [] (Edits id edit [])
+    → cause ≡ refusal_behind One declared kept [] [] (Edits id edit [])
 edit_cause declared kept id (edits.Change change) i k cause is at apart cause_is = change_cause declared kept id change i k cause is at apart cause_is
 edit_cause declared kept id edits.Strike i k cause is at apart cause_is = rw (some_live id kept i k is) cause_is

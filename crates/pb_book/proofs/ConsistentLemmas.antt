@@ -28,14 +28,16 @@ use Rattle.pb_facts.specs.Changes.{IsChangeInRange, amended, changed, struck}
 use Rattle.pb_facts.specs.Fact.{IsInRange, is_too_long}
 use Rattle.pb_facts.specs.Facts.{has_id, is_live_with}
 use Rattle.pb_book.specs.declared.answer.Refused.TheVariants.{Unknown, Duplicate, Order, Mismatch, Sealed, Closed, Range, Full}
+use Rattle.pb_kinds.specs.declared.rows.Assay.{Assay}
 use Rattle.pb_kinds.specs.declared.rows.Effect.{Effect}
 use Rattle.pb_kinds.specs.declared.rows.Edit.TheVariants as edits
-use Rattle.pb_kinds.specs.declared.rows.Effect.TheVariants.{Declares, Opens, Books, Edits, Closes}
+use Rattle.pb_kinds.specs.declared.rows.Effect.TheVariants.{Declares, Opens, Books, Edits, Closes, Assays}
 use Rattle.pb_book.specs.declared.rows.Period.{Period}
 use Rattle.pb_book.specs.Accepted.{AreAccepted, AreConsistent, IsAcceptable}
 use Rattle.pb_book.specs.Apart.{IsApart, is_named, shares_a_day}
 use Rattle.pb_kinds.specs.Ranges.{IsEffectInRange}
 use Rattle.pb_book.specs.Ranges.{IsPeriod}
+use Rattle.pb_book.specs.Assays.{assays_of}
 use Rattle.pb_book.specs.Refusals.{is_closed, is_duplicate, is_full, is_mismatch, is_moved_outside, is_out_of_order, is_out_of_range, is_out_of_service, is_outside_table, is_sealed, is_unknown, refusal_behind}
 use Rattle.pb_book.specs.Touching.{service_of}
 use Rattle.pb_book.specs.declared.rows.StoredRow.{StoredRow}
@@ -45,27 +47,27 @@ use Rattle.pb_book.proofs.KeptLemmas.{declared_more, declared_same, facts_more, 
 use Rattle.pb_book.proofs.PeriodLemmas.{closed_apart, closed_days, fails_at}
 
 -- no cause holds of a row
-pub record IsFine (version : Version) (declared : List Declared) (kept : List KeptFact) (periods : List Period) (effect : Effect) : Type 0 where
+pub record IsFine (version : Version) (declared : List Declared) (kept : List KeptFact) (periods : List Period) (assays : List Assay) (effect : Effect) : Type 0 where
   pub known : is_unknown declared kept periods effect ≡ false
-  pub new : is_duplicate declared kept periods effect ≡ false
+  pub new : is_duplicate declared kept periods assays effect ≡ false
   pub order : is_out_of_order declared effect ≡ false
   pub matching : is_mismatch declared kept periods effect ≡ false
   pub sealed : is_sealed version periods effect ≡ false
   pub opened : is_closed version declared periods effect ≡ false
-  pub range : is_out_of_range version declared kept effect ≡ false
-  pub room : is_full version declared kept periods effect ≡ false
+  pub range : is_out_of_range version declared kept periods effect ≡ false
+  pub room : is_full version declared kept periods assays effect ≡ false
 
-pub fine : (version : Version) (declared : List Declared) (kept : List KeptFact) (periods : List Period) (effect : Effect) → refusal_behind version declared kept periods effect ≡ None
-    → IsFine version declared kept periods effect
-fine version declared kept periods effect none =
-    by (is_unknown declared kept periods effect) (is_duplicate declared kept periods effect) (is_out_of_order declared effect) (is_mismatch declared kept periods effect) (is_sealed version periods effect)
-    (is_closed version declared periods effect) (is_out_of_range version declared kept effect) (is_full version declared kept periods effect) refl refl refl refl refl refl refl refl none
+pub fine : (version : Version) (declared : List Declared) (kept : List KeptFact) (periods : List Period) (assays : List Assay) (effect : Effect) → refusal_behind version declared kept periods assays effect ≡ None
+    → IsFine version declared kept periods assays effect
+fine version declared kept periods assays effect none =
+    by (is_unknown declared kept periods effect) (is_duplicate declared kept periods assays effect) (is_out_of_order declared effect) (is_mismatch declared kept periods effect) (is_sealed version periods effect)
+    (is_closed version declared periods effect) (is_out_of_range version declared kept periods effect) (is_full version declared kept periods assays effect) refl refl refl refl refl refl refl refl none
   where
-    by : (a b c d e f g h : Bool) → is_unknown declared kept periods effect ≡ a → is_duplicate declared kept periods effect ≡ b → is_out_of_order declared effect ≡ c
-        → is_mismatch declared kept periods effect ≡ d → is_sealed version periods effect ≡ e → is_closed version declared periods effect ≡ f → is_out_of_range version declared kept effect ≡ g
-        → is_full version declared kept periods effect ≡ h
+    by : (a b c d e f g h : Bool) → is_unknown declared kept periods effect ≡ a → is_duplicate declared kept periods assays effect ≡ b → is_out_of_order declared effect ≡ c
+        → is_mismatch declared kept periods effect ≡ d → is_sealed version periods effect ≡ e → is_closed version declared periods effect ≡ f → is_out_of_range version declared kept periods effect ≡ g
+        → is_full version declared kept periods assays effect ≡ h
         → (if a then Some Unknown else if b then Some Duplicate else if c then Some Order else if d then Some Mismatch else if e then Some Sealed else if f then Some Closed
-        else if g then Some Range else if h then Some Full else None) ≡ None → IsFine version declared kept periods effect
+        else if g then Some Range else if h then Some Full else None) ≡ None → IsFine version declared kept periods assays effect
     by true b c d e f g h known new order matching sealed opened range room none = cc none
     by false true c d e f g h known new order matching sealed opened range room none = cc none
     by false false true d e f g h known new order matching sealed opened range room none = cc none
@@ -83,9 +85,9 @@ pub record IsFactInside (version : Version) (declared : List Declared) (fact : F
   pub short : is_too_long fact ≡ false
   pub inside : is_outside_table declared fact ≡ false
 
-pub range_parts : (version : Version) (declared : List Declared) (kept : List KeptFact) (fact : Fact) (late : Bool) → is_out_of_range version declared kept (Books fact late) ≡ false
+pub range_parts : (version : Version) (declared : List Declared) (kept : List KeptFact) (periods : List Period) (fact : Fact) (late : Bool) → is_out_of_range version declared kept periods (Books fact late) ≡ false
     → IsFactInside version declared fact
-range_parts version declared kept fact late range =
+range_parts version declared kept periods fact late range =
     let parts = or_parts (is_out_of_service (service_of version declared fact) fact) (is_too_long fact || is_outside_table declared fact) range in
     let others = or_parts (is_too_long fact) (is_outside_table declared fact) parts.1 in
     record { serving = parts.0; short = others.0; inside = others.1 }
@@ -145,19 +147,19 @@ struck_one id k = if has_id id k then record { fact = k.fact; struck = true } el
 
 -- ---- one more row
 
-more_declared : (version : Version) (declared : List Declared) (kept : List KeptFact) (periods : List Period) (row : Declared) → AreConsistent declared kept periods
-    → IsFine version declared kept periods (Declares row) → AreConsistent (declared ++ row ∷ []) kept periods
-more_declared version declared kept periods row right good = record {
+more_declared : (version : Version) (declared : List Declared) (kept : List KeptFact) (periods : List Period) (assays : List Assay) (row : Declared) → AreConsistent declared kept periods
+    → IsFine version declared kept periods assays (Declares row) → AreConsistent (declared ++ row ∷ []) kept periods
+more_declared version declared kept periods assays row right good = record {
   days = right.days;
   apart = right.apart;
   ranges = right.ranges;
   in_tables = λ i d lt. stays_in_table declared row _ good.order (right.in_tables i d lt);
 }
 
-more_periods : (version : Version) (declared : List Declared) (kept : List KeptFact) (periods : List Period) (name : List ℕ) (first last : ℤ) → AreConsistent declared kept periods
-    → IsFine version declared kept periods (Opens name first last) → IsEffectInRange (Opens name first last)
+more_periods : (version : Version) (declared : List Declared) (kept : List KeptFact) (periods : List Period) (assays : List Assay) (name : List ℕ) (first last : ℤ) → AreConsistent declared kept periods
+    → IsFine version declared kept periods assays (Opens name first last) → IsEffectInRange (Opens name first last)
     → AreConsistent declared kept (periods ++ open_period name first last ∷ [])
-more_periods version declared kept periods name first last right good range =
+more_periods version declared kept periods assays name first last right good range =
     let period = open_period name first last in
     let days : IsPeriod period = record { begins = range.0; ends = range.1; rises = omega (arith, ints, good.order); few = omega (arith, ints, good.range) } in record {
       days = All-push IsPeriod periods period right.days days;
@@ -256,19 +258,20 @@ one_more : (rows : List StoredRow) (at : ℕ) (effect : Effect) → AreSound row
 one_more rows at (Declares row) right accepted =
     let stored : StoredRow = record { at = at; effect = Declares row } in
     rw (declared_more rows stored, facts_more rows stored, periods_more_of rows stored)
-    (more_declared (version_of (declared_of rows)) (declared_of rows) (facts_of rows) (periods_of rows) row right (fine _ _ _ _ _ accepted.no_cause))
+    (more_declared (version_of (declared_of rows)) (declared_of rows) (facts_of rows) (periods_of rows) (assays_of rows) row right (fine _ _ _ _ _ _ accepted.no_cause))
 one_more rows at (Opens name first last) right accepted =
     sound_by rows at (Opens name first last) refl
-    (more_periods (version_of (declared_of rows)) (declared_of rows) (facts_of rows) (periods_of rows) name first last right (fine _ _ _ _ _ accepted.no_cause) accepted.in_range)
+    (more_periods (version_of (declared_of rows)) (declared_of rows) (facts_of rows) (periods_of rows) (assays_of rows) name first last right (fine _ _ _ _ _ _ accepted.no_cause) accepted.in_range)
 one_more rows at (Books fact late) right accepted =
-    let good = fine (version_of (declared_of rows)) (declared_of rows) (facts_of rows) (periods_of rows) (Books fact late) accepted.no_cause in
-    let inside = (range_parts (version_of (declared_of rows)) (declared_of rows) (facts_of rows) fact late good.range).inside in
+    let good = fine (version_of (declared_of rows)) (declared_of rows) (facts_of rows) (periods_of rows) (assays_of rows) (Books fact late) accepted.no_cause in
+    let inside = (range_parts (version_of (declared_of rows)) (declared_of rows) (facts_of rows) (periods_of rows) fact late good.range).inside in
     sound_by rows at (Books fact late) refl (more_facts (declared_of rows) (facts_of rows) (periods_of rows) fact right accepted.in_range inside)
 one_more rows at (Edits id (edits.Change change) reason) right accepted =
     sound_by rows at (Edits id (edits.Change change) reason) refl
-    (amended_facts (declared_of rows) (facts_of rows) (periods_of rows) id change right accepted.in_range (fine (version_of (declared_of rows)) (declared_of rows) (facts_of rows) (periods_of rows) (Edits id (edits.Change change) reason) accepted.no_cause).range)
+    (amended_facts (declared_of rows) (facts_of rows) (periods_of rows) id change right accepted.in_range (fine (version_of (declared_of rows)) (declared_of rows) (facts_of rows) (periods_of rows) (assays_of rows) (Edits id (edits.Change change) reason) accepted.no_cause).range)
 one_more rows at (Edits id edits.Strike reason) right accepted = sound_by rows at (Edits id edits.Strike reason) refl (struck_facts (declared_of rows) (facts_of rows) (periods_of rows) id right)
 one_more rows at (Closes name) right accepted = sound_by rows at (Closes name) refl (closed_periods (declared_of rows) (facts_of rows) (periods_of rows) name right)
+one_more rows at (Assays assay) right accepted = sound_by rows at (Assays assay) refl right
 
 pub consistent : (rows : List StoredRow) → AreAccepted rows → AreConsistent (declared_of rows) (facts_of rows) (periods_of rows)
 consistent rows accepted =

@@ -22,11 +22,13 @@ use Rattle.pb_kinds.specs.Requests.{request_in}
 use Rattle.pb_book.specs.declared.answer.Accepted.TheVariants.{Advise}
 use Rattle.pb_book.specs.declared.answer.Refused.{Refused as Refusal}
 use Rattle.pb_book.specs.declared.rows.StoredRow.{StoredRow}
-use Rattle.pb_book.specs.Answer.{Says, answer_if, history_or_refused, report_or_refused, stored_or_refused}
+use Rattle.pb_book.specs.Answer.{Answer, Says, answer_if, component_or_refused, history_or_refused, report_or_refused, stored_or_refused}
+use Rattle.pb_book.specs.Assays.{has_assay}
 use Rattle.pb_book.specs.Costs.{cost_after, cost_named, cost_of_arc, cost_of_kind, is_cost_of, names_twice}
 use Rattle.pb_book.specs.Laws.{MeterCostsLaw}
 use Rattle.pb_book.specs.Refusals.{refusal_of}
 use Rattle.pb_book.specs.Rows.{declared_of, period_place, version_at}
+use Rattle.pb_book.proofs.WindowAnswerLemmas.{by_window}
 
 -- ---- a record that is accepted as one that asks for an advice asks for it
 
@@ -42,6 +44,11 @@ no_history : (place : Option ℕ) → history_or_refused place ≡ Says Advise �
 no_history (Some place) is = cc is
 no_history None is = cc is
 
+no_balance : (component : List ℕ) (assayed : Bool) (place : Option ℕ) → component_or_refused component assayed place ≡ Says Advise → ⊥
+no_balance component true (Some place) is = cc is
+no_balance component true None is = cc is
+no_balance component false place is = cc is
+
 pub asks_advice : (rows : List StoredRow) (costs : List NamedCost) (request : Result Request FormFault) → answer_if rows costs request ≡ Says Advise
     → request ≡ (let asks : Result Request FormFault = Ok asked.Advise in asks)
 asks_advice rows costs (Err fault) is = cc is
@@ -51,6 +58,9 @@ asks_advice rows costs (Ok asked.Design) is = cc is
 asks_advice rows costs (Ok (asked.Report name)) is = absurd (no_report (period_place rows name) is)
 asks_advice rows costs (Ok (asked.History name)) is = absurd (no_history (period_place rows name) is)
 asks_advice rows costs (Ok asked.Advise) is = refl
+asks_advice rows costs (Ok (asked.Window first last)) is =
+    absurd (by_window (λ (answer : Answer). answer ≡ Says Advise → ⊥) (λ cause says. cc says) (λ i k says. cc says) rows (period_place rows first) (period_place rows last) is)
+asks_advice rows costs (Ok (asked.Component component period)) is = absurd (no_balance component (has_assay rows component period) (period_place rows period) is)
 
 -- ---- what meters cost
 

@@ -6,6 +6,7 @@ use Rattle.std.proofs.Common.{◌≡◌, ◌∙◌, ◌<◌, ◌≤◌, ℕ, zer
 use Rattle.pb_facts.specs.declared.facts.KeptFact.{KeptFact}
 use Rattle.pb_site.specs.declared.declared.Declared.{Declared}
 use Rattle.pb_site.specs.Site.{version_of}
+use Rattle.pb_kinds.specs.declared.rows.Assay.{Assay}
 use Rattle.pb_book.specs.declared.rows.Period.{Period}
 use Rattle.pb_book.specs.declared.rows.Place.{Place}
 use Rattle.pb_book.specs.declared.rows.StoredRow.{StoredRow}
@@ -66,10 +67,10 @@ none_within (x ∷ xs) zero lt none = cc none
 none_within (x ∷ xs) (suc i) lt none = none_within xs i (omega (arith, lt)) none
 
 -- whether the edit at a place touches the period at a place
-pub touches_by : (rows : List StoredRow) (declared : List Declared) (kept : List KeptFact) (periods : List Period) (e i : ℕ) (period : Period) (edit : StoredRow) (result : Bool)
-    → AreOf rows declared kept periods → slice_get periods i ≡ Some period → slice_get (edits_of rows) e ≡ Some edit → result ≡ edit_touches (touches_in (version_of declared) declared) kept edit.effect period
+pub touches_by : (rows : List StoredRow) (declared : List Declared) (kept : List KeptFact) (periods : List Period) (assays : List Assay) (e i : ℕ) (period : Period) (edit : StoredRow) (result : Bool)
+    → AreOf rows declared kept periods assays → slice_get periods i ≡ Some period → slice_get (edits_of rows) e ≡ Some edit → result ≡ edit_touches (touches_in (version_of declared) declared) kept edit.effect period
     → result ≡ touches_at rows e i
-touches_by rows declared kept periods e i period edit result right there at is =
+touches_by rows declared kept periods assays e i period edit result right there at is =
     is ∙ ap (λ (ds : List Declared). edit_touches (touches_in (version_of ds) ds) kept edit.effect period) right.site
     ∙ ap₂ (λ (ks : List KeptFact) (o : Option StoredRow). row_touches (touching_of rows) ks period o) right.facts (sym at)
     ∙ sym (ap (λ (o : Option Period). option_map_or (λ (p : Period). row_touches (touching_of rows) (facts_of rows) p (slice_get (edits_of rows) e)) o false)

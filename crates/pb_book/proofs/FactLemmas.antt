@@ -14,6 +14,7 @@ use Rattle.pb_facts.specs.Fact.{is_out_of_order, is_too_long}
 use Rattle.pb_facts.specs.Facts.{fault_of, is_duplicate, is_full, is_live_with, live_place_of}
 use Rattle.pb_kinds.specs.declared.rows.Edit.TheVariants as edits
 use Rattle.pb_site.specs.Faults.{fault_of as site_fault_of}
+use Rattle.pb_kinds.specs.declared.rows.Assay.{Assay}
 use Rattle.pb_kinds.specs.declared.rows.Effect.TheVariants.{Declares, Books, Edits, Closes}
 use Rattle.pb_book.specs.declared.rows.Period.{Period}
 use Rattle.pb_book.specs.Accepted.{IsAcceptable}
@@ -23,6 +24,7 @@ use Rattle.pb_book.specs.Refusals.{is_closed, is_mismatch, is_out_of_service, is
 use Rattle.pb_book.specs.Touching.{service_of}
 use Rattle.pb_book.specs.declared.answer.Refused.TheVariants.{Range}
 use Rattle.pb_book.specs.declared.rows.StoredRow.{StoredRow}
+use Rattle.pb_book.specs.Assays.{assays_of}
 use Rattle.pb_book.specs.Rows.{declared_of, facts_of, period_place, periods_of}
 use Rattle.pb_book.proofs.ConsistentLemmas.{fine, range_parts}
 use Rattle.pb_book.proofs.PeriodLemmas.{none_at_first, some_place}
@@ -31,11 +33,11 @@ use Rattle.pb_book.proofs.PeriodLemmas.{none_at_first, some_place}
 no_fault : (kept : List KeptFact) (fact : Fact) → is_duplicate kept fact ≡ false → is_out_of_order fact ≡ false → is_too_long fact ≡ false → is_full kept ≡ false → fault_of kept fact ≡ None
 no_fault kept fact new order short room = rw (new, order, short, room) refl
 
-pub no_fault_of : (rows : List StoredRow) (declared : List Declared) (kept : List KeptFact) (periods : List Period) (fact : Fact) (late : Bool) → AreOf rows declared kept periods
+pub no_fault_of : (rows : List StoredRow) (declared : List Declared) (kept : List KeptFact) (periods : List Period) (assays : List Assay) (fact : Fact) (late : Bool) → AreOf rows declared kept periods assays
     → IsAcceptable rows (Books fact late) → fault_of kept fact ≡ None
-no_fault_of rows declared kept periods fact late right accepted =
-    let good = fine (version_of (declared_of rows)) (declared_of rows) (facts_of rows) (periods_of rows) (Books fact late) accepted.no_cause in
-    rw right.facts (no_fault (facts_of rows) fact good.new good.order (range_parts (version_of (declared_of rows)) (declared_of rows) (facts_of rows) fact late good.range).short good.room)
+no_fault_of rows declared kept periods assays fact late right accepted =
+    let good = fine (version_of (declared_of rows)) (declared_of rows) (facts_of rows) (periods_of rows) (assays_of rows) (Books fact late) accepted.no_cause in
+    rw right.facts (no_fault (facts_of rows) fact good.new good.order (range_parts (version_of (declared_of rows)) (declared_of rows) (facts_of rows) (periods_of rows) fact late good.range).short good.room)
 
 -- a fact whose first fault isn't that it is a duplicate isn't one; nor is one out of order whose first fault isn't that
 pub no_duplicate : (same : FactFault → FactFault → Bool) (kept : List KeptFact) (fact : Fact) (fault : Option FactFault) (result : Bool) → same Duplicate Duplicate ≡ true
@@ -62,21 +64,21 @@ no_disorder same kept fact fault result itself is tells none new = by (is_out_of
 pub out_of_service : (version : Version) (declared : List Declared) (kept : List KeptFact) (periods : List Period) (fact : Fact) (late : Bool)
     → is_unknown declared kept periods (Books fact late) ≡ false → is_duplicate kept fact ≡ false → is_out_of_order fact ≡ false
     → is_mismatch declared kept periods (Books fact late) ≡ false → is_closed version declared periods (Books fact late) ≡ false
-    → is_out_of_service (service_of version declared fact) fact ≡ true → Some Range ≡ refusal_behind version declared kept periods (Books fact late)
+    → is_out_of_service (service_of version declared fact) fact ≡ true → Some Range ≡ refusal_behind version declared kept periods [] (Books fact late)
 out_of_service version declared kept periods fact late known new order matching opened out = rw (known, new, order, matching, opened, out) refl
 
 -- nor has a declaration a fault
-pub no_site_fault_of : (rows : List StoredRow) (declared : List Declared) (kept : List KeptFact) (periods : List Period) (row : Declared) → AreOf rows declared kept periods
+pub no_site_fault_of : (rows : List StoredRow) (declared : List Declared) (kept : List KeptFact) (periods : List Period) (assays : List Assay) (row : Declared) → AreOf rows declared kept periods assays
     → IsAcceptable rows (Declares row) → site_fault_of (version_of declared) declared row ≡ None
-no_site_fault_of rows declared kept periods row right accepted =
-    let good = fine (version_of (declared_of rows)) (declared_of rows) (facts_of rows) (periods_of rows) (Declares row) accepted.no_cause in
+no_site_fault_of rows declared kept periods assays row right accepted =
+    let good = fine (version_of (declared_of rows)) (declared_of rows) (facts_of rows) (periods_of rows) (assays_of rows) (Declares row) accepted.no_cause in
     rw right.site (rw (good.known, good.new, good.order, good.matching, good.room) refl)
 
 -- a strike that there is no cause to refuse finds a live fact
-pub strike_there : (rows : List StoredRow) (declared : List Declared) (kept : List KeptFact) (periods : List Period) (id reason : List ℕ) → AreOf rows declared kept periods
+pub strike_there : (rows : List StoredRow) (declared : List Declared) (kept : List KeptFact) (periods : List Period) (assays : List Assay) (id reason : List ℕ) → AreOf rows declared kept periods assays
     → IsAcceptable rows (Edits id edits.Strike reason) → IsSome (live_place_of id kept)
-strike_there rows declared kept periods id reason right accepted =
-    let good = fine (version_of (declared_of rows)) (declared_of rows) (facts_of rows) (periods_of rows) (Edits id edits.Strike reason) accepted.no_cause in
+strike_there rows declared kept periods assays id reason right accepted =
+    let good = fine (version_of (declared_of rows)) (declared_of rows) (facts_of rows) (periods_of rows) (assays_of rows) (Edits id edits.Strike reason) accepted.no_cause in
     rw right.facts (some_place (is_live_with id) (facts_of rows) (up (list_any (is_live_with id) (facts_of rows)) good.known))
   where
     up : (b : Bool) → not b ≡ false → b ≡ true
@@ -86,7 +88,7 @@ strike_there rows declared kept periods id reason right accepted =
 -- a closing that there is no cause to refuse is of a period that there is
 pub closing_there : (rows : List StoredRow) (name : List ℕ) → IsAcceptable rows (Closes name) → None ≡ period_place rows name → ⊥
 closing_there rows name accepted none =
-    let good = fine (version_of (declared_of rows)) (declared_of rows) (facts_of rows) (periods_of rows) (Closes name) accepted.no_cause in
+    let good = fine (version_of (declared_of rows)) (declared_of rows) (facts_of rows) (periods_of rows) (assays_of rows) (Closes name) accepted.no_cause in
     by (list_any (is_named name) (periods_of rows)) good.known (none_at_first (is_named name) (periods_of rows) none)
   where
     by : (b : Bool) → not b ≡ false → b ≡ false → ⊥

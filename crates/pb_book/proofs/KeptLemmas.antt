@@ -14,8 +14,9 @@ use Rattle.std.proofs.Math.Seq.{get_or-append_seam}
 use Rattle.pb_site.specs.declared.declared.Declared.{Declared}
 use Rattle.pb_facts.specs.declared.fact.Fact.{Fact}
 use Rattle.pb_facts.specs.declared.facts.KeptFact.{KeptFact}
+use Rattle.pb_kinds.specs.declared.rows.Assay.{Assay}
 use Rattle.pb_kinds.specs.declared.rows.Effect.{Effect}
-use Rattle.pb_kinds.specs.declared.rows.Effect.TheVariants.{Declares, Opens, Books, Closes}
+use Rattle.pb_kinds.specs.declared.rows.Effect.TheVariants.{Declares, Opens, Books, Closes, Assays}
 use Rattle.pb_book.specs.declared.rows.Edited.{Edited}
 use Rattle.pb_book.specs.declared.rows.Part.{Part}
 use Rattle.pb_book.specs.declared.rows.Part.TheVariants as part
@@ -24,6 +25,7 @@ use Rattle.pb_book.specs.declared.rows.Place.{Place}
 use Rattle.pb_book.specs.declared.rows.StoredRow.{StoredRow}
 use Rattle.pb_book.specs.Accepted.{AreAccepted, IsAcceptable}
 use Rattle.pb_book.specs.Apart.{is_named}
+use Rattle.pb_book.specs.Assays.{assay_by, assays_of}
 use Rattle.pb_book.specs.Edits.{edits_of, is_edit}
 use Rattle.pb_book.specs.Kept.{AreOf, ArePlaced, IsKept, Shelves, closing, editing, effect_in, opening, row_at, rows_at, shelves_of}
 use Rattle.pb_book.specs.Rows.{closed, closed_if_named, declaration_in, declared_of, facts_after, facts_of, live, open_period, periods_after, periods_of}
@@ -45,27 +47,47 @@ declared_more rows stored = filter_map-append (λ (s : StoredRow). declaration_i
 pub declared_same : (rows : List StoredRow) (stored : StoredRow) → declared_of (stored ∷ []) ≡ [] → declared_of (rows ++ stored ∷ []) ≡ declared_of rows
 declared_same rows stored none = declared_more rows stored ∙ ap (λ (more : List Declared). declared_of rows ++ more) none ∙ append-nil (declared_of rows)
 
+pub assays_more : (rows : List StoredRow) (stored : StoredRow) → assays_of (rows ++ stored ∷ []) ≡ assays_of rows ++ assays_of (stored ∷ [])
+assays_more rows stored = filter_map-append (λ (s : StoredRow). assay_by s.effect) rows (stored ∷ [])
+
+pub assays_same : (rows : List StoredRow) (stored : StoredRow) → assays_of (stored ∷ []) ≡ [] → assays_of (rows ++ stored ∷ []) ≡ assays_of rows
+assays_same rows stored none = assays_more rows stored ∙ ap (λ (more : List Assay). assays_of rows ++ more) none ∙ append-nil (assays_of rows)
+
 -- the parts behind one more declaration
-of_declaration : (rows : List StoredRow) (declared : List Declared) (kept : List KeptFact) (periods : List Period) (at : ℕ) (row : Declared)
-    → AreOf rows declared kept periods → AreOf (rows ++ record { at = at; effect = Declares row } ∷ []) (declared ++ row ∷ []) kept periods
-of_declaration rows declared kept periods at row right =
+of_declaration : (rows : List StoredRow) (declared : List Declared) (kept : List KeptFact) (periods : List Period) (assays : List Assay) (at : ℕ) (row : Declared)
+    → AreOf rows declared kept periods assays → AreOf (rows ++ record { at = at; effect = Declares row } ∷ []) (declared ++ row ∷ []) kept periods assays
+of_declaration rows declared kept periods assays at row right =
     let stored : StoredRow = record { at = at; effect = Declares row } in
     record {
       site = ap (λ (ds : List Declared). ds ++ row ∷ []) right.site ∙ sym (declared_more rows stored);
       facts = right.facts ∙ sym (facts_more rows stored);
       spans = right.spans ∙ sym (periods_more_of rows stored);
+      assays = right.assays ∙ sym (assays_same rows stored refl);
     }
 
--- the parts behind one more row that declares nothing
-of_row : (rows : List StoredRow) (declared : List Declared) (kept : List KeptFact) (periods : List Period) (at : ℕ) (effect : Effect)
-    → declared_of (record { at = at; effect = effect } ∷ []) ≡ [] → AreOf rows declared kept periods
-    → AreOf (rows ++ record { at = at; effect = effect } ∷ []) declared (facts_after kept effect) (periods_after periods effect)
-of_row rows declared kept periods at effect none right =
+-- the parts behind one more assay
+of_assay : (rows : List StoredRow) (declared : List Declared) (kept : List KeptFact) (periods : List Period) (assays : List Assay) (at : ℕ) (assay : Assay)
+    → AreOf rows declared kept periods assays → AreOf (rows ++ record { at = at; effect = Assays assay } ∷ []) declared kept periods (assays ++ assay ∷ [])
+of_assay rows declared kept periods assays at assay right =
+    let stored : StoredRow = record { at = at; effect = Assays assay } in
+    record {
+      site = right.site ∙ sym (declared_same rows stored refl);
+      facts = right.facts ∙ sym (facts_more rows stored);
+      spans = right.spans ∙ sym (periods_more_of rows stored);
+      assays = ap (λ (xs : List Assay). xs ++ assay ∷ []) right.assays ∙ sym (assays_more rows stored);
+    }
+
+-- the parts behind one more row that declares nothing and gives no assay
+of_row : (rows : List StoredRow) (declared : List Declared) (kept : List KeptFact) (periods : List Period) (assays : List Assay) (at : ℕ) (effect : Effect)
+    → declared_of (record { at = at; effect = effect } ∷ []) ≡ [] → assays_of (record { at = at; effect = effect } ∷ []) ≡ [] → AreOf rows declared kept periods assays
+    → AreOf (rows ++ record { at = at; effect = effect } ∷ []) declared (facts_after kept effect) (periods_after periods effect) assays
+of_row rows declared kept periods assays at effect none bare right =
     let stored : StoredRow = record { at = at; effect = effect } in
     record {
       site = right.site ∙ sym (declared_same rows stored none);
       facts = ap (λ (ks : List KeptFact). facts_after ks effect) right.facts ∙ sym (facts_more rows stored);
       spans = ap (λ (ps : List Period). periods_after ps effect) right.spans ∙ sym (periods_more_of rows stored);
+      assays = right.assays ∙ sym (assays_same rows stored bare);
     }
 
 -- ---- the places of the rows, with one row more
@@ -130,16 +152,17 @@ closed_spans name spans = record { opened = closed_as opening name spans (λ per
 record Grows (shelves more : Shelves) : Type 0 where
   grown : (one : Part) (effect : Effect) → effect_in shelves one ≡ Some effect → effect_in more one ≡ Some effect
 
-grows_by : (d ds : List Declared) (t ts : ℕ → Option Fact) (p ps : List Period) (e es : List Edited) → Extends d ds → TellsAll t ts → SpansStay p ps → Extends e es
-    → Grows (shelves_of d t p e) (shelves_of ds ts ps es)
-grows_by d ds t ts p ps e es declared told spans edited = record { grown = by }
+grows_by : (d ds : List Declared) (t ts : ℕ → Option Fact) (p ps : List Period) (e es : List Edited) (a more : List Assay) → Extends d ds → TellsAll t ts → SpansStay p ps → Extends e es
+    → Extends a more → Grows (shelves_of d t p e a) (shelves_of ds ts ps es more)
+grows_by d ds t ts p ps e es a more declared told spans edited assays = record { grown = by }
   where
-    by : (one : Part) (effect : Effect) → effect_in (shelves_of d t p e) one ≡ Some effect → effect_in (shelves_of ds ts ps es) one ≡ Some effect
+    by : (one : Part) (effect : Effect) → effect_in (shelves_of d t p e a) one ≡ Some effect → effect_in (shelves_of ds ts ps es more) one ≡ Some effect
     by (part.Declared i) effect is = (stay_as (λ (x : Declared). Declares x) d ds declared).kept i effect is
     by (part.Opened i) effect is = spans.opened.kept i effect is
     by (part.Booked i late) effect is = tells_as (λ (x : Fact). Books x late) t ts told i effect is
     by (part.Edited i) effect is = (stay_as editing e es edited).kept i effect is
     by (part.Closed i) effect is = spans.closed.kept i effect is
+    by (part.Assayed i) effect is = (stay_as (λ (x : Assay). Assays x) a more assays).kept i effect is
 
 -- a row with the number of its record
 abbrev pub stored_at : ℕ → Option Effect → Option StoredRow
@@ -214,7 +237,7 @@ edits_more shelves more edits place stored rows grows placed are is = elim (case
 
 kept_more : (shelves more : Shelves) (kept ks : List KeptFact) (places edits : List Place) (place : Place) (stored : StoredRow) → IsKept shelves kept places edits
     → Grows shelves more → row_at more place ≡ Some stored → IsAcceptable (rows_at shelves places) stored.effect
-    → AreOf (rows_at shelves places ++ stored ∷ []) more.declared ks more.spans → ((i : ℕ) → length ks ≤ i → more.told i ≡ None)
+    → AreOf (rows_at shelves places ++ stored ∷ []) more.declared ks more.spans more.assays → ((i : ℕ) → length ks ≤ i → more.told i ≡ None)
     → IsKeptAfter shelves more ks places (edits_after stored.effect edits place) place stored
 kept_more shelves more kept ks places edits place stored right grows is fine parts told =
     let rows = rows_more shelves more places place stored grows right.placed is in
@@ -222,7 +245,7 @@ kept_more shelves more kept ks places edits place stored right grows is fine par
       rows = rows;
       right = record {
         placed = placed_more shelves more places place stored grows right.placed is;
-        parts = subst (λ (r : List StoredRow). AreOf r more.declared ks more.spans) (sym rows) parts;
+        parts = subst (λ (r : List StoredRow). AreOf r more.declared ks more.spans more.assays) (sym rows) parts;
         accepted = subst AreAccepted (sym rows) (accepted_more (rows_at shelves places) stored right.accepted fine);
         told = told;
         edited = edited.placed;
@@ -234,65 +257,65 @@ last_item : {X : Type 0} (xs : List X) (x : X) → slice_get (xs ++ x ∷ []) (l
 last_item xs x = slice_get-get_or (xs ++ x ∷ []) (length xs) x (omega (arith, length-append xs (x ∷ []))) ∙ ap Some (get_or-append_seam xs x [] x)
 
 -- one more declaration
-pub kept_declaration : (declared : List Declared) (told : ℕ → Option Fact) (spans : List Period) (edited : List Edited) (kept : List KeptFact) (places edits : List Place) (at i : ℕ) (row : Declared)
-    → IsKept (shelves_of declared told spans edited) kept places edits → IsAcceptable (rows_at (shelves_of declared told spans edited) places) (Declares row) → i ≡ length declared
-    → IsKeptAfter (shelves_of declared told spans edited) (shelves_of (declared ++ row ∷ []) told spans edited) kept places edits
+pub kept_declaration : (declared : List Declared) (told : ℕ → Option Fact) (spans : List Period) (edited : List Edited) (assays : List Assay) (kept : List KeptFact) (places edits : List Place) (at i : ℕ) (row : Declared)
+    → IsKept (shelves_of declared told spans edited assays) kept places edits → IsAcceptable (rows_at (shelves_of declared told spans edited assays) places) (Declares row) → i ≡ length declared
+    → IsKeptAfter (shelves_of declared told spans edited assays) (shelves_of (declared ++ row ∷ []) told spans edited assays) kept places edits
     (record { at = at; part = part.Declared i }) (record { at = at; effect = Declares row })
-kept_declaration declared told spans edited kept places edits at i row right fine last =
-    let before = shelves_of declared told spans edited in
-    kept_more before (shelves_of (declared ++ row ∷ []) told spans edited) kept kept places edits (record { at = at; part = part.Declared i })
+kept_declaration declared told spans edited assays kept places edits at i row right fine last =
+    let before = shelves_of declared told spans edited assays in
+    kept_more before (shelves_of (declared ++ row ∷ []) told spans edited assays) kept kept places edits (record { at = at; part = part.Declared i })
     (record { at = at; effect = Declares row }) right
-    (grows_by declared (declared ++ row ∷ []) told told spans spans edited edited (longer declared (row ∷ [])) (tells_itself told) (same_spans spans) (itself edited))
+    (grows_by declared (declared ++ row ∷ []) told told spans spans edited edited assays assays (longer declared (row ∷ [])) (tells_itself told) (same_spans spans) (itself edited) (itself assays))
     (rw (last, last_item declared row) refl)
     fine
-    (of_declaration (rows_at before places) declared kept spans at row right.parts)
+    (of_declaration (rows_at before places) declared kept spans assays at row right.parts)
     right.told
 
 -- one more period
-pub kept_period : (declared : List Declared) (told : ℕ → Option Fact) (spans : List Period) (edited : List Edited) (kept : List KeptFact) (places edits : List Place) (at i : ℕ) (name : List ℕ) (first last : ℤ)
-    → IsKept (shelves_of declared told spans edited) kept places edits → IsAcceptable (rows_at (shelves_of declared told spans edited) places) (Opens name first last) → i ≡ length spans
-    → IsKeptAfter (shelves_of declared told spans edited) (shelves_of declared told (spans ++ open_period name first last ∷ []) edited) kept places edits
+pub kept_period : (declared : List Declared) (told : ℕ → Option Fact) (spans : List Period) (edited : List Edited) (assays : List Assay) (kept : List KeptFact) (places edits : List Place) (at i : ℕ) (name : List ℕ) (first last : ℤ)
+    → IsKept (shelves_of declared told spans edited assays) kept places edits → IsAcceptable (rows_at (shelves_of declared told spans edited assays) places) (Opens name first last) → i ≡ length spans
+    → IsKeptAfter (shelves_of declared told spans edited assays) (shelves_of declared told (spans ++ open_period name first last ∷ []) edited assays) kept places edits
     (record { at = at; part = part.Opened i }) (record { at = at; effect = Opens name first last })
-kept_period declared told spans edited kept places edits at i name first last right fine behind =
-    let before = shelves_of declared told spans edited in
+kept_period declared told spans edited assays kept places edits at i name first last right fine behind =
+    let before = shelves_of declared told spans edited assays in
     let period = open_period name first last in
-    kept_more before (shelves_of declared told (spans ++ period ∷ []) edited) kept kept places edits (record { at = at; part = part.Opened i })
+    kept_more before (shelves_of declared told (spans ++ period ∷ []) edited assays) kept kept places edits (record { at = at; part = part.Opened i })
     (record { at = at; effect = Opens name first last }) right
-    (grows_by declared declared told told spans (spans ++ period ∷ []) edited edited (itself declared) (tells_itself told) (more_spans spans period) (itself edited))
+    (grows_by declared declared told told spans (spans ++ period ∷ []) edited edited assays assays (itself declared) (tells_itself told) (more_spans spans period) (itself edited) (itself assays))
     (rw (behind, last_item spans period) refl)
     fine
-    (of_row (rows_at before places) declared kept spans at (Opens name first last) refl right.parts)
+    (of_row (rows_at before places) declared kept spans assays at (Opens name first last) refl refl right.parts)
     right.told
 
 -- one more fact, late or not
-pub kept_fact : (declared : List Declared) (told more : ℕ → Option Fact) (spans : List Period) (edited : List Edited) (kept : List KeptFact) (places edits : List Place) (at i : ℕ) (fact : Fact) (late : Bool)
-    → IsKept (shelves_of declared told spans edited) kept places edits → IsAcceptable (rows_at (shelves_of declared told spans edited) places) (Books fact late) → i ≡ length kept → Joins told more kept fact
-    → IsKeptAfter (shelves_of declared told spans edited) (shelves_of declared more spans edited) (kept ++ live fact ∷ []) places
+pub kept_fact : (declared : List Declared) (told more : ℕ → Option Fact) (spans : List Period) (edited : List Edited) (assays : List Assay) (kept : List KeptFact) (places edits : List Place) (at i : ℕ) (fact : Fact) (late : Bool)
+    → IsKept (shelves_of declared told spans edited assays) kept places edits → IsAcceptable (rows_at (shelves_of declared told spans edited assays) places) (Books fact late) → i ≡ length kept → Joins told more kept fact
+    → IsKeptAfter (shelves_of declared told spans edited assays) (shelves_of declared more spans edited assays) (kept ++ live fact ∷ []) places
     (edits_after (Books fact late) edits (record { at = at; part = part.Booked i late })) (record { at = at; part = part.Booked i late }) (record { at = at; effect = Books fact late })
-kept_fact declared told more spans edited kept places edits at i fact late right fine last joins =
-    let before = shelves_of declared told spans edited in
-    kept_more before (shelves_of declared more spans edited) kept (kept ++ live fact ∷ []) places edits (record { at = at; part = part.Booked i late })
+kept_fact declared told more spans edited assays kept places edits at i fact late right fine last joins =
+    let before = shelves_of declared told spans edited assays in
+    kept_more before (shelves_of declared more spans edited assays) kept (kept ++ live fact ∷ []) places edits (record { at = at; part = part.Booked i late })
     (record { at = at; effect = Books fact late }) right
-    (grows_by declared declared told more spans spans edited edited (itself declared) joins.all (same_spans spans) (itself edited))
+    (grows_by declared declared told more spans spans edited edited assays assays (itself declared) joins.all (same_spans spans) (itself edited) (itself assays))
     (rw (last, joins.last) refl)
     fine
-    (of_row (rows_at before places) declared kept spans at (Books fact late) refl right.parts)
+    (of_row (rows_at before places) declared kept spans assays at (Books fact late) refl refl right.parts)
     joins.none
 
 -- one more edit of a fact
-pub kept_edit : (declared : List Declared) (told tells : ℕ → Option Fact) (spans : List Period) (edited : List Edited) (kept : List KeptFact) (places edits : List Place) (at i : ℕ) (one : Edited)
-    → IsKept (shelves_of declared told spans edited) kept places edits → IsAcceptable (rows_at (shelves_of declared told spans edited) places) (editing one) → i ≡ length edited
+pub kept_edit : (declared : List Declared) (told tells : ℕ → Option Fact) (spans : List Period) (edited : List Edited) (assays : List Assay) (kept : List KeptFact) (places edits : List Place) (at i : ℕ) (one : Edited)
+    → IsKept (shelves_of declared told spans edited assays) kept places edits → IsAcceptable (rows_at (shelves_of declared told spans edited assays) places) (editing one) → i ≡ length edited
     → length kept ≡ length (facts_after kept (editing one)) → ((i : ℕ) → tells i ≡ told i)
-    → IsKeptAfter (shelves_of declared told spans edited) (shelves_of declared tells spans (edited ++ one ∷ [])) (facts_after kept (editing one)) places
+    → IsKeptAfter (shelves_of declared told spans edited assays) (shelves_of declared tells spans (edited ++ one ∷ []) assays) (facts_after kept (editing one)) places
     (edits ++ record { at = at; part = part.Edited i } ∷ []) (record { at = at; part = part.Edited i }) (record { at = at; effect = editing one })
-kept_edit declared told tells spans edited kept places edits at i one right fine last long same =
-    let before = shelves_of declared told spans edited in
-    kept_more before (shelves_of declared tells spans (edited ++ one ∷ [])) kept (facts_after kept (editing one)) places edits (record { at = at; part = part.Edited i })
+kept_edit declared told tells spans edited assays kept places edits at i one right fine last long same =
+    let before = shelves_of declared told spans edited assays in
+    kept_more before (shelves_of declared tells spans (edited ++ one ∷ []) assays) kept (facts_after kept (editing one)) places edits (record { at = at; part = part.Edited i })
     (record { at = at; effect = editing one }) right
-    (grows_by declared declared told tells spans spans edited (edited ++ one ∷ []) (itself declared) (tells_same told tells same) (same_spans spans) (longer edited (one ∷ [])))
+    (grows_by declared declared told tells spans spans edited (edited ++ one ∷ []) assays assays (itself declared) (tells_same told tells same) (same_spans spans) (longer edited (one ∷ [])) (itself assays))
     (rw (last, last_item edited one) refl)
     fine
-    (of_row (rows_at before places) declared kept spans at (editing one) refl right.parts)
+    (of_row (rows_at before places) declared kept spans assays at (editing one) refl refl right.parts)
     (λ i behind. same i ∙ right.told i (omega (arith, behind, long)))
 
 -- the period of a name, closed
@@ -308,18 +331,33 @@ closed_there name spans i is =
     some_period = open_period [] (pos 0) (pos 0)
 
 -- one more closing
-pub kept_closing : (declared : List Declared) (told : ℕ → Option Fact) (spans : List Period) (edited : List Edited) (kept : List KeptFact) (places edits : List Place) (at i : ℕ) (name : List ℕ)
-    → IsKept (shelves_of declared told spans edited) kept places edits → IsAcceptable (rows_at (shelves_of declared told spans edited) places) (Closes name) → Some i ≡ position (is_named name) spans
-    → IsKeptAfter (shelves_of declared told spans edited) (shelves_of declared told (map (closed_if_named name) spans) edited) kept places
+pub kept_closing : (declared : List Declared) (told : ℕ → Option Fact) (spans : List Period) (edited : List Edited) (assays : List Assay) (kept : List KeptFact) (places edits : List Place) (at i : ℕ) (name : List ℕ)
+    → IsKept (shelves_of declared told spans edited assays) kept places edits → IsAcceptable (rows_at (shelves_of declared told spans edited assays) places) (Closes name) → Some i ≡ position (is_named name) spans
+    → IsKeptAfter (shelves_of declared told spans edited assays) (shelves_of declared told (map (closed_if_named name) spans) edited assays) kept places
     (edits ++ record { at = at; part = part.Closed i } ∷ []) (record { at = at; part = part.Closed i }) (record { at = at; effect = Closes name })
-kept_closing declared told spans edited kept places edits at i name right fine found =
-    let before = shelves_of declared told spans edited in
-    kept_more before (shelves_of declared told (map (closed_if_named name) spans) edited) kept kept places edits (record { at = at; part = part.Closed i })
+kept_closing declared told spans edited assays kept places edits at i name right fine found =
+    let before = shelves_of declared told spans edited assays in
+    kept_more before (shelves_of declared told (map (closed_if_named name) spans) edited assays) kept kept places edits (record { at = at; part = part.Closed i })
     (record { at = at; effect = Closes name }) right
-    (grows_by declared declared told told spans (map (closed_if_named name) spans) edited edited (itself declared) (tells_itself told) (closed_spans name spans) (itself edited))
+    (grows_by declared declared told told spans (map (closed_if_named name) spans) edited edited assays assays (itself declared) (tells_itself told) (closed_spans name spans) (itself edited) (itself assays))
     (rw (closed_there name spans i found) refl)
     fine
-    (of_row (rows_at before places) declared kept spans at (Closes name) refl right.parts)
+    (of_row (rows_at before places) declared kept spans assays at (Closes name) refl refl right.parts)
+    right.told
+
+-- one more assay
+pub kept_assay : (declared : List Declared) (told : ℕ → Option Fact) (spans : List Period) (edited : List Edited) (assays : List Assay) (kept : List KeptFact) (places edits : List Place) (at i : ℕ) (assay : Assay)
+    → IsKept (shelves_of declared told spans edited assays) kept places edits → IsAcceptable (rows_at (shelves_of declared told spans edited assays) places) (Assays assay) → i ≡ length assays
+    → IsKeptAfter (shelves_of declared told spans edited assays) (shelves_of declared told spans edited (assays ++ assay ∷ [])) kept places edits
+    (record { at = at; part = part.Assayed i }) (record { at = at; effect = Assays assay })
+kept_assay declared told spans edited assays kept places edits at i assay right fine last =
+    let before = shelves_of declared told spans edited assays in
+    kept_more before (shelves_of declared told spans edited (assays ++ assay ∷ [])) kept kept places edits (record { at = at; part = part.Assayed i })
+    (record { at = at; effect = Assays assay }) right
+    (grows_by declared declared told told spans spans edited edited assays (assays ++ assay ∷ []) (itself declared) (tells_itself told) (same_spans spans) (itself edited) (longer assays (assay ∷ [])))
+    (rw (last, last_item assays assay) refl)
+    fine
+    (of_assay (rows_at before places) declared kept spans assays at assay right.parts)
     right.told
 
 -- what is kept, where each fact is told as before
@@ -327,19 +365,19 @@ pub record IsKeptSame (shelves more : Shelves) (kept : List KeptFact) (places ed
   pub rows : rows_at more places ≡ rows_at shelves places
   pub right : IsKept more kept places edits
 
-pub kept_same : (declared : List Declared) (told tells : ℕ → Option Fact) (spans : List Period) (edited : List Edited) (kept : List KeptFact) (places edits : List Place)
-    → IsKept (shelves_of declared told spans edited) kept places edits → ((i : ℕ) → tells i ≡ told i)
-    → IsKeptSame (shelves_of declared told spans edited) (shelves_of declared tells spans edited) kept places edits
-kept_same declared told tells spans edited kept places edits right same =
-    let before = shelves_of declared told spans edited in
-    let more = shelves_of declared tells spans edited in
+pub kept_same : (declared : List Declared) (told tells : ℕ → Option Fact) (spans : List Period) (edited : List Edited) (assays : List Assay) (kept : List KeptFact) (places edits : List Place)
+    → IsKept (shelves_of declared told spans edited assays) kept places edits → ((i : ℕ) → tells i ≡ told i)
+    → IsKeptSame (shelves_of declared told spans edited assays) (shelves_of declared tells spans edited assays) kept places edits
+kept_same declared told tells spans edited assays kept places edits right same =
+    let before = shelves_of declared told spans edited assays in
+    let more = shelves_of declared tells spans edited assays in
     let grows =
-    grows_by declared declared told tells spans spans edited edited (itself declared) (tells_same told tells same) (same_spans spans) (itself edited) in
+    grows_by declared declared told tells spans spans edited edited assays assays (itself declared) (tells_same told tells same) (same_spans spans) (itself edited) (itself assays) in
     let rows = rows_stay before more places grows right.placed in record {
       rows = rows;
       right = record {
         placed = placed_stay before more places grows right.placed;
-        parts = subst (λ (r : List StoredRow). AreOf r declared kept spans) (sym rows) right.parts;
+        parts = subst (λ (r : List StoredRow). AreOf r declared kept spans assays) (sym rows) right.parts;
         accepted = subst AreAccepted (sym rows) right.accepted;
         told = λ i behind. same i ∙ right.told i behind;
         edited = placed_stay before more edits grows right.edited;

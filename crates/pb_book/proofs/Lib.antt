@@ -1,4 +1,5 @@
 mod AcceptedLemmas
+mod AssayLemmas
 mod ChangeLemmas
 mod ConsistentLemmas
 mod EditLemmas
@@ -14,3 +15,6 @@ mod PlainLemmas
 mod RecordLemmas
 mod TakenOutLemmas
 mod VersionOneLemmas
+mod WindowAnswerLemmas
+mod WindowLemmas
+mod WindowPlantLemmas

@@ -20,11 +20,12 @@ use Rattle.pb_facts.specs.Fact.{id_of}
 use Rattle.pb_facts.specs.Facts.{NoRepeats, has_id, is_duplicate, is_live_with, is_repeat, is_repeat_by_day, live_facts}
 use Rattle.pb_kinds.specs.declared.rows.Effect.{Effect}
 use Rattle.pb_kinds.specs.declared.rows.Edit.TheVariants as edits
-use Rattle.pb_kinds.specs.declared.rows.Effect.TheVariants.{Declares, Opens, Books, Edits, Closes}
+use Rattle.pb_kinds.specs.declared.rows.Effect.TheVariants.{Declares, Opens, Books, Edits, Closes, Assays}
 use Rattle.pb_book.specs.Accepted.{IsAcceptable}
 use Rattle.pb_book.specs.Live.{LiveLaw, change_in, is_struck_in, last_change, later_of, live_in, live_of, strikes, values_by}
 use Rattle.pb_book.specs.Refusals.{is_misfit}
 use Rattle.pb_book.specs.declared.rows.StoredRow.{StoredRow}
+use Rattle.pb_book.specs.Assays.{assays_of}
 use Rattle.pb_book.specs.Rows.{declared_of, facts_after, facts_of, live, periods_of}
 use Rattle.pb_book.proofs.AcceptedLemmas.{by_accepted}
 use Rattle.pb_book.proofs.ConsistentLemmas.{amended_one, fine, struck_one}
@@ -174,6 +175,7 @@ all_more rows stored g G (s ∷ over) step all = by (λ rest. all_more rows stor
     by go (Opens name first last) is = rw is (go (rw is at all))
     by go (Edits id how reason) is = rw is (go (rw is at all))
     by go (Closes name) is = rw is (go (rw is at all))
+    by go (Assays assay) is = rw is (go (rw is at all))
 
 -- ---- all rows
 
@@ -365,15 +367,18 @@ meant_step rows at (Opens name first last) right accepted =
 meant_step rows at (Closes name) right accepted =
     let stored : StoredRow = record { at = at; effect = Closes name } in
     meant_same rows stored (well_step rows at (Closes name) right.well accepted) refl refl (λ id. refl) (λ id. refl) right
+meant_step rows at (Assays assay) right accepted =
+    let stored : StoredRow = record { at = at; effect = Assays assay } in
+    meant_same rows stored (well_step rows at (Assays assay) right.well accepted) refl refl (λ id. refl) (λ id. refl) right
 meant_step rows at (Books fact late) right accepted =
     let stored : StoredRow = record { at = at; effect = Books fact late } in
-    let good = fine (version_of (declared_of rows)) (declared_of rows) (facts_of rows) (periods_of rows) (Books fact late) accepted.no_cause in
+    let good = fine (version_of (declared_of rows)) (declared_of rows) (facts_of rows) (periods_of rows) (assays_of rows) (Books fact late) accepted.no_cause in
     meant_fact rows stored fact (well_step rows at (Books fact late) right.well accepted) refl refl (λ id. refl) (λ id. refl) good.new right
 meant_step rows at (Edits id (edits.Change change) reason) right accepted =
-    let good = fine (version_of (declared_of rows)) (declared_of rows) (facts_of rows) (periods_of rows) (Edits id (edits.Change change) reason) accepted.no_cause in
+    let good = fine (version_of (declared_of rows)) (declared_of rows) (facts_of rows) (periods_of rows) (assays_of rows) (Edits id (edits.Change change) reason) accepted.no_cause in
     meant_amend rows at id change reason (well_step rows at (Edits id (edits.Change change) reason) right.well accepted) (up (list_any (is_live_with id) (facts_of rows)) good.known) good.matching right
 meant_step rows at (Edits id edits.Strike reason) right accepted =
-    let good = fine (version_of (declared_of rows)) (declared_of rows) (facts_of rows) (periods_of rows) (Edits id edits.Strike reason) accepted.no_cause in
+    let good = fine (version_of (declared_of rows)) (declared_of rows) (facts_of rows) (periods_of rows) (assays_of rows) (Edits id edits.Strike reason) accepted.no_cause in
     meant_strike rows at id reason (well_step rows at (Edits id edits.Strike reason) right.well accepted) (up (list_any (is_live_with id) (facts_of rows)) good.known) right
 
 -- the live ones among them
@@ -388,6 +393,7 @@ live_all rows (s ∷ over) = by (live_all rows over) s.effect refl
     by go (Opens name first last) is = rw is go
     by go (Edits id how reason) is = rw is go
     by go (Closes name) is = rw is go
+    by go (Assays assay) is = rw is go
 
 pub live_law : LiveLaw
 live_law rows accepted =

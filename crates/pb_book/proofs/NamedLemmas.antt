@@ -1,18 +1,22 @@
 -- The names of stored rows are names.
-use Rattle.std.specs.Prelude.{◌&&◌, if◌then◌else◌, filter_map, All}
-use Rattle.std.specs.List.{cons_option, fold, list_all}
-use Rattle.std.proofs.Common.{◌≡◌, ℕ, List, [], ◌∷◌, map, suc, slice_get, Bool, true, false, Option, Some, None, Result, Ok, Err, refl}
-use Rattle.std.proofs.lemmas.Bool.{and_parts}
+use Rattle.std.specs.Prelude.{◌&&◌, if◌then◌else◌, filter_map, find, All, IfSome}
+use Rattle.std.specs.Cmp.Lexicographic.{bytes_decides}
+use Rattle.std.specs.List.{cons_option, fold, list_all, list_any}
+use Rattle.std.specs.Option.{option_map}
+use Rattle.std.proofs.Common.{◌≡◌, ℕ, List, [], ◌∷◌, map, suc, slice_get, Bool, true, false, Option, Some, None, Result, Ok, Err, refl, subst, inl, inr}
+use Rattle.std.proofs.lemmas.Bool.{and_parts, cases_Bool}
 use Rattle.std.proofs.lemmas.List.Elements.{All-cons, All-head, All-map, All-nil, All-push, All-tail, All-weaker}
-use Rattle.pb_rows.specs.Name.{is_name}
+use Rattle.pb_assay.specs.Grade.{IsGrade}
+use Rattle.pb_rows.specs.Name.{is_name, same_name}
 use Rattle.pb_form.specs.declared.fault.FormFault.{FormFault}
 use Rattle.pb_site.specs.declared.declared.Arc.{Arc}
 use Rattle.pb_site.specs.declared.declared.Declared.{Declared}
 use Rattle.pb_site.specs.declared.declared.Declared.TheVariants.{Version2, Unit as UnitDeclared, Boundary as BoundaryDeclared, Tank as TankDeclared, Strap as StrapDeclared, Stream as StreamDeclared, CritGlobal, CritNodal, CritMeasure}
 use Rattle.pb_site.specs.Row.{IsInRange, arc_in, node_name}
 use Rattle.pb_site.specs.Site.{boundary_names, node_names}
+use Rattle.pb_kinds.specs.declared.rows.Assay.{Assay}
 use Rattle.pb_kinds.specs.declared.rows.Effect.{Effect}
-use Rattle.pb_kinds.specs.declared.rows.Effect.TheVariants.{Declares, Opens, Books, Edits, Closes}
+use Rattle.pb_kinds.specs.declared.rows.Effect.TheVariants.{Declares, Opens, Books, Edits, Closes, Assays}
 use Rattle.pb_kinds.specs.declared.rows.Request.{Request}
 use Rattle.pb_kinds.specs.declared.rows.Request.TheVariants as asked
 use Rattle.pb_kinds.specs.Effects.{declared_names, effect_names}
@@ -20,15 +24,19 @@ use Rattle.pb_kinds.specs.Costs.{named_costs}
 use Rattle.pb_kinds.specs.Laws.{StoredLaw}
 use Rattle.pb_kinds.specs.Ranges.{IsEffectInRange}
 use Rattle.pb_kinds.specs.Requests.{request_in}
+use Rattle.pb_book.specs.declared.answer.Accepted.TheVariants.{Component}
 use Rattle.pb_book.specs.declared.answer.Refused.{Refused}
 use Rattle.pb_book.specs.declared.rows.Period.{Period}
 use Rattle.pb_book.specs.declared.rows.StoredRow.{StoredRow}
-use Rattle.pb_book.specs.Answer.{advise_or_refused, after, after_answer, answer_if, history_or_refused, report_or_refused, stored_or_refused}
+use Rattle.pb_book.specs.Answer.{Answer, Says, advise_or_refused, after, after_answer, answer_if, answer_of, component_or_refused, history_or_refused, report_or_refused, stored_or_refused}
 use Rattle.pb_book.specs.Apart.{is_named}
+use Rattle.pb_book.specs.Assays.{assay_by, assays_of, has_assay, is_assay_of, is_assay_over}
 use Rattle.pb_book.specs.Costs.{refusal_of_costs}
-use Rattle.pb_book.specs.Named.{AreNamed, HaveNames, NamedLaw, RangesLaw}
+use Rattle.pb_book.specs.Named.{AreNamed, GradesLaw, HaveNames, NamedLaw, RangesLaw}
 use Rattle.pb_book.specs.Refusals.{refusal_of}
 use Rattle.pb_book.specs.Rows.{closed, closed_if_named, open_period, declaration_in, declared_of, period_place, periods_after, version_at}
+use Rattle.pb_book.proofs.AssayLemmas.{found_of}
+use Rattle.pb_book.proofs.WindowAnswerLemmas.{by_window}
 
 -- ---- one more record
 
@@ -54,6 +62,11 @@ after_named law rows at fields named = by (request_in (version_at rows) fields) 
     advised (Some cause) = named
     advised None = named
 
+    balanced : (component : List ℕ) (assayed : Bool) (place : Option ℕ) → HaveNames (after_answer rows at (component_or_refused component assayed place))
+    balanced component true (Some place) = named
+    balanced component true None = named
+    balanced component false place = named
+
     by : (request : Result Request FormFault) → ((effect : Effect) → request ≡ Ok (asked.Store effect) → list_all is_name (effect_names effect) ≡ true)
         → HaveNames (after_answer rows at (answer_if rows (named_costs fields) request))
     by (Err fault) is = named
@@ -63,6 +76,9 @@ after_named law rows at fields named = by (request_in (version_at rows) fields) 
     by (Ok (asked.Report name)) is = reported (period_place rows name)
     by (Ok (asked.History name)) is = told (period_place rows name)
     by (Ok asked.Advise) is = advised (refusal_of_costs (declared_of rows) (named_costs fields))
+    by (Ok (asked.Window first last)) is =
+        by_window (λ (answer : Answer). HaveNames (after_answer rows at answer)) (λ cause. named) (λ i k. named) rows (period_place rows first) (period_place rows last)
+    by (Ok (asked.Component component period)) is = balanced component (has_assay rows component period) (period_place rows period)
 
 -- ---- what follows
 
@@ -91,6 +107,7 @@ declared_named (stored ∷ rows) named =
     by (Books fact late) is rest = rest
     by (Edits id edit reason) is rest = rest
     by (Closes name) is rest = rest
+    by (Assays assay) is rest = rest
 
 -- the names of their nodes
 nodes_named : (declared : List Declared) → list_all is_declared_named declared ≡ true → list_all is_name (filter_map node_name declared) ≡ true
@@ -151,6 +168,7 @@ periods_more periods (Edits id edit reason) all is = all
 periods_more periods (Closes name) all is =
     All-map IsNamedPeriod (closed_if_named name) periods
     (All-weaker IsNamedPeriod (λ (period : Period). IsNamedPeriod (closed_if_named name period)) (closed_named name) periods all)
+periods_more periods (Assays assay) all is = all
 
 periods_named : (rows : List StoredRow) (periods : List Period) → All IsNamedPeriod periods → HaveNames rows
     → All IsNamedPeriod (fold (λ (so_far : List Period) (stored : StoredRow). periods_after so_far stored.effect) periods rows)
@@ -167,8 +185,78 @@ all_named rows named =
       periods = periods_named rows [] (All-nil IsNamedPeriod) named;
     }
 
+-- the names of the components of which there are assays
+abbrev IsNamedAssay : Assay → Type 0
+IsNamedAssay assay = is_name assay.component ≡ true
+
+assays_named : (rows : List StoredRow) → HaveNames rows → All IsNamedAssay (assays_of rows)
+assays_named [] named = All-nil IsNamedAssay
+assays_named (stored ∷ rows) named =
+    by stored.effect (All-head IsNamedRow stored rows named) (assays_named rows (All-tail IsNamedRow stored rows named))
+  where
+    by : (effect : Effect) → list_all is_name (effect_names effect) ≡ true → All IsNamedAssay (assays_of rows)
+        → All IsNamedAssay (cons_option (assay_by effect) (assays_of rows))
+    by (Assays assay) is rest = All-cons IsNamedAssay assay (assays_of rows) (first_named assay.component (assay.stream ∷ assay.period ∷ []) is) rest
+    by (Declares declared) is rest = rest
+    by (Opens name first last) is rest = rest
+    by (Books fact late) is rest = rest
+    by (Edits id edit reason) is rest = rest
+    by (Closes name) is rest = rest
+
+-- a component of which there is an assay has a name of the form
+assayed_named : (component period : List ℕ) (assays : List Assay) → All IsNamedAssay assays → list_any (is_assay_over component period) assays ≡ true → is_name component ≡ true
+assayed_named component period [] all some = cc some
+assayed_named component period (assay ∷ assays) all some = elim (cases_Bool (is_assay_over component period assay)) [
+  | inl is ↦
+      let same : assay.component ≡ component = (bytes_decides assay.component component).0 (and_parts (same_name assay.component component) (same_name assay.period period) is).0 in
+      subst (λ (name : List ℕ). is_name name ≡ true) same (All-head IsNamedAssay assay assays all)
+  | inr other ↦ assayed_named component period assays (All-tail IsNamedAssay assay assays all) (rw other at some)
+]
+
+-- so does one whose balance is answered
+no_store : (effect : Effect) (cause : Option Refused) (component : List ℕ) (period : ℕ) → stored_or_refused effect cause ≡ Says (Component component period) → ⊥
+no_store effect (Some cause) component period is = cc is
+no_store effect None component period is = cc is
+
+no_report : (place : Option ℕ) (component : List ℕ) (period : ℕ) → report_or_refused place ≡ Says (Component component period) → ⊥
+no_report (Some place) component period is = cc is
+no_report None component period is = cc is
+
+no_history : (place : Option ℕ) (component : List ℕ) (period : ℕ) → history_or_refused place ≡ Says (Component component period) → ⊥
+no_history (Some place) component period is = cc is
+no_history None component period is = cc is
+
+no_advice : (cause : Option Refused) (component : List ℕ) (period : ℕ) → advise_or_refused cause ≡ Says (Component component period) → ⊥
+no_advice (Some cause) component period is = cc is
+no_advice None component period is = cc is
+
+balance_named : (asked : List ℕ) (assayed : Bool) (place : Option ℕ) (component : List ℕ) (period : ℕ) → (assayed ≡ true → is_name asked ≡ true)
+    → component_or_refused asked assayed place ≡ Says (Component component period) → is_name component ≡ true
+balance_named asked true (Some place) component period named is = let same : asked ≡ component = cc is in subst (λ (name : List ℕ). is_name name ≡ true) same (named refl)
+balance_named asked true None component period named is = cc is
+balance_named asked false place component period named is = cc is
+
+component_named : (rows : List StoredRow) (fields : List (List ℕ)) (component : List ℕ) (period : ℕ) → HaveNames rows → answer_of rows fields ≡ Says (Component component period)
+    → is_name component ≡ true
+component_named rows fields component period named is = by (request_in (version_at rows) fields) is
+  where
+    by : (request : Result Request FormFault) → answer_if rows (named_costs fields) request ≡ Says (Component component period) → is_name component ≡ true
+    by (Err fault) is = cc is
+    by (Ok asked.Blank) is = cc is
+    by (Ok (asked.Store effect)) is = absurd (no_store effect (refusal_of rows effect) component period is)
+    by (Ok asked.Design) is = cc is
+    by (Ok (asked.Report name)) is = absurd (no_report (period_place rows name) component period is)
+    by (Ok (asked.History name)) is = absurd (no_history (period_place rows name) component period is)
+    by (Ok asked.Advise) is = absurd (no_advice (refusal_of_costs (declared_of rows) (named_costs fields)) component period is)
+    by (Ok (asked.Window first last)) is =
+        absurd (by_window (λ (answer : Answer). answer ≡ Says (Component component period) → ⊥) (λ cause says. cc says) (λ i k says. cc says) rows (period_place rows first)
+        (period_place rows last) is)
+    by (Ok (asked.Component name over)) is =
+        balance_named name (has_assay rows name over) (period_place rows over) component period
+        (assayed_named name over (assays_of rows) (assays_named rows named)) is
+
 pub named_law : StoredLaw → NamedLaw
-named_law law = record { begin = All-nil IsNamedRow; go_on = after_named law; named = all_named }
+named_law law = record { begin = All-nil IsNamedRow; go_on = after_named law; named = all_named; component = component_named }
 
 -- ---- numbers in their ranges
 
@@ -184,6 +272,33 @@ ranges_of (stored ∷ rows) right = by stored.effect (right 0 stored refl) (rang
     by (Books fact late) is rest = rest
     by (Edits id edit reason) is rest = rest
     by (Closes name) is rest = rest
+    by (Assays assay) is rest = rest
 
 pub ranges_law : RangesLaw
 ranges_law rows accepted = ranges_of rows (λ i stored at. (accepted i stored at).in_range)
+
+-- ---- grades within their limits
+
+abbrev HasGrade : Assay → Type 0
+HasGrade assay = IsGrade assay.grade
+
+grades_in : (rows : List StoredRow) → ((i : ℕ) (stored : StoredRow) → slice_get rows i ≡ Some stored → IsEffectInRange stored.effect) → All HasGrade (assays_of rows)
+grades_in [] right = All-nil HasGrade
+grades_in (stored ∷ rows) right = by stored.effect (right 0 stored refl) (grades_in rows (λ i s at. right (suc i) s at))
+  where
+    by : (effect : Effect) → IsEffectInRange effect → All HasGrade (assays_of rows) → All HasGrade (cons_option (assay_by effect) (assays_of rows))
+    by (Assays assay) is rest = All-cons HasGrade assay (assays_of rows) is rest
+    by (Declares declared) is rest = rest
+    by (Opens name first last) is rest = rest
+    by (Books fact late) is rest = rest
+    by (Edits id edit reason) is rest = rest
+    by (Closes name) is rest = rest
+
+pub grades_law : GradesLaw
+grades_law rows component period stream accepted =
+    graded (find (is_assay_of component period stream) (assays_of rows))
+    (found_of HasGrade (is_assay_of component period stream) (assays_of rows) (grades_in rows (λ i stored at. (accepted i stored at).in_range)))
+  where
+    graded : (found : Option Assay) → IfSome found HasGrade → IfSome (option_map (λ (assay : Assay). assay.grade) found) IsGrade
+    graded None is = tt
+    graded (Some assay) is = is

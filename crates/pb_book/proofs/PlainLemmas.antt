@@ -1,5 +1,5 @@
 -- The plain rows of accepted rows: none is refused.
-use Rattle.std.specs.Prelude.{◌||◌, ◌&&◌, All, filter_map, find, map, nat_le, option_and_then}
+use Rattle.std.specs.Prelude.{◌||◌, ◌&&◌, All, filter_map, find, map, nat_le, not, option_and_then}
 use Rattle.std.specs.List.{cons_option, list_any}
 use Rattle.std.specs.Option.{option_map}
 use Rattle.std.proofs.Common.{◌≡◌, ◌∙◌, ◌+◌, ◌<◌, ◌≤◌, ℕ, ℤ, List, [], ◌∷◌, ◌++◌, get_or, length, Bool, true, false, Option, Some, None, refl, sym, ap, subst, arith, inl, inr, append_assoc, length-append}
@@ -29,22 +29,24 @@ use Rattle.pb_facts.specs.declared.facts.KeptFact.{KeptFact}
 use Rattle.pb_facts.specs.Changes.{changed}
 use Rattle.pb_facts.specs.Fact.{IsInRange, id_of, is_out_of_order, is_too_long}
 use Rattle.pb_facts.specs.Facts.{NoRepeats, has_id, is_duplicate, is_full, is_live_with, is_repeat, live_fact, live_facts}
+use Rattle.pb_kinds.specs.declared.rows.Assay.{Assay}
 use Rattle.pb_kinds.specs.declared.rows.Effect.{Effect}
 use Rattle.pb_kinds.specs.declared.rows.Edit.TheVariants as edits
-use Rattle.pb_kinds.specs.declared.rows.Effect.TheVariants.{Declares, Opens, Books, Edits, Closes}
+use Rattle.pb_kinds.specs.declared.rows.Effect.TheVariants.{Declares, Opens, Books, Edits, Closes, Assays}
 use Rattle.pb_book.specs.declared.rows.Period.{Period}
 use Rattle.pb_book.specs.Accepted.{AreAccepted, AreInTables, IsAcceptable}
 use Rattle.pb_book.specs.Apart.{is_named, shares_a_day}
+use Rattle.pb_book.specs.Assays.{assays_of}
 use Rattle.pb_book.specs.Plain.{PlainLaw, booked, numbered, opened, plain_stored, settled, settled_rows}
 use Rattle.pb_kinds.specs.Ranges.{IsEffectInRange}
 use Rattle.pb_kinds.specs.Versions.{may_declare, may_do}
-use Rattle.pb_book.specs.Refusals.{is_of_other_kind, is_of_plant, is_out_of_service, is_outside_table, is_sealed_by, kind_of_fact, names_other, refusal_behind, refusal_of}
+use Rattle.pb_book.specs.Refusals.{is_of_other_kind, is_of_plant, is_out_of_service, is_outside_table, is_closed_named, is_no_arc, is_sealed_by, is_unserved_in, kind_of_fact, names_other, refusal_behind, refusal_of}
 use Rattle.pb_book.specs.declared.rows.StoredRow.{StoredRow}
 use Rattle.pb_book.specs.Rows.{closed_if_named, declared_of, facts_after, facts_of, live, open_period, periods_after, periods_of, version_at}
 use Rattle.pb_book.specs.Touching.{is_closed_in_service, service_of, some_closed, touches_closed, touches_in}
 use Rattle.pb_book.proofs.AcceptedLemmas.{accepted_more, by_accepted, none_accepted}
 use Rattle.pb_book.proofs.ConsistentLemmas.{IsFine, amended_one, consistent, fine, range_parts, struck_one}
-use Rattle.pb_book.proofs.KeptLemmas.{declared_more, declared_same, facts_more, periods_more_of}
+use Rattle.pb_book.proofs.KeptLemmas.{assays_more, assays_same, declared_more, declared_same, facts_more, periods_more_of}
 use Rattle.pb_book.proofs.NameLemmas.{any_map}
 use Rattle.pb_book.proofs.PeriodLemmas.{fails_at}
 
@@ -296,8 +298,8 @@ well_step rows at (Declares declared) right accepted =
     })
 well_step rows at (Opens name first last) right accepted = well_by rows (record { at = at; effect = Opens name first last }) refl right
 well_step rows at (Books fact late) right accepted =
-    let good = fine (version_of (declared_of rows)) (declared_of rows) (facts_of rows) (periods_of rows) (Books fact late) accepted.no_cause in
-    let parts = range_parts (version_of (declared_of rows)) (declared_of rows) (facts_of rows) fact late good.range in
+    let good = fine (version_of (declared_of rows)) (declared_of rows) (facts_of rows) (periods_of rows) (assays_of rows) (Books fact late) accepted.no_cause in
+    let parts = range_parts (version_of (declared_of rows)) (declared_of rows) (facts_of rows) (periods_of rows) fact late good.range in
     let own : IsFactOf (declared_of rows) fact =
     record { known = good.known; matching = good.matching; order = good.order; short = parts.short; serving = parts.serving } in
     well_by rows (record { at = at; effect = Books fact late }) refl (well_more (declared_of rows) (facts_of rows) fact right own good.new good.room)
@@ -316,6 +318,7 @@ well_step rows at (Edits id edits.Strike reason) right accepted =
     struck_fact : (k : KeptFact) → IsFactOf (declared_of rows) k.fact → IsFactOf (declared_of rows) (struck_one id k).fact
     struck_fact k own = elim (cases_Bool (has_id id k)) [ inl is ↦ rw is own | inr other ↦ rw other own ]
 well_step rows at (Closes name) right accepted = well_by rows (record { at = at; effect = Closes name }) refl right
+well_step rows at (Assays assay) right accepted = well_by rows (record { at = at; effect = Assays assay }) refl right
 
 pub none_well : AreWellIn []
 none_well = record { facts = λ i d lt. absurd (omega (arith, lt)); apart = λ i j d before lt. absurd (omega (arith, lt)); few = omega arith }
@@ -332,9 +335,9 @@ unique_more rows at effect accepted fine_row = (well_step rows at effect (well r
 -- ---- the declarations and periods alone
 
 -- where no condition holds there is no cause
-no_cause : (version : Version) (declared : List Declared) (kept : List KeptFact) (periods : List Period) (effect : Effect) → IsFine version declared kept periods effect
-    → refusal_behind version declared kept periods effect ≡ None
-no_cause version declared kept periods effect good = rw (good.known, good.new, good.order, good.matching, good.sealed, good.opened, good.range, good.room) refl
+no_cause : (version : Version) (declared : List Declared) (kept : List KeptFact) (periods : List Period) (assays : List Assay) (effect : Effect)
+    → IsFine version declared kept periods assays effect → refusal_behind version declared kept periods assays effect ≡ None
+no_cause version declared kept periods assays effect good = rw (good.known, good.new, good.order, good.matching, good.sealed, good.opened, good.range, good.room) refl
 
 none_closed_now : (periods : List Period) → some_closed (map opened periods) ≡ false
 none_closed_now [] = refl
@@ -372,30 +375,40 @@ opened_closed name (period ∷ periods) = elim (cases_Bool (is_named name period
   | inr other ↦ rw other (ap (λ (ps : List Period). opened period ∷ ps) (opened_closed name periods))
 ]
 
+-- no period of a name is closed where all are open
+none_closed_named : (name : List ℕ) (periods : List Period) → list_any (is_closed_named name) (map opened periods) ≡ false
+none_closed_named name [] = refl
+none_closed_named name (period ∷ periods) = none_closed_named name periods
+
+opened_unserved : (service : Option Service) (name : List ℕ) (periods : List Period)
+    → list_any (is_unserved_in service name) (map opened periods) ≡ list_any (is_unserved_in service name) periods
+opened_unserved service name periods = any_map (is_unserved_in service name) opened periods
+
 numbered_append : (at : ℕ) (xs ys : List Effect) → numbered at (xs ++ ys) ≡ numbered at xs ++ numbered (at + length xs) ys
 numbered_append at [] ys = let same : at ≡ at + 0 = omega arith in ap (λ (n : ℕ). numbered n ys) same
 numbered_append at (x ∷ xs) ys =
     let next : at + 1 + length xs ≡ at + length (x ∷ xs) = omega arith in
     ap (λ (rest : List StoredRow). record { at = at; effect = x } ∷ rest) (numbered_append (at + 1) xs ys ∙ ap (λ (n : ℕ). numbered (at + 1) xs ++ numbered n ys) next)
 
--- rows that declare what is declared, the same periods, all open, and these facts
-record IsPlainSoFar (declared : List Declared) (periods : List Period) (facts : List KeptFact) (plain : List StoredRow) : Type 0 where
+-- rows that declare what is declared, the same periods, all open, these facts and these assays
+record IsPlainSoFar (declared : List Declared) (periods : List Period) (facts : List KeptFact) (assays : List Assay) (plain : List StoredRow) : Type 0 where
   accepted : AreAccepted plain
   declares : declared_of plain ≡ declared
   spans : periods_of plain ≡ map opened periods
   has : facts_of plain ≡ facts
+  assayed : assays_of plain ≡ assays
 
 abbrev IsBase : List StoredRow → Type 0
-IsBase rows = IsPlainSoFar (declared_of rows) (periods_of rows) [] (numbered 1 (settled_rows rows))
+IsBase rows = IsPlainSoFar (declared_of rows) (periods_of rows) [] (assays_of rows) (numbered 1 (settled_rows rows))
 
--- a row that is neither declaration nor period
-base_same : (rows : List StoredRow) (stored : StoredRow) → declared_of (stored ∷ []) ≡ [] → settled stored.effect ≡ None
+-- a row that is neither declaration nor period, and gives no assay
+base_same : (rows : List StoredRow) (stored : StoredRow) → declared_of (stored ∷ []) ≡ [] → assays_of (stored ∷ []) ≡ [] → settled stored.effect ≡ None
     → map opened (periods_after (periods_of rows) stored.effect) ≡ map opened (periods_of rows) → IsBase rows → IsBase (rows ++ stored ∷ [])
-base_same rows stored none unsettled spans right =
+base_same rows stored none bare unsettled spans right =
     let same : settled_rows (rows ++ stored ∷ []) ≡ settled_rows rows =
     filter_map-append (λ (s : StoredRow). settled s.effect) rows (stored ∷ []) ∙ ap (λ (o : Option Effect). settled_rows rows ++ cons_option o []) unsettled ∙ append-nil (settled_rows rows) in
-    rw (same, declared_same rows stored none, periods_more_of rows stored)
-    (record { accepted = right.accepted; declares = right.declares; spans = right.spans ∙ sym spans; has = right.has })
+    rw (same, declared_same rows stored none, periods_more_of rows stored, assays_same rows stored bare)
+    (record { accepted = right.accepted; declares = right.declares; spans = right.spans ∙ sym spans; has = right.has; assayed = right.assayed })
 
 -- what a row may do in a session of version 1 it may do before one is stored
 declares_first : (declared : Declared) → may_declare (Some One) declared ≡ true → may_declare None declared ≡ true
@@ -417,25 +430,29 @@ may_again (stored ∷ rows) effect same may = by (numbered 1 (settled_rows (stor
     by (first ∷ plain) same = subst (λ (ds : List Declared). may_do (Some (version_of ds)) effect ≡ true) (sym same) may
 
 -- one more row behind plain ones
-plain_more : (declared : List Declared) (periods : List Period) (facts : List KeptFact) (plain : List StoredRow) (at : ℕ) (effect : Effect) (ds : List Declared) (ps : List Period) (ks : List KeptFact)
-    → IsPlainSoFar declared periods facts plain → IsFine (version_of declared) declared facts (map opened periods) effect → IsEffectInRange effect
+plain_more : (declared : List Declared) (periods : List Period) (facts : List KeptFact) (assays : List Assay) (plain : List StoredRow) (at : ℕ) (effect : Effect)
+    (ds : List Declared) (ps : List Period) (ks : List KeptFact) (more : List Assay)
+    → IsPlainSoFar declared periods facts assays plain → IsFine (version_of declared) declared facts (map opened periods) assays effect → IsEffectInRange effect
     → may_do (version_at plain) effect ≡ true
     → declared ++ declared_of (record { at = at; effect = effect } ∷ []) ≡ ds → periods_after (map opened periods) effect ≡ map opened ps → facts_after facts effect ≡ ks
-    → IsPlainSoFar ds ps ks (plain ++ record { at = at; effect = effect } ∷ [])
-plain_more declared periods facts plain at effect ds ps ks right good range may declares spans has =
+    → assays ++ assays_of (record { at = at; effect = effect } ∷ []) ≡ more
+    → IsPlainSoFar ds ps ks more (plain ++ record { at = at; effect = effect } ∷ [])
+plain_more declared periods facts assays plain at effect ds ps ks more right good range may declares spans has assayed =
     let stored : StoredRow = record { at = at; effect = effect } in
-    let none : refusal_of plain effect ≡ None = rw (right.declares, right.has, right.spans) (no_cause (version_of declared) declared facts (map opened periods) effect good) in record {
+    let none : refusal_of plain effect ≡ None =
+    rw (right.declares, right.has, right.spans, right.assayed) (no_cause (version_of declared) declared facts (map opened periods) assays effect good) in record {
       accepted = accepted_more plain stored right.accepted (record { no_cause = none; in_range = range; may = may });
       declares = declared_more plain stored ∙ ap (λ (d : List Declared). d ++ declared_of (stored ∷ [])) right.declares ∙ declares;
       spans = periods_more_of plain stored ∙ ap (λ (p : List Period). periods_after p effect) right.spans ∙ spans;
       has = facts_more plain stored ∙ ap (λ (k : List KeptFact). facts_after k effect) right.has ∙ has;
+      assayed = assays_more plain stored ∙ ap (λ (a : List Assay). a ++ assays_of (stored ∷ [])) right.assayed ∙ assayed;
     }
 
 base_step : (rows : List StoredRow) (at : ℕ) (effect : Effect) → IsBase rows → IsAcceptable rows effect → IsBase (rows ++ record { at = at; effect = effect } ∷ [])
 base_step rows at (Declares declared) right accepted =
     let stored : StoredRow = record { at = at; effect = Declares declared } in
-    let good = fine (version_of (declared_of rows)) (declared_of rows) (facts_of rows) (periods_of rows) (Declares declared) accepted.no_cause in
-    let again : IsFine (version_of (declared_of rows)) (declared_of rows) [] (map opened (periods_of rows)) (Declares declared) =
+    let good = fine (version_of (declared_of rows)) (declared_of rows) (facts_of rows) (periods_of rows) (assays_of rows) (Declares declared) accepted.no_cause in
+    let again : IsFine (version_of (declared_of rows)) (declared_of rows) [] (map opened (periods_of rows)) (assays_of rows) (Declares declared) =
     record {
       known = good.known;
       new = good.new;
@@ -448,14 +465,15 @@ base_step rows at (Declares declared) right accepted =
     } in
     let rows_are : numbered 1 (settled_rows (rows ++ stored ∷ [])) ≡ numbered 1 (settled_rows rows) ++ record { at = 1 + length (settled_rows rows); effect = Declares declared } ∷ [] =
     ap (numbered 1) (filter_map-append (λ (s : StoredRow). settled s.effect) rows (stored ∷ [])) ∙ numbered_append 1 (settled_rows rows) (Declares declared ∷ []) in
-    rw (rows_are, declared_more rows stored, periods_more_of rows stored)
-    (plain_more (declared_of rows) (periods_of rows) [] (numbered 1 (settled_rows rows)) (1 + length (settled_rows rows)) (Declares declared) (declared_of rows ++ declared ∷ []) (periods_of rows) [] right again
-    accepted.in_range (may_again rows (Declares declared) right.declares accepted.may) refl refl refl)
+    rw (rows_are, declared_more rows stored, periods_more_of rows stored, assays_same rows stored refl)
+    (plain_more (declared_of rows) (periods_of rows) [] (assays_of rows) (numbered 1 (settled_rows rows)) (1 + length (settled_rows rows)) (Declares declared)
+    (declared_of rows ++ declared ∷ []) (periods_of rows) [] (assays_of rows) right again
+    accepted.in_range (may_again rows (Declares declared) right.declares accepted.may) refl refl refl (append-nil (assays_of rows)))
 base_step rows at (Opens name first last) right accepted =
     let stored : StoredRow = record { at = at; effect = Opens name first last } in
     let periods = periods_of rows in
-    let good = fine (version_of (declared_of rows)) (declared_of rows) (facts_of rows) periods (Opens name first last) accepted.no_cause in
-    let again : IsFine (version_of (declared_of rows)) (declared_of rows) [] (map opened periods) (Opens name first last) =
+    let good = fine (version_of (declared_of rows)) (declared_of rows) (facts_of rows) periods (assays_of rows) (Opens name first last) accepted.no_cause in
+    let again : IsFine (version_of (declared_of rows)) (declared_of rows) [] (map opened periods) (assays_of rows) (Opens name first last) =
     record {
       known = refl;
       new = opened_named name periods ∙ good.new;
@@ -468,17 +486,42 @@ base_step rows at (Opens name first last) right accepted =
     } in
     let rows_are : numbered 1 (settled_rows (rows ++ stored ∷ [])) ≡ numbered 1 (settled_rows rows) ++ record { at = 1 + length (settled_rows rows); effect = Opens name first last } ∷ [] =
     ap (numbered 1) (filter_map-append (λ (s : StoredRow). settled s.effect) rows (stored ∷ [])) ∙ numbered_append 1 (settled_rows rows) (Opens name first last ∷ []) in
-    rw (rows_are, declared_same rows stored refl, periods_more_of rows stored)
-    (plain_more (declared_of rows) periods [] (numbered 1 (settled_rows rows)) (1 + length (settled_rows rows)) (Opens name first last) (declared_of rows) (periods ++ open_period name first last ∷ []) [] right again
-    accepted.in_range (may_again rows (Opens name first last) right.declares accepted.may) (append-nil (declared_of rows)) (sym (map-append opened periods (open_period name first last ∷ []))) refl)
-base_step rows at (Books fact late) right accepted = base_same rows (record { at = at; effect = Books fact late }) refl refl refl right
-base_step rows at (Edits id (edits.Change change) reason) right accepted = base_same rows (record { at = at; effect = Edits id (edits.Change change) reason }) refl refl refl right
-base_step rows at (Edits id edits.Strike reason) right accepted = base_same rows (record { at = at; effect = Edits id edits.Strike reason }) refl refl refl right
-base_step rows at (Closes name) right accepted = base_same rows (record { at = at; effect = Closes name }) refl refl (opened_closed name (periods_of rows)) right
+    rw (rows_are, declared_same rows stored refl, periods_more_of rows stored, assays_same rows stored refl)
+    (plain_more (declared_of rows) periods [] (assays_of rows) (numbered 1 (settled_rows rows)) (1 + length (settled_rows rows)) (Opens name first last)
+    (declared_of rows) (periods ++ open_period name first last ∷ []) [] (assays_of rows) right again
+    accepted.in_range (may_again rows (Opens name first last) right.declares accepted.may) (append-nil (declared_of rows)) (sym (map-append opened periods (open_period name first last ∷ []))) refl
+    (append-nil (assays_of rows)))
+base_step rows at (Assays assay) right accepted =
+    let stored : StoredRow = record { at = at; effect = Assays assay } in
+    let periods = periods_of rows in
+    let assays = assays_of rows in
+    let version = version_of (declared_of rows) in
+    let good = fine version (declared_of rows) (facts_of rows) periods assays (Assays assay) accepted.no_cause in
+    let again : IsFine version (declared_of rows) [] (map opened periods) assays (Assays assay) =
+    record {
+      known = ap (λ (b : Bool). is_no_arc (declared_of rows) assay.stream || not b) (opened_named assay.period periods) ∙ good.known;
+      new = good.new;
+      order = refl;
+      matching = refl;
+      sealed = refl;
+      opened = none_closed_named assay.period periods;
+      range = opened_unserved (service_in version (declared_of rows) assay.stream) assay.period periods ∙ good.range;
+      room = good.room;
+    } in
+    let rows_are : numbered 1 (settled_rows (rows ++ stored ∷ [])) ≡ numbered 1 (settled_rows rows) ++ record { at = 1 + length (settled_rows rows); effect = Assays assay } ∷ [] =
+    ap (numbered 1) (filter_map-append (λ (s : StoredRow). settled s.effect) rows (stored ∷ [])) ∙ numbered_append 1 (settled_rows rows) (Assays assay ∷ []) in
+    rw (rows_are, declared_same rows stored refl, periods_more_of rows stored, assays_more rows stored)
+    (plain_more (declared_of rows) periods [] assays (numbered 1 (settled_rows rows)) (1 + length (settled_rows rows)) (Assays assay)
+    (declared_of rows) periods [] (assays ++ assay ∷ []) right again
+    accepted.in_range (may_again rows (Assays assay) right.declares accepted.may) (append-nil (declared_of rows)) refl refl refl)
+base_step rows at (Books fact late) right accepted = base_same rows (record { at = at; effect = Books fact late }) refl refl refl refl right
+base_step rows at (Edits id (edits.Change change) reason) right accepted = base_same rows (record { at = at; effect = Edits id (edits.Change change) reason }) refl refl refl refl right
+base_step rows at (Edits id edits.Strike reason) right accepted = base_same rows (record { at = at; effect = Edits id edits.Strike reason }) refl refl refl refl right
+base_step rows at (Closes name) right accepted = base_same rows (record { at = at; effect = Closes name }) refl refl refl (opened_closed name (periods_of rows)) right
 
 base : (rows : List StoredRow) → AreAccepted rows → IsBase rows
 base rows accepted =
-    by_accepted IsBase (record { accepted = none_accepted; declares = refl; spans = refl; has = refl })
+    by_accepted IsBase (record { accepted = none_accepted; declares = refl; spans = refl; has = refl; assayed = refl })
     (λ before stored right own. base_step before stored.at stored.effect right own) rows accepted
 
 -- ---- the live facts behind them
@@ -524,9 +567,9 @@ record AreAddable (declared : List Declared) (kept : List KeptFact) : Type 0 whe
   ranges : All (λ (k : KeptFact). IsInRange k.fact) kept
   in_tables : AreInTables declared kept
 
-live_fine : (declared : List Declared) (periods : List Period) (before : List KeptFact) (k : KeptFact) (rest : List KeptFact) → AreAddable declared (before ++ k ∷ rest)
-    → IsFine (version_of declared) declared (map live (live_facts before)) (map opened periods) (Books k.fact false)
-live_fine declared periods before k rest right =
+live_fine : (declared : List Declared) (periods : List Period) (assays : List Assay) (before : List KeptFact) (k : KeptFact) (rest : List KeptFact) → AreAddable declared (before ++ k ∷ rest)
+    → IsFine (version_of declared) declared (map live (live_facts before)) (map opened periods) assays (Books k.fact false)
+live_fine declared periods assays before k rest right =
     let own = own_of (λ (q : KeptFact). IsFactOf declared q.fact) before k rest right.well.facts in
     let inside = own_of (λ (q : KeptFact). is_outside_table declared q.fact ≡ false) before k rest right.in_tables in record {
       known = own.known;
@@ -542,40 +585,40 @@ live_fine declared periods before k rest right =
     above : length (map live (live_facts before)) < most_facts → is_full (map live (live_facts before)) ≡ false
     above lt = not_le most_facts (length (map live (live_facts before))) lt
 
-live_added : (declared : List Declared) (periods : List Period) (before rest : List KeptFact) (at : ℕ) (plain : List StoredRow) → AreAddable declared (before ++ rest)
-    → IsPlainSoFar declared periods (map live (live_facts before)) plain
-    → IsPlainSoFar declared periods (map live (live_facts (before ++ rest))) (plain ++ numbered at (map booked (live_facts rest)))
-live_added declared periods before [] at plain right so_far = rw (append-nil before, append-nil plain) so_far
-live_added declared periods before (k ∷ rest) at plain right so_far =
+live_added : (declared : List Declared) (periods : List Period) (assays : List Assay) (before rest : List KeptFact) (at : ℕ) (plain : List StoredRow) → AreAddable declared (before ++ rest)
+    → IsPlainSoFar declared periods (map live (live_facts before)) assays plain
+    → IsPlainSoFar declared periods (map live (live_facts (before ++ rest))) assays (plain ++ numbered at (map booked (live_facts rest)))
+live_added declared periods assays before [] at plain right so_far = rw (append-nil before, append-nil plain) so_far
+live_added declared periods assays before (k ∷ rest) at plain right so_far =
     let again : AreAddable declared ((before ++ k ∷ []) ++ rest) = subst (AreAddable declared) (sym (append_assoc before (k ∷ []) rest)) right in
-    by (λ n more is. live_added declared periods (before ++ k ∷ []) rest n more again is) k.struck refl
+    by (λ n more is. live_added declared periods assays (before ++ k ∷ []) rest n more again is) k.struck refl
   where
     split : (before ++ k ∷ []) ++ rest ≡ before ++ k ∷ rest
     split = append_assoc before (k ∷ []) rest
 
-    by : ((n : ℕ) (more : List StoredRow) → IsPlainSoFar declared periods (map live (live_facts (before ++ k ∷ []))) more
-        → IsPlainSoFar declared periods (map live (live_facts ((before ++ k ∷ []) ++ rest))) (more ++ numbered n (map booked (live_facts rest))))
+    by : ((n : ℕ) (more : List StoredRow) → IsPlainSoFar declared periods (map live (live_facts (before ++ k ∷ []))) assays more
+        → IsPlainSoFar declared periods (map live (live_facts ((before ++ k ∷ []) ++ rest))) assays (more ++ numbered n (map booked (live_facts rest))))
         → (b : Bool) → k.struck ≡ b
-        → IsPlainSoFar declared periods (map live (live_facts (before ++ k ∷ rest))) (plain ++ numbered at (map booked (live_facts (k ∷ rest))))
+        → IsPlainSoFar declared periods (map live (live_facts (before ++ k ∷ rest))) assays (plain ++ numbered at (map booked (live_facts (k ∷ rest))))
     by go_on true gone =
         let same : live_facts (before ++ k ∷ []) ≡ live_facts before = live_more before k ∙ rw gone (append-nil (live_facts before)) in
-        let next = go_on at plain (subst (λ (fs : List Fact). IsPlainSoFar declared periods (map live fs) plain) (sym same) so_far) in
-        let there = subst (λ (ks : List KeptFact). IsPlainSoFar declared periods (map live (live_facts ks)) (plain ++ numbered at (map booked (live_facts rest)))) split next in
+        let next = go_on at plain (subst (λ (fs : List Fact). IsPlainSoFar declared periods (map live fs) assays plain) (sym same) so_far) in
+        let there = subst (λ (ks : List KeptFact). IsPlainSoFar declared periods (map live (live_facts ks)) assays (plain ++ numbered at (map booked (live_facts rest)))) split next in
         let first : live_facts (k ∷ rest) ≡ live_facts rest = rw gone refl in
-        subst (λ (fs : List Fact). IsPlainSoFar declared periods (map live (live_facts (before ++ k ∷ rest))) (plain ++ numbered at (map booked fs))) (sym first) there
+        subst (λ (fs : List Fact). IsPlainSoFar declared periods (map live (live_facts (before ++ k ∷ rest))) assays (plain ++ numbered at (map booked fs))) (sym first) there
     by go_on false alive =
         let row : StoredRow = record { at = at; effect = Books k.fact false } in
         let same : map live (live_facts before) ++ live k.fact ∷ [] ≡ map live (live_facts (before ++ k ∷ [])) =
         sym (ap (map live) (live_more before k ∙ rw alive refl) ∙ map-append live (live_facts before) (k.fact ∷ [])) in
-        let more : IsPlainSoFar declared periods (map live (live_facts (before ++ k ∷ []))) (plain ++ row ∷ []) =
-        plain_more declared periods (map live (live_facts before)) plain at (Books k.fact false) declared periods (map live (live_facts (before ++ k ∷ []))) so_far
-        (live_fine declared periods before k rest right) (own_of (λ (q : KeptFact). IsInRange q.fact) before k rest right.ranges) refl (append-nil declared) refl same in
+        let more : IsPlainSoFar declared periods (map live (live_facts (before ++ k ∷ []))) assays (plain ++ row ∷ []) =
+        plain_more declared periods (map live (live_facts before)) assays plain at (Books k.fact false) declared periods (map live (live_facts (before ++ k ∷ []))) assays so_far
+        (live_fine declared periods assays before k rest right) (own_of (λ (q : KeptFact). IsInRange q.fact) before k rest right.ranges) refl (append-nil declared) refl same (append-nil assays) in
         let next = go_on (at + 1) (plain ++ row ∷ []) more in
         let rows = append_assoc plain (row ∷ []) (numbered (at + 1) (map booked (live_facts rest))) in
-        let there = subst (λ (ks : List KeptFact). IsPlainSoFar declared periods (map live (live_facts ks)) ((plain ++ row ∷ []) ++ numbered (at + 1) (map booked (live_facts rest)))) split next in
-        let all = subst (IsPlainSoFar declared periods (map live (live_facts (before ++ k ∷ rest)))) rows there in
+        let there = subst (λ (ks : List KeptFact). IsPlainSoFar declared periods (map live (live_facts ks)) assays ((plain ++ row ∷ []) ++ numbered (at + 1) (map booked (live_facts rest)))) split next in
+        let all = subst (IsPlainSoFar declared periods (map live (live_facts (before ++ k ∷ rest))) assays) rows there in
         let first : live_facts (k ∷ rest) ≡ k.fact ∷ live_facts rest = rw alive refl in
-        subst (λ (fs : List Fact). IsPlainSoFar declared periods (map live (live_facts (before ++ k ∷ rest))) (plain ++ numbered at (map booked fs))) (sym first) all
+        subst (λ (fs : List Fact). IsPlainSoFar declared periods (map live (live_facts (before ++ k ∷ rest))) assays (plain ++ numbered at (map booked fs))) (sym first) all
 
 -- ---- all
 
@@ -586,13 +629,14 @@ plain rows accepted =
     let sound = consistent rows accepted in
     let n = 1 + length (settled_rows rows) in
     let start = base rows accepted in
-    let all = live_added declared (periods_of rows) [] kept n (numbered 1 (settled_rows rows)) (record { well = well rows accepted; ranges = sound.ranges; in_tables = sound.in_tables }) start in
+    let all = live_added declared (periods_of rows) (assays_of rows) [] kept n (numbered 1 (settled_rows rows)) (record { well = well rows accepted; ranges = sound.ranges; in_tables = sound.in_tables }) start in
     let are : plain_stored rows ≡ numbered 1 (settled_rows rows) ++ numbered n (map booked (live_facts kept)) =
     numbered_append 1 (settled_rows rows) (map booked (live_facts kept)) in
     rw are (record {
       accepted = all.accepted;
       declared = all.declares;
       periods = all.spans;
+      assays = all.assayed;
       facts = all.has;
       same = ap live_facts all.has ∙ live_itself (live_facts kept);
     })

@@ -11,8 +11,9 @@ use Rattle.pb_site.specs.declared.declared.Declared.{Declared}
 use Rattle.pb_facts.specs.declared.fact.Fact.{Fact}
 use Rattle.pb_facts.specs.declared.facts.KeptFact.{KeptFact}
 use Rattle.pb_facts.specs.Facts.{live_at, live_fact}
+use Rattle.pb_kinds.specs.declared.rows.Assay.{Assay}
 use Rattle.pb_kinds.specs.declared.rows.Effect.{Effect}
-use Rattle.pb_kinds.specs.declared.rows.Effect.TheVariants.{Declares, Books}
+use Rattle.pb_kinds.specs.declared.rows.Effect.TheVariants.{Declares, Books, Assays}
 use Rattle.pb_book.specs.declared.rows.Edited.{Edited}
 use Rattle.pb_book.specs.declared.rows.Part.{Part}
 use Rattle.pb_book.specs.declared.rows.Part.TheVariants as part
@@ -41,7 +42,7 @@ adds old new effects (Some effect) so_far more = by more
     by : AddsRow old new effect → WriteRows new (effects ++ effect ∷ [])
     by (fields, one, is) = rw is (write_more old effects fields effect so_far one)
 
--- ---- the declarations and periods of a book, by their places
+-- ---- the declarations, periods and assays of a book, by their places
 
 settled_cons : (o : Option StoredRow) (rest : List StoredRow)
     → settled_rows (cons_option o rest) ≡ cons_option (option_and_then (λ (s : StoredRow). settled s.effect) o) (settled_rows rest)
@@ -59,20 +60,21 @@ none_given : {X : Type 0} (f : X → Effect) (at : ℕ) → ((x : X) → settled
 none_given f at is None = refl
 none_given f at is (Some x) = is x
 
-settled_place : (declared : List Declared) (told : ℕ → Option Fact) (spans : List Period) (edited : List Edited) (at : ℕ) (one : Part)
-    → option_and_then (λ (s : StoredRow). settled s.effect) (stored_at at (effect_in (shelves_of declared told spans edited) one)) ≡ settled_in declared spans one
-settled_place declared told spans edited at (part.Declared i) = given (λ (d : Declared). Declares d) at (λ d. refl) (slice_get declared i)
-settled_place declared told spans edited at (part.Opened i) = given opening at (λ p. refl) (slice_get spans i)
-settled_place declared told spans edited at (part.Booked i late) = none_given (λ (f : Fact). Books f late) at (λ f. refl) (told i)
-settled_place declared told spans edited at (part.Edited i) = none_given editing at (λ e. refl) (slice_get edited i)
-settled_place declared told spans edited at (part.Closed i) = none_given closing at (λ p. refl) (slice_get spans i)
+settled_place : (declared : List Declared) (told : ℕ → Option Fact) (spans : List Period) (edited : List Edited) (assays : List Assay) (at : ℕ) (one : Part)
+    → option_and_then (λ (s : StoredRow). settled s.effect) (stored_at at (effect_in (shelves_of declared told spans edited assays) one)) ≡ settled_in declared spans assays one
+settled_place declared told spans edited assays at (part.Declared i) = given (λ (d : Declared). Declares d) at (λ d. refl) (slice_get declared i)
+settled_place declared told spans edited assays at (part.Opened i) = given opening at (λ p. refl) (slice_get spans i)
+settled_place declared told spans edited assays at (part.Booked i late) = none_given (λ (f : Fact). Books f late) at (λ f. refl) (told i)
+settled_place declared told spans edited assays at (part.Edited i) = none_given editing at (λ e. refl) (slice_get edited i)
+settled_place declared told spans edited assays at (part.Closed i) = none_given closing at (λ p. refl) (slice_get spans i)
+settled_place declared told spans edited assays at (part.Assayed i) = given (λ (a : Assay). Assays a) at (λ a. refl) (slice_get assays i)
 
-pub settled_places : (declared : List Declared) (told : ℕ → Option Fact) (spans : List Period) (edited : List Edited) (places : List Place)
-    → settled_rows (rows_at (shelves_of declared told spans edited) places) ≡ settled_at declared spans places
-settled_places declared told spans edited [] = refl
-settled_places declared told spans edited (place ∷ places) =
-    settled_cons (row_at (shelves_of declared told spans edited) place) (rows_at (shelves_of declared told spans edited) places)
-    ∙ ap₂ cons_option (settled_place declared told spans edited place.at place.part) (settled_places declared told spans edited places)
+pub settled_places : (declared : List Declared) (told : ℕ → Option Fact) (spans : List Period) (edited : List Edited) (assays : List Assay) (places : List Place)
+    → settled_rows (rows_at (shelves_of declared told spans edited assays) places) ≡ settled_at declared spans assays places
+settled_places declared told spans edited assays [] = refl
+settled_places declared told spans edited assays (place ∷ places) =
+    settled_cons (row_at (shelves_of declared told spans edited assays) place) (rows_at (shelves_of declared told spans edited assays) places)
+    ∙ ap₂ cons_option (settled_place declared told spans edited assays place.at place.part) (settled_places declared told spans edited assays places)
 
 -- ---- one more of several
 
@@ -93,6 +95,6 @@ live_more kept i d lt =
     one None = refl
     one (Some f) = refl
 
-pub settled_more : (declared : List Declared) (periods : List Period) (places : List Place) (i : ℕ) (d : Place) → i < length places
-    → settled_at declared periods (take (suc i) places) ≡ settled_at declared periods (take i places) ++ cons_option (settled_in declared periods (get_or places i d).part) []
-settled_more declared periods places i d lt = take_more (λ (place : Place). settled_in declared periods place.part) places i d lt
+pub settled_more : (declared : List Declared) (periods : List Period) (assays : List Assay) (places : List Place) (i : ℕ) (d : Place) → i < length places
+    → settled_at declared periods assays (take (suc i) places) ≡ settled_at declared periods assays (take i places) ++ cons_option (settled_in declared periods assays (get_or places i d).part) []
+settled_more declared periods assays places i d lt = take_more (λ (place : Place). settled_in declared periods assays place.part) places i d lt

@@ -6,6 +6,7 @@ use Rattle.std.proofs.Math.Seq.{get_or-append_seam}
 use Rattle.pb_facts.specs.declared.facts.KeptFact.{KeptFact}
 use Rattle.pb_site.specs.declared.declared.Declared.{Declared}
 use Rattle.pb_site.specs.Site.{version_of}
+use Rattle.pb_kinds.specs.declared.rows.Assay.{Assay}
 use Rattle.pb_kinds.specs.declared.rows.Effect.{Effect}
 use Rattle.pb_book.specs.declared.rows.Period.{Period}
 use Rattle.pb_book.specs.declared.rows.Place.{Place}
@@ -52,9 +53,9 @@ no_row_last shelves places none = rw (none_last places none) refl
 
 -- ---- the periods that it takes out
 
-pub touched_by : (rows : List StoredRow) (declared : List Declared) (kept : List KeptFact) (periods : List Period) (i : ℕ) (period : Period) (row : StoredRow) (result : Bool)
-    → AreOf rows declared kept periods → slice_get periods i ≡ Some period → Some row ≡ last_row rows → result ≡ takes_out (touches_in (version_of declared) declared) kept row.effect period → result ≡ touched_at rows i
-touched_by rows declared kept periods i period row result right there last is = rw (← right.spans, there, ← last, ← right.facts, ← right.site) is
+pub touched_by : (rows : List StoredRow) (declared : List Declared) (kept : List KeptFact) (periods : List Period) (assays : List Assay) (i : ℕ) (period : Period) (row : StoredRow) (result : Bool)
+    → AreOf rows declared kept periods assays → slice_get periods i ≡ Some period → Some row ≡ last_row rows → result ≡ takes_out (touches_in (version_of declared) declared) kept row.effect period → result ≡ touched_at rows i
+touched_by rows declared kept periods assays i period row result right there last is = rw (← right.spans, there, ← last, ← right.facts, ← right.site) is
 
 pub touched_by_none : (rows : List StoredRow) (i : ℕ) → None ≡ last_row rows → false ≡ touched_at rows i
 touched_by_none rows i none = rw (← none) (by (slice_get (periods_of rows) i))

@@ -1,12 +1,13 @@
 -- Statement. Laws of the book.
 use Rattle.std.specs.Prelude.{◌≡◌, ℕ, List, [], All}
 use Rattle.pb_kinds.specs.Costs.{IsMeterCost, named_costs}
-use Rattle.pb_book.specs.declared.answer.Accepted.TheVariants.{Advise}
+use Rattle.pb_book.specs.declared.answer.Accepted.TheVariants.{Advise, Window}
 use Rattle.pb_book.specs.declared.rows.StoredRow.{StoredRow}
 use Rattle.pb_book.specs.Accepted.{AreAccepted, AreConsistent}
 use Rattle.pb_book.specs.Answer.{Says, after, answer_of}
 use Rattle.pb_book.specs.Costs.{meter_costs}
 use Rattle.pb_book.specs.Rows.{declared_of, facts_of, periods_of}
+use Rattle.pb_book.specs.Windows.{IsWindowAsked}
 
 -- the rows of a session were accepted, whatever its records; and what follows of that
 pub record AcceptedLaw : Type 0 where
@@ -21,3 +22,10 @@ abbrev pub MeterCostsLaw : Type 0
 MeterCostsLaw =
     (rows : List StoredRow) (fields : List (List ℕ)) → answer_of rows fields ≡ Says Advise
     → All IsMeterCost (meter_costs (declared_of rows) (named_costs fields))
+
+-- A record that is accepted as one that asks for a window asks for one between periods that there are, and that there is no cause to
+-- refuse.
+abbrev pub AskedWindowLaw : Type 0
+AskedWindowLaw =
+    (rows : List StoredRow) (fields : List (List ℕ)) (first last : ℕ) → answer_of rows fields ≡ Says (Window first last)
+    → IsWindowAsked rows first last

@@ -4,9 +4,11 @@ pub mod Rows
 pub mod Touching
 pub mod TakenOut
 pub mod Edits
+pub mod Assays
 pub mod Ranges
 pub mod Refusals
 pub mod Costs
+pub mod Windows
 pub mod Answer
 pub mod VersionOne
 pub mod Accepted

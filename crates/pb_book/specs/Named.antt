@@ -1,6 +1,7 @@
 -- Statement. What stored rows declare: the names of units, tanks, streams and periods are names, and numbers lie in their ranges.
-use Rattle.std.specs.Prelude.{◌≡◌, ℕ, true, List, [], All}
+use Rattle.std.specs.Prelude.{◌≡◌, ℕ, true, List, [], All, IfSome}
 use Rattle.std.specs.List.{list_all}
+use Rattle.pb_assay.specs.Grade.{IsGrade}
 use Rattle.pb_rows.specs.Name.{is_name}
 use Rattle.pb_site.specs.declared.declared.Declared.{Declared}
 use Rattle.pb_site.specs.Row.{IsInRange}
@@ -8,8 +9,10 @@ use Rattle.pb_site.specs.Site.{arc_names, node_names}
 use Rattle.pb_kinds.specs.Effects.{effect_names}
 use Rattle.pb_book.specs.declared.rows.Period.{Period}
 use Rattle.pb_book.specs.declared.rows.StoredRow.{StoredRow}
+use Rattle.pb_book.specs.declared.answer.Accepted.TheVariants.{Component}
 use Rattle.pb_book.specs.Accepted.{AreAccepted}
-use Rattle.pb_book.specs.Answer.{after}
+use Rattle.pb_book.specs.Answer.{Says, after, answer_of}
+use Rattle.pb_book.specs.Assays.{grade_of}
 use Rattle.pb_book.specs.Rows.{declared_of, periods_of}
 
 -- the names in each stored row are names
@@ -27,6 +30,14 @@ pub record NamedLaw : Type 0 where
   pub begin : HaveNames []
   pub go_on : (rows : List StoredRow) (at : ℕ) (fields : List (List ℕ)) → HaveNames rows → HaveNames (after rows at fields)
   pub named : (rows : List StoredRow) → HaveNames rows → AreNamed rows
+  pub component : (rows : List StoredRow) (fields : List (List ℕ)) (component : List ℕ) (period : ℕ) → HaveNames rows
+      → answer_of rows fields ≡ Says (Component component period) → is_name component ≡ true
+
+-- each grade that accepted rows give is within its limits
+abbrev pub GradesLaw : Type 0
+GradesLaw =
+    (rows : List StoredRow) (component period stream : List ℕ) → AreAccepted rows
+    → IfSome (grade_of rows component period stream) IsGrade
 
 -- the numbers that accepted rows declare lie in their ranges
 abbrev pub RangesLaw : Type 0

@@ -3,19 +3,21 @@ use Rattle.std.specs.Prelude.{◌≡◌, ℕ, ◌+◌, false, List, [], ◌∷�
 use Rattle.pb_facts.specs.declared.fact.Fact.{Fact}
 use Rattle.pb_facts.specs.Facts.{live_facts}
 use Rattle.pb_kinds.specs.declared.rows.Effect.{Effect}
-use Rattle.pb_kinds.specs.declared.rows.Effect.TheVariants.{Declares, Opens, Books}
+use Rattle.pb_kinds.specs.declared.rows.Effect.TheVariants.{Declares, Opens, Books, Assays}
 use Rattle.pb_book.specs.declared.rows.Period.{Period}
 use Rattle.pb_book.specs.declared.rows.StoredRow.{StoredRow}
 use Rattle.pb_book.specs.Accepted.{AreAccepted}
+use Rattle.pb_book.specs.Assays.{assays_of}
 use Rattle.pb_book.specs.Rows.{declared_of, facts_of, live, open_period, periods_of}
 
--- a row that declares something, or a period
+-- a row that declares something, or a period, or gives an assay
 abbrev pub settled : Effect → Option Effect
 settled (Declares declared) = Some (Declares declared)
 settled (Opens name first last) = Some (Opens name first last)
+settled (Assays assay) = Some (Assays assay)
 settled effect = None
 
--- the declarations, periods and critical values, in order
+-- the declarations, periods, critical values and assays, in order
 abbrev pub settled_rows : List StoredRow → List Effect
 settled_rows rows = filter_map (λ (stored : StoredRow). settled stored.effect) rows
 
@@ -23,7 +25,7 @@ settled_rows rows = filter_map (λ (stored : StoredRow). settled stored.effect) 
 abbrev pub booked : Fact → Effect
 booked fact = Books fact false
 
--- The plain rows: the declarations, periods and critical values in order, and then the live facts with their last values.
+-- The plain rows: the declarations, periods, critical values and assays in order, and then the live facts with their last values.
 abbrev pub plain_rows : List StoredRow → List Effect
 plain_rows rows = settled_rows rows ++ map booked (live_facts (facts_of rows))
 
@@ -41,11 +43,12 @@ abbrev pub opened : Period → Period
 opened period = open_period period.name period.first period.last
 
 -- The plain rows were accepted one behind the other: none is refused. They declare the same plant and the same periods,
--- but for their being closed, and their facts are the live ones.
+-- but for their being closed, give the same assays, and their facts are the live ones.
 pub record ArePlain (rows plain : List StoredRow) : Type 0 where
   pub accepted : AreAccepted plain
   pub declared : declared_of plain ≡ declared_of rows
   pub periods : periods_of plain ≡ map opened (periods_of rows)
+  pub assays : assays_of plain ≡ assays_of rows
   pub facts : facts_of plain ≡ map live (live_facts (facts_of rows))
   pub same : live_facts (facts_of plain) ≡ live_facts (facts_of rows)
 

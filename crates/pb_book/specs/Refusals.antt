@@ -1,5 +1,5 @@
 -- Statement. When a row is refused, behind the rows stored before it: one condition for each cause, in the order in
--- which they are asked. A condition takes what is declared, the facts and the periods, where it asks for them.
+-- which they are asked. A condition takes what is declared, the facts, the periods and the assays, where it asks for them.
 use Rattle.std.specs.Prelude.{ℕ, pos, ◌-ℤ◌, Bool, true, false, not, ◌||◌, ◌&&◌, nat_le, int_le, int_lt, List, length, Option, Some, None, if◌then◌else◌, is_none, option_and_then}
 use Rattle.std.specs.List.{list_any}
 use Rattle.pb_limits.specs.Limits.{most_days_of_period, most_periods}
@@ -12,8 +12,8 @@ use Rattle.pb_site.specs.declared.declared.Declared.TheVariants.{Version2, Tank 
 use Rattle.pb_site.specs.declared.declared.Service.{Service}
 use Rattle.pb_site.specs.declared.declared.Version.{Version}
 use Rattle.pb_site.specs.declared.declared.Version.TheVariants.{One, Two}
-use Rattle.pb_site.specs.Service.{is_eve, is_in_service_on, is_in_service_throughout}
-use Rattle.pb_site.specs.Site.{kind_of, table_of, version_of}
+use Rattle.pb_site.specs.Service.{is_eve, is_in_service_on, is_in_service_throughout, is_in_service_within}
+use Rattle.pb_site.specs.Site.{kind_of, service_in, table_of, version_of}
 use Rattle.pb_site.specs.Faults.{is_unknown as is_unknown_declared, is_duplicate as is_duplicate_declared, is_out_of_order as is_out_of_order_declared, is_mismatch as is_mismatch_declared, is_full as is_full_declared}
 use Rattle.pb_facts.specs.declared.fact.Change.{Change}
 use Rattle.pb_facts.specs.declared.fact.Fact.{Fact}
@@ -22,14 +22,17 @@ use Rattle.pb_facts.specs.declared.facts.KeptFact.{KeptFact}
 use Rattle.pb_facts.specs.Fact.{is_out_of_order as is_out_of_order_fact, is_too_long}
 use Rattle.pb_facts.specs.Changes.{changed, fits}
 use Rattle.pb_facts.specs.Facts.{is_duplicate as is_duplicate_fact, is_full as is_full_fact, is_live_with}
+use Rattle.pb_kinds.specs.Ranges.{most_assays}
+use Rattle.pb_kinds.specs.declared.rows.Assay.{Assay}
 use Rattle.pb_kinds.specs.declared.rows.Edit.TheVariants as edits
 use Rattle.pb_kinds.specs.declared.rows.Effect.{Effect}
-use Rattle.pb_kinds.specs.declared.rows.Effect.TheVariants.{Declares, Opens, Books, Edits, Closes}
+use Rattle.pb_kinds.specs.declared.rows.Effect.TheVariants.{Declares, Opens, Books, Edits, Closes, Assays}
 use Rattle.pb_book.specs.declared.answer.Refused.{Refused}
 use Rattle.pb_book.specs.declared.answer.Refused.TheVariants.{Unknown, Duplicate, Order, Mismatch, Sealed, Closed, Range, Full}
 use Rattle.pb_book.specs.declared.rows.Period.{Period}
 use Rattle.pb_book.specs.declared.rows.StoredRow.{StoredRow}
 use Rattle.pb_book.specs.Apart.{is_named, shares_a_day}
+use Rattle.pb_book.specs.Assays.{assays_of, is_assay_of}
 use Rattle.pb_book.specs.Rows.{declared_of, facts_of, periods_of}
 use Rattle.pb_book.specs.Touching.{is_closed_in_service, service_of, some_closed, touches_closed, touches_in}
 
@@ -47,22 +50,28 @@ names_other (Dip id tank day mm density variance) (Some kind) = true
 names_other fact (Some Tank) = true
 names_other fact (Some kind) = false
 
--- Unknown: a fact of a stream, or of a tank, that isn't declared; what a declaration doesn't find; no live fact of
+-- no stream or tank of this name is declared
+abbrev pub is_no_arc : List Declared → List ℕ → Bool
+is_no_arc declared name = is_none (kind_of declared name)
+
+-- Unknown: a fact or an assay of a stream, or of a tank, that isn't declared; what a declaration doesn't find; no live fact of
 -- the id, or no period of the name
 abbrev pub is_unknown : List Declared → List KeptFact → List Period → Effect → Bool
 is_unknown declared kept periods (Declares row) = is_unknown_declared declared row
 is_unknown declared kept periods (Books fact late) = names_other fact (kind_of_fact declared fact)
 is_unknown declared kept periods (Edits id edit reason) = not (list_any (is_live_with id) kept)
 is_unknown declared kept periods (Closes name) = not (list_any (is_named name) periods)
+is_unknown declared kept periods (Assays assay) = is_no_arc declared assay.stream || not (list_any (is_named assay.period) periods)
 is_unknown declared kept periods effect = false
 
--- Duplicate: a name that is taken, such a critical value, the id of an accepted fact, or a day that has its
--- reading or dip
-abbrev pub is_duplicate : List Declared → List KeptFact → List Period → Effect → Bool
-is_duplicate declared kept periods (Declares row) = is_duplicate_declared declared row
-is_duplicate declared kept periods (Opens name first last) = list_any (is_named name) periods
-is_duplicate declared kept periods (Books fact late) = is_duplicate_fact kept fact
-is_duplicate declared kept periods effect = false
+-- Duplicate: a name that is taken, such a critical value, the id of an accepted fact, a day that has its reading or dip, or a
+-- component, stream and period that have their assay
+abbrev pub is_duplicate : List Declared → List KeptFact → List Period → List Assay → Effect → Bool
+is_duplicate declared kept periods assays (Declares row) = is_duplicate_declared declared row
+is_duplicate declared kept periods assays (Opens name first last) = list_any (is_named name) periods
+is_duplicate declared kept periods assays (Books fact late) = is_duplicate_fact kept fact
+is_duplicate declared kept periods assays (Assays assay) = list_any (is_assay_of assay.component assay.period assay.stream) assays
+is_duplicate declared kept periods assays effect = false
 
 -- Order: a table that doesn't rise, or a first day after the last one
 abbrev pub is_out_of_order : List Declared → Effect → Bool
@@ -123,11 +132,12 @@ is_sealed version periods effect = false
 abbrev pub is_closed_named : List ℕ → Period → Bool
 is_closed_named name period = period.closed && is_named name period
 
--- Closed: a fact that touches a closed period and doesn't come as a late one; a second closing
+-- Closed: a fact that touches a closed period and doesn't come as a late one; a second closing; an assay over a closed period
 abbrev pub is_closed : Version → List Declared → List Period → Effect → Bool
 is_closed version declared periods (Books fact late) =
     not late && list_any (touches_closed (touches_in version declared) fact) periods
 is_closed version declared periods (Closes name) = list_any (is_closed_named name) periods
+is_closed version declared periods (Assays assay) = list_any (is_closed_named assay.period) periods
 is_closed version declared periods effect = false
 
 -- a dip whose level is outside the table of its tank
@@ -148,38 +158,46 @@ is_out_of_service service (Reading id stream day grams variance) = not (is_in_se
 is_out_of_service service (Transfer id stream first last grams variance) = not (is_in_service_throughout service first last)
 is_out_of_service service (Dip id tank day mm density variance) = not (is_in_service_on service day || is_eve service day)
 
+-- a period of this name on no day of which a stream or a tank of this service is in service
+abbrev pub is_unserved_in : Option Service → List ℕ → Period → Bool
+is_unserved_in service name period = is_named name period && not (is_in_service_within service period.first period.last)
+
 -- Range: a period of more than 100 days, a fact of a day out of service, a transfer of more than 366 days, a level outside the tank's
--- table
-abbrev pub is_out_of_range : Version → List Declared → List KeptFact → Effect → Bool
-is_out_of_range version declared kept (Opens name first last) =
+-- table, an assay over a period without a day in service
+abbrev pub is_out_of_range : Version → List Declared → List KeptFact → List Period → Effect → Bool
+is_out_of_range version declared kept periods (Opens name first last) =
     int_le (pos most_days_of_period) (last -ℤ first)
-is_out_of_range version declared kept (Books fact late) =
+is_out_of_range version declared kept periods (Books fact late) =
     is_out_of_service (service_of version declared fact) fact || (is_too_long fact || is_outside_table declared fact)
-is_out_of_range version declared kept (Edits id (edits.Change change) reason) =
+is_out_of_range version declared kept periods (Edits id (edits.Change change) reason) =
     list_any (is_moved_outside declared id change) kept
-is_out_of_range version declared kept effect = false
+is_out_of_range version declared kept periods (Assays assay) =
+    list_any (is_unserved_in (service_in version declared assay.stream) assay.period) periods
+is_out_of_range version declared kept periods effect = false
 
 -- Full: as many as there may be
-abbrev pub is_full : Version → List Declared → List KeptFact → List Period → Effect → Bool
-is_full version declared kept periods (Declares row) = is_full_declared version declared row
-is_full version declared kept periods (Opens name first last) = nat_le most_periods (length periods)
-is_full version declared kept periods (Books fact late) = is_full_fact kept
-is_full version declared kept periods effect = false
+abbrev pub is_full : Version → List Declared → List KeptFact → List Period → List Assay → Effect → Bool
+is_full version declared kept periods assays (Declares row) = is_full_declared version declared row
+is_full version declared kept periods assays (Opens name first last) = nat_le most_periods (length periods)
+is_full version declared kept periods assays (Books fact late) = is_full_fact kept
+is_full version declared kept periods assays (Assays assay) = nat_le most_assays (length assays)
+is_full version declared kept periods assays effect = false
 
--- The first of these causes that holds of a row of a session of a version, behind what is declared, the facts and the periods.
-abbrev pub refusal_behind : Version → List Declared → List KeptFact → List Period → Effect → Option Refused
-refusal_behind version declared kept periods effect =
+-- The first of these causes that holds of a row of a session of a version, behind what is declared, the facts, the periods and the
+-- assays.
+abbrev pub refusal_behind : Version → List Declared → List KeptFact → List Period → List Assay → Effect → Option Refused
+refusal_behind version declared kept periods assays effect =
     if is_unknown declared kept periods effect then Some Unknown
-    else if is_duplicate declared kept periods effect then Some Duplicate
+    else if is_duplicate declared kept periods assays effect then Some Duplicate
     else if is_out_of_order declared effect then Some Order
     else if is_mismatch declared kept periods effect then Some Mismatch
     else if is_sealed version periods effect then Some Sealed
     else if is_closed version declared periods effect then Some Closed
-    else if is_out_of_range version declared kept effect then Some Range
-    else if is_full version declared kept periods effect then Some Full
+    else if is_out_of_range version declared kept periods effect then Some Range
+    else if is_full version declared kept periods assays effect then Some Full
     else None
 
 -- The first cause to refuse a row behind the stored ones.
 abbrev pub refusal_of : List StoredRow → Effect → Option Refused
 refusal_of rows effect =
-    refusal_behind (version_of (declared_of rows)) (declared_of rows) (facts_of rows) (periods_of rows) effect
+    refusal_behind (version_of (declared_of rows)) (declared_of rows) (facts_of rows) (periods_of rows) (assays_of rows) effect

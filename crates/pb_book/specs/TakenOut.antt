@@ -6,7 +6,7 @@ use Rattle.pb_facts.specs.declared.facts.KeptFact.{KeptFact}
 use Rattle.pb_facts.specs.declared.fact.Fact.{Fact}
 use Rattle.pb_site.specs.Site.{version_of}
 use Rattle.pb_kinds.specs.declared.rows.Effect.{Effect}
-use Rattle.pb_kinds.specs.declared.rows.Effect.TheVariants.{Declares, Opens, Books, Edits, Closes}
+use Rattle.pb_kinds.specs.declared.rows.Effect.TheVariants.{Declares, Opens, Books, Edits, Closes, Assays}
 use Rattle.pb_book.specs.declared.rows.Period.{Period}
 use Rattle.pb_book.specs.declared.rows.StoredRow.{StoredRow}
 use Rattle.pb_book.specs.Rows.{declared_of, facts_after, facts_of, periods_after, periods_of, with_row}
@@ -21,7 +21,7 @@ abbrev pub touches_by_id : (Fact → Period → Bool) → List KeptFact → List
 touches_by_id touching kept id period =
     option_map_or (λ (k : KeptFact). touching k.fact period) (find (has_id id) kept) false
 
--- A stored row takes out a period: a declaration, a critical value among them, every one; a period and a closing none; a fact,
+-- A stored row takes out a period: a declaration, a critical value among them, every one; a period, a closing and an assay none; a fact,
 -- as it comes or late, each that it touches; a change and a strike each that their fact touches.
 abbrev pub takes_out : (Fact → Period → Bool) → List KeptFact → Effect → Period → Bool
 takes_out touching kept (Declares declared) period = true
@@ -29,6 +29,7 @@ takes_out touching kept (Opens name first last) period = false
 takes_out touching kept (Books fact late) period = touching fact period
 takes_out touching kept (Edits id edit reason) period = touches_by_id touching kept id period
 takes_out touching kept (Closes name) period = false
+takes_out touching kept (Assays assay) period = false
 
 -- the row that was stored last
 abbrev pub last_row : List StoredRow → Option StoredRow

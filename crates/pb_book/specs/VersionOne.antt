@@ -14,12 +14,13 @@ use Rattle.pb_kinds.specs.Requests.{request_in}
 use Rattle.pb_book.specs.declared.answer.Refused.{Refused as Refusal}
 use Rattle.pb_book.specs.declared.rows.StoredRow.{StoredRow}
 use Rattle.pb_book.specs.Answer.{Answer, Refused, Stored, answer_of, answer_to, cause_of, stored_or_refused}
+use Rattle.pb_book.specs.Assays.{assays_of}
 use Rattle.pb_book.specs.Refusals.{refusal_behind}
 use Rattle.pb_book.specs.Rows.{declared_of, facts_of, periods_of}
 
 -- the first cause to refuse a row, as in a session of version 1
 abbrev pub first_refusal_of : List StoredRow → Effect → Option Refusal
-first_refusal_of rows effect = refusal_behind One (declared_of rows) (facts_of rows) (periods_of rows) effect
+first_refusal_of rows effect = refusal_behind One (declared_of rows) (facts_of rows) (periods_of rows) (assays_of rows) effect
 
 -- the answer to a request, or to a record that has a fault, as in a session of version 1
 abbrev pub first_answer_to : List StoredRow → List NamedCost → Request → Answer

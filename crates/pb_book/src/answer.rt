@@ -4,6 +4,7 @@ ghost use Rattle.std.specs.Prelude.{◌≡◌, ◌≤◌};
 ghost use Rattle.pb_book.specs.Answer.{code_of};
 
 use pb_form::FormFault;
+use pb_rows::Name;
 use std::alloc::AllocError;
 
 /// What the book did with a record that it accepted.
@@ -21,6 +22,10 @@ pub enum Accepted {
     History(u32),
     /// The cheapest metering of the declared plant is asked for, at the costs that the record names.
     Advise,
+    /// A window is asked for, from the period at the one place to the period at the other.
+    Window { first: u32, last: u32 },
+    /// The balance of a component over the period at this place is asked for; some assay is of the component over that period.
+    Component { component: Name, period: u32 },
 }
 
 /// Why a record is refused, in the order in which the causes are asked for.
@@ -38,7 +43,7 @@ pub enum Refused {
     Date,
     /// A name isn't declared.
     Unknown,
-    /// A name, id, day or critical value is there already.
+    /// A name, id, day, critical value or assay is there already.
     Duplicate,
     /// A level or volume that falls, or a first day after the last.
     Order,
@@ -46,9 +51,9 @@ pub enum Refused {
     Mismatch,
     /// A unit, a tank, a point of a table or a stream, once some period is closed.
     Sealed,
-    /// A fact that touches a closed period, or a second closing.
+    /// A fact that touches a closed period, a second closing, or an assay over a closed period.
     Closed,
-    /// A period or transfer that is too long, or a level outside the tank's table.
+    /// A period or transfer that is too long, a level outside the tank's table, or a fact or an assay of days out of service.
     Range,
     /// As many as there may be.
     Full,

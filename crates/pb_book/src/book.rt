@@ -1,21 +1,23 @@
 // The book of accepted rows.
 
-ghost use Rattle.std.specs.Prelude.{◌≡◌, ◌≢◌, ◌<◌, ◌≤◌, [], length, All, Err, Ok, IfOk, OnOk, OnErr, slice_get, Some, false, true};
-ghost use Rattle.pb_limits.specs.Limits.{most_periods};
+ghost use Rattle.std.specs.Prelude.{◌≡◌, ◌≢◌, ◌<◌, ◌≤◌, [], length, map, All, Err, Ok, IfOk, IfSome, OnOk, OnErr, slice_get, Some, false, true};
+ghost use Rattle.pb_limits.specs.Limits.{most_periods, most_periods_of_window};
+ghost use Rattle.pb_assay.specs.Grade.{IsGrade};
 ghost use Rattle.pb_site.specs.Site.{version_of};
 ghost use Rattle.pb_site.specs.declared.declared.Version.TheVariants.{One};
 ghost use Rattle.pb_facts.specs.Facts.{NoRepeats};
-ghost use Rattle.pb_kinds.specs.declared.rows.Effect.TheVariants.{Books, Closes, Declares, Edits, Opens};
+ghost use Rattle.pb_kinds.specs.declared.rows.Effect.TheVariants.{Assays as AssaysEffect, Books, Closes, Declares, Edits, Opens};
 ghost use Rattle.pb_kinds.specs.declared.rows.Request.TheVariants.{Advise as AskedAdvise};
 ghost use Rattle.pb_kinds.specs.Costs.{IsMeterCost, named_costs};
-ghost use Rattle.pb_kinds.specs.Ranges.{IsEffectInRange, IsRequestInRange};
+ghost use Rattle.pb_kinds.specs.Ranges.{IsEffectInRange, IsRequestInRange, most_assays};
 ghost use Rattle.pb_kinds.specs.Requests.{request_in};
 ghost use Rattle.pb_kinds.specs.Versions.{may_ask, may_do};
 ghost use Rattle.pb_book.specs.declared.answer.Accepted.TheVariants.{Advise, Stored};
 ghost use Rattle.pb_book.specs.declared.answer.NotAccepted.TheVariants.{NoMemory};
 ghost use Rattle.pb_book.specs.Accepted.{AreAccepted, AreInTables, IsAcceptable};
-ghost use Rattle.pb_book.specs.Answer.{Says, advise_or_refused, after, after_answer, answer_of, answer_to, said_of, stored_or_refused};
+ghost use Rattle.pb_book.specs.Answer.{Says, advise_or_refused, after, after_answer, answer_of, answer_to, component_or_refused, said_of, stored_or_refused, window_or_refused, window_unless};
 ghost use Rattle.pb_book.specs.Apart.{AreApart};
+ghost use Rattle.pb_book.specs.Assays.{assays_of, grade_of, has_assay};
 ghost use Rattle.pb_book.specs.Costs.{meter_costs, refusal_of_costs};
 ghost use Rattle.pb_book.specs.Edits.{edit_touches, edits_of, touches_at};
 ghost use Rattle.pb_book.specs.Plain.{plain_rows};
@@ -25,9 +27,13 @@ ghost use Rattle.pb_book.specs.Rows.{declared_of, facts_of, period_place, period
 ghost use Rattle.pb_book.specs.Touching.{touches_in};
 ghost use Rattle.pb_book.specs.TakenOut.{last_row, takes_out, touched_at, touches_by_id};
 ghost use Rattle.pb_book.specs.VersionOne.{first_answer_of, says_version};
+ghost use Rattle.pb_book.specs.Windows.{ArePlacesBetween, HavePlaceNames, IsWindowAsked, IsWindowBetween, refusal_of_window};
 ghost use Rattle.pb_book.specs.Written.{WriteRows};
+ghost use Rattle.pb_window.specs.Codes.{AreWindowNames};
+ghost use Rattle.pb_window.specs.Window.{IsWindow};
 
 use crate::answer::{Accepted, NotAccepted, Refused};
+use crate::assays::Assays;
 use crate::costs::{judge_costs, meter_costs};
 use crate::judge::judge;
 use crate::originals::keep_original;
@@ -36,10 +42,13 @@ use crate::plain::plain_records;
 use crate::rows::{Edited, Part, Period, Place, StoredRow};
 use crate::shelves::row_at;
 use crate::touching::touches_in;
+use crate::windows::{judge_window, places_between, window_over};
+use pb_assay::Grade;
 use pb_facts::{Fact, Facts};
-use pb_kinds::{Edit, Effect, NamedCosts, Request, read_request};
+use pb_kinds::{Assay, Edit, Effect, NamedCosts, Request, read_request};
 use pb_rows::{Name, Reason, Row, Rows};
 use pb_site::{Declared, Site, Version};
+use pb_window::Window;
 use std::alloc::{AllocError, Global};
 use std::collections::HashMap;
 use std::marker::Model;
@@ -55,6 +64,7 @@ pub struct Book {
     facts: Facts,
     originals: HashMap<u32, Fact>,
     periods: Periods,
+    assays: Assays,
 }
 
 impl Model for Book {
@@ -65,11 +75,12 @@ impl Model for Book {
     ghost Value = { List StoredRow };
 
     ghost view = { λ a.
-        rows_at (shelves_of a.site (told_at a.facts a.originals) a.periods a.edited.items)
+        rows_at (shelves_of a.site (told_at a.facts a.originals) a.periods a.edited.items a.assays)
         a.places.items };
 
     ghost invariant = { λ a.
-        IsKept (shelves_of a.site (told_at a.facts a.originals) a.periods a.edited.items)
+        IsKept
+        (shelves_of a.site (told_at a.facts a.originals) a.periods a.edited.items a.assays)
         a.facts a.places.items a.edits.items };
 }
 
@@ -86,11 +97,12 @@ impl Book {
             facts: Facts::new(alloc),
             originals: HashMap::new(alloc),
             periods: Periods::new(alloc),
+            assays: Assays::new(alloc),
         }
     }
 
     /// Takes the record with the number `at`, counted from 1: it is refused with the first cause that holds, or it joins the
-    /// book, or it asks for a design, a report, a history or an advice. After a refusal the book is as it was. After a row was stored no
+    /// book, or it asks for a design, a report, a history, an advice or a balance. After a refusal the book is as it was. After a row was stored no
     /// two facts have one id. Unless a row says that the session is of version 2, the answer is that of version 1.
     pub fn accept(&mut self, at: u32, row: &Row) -> Result<Accepted, NotAccepted>
         ensures answer { result ≢ Err NoMemory → result ≡ said_of (answer_of self.old row.now) }
@@ -180,6 +192,7 @@ impl Book {
                 &self.originals,
                 &self.periods,
                 &self.edited,
+                &self.assays,
                 place,
             ),
             None => None,
@@ -225,7 +238,78 @@ impl Book {
         meter_costs(alloc, self.site(), &NamedCosts::of(row))
     }
 
-    /// The plain rows as records: the declarations, periods and critical values in order, and then the live facts with
+    /// The number of assays.
+    pub fn assays(&self) -> u32
+        ensures value { result ≡ length (assays_of self.now) }
+        ensures within { length (assays_of self.now) ≤ most_assays }
+    {
+        self.assays.len()
+    }
+
+    /// The assay at a place, counted from 0 in the order of the rows.
+    pub fn assay(&self, i: u32) -> Assay
+        requires { i < length (assays_of self.now) }
+        ensures value { slice_get (assays_of self.now) i ≡ Some result }
+        ensures grade { IsGrade result.grade }
+    {
+        self.assays.at(i)
+    }
+
+    /// The grade of a component over the period at a place in each of these streams and tanks, all by their names; `None` of one without
+    /// an assay. It takes one pass over the assays.
+    pub fn grades(
+        &self,
+        alloc: Global,
+        component: &Name,
+        period: u32,
+        streams: &[Name],
+    ) -> Result<Vec<Option<Grade>>, AllocError>
+        requires { period < length (periods_of self.now) }
+        ensures value { IfOk result (λ grades. IfSome (slice_get (periods_of self.now) period)
+            (λ p. grades.items ≡ map (grade_of self.now component.now p.name) streams.now)) }
+        ensures limits { IfOk result (λ grades. All (λ grade. IfSome grade IsGrade) grades.items) }
+    {
+        let name = self.periods.at(period).name;
+        self.assays.grades(alloc, component, &name, streams)
+    }
+
+    /// The places of the periods of a window that there is no cause to refuse, in order of days: from the period at one place to the
+    /// period at another.
+    pub fn periods_between(
+        &self,
+        alloc: Global,
+        first: u32,
+        last: u32,
+    ) -> Result<Vec<u32>, AllocError>
+        requires { IsWindowAsked self.now first last }
+        ensures value { IfOk result (λ places. ArePlacesBetween self.now first last places.items) }
+        ensures few { IfOk result (λ places. length places.items ≤ most_periods_of_window) }
+        ensures within { IfOk result (λ places.
+            All (λ place. place < length (periods_of self.now)) places.items) }
+    {
+        let (one, other) = (self.periods.at(first), self.periods.at(last));
+        match places_between(alloc, &self.periods, &one, &other)? {
+            Some(places) => Ok(places),
+            None => Ok(Vec::new(alloc)),
+        }
+    }
+
+    /// Such a window: its nodes and streams, without measurements.
+    pub fn window(&self, alloc: Global, first: u32, last: u32) -> Result<Window, AllocError>
+        requires { IsWindowAsked self.now first last }
+        ensures value { IfOk result (IsWindowBetween self.now first last) }
+        ensures form { IfOk result IsWindow }
+        ensures names { IfOk result AreWindowNames }
+        ensures there { IfOk result (HavePlaceNames self.now first last) }
+    {
+        let places = self.periods_between(alloc, first, last)?;
+        match window_over(alloc, &self.site, &self.periods, &places) {
+            Ok(window) => Ok(window),
+            Err(_) => Err(AllocError),
+        }
+    }
+
+    /// The plain rows as records: the declarations, periods, critical values and assays in order, and then the live facts with
     /// their last values. None of them is refused, and a report after them is the one after the book's rows. Refused
     /// alone when out of memory.
     pub fn plain(&self, alloc: Global) -> Result<Rows, AllocError>
@@ -235,6 +319,7 @@ impl Book {
             alloc,
             self.site.declared(),
             &self.periods,
+            &self.assays,
             &self.places,
             &self.facts,
         )
@@ -251,6 +336,7 @@ impl Book {
                 &self.originals,
                 &self.periods,
                 &self.edited,
+                &self.assays,
                 place,
             ),
             None => None,
@@ -282,6 +368,49 @@ impl Book {
                 None => Err(NotAccepted::Refused(Refused::Unknown)),
             },
             Request::Advise => self.advise(row),
+            Request::Window(first, last) => self.ask_window(first, last),
+            Request::Component(component, period) => self.component(component, period),
+        }
+    }
+
+    // Says whether there is a window from the period of one name to that of another.
+    fn ask_window(&self, first: &Name, last: &Name) -> Result<Accepted, NotAccepted>
+        ensures { result ≢ Err NoMemory → result ≡ said_of (window_or_refused self.now
+            (period_place self.now first.now) (period_place self.now last.now)) }
+    {
+        match (self.period_of(first), self.period_of(last)) {
+            (Some(first), Some(last)) => self.say_window(first, last),
+            _ => Err(NotAccepted::Refused(Refused::Unknown)),
+        }
+    }
+
+    // Says whether there is a cause to refuse the window from the period at one place to that at another.
+    fn say_window(&self, first: u32, last: u32) -> Result<Accepted, NotAccepted>
+        requires first { first < length (periods_of self.now) }
+        requires last { last < length (periods_of self.now) }
+        ensures { result ≢ Err NoMemory → result
+            ≡ said_of (window_unless first last (refusal_of_window self.now first last)) }
+    {
+        let alloc = *self.places.allocator();
+        let (one, other) = (self.periods.at(first), self.periods.at(last));
+        match judge_window(alloc, &self.site, &self.periods, &one, &other)? {
+            Some(cause) => Err(NotAccepted::from(cause)),
+            None => Ok(Accepted::Window { first, last }),
+        }
+    }
+
+    // Says whether some assay is of a component over the period of a name.
+    fn component(&self, component: &Name, period: &Name) -> Result<Accepted, NotAccepted>
+        ensures { result ≡ said_of (component_or_refused component.now
+            (has_assay self.now component.now period.now) (period_place self.now period.now)) }
+    {
+        let assayed = self.assays.has_over(component, period);
+        match self.period_of(period) {
+            Some(period) if assayed => Ok(Accepted::Component {
+                component: *component,
+                period,
+            }),
+            _ => Err(NotAccepted::Refused(Refused::Unknown)),
         }
     }
 
@@ -310,7 +439,7 @@ impl Book {
         ensures unchanged { result ≡ Err NoMemory → self.new ≡ self.old }
         ensures no_repeats { result ≡ Ok Stored → NoRepeats (facts_of self.new) }
     {
-        match judge(&self.site, &self.facts, &self.periods, effect) {
+        match judge(&self.site, &self.facts, &self.periods, &self.assays, effect) {
             Some(cause) => Err(NotAccepted::Refused(cause)),
             None => {
                 self.add(at, effect)?;
@@ -337,6 +466,7 @@ impl Book {
             }
             Effect::Edits { id, edit, reason } => self.add_edit(at, id, edit, reason),
             Effect::Closes(name) => self.close(at, name),
+            Effect::Assays(assay) => self.add_assay(at, assay),
         }
     }
 
@@ -461,9 +591,21 @@ impl Book {
         self.places.push_reserved(Place { at, part });
         Ok(())
     }
+
+    fn add_assay(&mut self, at: u32, assay: &Assay) -> Result<(), AllocError>
+        requires { IsAcceptable self.old (AssaysEffect assay.now) }
+        ensures ok { OnOk result (self.new ≡ with_row self.old at (AssaysEffect assay.now)) }
+        ensures err { OnErr result (self.new ≡ self.old) }
+    {
+        self.places.reserve(1)?;
+        let part = Part::Assayed(self.assays.len());
+        self.assays.push(*assay)?;
+        self.places.push_reserved(Place { at, part });
+        Ok(())
+    }
 }
 
-// Whether a row takes out a period, by what it does; that a period begins or is closed takes out none.
+// Whether a row takes out a period, by what it does; that a period begins or is closed, or an assay is given, takes out none.
 fn takes_out(site: &Site, facts: &Facts, effect: &Effect, period: &Period) -> bool
     requires { IsPeriod period.now }
     ensures { result ≡ takes_out (touches_in (version_of site.now) site.now) facts.now effect.now
@@ -475,6 +617,7 @@ fn takes_out(site: &Site, facts: &Facts, effect: &Effect, period: &Period) -> bo
         Effect::Books { fact, .. } => touches_in(site, fact, period),
         Effect::Edits { id, .. } => touches_by_id(site, facts, id, period),
         Effect::Closes(_) => false,
+        Effect::Assays(_) => false,
     }
 }
 

@@ -7,16 +7,17 @@ ghost use Rattle.pb_facts.specs.Fact.{IsInRange};
 ghost use Rattle.pb_site.specs.declared.declared.ArcKind.{ArcKind};
 ghost use Rattle.pb_site.specs.declared.declared.Version.TheVariants.{One};
 ghost use Rattle.pb_site.specs.Site.{version_of};
-ghost use Rattle.pb_kinds.specs.declared.rows.Effect.TheVariants.{Books, Closes, Declares, Edits, Opens};
+ghost use Rattle.pb_kinds.specs.declared.rows.Effect.TheVariants.{Assays as AssaysEffect, Books, Closes, Declares, Edits, Opens};
 ghost use Rattle.pb_kinds.specs.Ranges.{IsEffectInRange};
 ghost use Rattle.pb_book.specs.Causes.{cause_of_change, cause_of_edit};
 ghost use Rattle.pb_book.specs.Refusals.{is_closed, is_of_other_kind, is_of_plant, is_out_of_service, is_outside_table, is_sealed_by, kind_of_fact, names_other, refusal_behind, serves_closed};
 
 use crate::answer::Refused;
+use crate::assays::Assays;
 use crate::periods::Periods;
 use crate::touching::service_of;
 use pb_facts::{Change, Fact, FactFault, Facts};
-use pb_kinds::{Edit, Effect};
+use pb_kinds::{Assay, Edit, Effect, MOST_ASSAYS};
 use pb_limits::{MOST_DAYS_OF_PERIOD, MOST_PERIODS};
 use pb_rows::Name;
 use pb_site::{
@@ -24,12 +25,18 @@ use pb_site::{
     is_in_service_throughout,
 };
 
-/// The first cause to refuse a row, after what is declared, the facts and the periods; `None` exactly if
+/// The first cause to refuse a row, after what is declared, the facts, the periods and the assays; `None` exactly if
 /// there is none.
-pub fn judge(site: &Site, facts: &Facts, periods: &Periods, effect: &Effect) -> Option<Refused>
+pub fn judge(
+    site: &Site,
+    facts: &Facts,
+    periods: &Periods,
+    assays: &Assays,
+    effect: &Effect,
+) -> Option<Refused>
     requires { IsEffectInRange effect.now }
     ensures { result ≡ refusal_behind (version_of site.now) site.now facts.now periods.now
-        effect.now }
+        assays.now effect.now }
 {
     match effect {
         Effect::Declares(declared) => judge_declaration(site, periods, declared),
@@ -37,13 +44,15 @@ pub fn judge(site: &Site, facts: &Facts, periods: &Periods, effect: &Effect) -> 
         Effect::Books { fact, late } => judge_fact(site, facts, periods, fact, *late),
         Effect::Edits { id, edit, .. } => judge_edit(site, facts, id, edit),
         Effect::Closes(name) => judge_closing(periods, name),
+        Effect::Assays(assay) => judge_assay(site, periods, assays, assay),
     }
 }
 
 // The first cause to refuse a declaration: that it comes too late for a closed period comes before that there are too many.
 fn judge_declaration(site: &Site, periods: &Periods, declared: &Declared) -> Option<Refused>
     ensures { result
-        ≡ refusal_behind (version_of site.now) site.now [] periods.now (Declares declared.now) }
+        ≡ refusal_behind (version_of site.now) site.now [] periods.now []
+        (Declares declared.now) }
 {
     let sealed = is_sealed(site.version(), periods, declared);
     match site.judge(declared) {
@@ -96,7 +105,7 @@ fn is_of_plant(declared: &Declared) -> bool
 
 // The first cause to refuse a period.
 fn judge_period(periods: &Periods, name: &Name, first: i32, last: i32) -> Option<Refused>
-    ensures { result ≡ refusal_behind One [] [] periods.now (Opens name.now first last) }
+    ensures { result ≡ refusal_behind One [] [] periods.now [] (Opens name.now first last) }
 {
     if periods.has_name(name) {
         Some(Refused::Duplicate)
@@ -122,7 +131,7 @@ fn judge_fact(
     late: bool,
 ) -> Option<Refused>
     requires { IsInRange fact.now }
-    ensures { result ≡ refusal_behind (version_of site.now) site.now facts.now periods.now
+    ensures { result ≡ refusal_behind (version_of site.now) site.now facts.now periods.now []
         (Books fact.now late) }
 {
     let kind = kind_of_fact(site, fact);
@@ -173,7 +182,7 @@ fn is_out_of_service(service: Option<Service>, fact: &Fact) -> bool
 // The first cause to refuse an edit of the fact of an id.
 fn judge_edit(site: &Site, facts: &Facts, id: &Name, edit: &Edit) -> Option<Refused>
     ensures { result
-        ≡ refusal_behind One site.now facts.now [] (Edits id.now edit.now []) }
+        ≡ refusal_behind One site.now facts.now [] [] (Edits id.now edit.now []) }
 {
     match facts.find(id) {
         Some(place) => cause_of_edit(site, &facts.kept(place).fact, edit),
@@ -206,12 +215,32 @@ fn cause_of_change(site: &Site, fact: &Fact, change: &Change) -> Option<Refused>
 
 // The first cause to refuse a closing.
 fn judge_closing(periods: &Periods, name: &Name) -> Option<Refused>
-    ensures { result ≡ refusal_behind One [] [] periods.now (Closes name.now) }
+    ensures { result ≡ refusal_behind One [] [] periods.now [] (Closes name.now) }
 {
     if !periods.has_name(name) {
         Some(Refused::Unknown)
     } else if periods.is_closed(name) {
         Some(Refused::Closed)
+    } else {
+        None
+    }
+}
+
+// The first cause to refuse an assay.
+fn judge_assay(site: &Site, periods: &Periods, assays: &Assays, assay: &Assay) -> Option<Refused>
+    ensures { result ≡ refusal_behind (version_of site.now) site.now [] periods.now assays.now
+        (AssaysEffect assay.now) }
+{
+    if site.kind_of(&assay.stream).is_none() || !periods.has_name(&assay.period) {
+        Some(Refused::Unknown)
+    } else if assays.has_like(assay) {
+        Some(Refused::Duplicate)
+    } else if periods.is_closed(&assay.period) {
+        Some(Refused::Closed)
+    } else if periods.is_unserved(site.service_of(&assay.stream), &assay.period) {
+        Some(Refused::Range)
+    } else if assays.len() as usize >= MOST_ASSAYS {
+        Some(Refused::Full)
     } else {
         None
     }

@@ -1,13 +1,15 @@
 // Laws of the book.
 
-ghost use Rattle.pb_book.specs.Laws.{AcceptedLaw, MeterCostsLaw};
+ghost use Rattle.pb_book.specs.Laws.{AcceptedLaw, AskedWindowLaw, MeterCostsLaw};
 ghost use Rattle.pb_book.specs.Live.{LiveLaw};
-ghost use Rattle.pb_book.specs.Named.{NamedLaw, RangesLaw};
+ghost use Rattle.pb_book.specs.Named.{GradesLaw, NamedLaw, RangesLaw};
 ghost use Rattle.pb_book.specs.Plain.{PlainLaw};
 ghost use Rattle.pb_book.specs.TakenOut.{TouchedLaw};
 ghost use Rattle.pb_book.specs.VersionOne.{VersionOneLaw};
+ghost use Rattle.pb_book.specs.Windows.{BookWindowsLaw};
 
 use pb_kinds::{named_costs_law, stored_law};
+use pb_window::{window_form_law, window_names_law, window_places_law};
 
 /// The law that the rows of a session were accepted one after the other, whatever its records; and that then no
 /// two periods share a name or a day, and each dip lies in its tank's table, which may have grown since.
@@ -34,7 +36,8 @@ pub fn touched_law()
     ensures { TouchedLaw }
 {}
 
-/// The law that the names of units, tanks, streams and periods in the rows of a session are names, whatever its records.
+/// The law that the names of units, tanks, streams and periods in the rows of a session are names, whatever its records, and that of a
+/// component whose balance is answered.
 pub fn named_law()
     ensures { NamedLaw }
 {
@@ -44,6 +47,11 @@ pub fn named_law()
 /// The law that the numbers that accepted rows declare lie in their ranges.
 pub fn ranges_law()
     ensures { RangesLaw }
+{}
+
+/// The law that each grade that accepted rows give is within its limits.
+pub fn grades_law()
+    ensures { GradesLaw }
 {}
 
 /// The law that what meters cost by a record that is accepted as one that asks for an advice is what meters may cost.
@@ -58,3 +66,19 @@ pub fn meter_costs_law()
 pub fn version_one_law()
     ensures { VersionOneLaw }
 {}
+
+/// The law that a record that is accepted as one that asks for a window asks for one between periods that there are, and that there is
+/// no cause to refuse.
+pub fn asked_window_law()
+    ensures { AskedWindowLaw }
+{}
+
+/// The law that of accepted rows a window that there is no cause to refuse has the form of a graph, names that differ, and names of the
+/// plant and of the periods for each node and stream.
+pub fn book_windows_law()
+    ensures { BookWindowsLaw }
+{
+    window_form_law();
+    window_names_law();
+    window_places_law();
+}

@@ -4,6 +4,7 @@
 #![tactic(auto)]
 
 mod answer;
+mod assays;
 mod book;
 mod costs;
 mod judge;
@@ -14,11 +15,12 @@ mod plain;
 mod rows;
 mod shelves;
 mod touching;
+mod windows;
 
 pub use answer::{Accepted, NotAccepted, Refused};
 pub use book::Book;
 pub use laws::{
-    accepted_law, live_law, meter_costs_law, named_law, plain_law, ranges_law, touched_law,
-    version_one_law,
+    accepted_law, asked_window_law, book_windows_law, grades_law, live_law, meter_costs_law,
+    named_law, plain_law, ranges_law, touched_law, version_one_law,
 };
 pub use rows::{Period, StoredRow};

@@ -8,9 +8,10 @@ ghost use Rattle.pb_site.specs.Row.{is_among};
 ghost use Rattle.pb_book.specs.Apart.{AreApart, is_named, shares_a_day};
 ghost use Rattle.pb_book.specs.Kept.{FindsLast, HasBegin, SameBegins};
 ghost use Rattle.pb_book.specs.Ranges.{IsPeriod};
-ghost use Rattle.pb_book.specs.Refusals.{is_closed_named};
+ghost use Rattle.pb_book.specs.Refusals.{is_closed_named, is_unserved_in};
 ghost use Rattle.pb_book.specs.Rows.{closed_if_named};
 ghost use Rattle.pb_book.specs.Touching.{dip_touches_closed, dip_touches_closed_on, has_closed_day, is_closed_in_service, some_closed, touches, touches_closed};
+ghost use Rattle.pb_book.specs.Windows.{begins_on};
 ghost use Rattle.pb_facts.specs.Fact.{IsDay, IsInRange};
 
 use crate::rows::Period;
@@ -18,7 +19,7 @@ use crate::touching::dip_touches;
 use indexmap::IndexSet;
 use pb_facts::Fact;
 use pb_rows::Name;
-use pb_site::Service;
+use pb_site::{Service, is_in_service_within};
 use std::alloc::{AllocError, Global};
 use std::collections::BTreeMap;
 use std::marker::Model;
@@ -105,6 +106,15 @@ impl Periods {
         }
     }
 
+    /// The place of the period that begins on a day; `None` exactly if none does.
+    pub fn begun_on(&self, day: i32) -> Option<u32>
+        ensures value { result ≡ position (begins_on day) self.now }
+        ensures days { All IsPeriod self.now }
+        ensures apart { AreApart self.now }
+    {
+        self.begins.get(&day).copied()
+    }
+
     /// Whether some period is closed.
     pub fn some_closed(&self) -> bool
         ensures { result ≡ some_closed self.now }
@@ -118,6 +128,18 @@ impl Periods {
     {
         match self.names.get_index_of(name) {
             Some(i) => self.periods[i].closed,
+            None => false,
+        }
+    }
+
+    /// Whether what is in service on these days is so on no day of the period of a name.
+    pub fn is_unserved(&self, service: Option<Service>, name: &Name) -> bool
+        ensures { result ≡ list_any (is_unserved_in service name.now) self.now }
+    {
+        match self.names.get_index_of(name) {
+            Some(i) => {
+                !is_in_service_within(service, self.periods[i].first, self.periods[i].last)
+            }
             None => false,
         }
     }

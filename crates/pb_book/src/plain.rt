@@ -9,6 +9,7 @@ ghost use Rattle.pb_book.specs.Kept.{settled_at, settled_in};
 ghost use Rattle.pb_book.specs.Plain.{booked};
 ghost use Rattle.pb_book.specs.Written.{AddsRow, AddsSome, WriteRows};
 
+use crate::assays::Assays;
 use crate::periods::Periods;
 use crate::rows::Place;
 use crate::shelves::settled_in;
@@ -18,57 +19,60 @@ use pb_rows::Rows;
 use pb_site::Declared;
 use std::alloc::{AllocError, Global};
 
-// The records of the declarations and periods at these places, and after them those of the live facts.
+// The records of the declarations, periods and assays at these places, and after them those of the live facts.
 pub(crate) fn plain_records(
     alloc: Global,
     declared: &[Declared],
     periods: &Periods,
+    assays: &Assays,
     places: &[Place],
     facts: &Facts,
 ) -> Result<Rows, AllocError>
     requires { All IsDeclaredInRange declared.now }
     ensures { IfOk result (λ records. WriteRows records
-        (settled_at declared.now periods.now places.now
+        (settled_at declared.now periods.now assays.now places.now
         ++ map booked (live_facts facts.now))) }
 {
-    let mut records = settled_records(alloc, declared, periods, places)?;
+    let mut records = settled_records(alloc, declared, periods, assays, places)?;
     for i in 0..facts.len() {
         push_live(alloc, facts, i, &mut records)?;
     }
     Ok(records)
 }
 
-// The records of the declarations and periods at these places.
+// The records of the declarations, periods and assays at these places.
 fn settled_records(
     alloc: Global,
     declared: &[Declared],
     periods: &Periods,
+    assays: &Assays,
     places: &[Place],
 ) -> Result<Rows, AllocError>
     requires { All IsDeclaredInRange declared.now }
-    ensures { IfOk result
-        (λ records. WriteRows records (settled_at declared.now periods.now places.now)) }
+    ensures { IfOk result (λ records. WriteRows records
+        (settled_at declared.now periods.now assays.now places.now)) }
 {
     let mut records = Rows::new(alloc);
     for i in 0..places.len() {
-        push_settled(alloc, declared, periods, &places[i], &mut records)?;
+        push_settled(alloc, declared, periods, assays, &places[i], &mut records)?;
     }
     Ok(records)
 }
 
-// Appends the record of the declaration or period at a place, if it has one.
+// Appends the record of the declaration, period or assay at a place, if it has one.
 fn push_settled(
     alloc: Global,
     declared: &[Declared],
     periods: &Periods,
+    assays: &Assays,
     place: &Place,
     records: &mut Rows,
 ) -> Result<(), AllocError>
     requires { All IsDeclaredInRange declared.now }
-    ensures { OnOk result
-        (AddsSome records.old records.new (settled_in declared.now periods.now place.now.part)) }
+    ensures { OnOk result (AddsSome records.old records.new
+        (settled_in declared.now periods.now assays.now place.now.part)) }
 {
-    match settled_in(declared, periods, place.part) {
+    match settled_in(declared, periods, assays, place.part) {
         Some(effect) => push_effect(alloc, &effect, records),
         None => Ok(()),
     }

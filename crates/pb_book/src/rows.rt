@@ -35,6 +35,7 @@ pub enum Part {
     Booked { place: u32, late: bool },
     Edited(usize),
     Closed(u32),
+    Assayed(u32),
 }
 
 /// An edit of a fact, as it is kept.

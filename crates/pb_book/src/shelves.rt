@@ -5,6 +5,7 @@ ghost use Rattle.pb_site.specs.Row.{IsInRange as IsDeclaredInRange};
 ghost use Rattle.pb_kinds.specs.Ranges.{IsEffectInRange};
 ghost use Rattle.pb_book.specs.Kept.{closing, editing, effect_in, opening, row_at, settled_in, shelves_of, told_at};
 
+use crate::assays::Assays;
 use crate::originals::told_at;
 use crate::periods::Periods;
 use crate::rows::{Edited, Part, Period, Place, StoredRow};
@@ -20,14 +21,18 @@ pub(crate) fn row_at(
     originals: &HashMap<u32, Fact>,
     periods: &Periods,
     edited: &[Edited],
+    assays: &Assays,
     place: &Place,
 ) -> Option<StoredRow>
     requires { All IsDeclaredInRange declared.now }
     ensures { result ≡ row_at
-        (shelves_of declared.now (told_at facts.now originals.now) periods.now edited.now)
+        (shelves_of declared.now (told_at facts.now originals.now) periods.now edited.now
+        assays.now)
         place.now }
 {
-    match effect_in(declared, facts, originals, periods, edited, place.part) {
+    match effect_in(
+        declared, facts, originals, periods, edited, assays, place.part,
+    ) {
         Some(effect) => Some(StoredRow {
             at: place.at,
             effect,
@@ -43,14 +48,18 @@ fn effect_in(
     originals: &HashMap<u32, Fact>,
     periods: &Periods,
     edited: &[Edited],
+    assays: &Assays,
     part: Part,
 ) -> Option<Effect>
     requires { All IsDeclaredInRange declared.now }
     ensures { result ≡ effect_in
-        (shelves_of declared.now (told_at facts.now originals.now) periods.now edited.now) part }
+        (shelves_of declared.now (told_at facts.now originals.now) periods.now edited.now
+        assays.now) part }
 {
     match part {
-        Part::Declared(_) | Part::Opened(_) => settled_in(declared, periods, part),
+        Part::Declared(_) | Part::Opened(_) | Part::Assayed(_) => {
+            settled_in(declared, periods, assays, part)
+        }
         Part::Booked { place, late } => match told_at(facts, originals, place) {
             Some(fact) => Some(Effect::Books { fact, late }),
             None => None,
@@ -69,10 +78,15 @@ fn effect_in(
     }
 }
 
-// The same if the row declares something, or a period; `None` if it does something else.
-pub(crate) fn settled_in(declared: &[Declared], periods: &Periods, part: Part) -> Option<Effect>
+// The same if the row declares something, or a period, or gives an assay; `None` if it does something else.
+pub(crate) fn settled_in(
+    declared: &[Declared],
+    periods: &Periods,
+    assays: &Assays,
+    part: Part,
+) -> Option<Effect>
     requires { All IsDeclaredInRange declared.now }
-    ensures value { result ≡ settled_in declared.now periods.now part }
+    ensures value { result ≡ settled_in declared.now periods.now assays.now part }
     ensures in_range { IfSome result IsEffectInRange }
 {
     match part {
@@ -83,6 +97,13 @@ pub(crate) fn settled_in(declared: &[Declared], periods: &Periods, part: Part) -
         Part::Opened(i) => {
             if i < periods.len() {
                 Some(opening(&periods.at(i)))
+            } else {
+                None
+            }
+        }
+        Part::Assayed(i) => {
+            if i < assays.len() {
+                Some(Effect::Assays(assays.at(i)))
             } else {
                 None
             }

@@ -14,7 +14,7 @@ use Rattle.pb_facts.specs.Fact.{IsInRange}
 use Rattle.pb_facts.specs.declared.facts.KeptFact.{KeptFact}
 use Rattle.pb_book.specs.declared.answer.Refused.TheVariants.{Unknown, Duplicate, Order, Mismatch, Sealed, Closed, Range, Full}
 use Rattle.pb_kinds.specs.declared.rows.Effect.{Effect}
-use Rattle.pb_kinds.specs.declared.rows.Effect.TheVariants.{Declares, Opens, Books, Edits, Closes}
+use Rattle.pb_kinds.specs.declared.rows.Effect.TheVariants.{Declares, Opens, Books, Edits, Closes, Assays}
 use Rattle.pb_book.specs.Accepted.{AreAccepted, IsAcceptable}
 use Rattle.pb_book.specs.Laws.{AcceptedLaw}
 use Rattle.pb_book.specs.Refusals.{is_sealed}
@@ -60,6 +60,7 @@ one_more law rows at (Opens name first last) right accepted = same_plant rows (r
 one_more law rows at (Books fact late) right accepted = same_plant rows (record { at = at; effect = Books fact late }) refl right
 one_more law rows at (Edits id how reason) right accepted = same_plant rows (record { at = at; effect = Edits id how reason }) refl right
 one_more law rows at (Closes name) right accepted = same_plant rows (record { at = at; effect = Closes name }) refl right
+one_more law rows at (Assays assay) right accepted = same_plant rows (record { at = at; effect = Assays assay }) refl right
 
 some_row : StoredRow
 some_row = record { at = 0; effect = Opens [] (pos 0) (pos 0) }

@@ -35,7 +35,7 @@ use Rattle.pb_facts.specs.Fact.{id_of, is_dip_on, is_reading_on}
 use Rattle.pb_facts.specs.Facts.{NoRepeats, has_id, is_live_with, is_repeat, live_fact, live_facts}
 use Rattle.pb_kinds.specs.declared.rows.Effect.{Effect}
 use Rattle.pb_kinds.specs.declared.rows.Edit.TheVariants as edits
-use Rattle.pb_kinds.specs.declared.rows.Effect.TheVariants.{Declares, Opens, Books, Edits, Closes}
+use Rattle.pb_kinds.specs.declared.rows.Effect.TheVariants.{Declares, Opens, Books, Edits, Closes, Assays}
 use Rattle.pb_book.specs.declared.rows.Period.{Period}
 use Rattle.pb_book.specs.Apart.{shares_a_day}
 use Rattle.pb_book.specs.TakenOut.{takes_out, touches_by_id, touching_of}
@@ -424,6 +424,7 @@ touching_same touch steady period kept (Edits id (edits.Change change) reason) a
     amended_same touch steady period id change kept (all_away touch period id (amended id change kept) apart spared)
 touching_same touch steady period kept (Edits id edits.Strike reason) apart spared = struck_same touch period id kept (all_away touch period id (struck id kept) apart spared)
 touching_same touch steady period kept (Closes name) apart spared = refl
+touching_same touch steady period kept (Assays assay) apart spared = refl
 
 declared_same : (touch : Fact → Period → Bool) (period : Period) (kept : List KeptFact) (effect : Effect) → takes_out touch kept effect period ≡ false → declaration_in effect ≡ None
 declared_same touch period kept (Declares declared) spared = cc spared
@@ -431,6 +432,7 @@ declared_same touch period kept (Opens name first last) spared = refl
 declared_same touch period kept (Books fact late) spared = refl
 declared_same touch period kept (Edits id how reason) spared = refl
 declared_same touch period kept (Closes name) spared = refl
+declared_same touch period kept (Assays assay) spared = refl
 
 -- a row that doesn't touch a period leaves what is declared and its graph
 pub leaves : (rows : List StoredRow) (stored : StoredRow) (period : Period) → AreDistinct (arc_names (declared_of (rows ++ stored ∷ []))) → NoRepeats (facts_of (rows ++ stored ∷ []))

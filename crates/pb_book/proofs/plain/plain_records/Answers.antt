@@ -17,7 +17,7 @@ pub loop-i-preserved : goal.loop-i-preserved
 loop-i-preserved c =
     let facts = c.args.facts.now in
     let i = c.loop-i.i in
-    let settled = settled_at c.args.declared.now c.args.periods.now c.args.places.now in
+    let settled = settled_at c.args.declared.now c.args.periods.now c.args.assays.now c.args.places.now in
     let before = map booked (filter_map live_fact (take i facts)) in
     let next : i + 1 ≡ suc i = omega arith in
     let lt : i < length facts = omega (arith, c.loop-i-test.true, c.len-i-end.ensures.value) in
@@ -33,5 +33,5 @@ returns c =
     let facts = c.args.facts.now in
     let past : length facts ≤ c.loop-i.i = omega (arith, c.loop-i-test.false, c.len-i-end.ensures.value) in
     subst
-    (λ (ks : List KeptFact). WriteRows c.loop-i.records (settled_at c.args.declared.now c.args.periods.now c.args.places.now ++ map booked (filter_map live_fact ks)))
+    (λ (ks : List KeptFact). WriteRows c.loop-i.records (settled_at c.args.declared.now c.args.periods.now c.args.assays.now c.args.places.now ++ map booked (filter_map live_fact ks)))
     (take_all c.loop-i.i facts past) c.loop-i.invariant

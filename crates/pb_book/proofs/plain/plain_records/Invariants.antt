@@ -7,4 +7,4 @@ use Rattle.pb_book.proofs.plain.plain_records.Given as goal
 
 abbrev pub invariant-loop-i : goal.invariant-loop-i
 invariant-loop-i l =
-    WriteRows l.records (settled_at l.declared l.periods l.places ++ map booked (filter_map live_fact (take l.i l.facts)))
+    WriteRows l.records (settled_at l.declared l.periods l.assays l.places ++ map booked (filter_map live_fact (take l.i l.facts)))

@@ -4,4 +4,4 @@ use Rattle.pb_book.specs.Written.{WriteRows}
 use Rattle.pb_book.proofs.plain.settled_records.Given as goal
 
 abbrev pub invariant-loop-i : goal.invariant-loop-i
-invariant-loop-i l = WriteRows l.records (settled_at l.declared l.periods (take l.i l.places))
+invariant-loop-i l = WriteRows l.records (settled_at l.declared l.periods l.assays (take l.i l.places))

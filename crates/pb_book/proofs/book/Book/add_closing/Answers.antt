@@ -9,7 +9,7 @@ invariant_of-self-2 c =
     let fine = rw (← c.self.view_is) at c.requires.acceptable in
     let there = sym (rw (← c.self.view_is, ← c.self.invariant.parts.spans) at c.requires.place) in
     rw (c.push_reserved-2.ensures.items, c.push_reserved.ensures.items, c.in_ok-reserve.ensures.items, c.in_ok-reserve-2.ensures.items, c.in_ok-close.ensures.ok)
-    (kept_closing inside.site (told_at inside.facts inside.originals) inside.periods inside.edited.items inside.facts inside.places.items inside.edits.items c.args.at c.args.place c.args.name.now c.self.invariant fine there).right
+    (kept_closing inside.site (told_at inside.facts inside.originals) inside.periods inside.edited.items inside.assays inside.facts inside.places.items inside.edits.items c.args.at c.args.place c.args.name.now c.self.invariant fine there).right
 
 pub returns-clause-ok : goal.returns-clause-ok
 returns-clause-ok c =
@@ -17,4 +17,4 @@ returns-clause-ok c =
     let fine = rw (← c.self.view_is) at c.requires.acceptable in
     let there = sym (rw (← c.self.view_is, ← c.self.invariant.parts.spans) at c.requires.place) in
     rw (c.push_reserved-2.ensures.items, c.in_ok-reserve.ensures.items, c.in_ok-close.ensures.ok, ← c.self.view_is)
-    (kept_closing inside.site (told_at inside.facts inside.originals) inside.periods inside.edited.items inside.facts inside.places.items inside.edits.items c.args.at c.args.place c.args.name.now c.self.invariant fine there).rows
+    (kept_closing inside.site (told_at inside.facts inside.originals) inside.periods inside.edited.items inside.assays inside.facts inside.places.items inside.edits.items c.args.at c.args.place c.args.name.now c.self.invariant fine there).rows

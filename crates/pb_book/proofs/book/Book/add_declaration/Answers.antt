@@ -7,18 +7,18 @@ pub add-requires-clause-no_fault : goal.add-requires-clause-no_fault
 add-requires-clause-no_fault c =
     let inside = c.self.inside in
     let fine = rw (← c.self.view_is) at c.requires in
-    no_site_fault_of _ inside.site inside.facts inside.periods c.args.declared.now c.self.invariant.parts fine
+    no_site_fault_of _ inside.site inside.facts inside.periods inside.assays c.args.declared.now c.self.invariant.parts fine
 
 pub invariant_of-self-2 : goal.invariant_of-self-2
 invariant_of-self-2 c =
     let inside = c.self.inside in
     let fine = rw (← c.self.view_is) at c.requires in
     rw (c.push_reserved.ensures.items, c.in_ok-reserve.ensures.items, c.in_ok-add.ensures.added)
-    (kept_declaration inside.site (told_at inside.facts inside.originals) inside.periods inside.edited.items inside.facts inside.places.items inside.edits.items c.args.at c.len.result c.args.declared.now c.self.invariant fine c.len.ensures).right
+    (kept_declaration inside.site (told_at inside.facts inside.originals) inside.periods inside.edited.items inside.assays inside.facts inside.places.items inside.edits.items c.args.at c.len.result c.args.declared.now c.self.invariant fine c.len.ensures).right
 
 pub returns-clause-ok : goal.returns-clause-ok
 returns-clause-ok c =
     let inside = c.self.inside in
     let fine = rw (← c.self.view_is) at c.requires in
     rw (c.push_reserved.ensures.items, c.in_ok-reserve.ensures.items, c.in_ok-add.ensures.added, ← c.self.view_is)
-    (kept_declaration inside.site (told_at inside.facts inside.originals) inside.periods inside.edited.items inside.facts inside.places.items inside.edits.items c.args.at c.len.result c.args.declared.now c.self.invariant fine c.len.ensures).rows
+    (kept_declaration inside.site (told_at inside.facts inside.originals) inside.periods inside.edited.items inside.assays inside.facts inside.places.items inside.edits.items c.args.at c.len.result c.args.declared.now c.self.invariant fine c.len.ensures).rows

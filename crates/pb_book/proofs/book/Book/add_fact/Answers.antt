@@ -11,14 +11,14 @@ pub add-requires-clause-no_fault : goal.add-requires-clause-no_fault
 add-requires-clause-no_fault c =
     let inside = c.self.inside in
     let fine = rw (← c.self.view_is) at c.requires in
-    no_fault_of _ inside.site inside.facts inside.periods c.args.fact.now false c.self.invariant.parts fine
+    no_fault_of _ inside.site inside.facts inside.periods inside.assays c.args.fact.now false c.self.invariant.parts fine
 
 pub invariant_of-self-2 : goal.invariant_of-self-2
 invariant_of-self-2 c =
     let inside = c.self.inside in
     let fine = rw (← c.self.view_is) at c.requires in
     rw (c.push_reserved.ensures.items, c.in_ok-reserve.ensures.items, c.in_ok-add.ensures.added)
-    (kept_fact inside.site (told_at inside.facts inside.originals) (told_at (inside.facts ++ live c.args.fact.now ∷ []) inside.originals) inside.periods inside.edited.items inside.facts inside.places.items inside.edits.items c.args.at c.len.result c.args.fact.now false c.self.invariant fine c.len.ensures.value
+    (kept_fact inside.site (told_at inside.facts inside.originals) (told_at (inside.facts ++ live c.args.fact.now ∷ []) inside.originals) inside.periods inside.edited.items inside.assays inside.facts inside.places.items inside.edits.items c.args.at c.len.result c.args.fact.now false c.self.invariant fine c.len.ensures.value
     (joins inside.facts inside.originals c.args.fact.now c.self.invariant.told)).right
 
 pub returns-clause-ok : goal.returns-clause-ok
@@ -26,5 +26,5 @@ returns-clause-ok c =
     let inside = c.self.inside in
     let fine = rw (← c.self.view_is) at c.requires in
     rw (c.push_reserved.ensures.items, c.in_ok-reserve.ensures.items, c.in_ok-add.ensures.added, ← c.self.view_is)
-    (kept_fact inside.site (told_at inside.facts inside.originals) (told_at (inside.facts ++ live c.args.fact.now ∷ []) inside.originals) inside.periods inside.edited.items inside.facts inside.places.items inside.edits.items c.args.at c.len.result c.args.fact.now false c.self.invariant fine c.len.ensures.value
+    (kept_fact inside.site (told_at inside.facts inside.originals) (told_at (inside.facts ++ live c.args.fact.now ∷ []) inside.originals) inside.periods inside.edited.items inside.assays inside.facts inside.places.items inside.edits.items c.args.at c.len.result c.args.fact.now false c.self.invariant fine c.len.ensures.value
     (joins inside.facts inside.originals c.args.fact.now c.self.invariant.told)).rows

@@ -13,7 +13,7 @@ invariant_of-self-2 c =
     let fine = rw (← c.self.view_is) at c.requires in
     let appended = simp to_z-of_z at c.in_ok-push.ensures.ok in
     rw (c.push_reserved.ensures.items, c.in_ok-reserve.ensures.items, appended)
-    (kept_period inside.site (told_at inside.facts inside.originals) inside.periods inside.edited.items inside.facts inside.places.items inside.edits.items c.args.at c.len.result c.args.name.now c.args.first c.args.last c.self.invariant fine
+    (kept_period inside.site (told_at inside.facts inside.originals) inside.periods inside.edited.items inside.assays inside.facts inside.places.items inside.edits.items c.args.at c.len.result c.args.name.now c.args.first c.args.last c.self.invariant fine
     c.len.ensures.value).right
 
 pub returns-clause-ok : goal.returns-clause-ok
@@ -24,5 +24,5 @@ returns-clause-ok c =
     let fine = rw (← c.self.view_is) at c.requires in
     let appended = simp to_z-of_z at c.in_ok-push.ensures.ok in
     rw (c.push_reserved.ensures.items, c.in_ok-reserve.ensures.items, appended, ← c.self.view_is)
-    (kept_period inside.site (told_at inside.facts inside.originals) inside.periods inside.edited.items inside.facts inside.places.items inside.edits.items c.args.at c.len.result c.args.name.now c.args.first c.args.last c.self.invariant fine
+    (kept_period inside.site (told_at inside.facts inside.originals) inside.periods inside.edited.items inside.assays inside.facts inside.places.items inside.edits.items c.args.at c.len.result c.args.name.now c.args.first c.args.last c.self.invariant fine
     c.len.ensures.value).rows

@@ -6,5 +6,5 @@ use Rattle.pb_book.proofs.book.Book.edits.Goals as goal
 pub returns : goal.returns
 returns c =
     let inside = c.self.inside in
-    let long = placed_length (shelves_of inside.site (told_at inside.facts inside.originals) inside.periods inside.edited.items) inside.edits.items c.self.invariant.edited in
+    let long = placed_length (shelves_of inside.site (told_at inside.facts inside.originals) inside.periods inside.edited.items inside.assays) inside.edits.items c.self.invariant.edited in
     rw (← c.self.view_is, ← c.self.invariant.edit_rows, long) (search rules)

@@ -14,11 +14,11 @@ use Rattle.pb_book.proofs.book.Book.plain.Goals as goal
 pub returns : goal.returns
 returns c =
     let inside = c.self.inside in
-    let rows = rows_at (shelves_of inside.site (told_at inside.facts inside.originals) inside.periods inside.edited.items) inside.places.items in
-    let settled : settled_at c.declared.result.now inside.periods c.deref.result.now ≡ settled_rows rows =
-    ap₂ (λ (ds : List Declared) (ps : List Place). settled_at ds inside.periods ps) c.declared.ensures.value c.deref.ensures.value
-    ∙ sym (settled_places inside.site (told_at inside.facts inside.originals) inside.periods inside.edited.items inside.places.items) in
-    let all : settled_at c.declared.result.now inside.periods c.deref.result.now ++ map booked (live_facts inside.facts) ≡ plain_rows rows =
+    let rows = rows_at (shelves_of inside.site (told_at inside.facts inside.originals) inside.periods inside.edited.items inside.assays) inside.places.items in
+    let settled : settled_at c.declared.result.now inside.periods inside.assays c.deref.result.now ≡ settled_rows rows =
+    ap₂ (λ (ds : List Declared) (ps : List Place). settled_at ds inside.periods inside.assays ps) c.declared.ensures.value c.deref.ensures.value
+    ∙ sym (settled_places inside.site (told_at inside.facts inside.originals) inside.periods inside.edited.items inside.assays inside.places.items) in
+    let all : settled_at c.declared.result.now inside.periods inside.assays c.deref.result.now ++ map booked (live_facts inside.facts) ≡ plain_rows rows =
     ap₂ (λ (xs : List Effect) (ks : List KeptFact). xs ++ map booked (live_facts ks)) settled c.self.invariant.parts.facts in
     rw (← c.self.view_is)
     (subst (λ (rs : List Effect). IfOk c.plain_records.result (λ records. WriteRows records rs)) all c.plain_records.ensures)

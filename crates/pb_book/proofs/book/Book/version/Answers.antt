@@ -8,7 +8,7 @@ use Rattle.pb_book.proofs.book.Book.version.Goals as goal
 pub returns-else-is_empty-clause-value : goal.returns-else-is_empty-clause-value
 returns-else-is_empty-clause-value c =
     let inside = c.self.inside in
-    let shelves = shelves_of inside.site (told_at inside.facts inside.originals) inside.periods inside.edited.items in
+    let shelves = shelves_of inside.site (told_at inside.facts inside.originals) inside.periods inside.edited.items inside.assays in
     let there = eqb-false _ 0 (sym c.is_empty.ensures ∙ c.if-is_empty.false) in
     let some : 1 ≤ length inside.places.items = omega (arith, there) in
     rw (← c.self.view_is) (ap Some c.version.ensures.value ∙ version_kept shelves inside.facts inside.places.items inside.edits.items c.self.invariant some)
