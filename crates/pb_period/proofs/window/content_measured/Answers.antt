@@ -1,8 +1,8 @@
 use Rattle.std.specs.Prelude.{option_and_then}
 use Rattle.std.specs.Option.{option_map}
-use Rattle.std.proofs.Common.{◌≡◌, ◌∙◌, ℕ, List, Option, Some, None, FitsSigned, slice_get, sym, ap}
-use mir.Syntax.{w32}
-use Rattle.std.proofs.lemmas.Int.{to_z-of_z}
+use Rattle.std.proofs.Common.{◌≡◌, ◌∙◌, ℕ, List, Option, Some, None, FitsSigned, slice_get, sym, ap, arith}
+use mir.Syntax.{w32, w128}
+use Rattle.std.proofs.lemmas.Int.{ints, to_z-of_z}
 use Rattle.pb_graph.specs.declared.records.Meas.{Meas}
 use Rattle.pb_limits.specs.Ranges.{IsBaseVariance}
 use Rattle.pb_strap.specs.declared.strap.Point.{Point}
@@ -48,7 +48,9 @@ measured-requires-clause-base c =
     let declared = declared_of c.args.book.now in
     let arc = c.args.arc.now in
     let found = rw c.site.ensures.value at c.in_ok-strap.ensures in
-    tank_base declared arc _ (table_at declared c.args.j arc _ c.requires.place found) c.requires.base
+    let base = tank_base declared arc _ (table_at declared c.args.j arc _ c.requires.place found) c.requires.base in
+    let base_fits : FitsSigned w128 arc.base = omega (arith, ints, base.0, base.1) in
+    simp to_z-of_z base
 
 pub returns-clause-value : goal.returns-clause-value
 returns-clause-value c =
@@ -57,6 +59,9 @@ returns-clause-value c =
     let fits : FitsSigned w32 c.args.day = c.ranges.day in
     let found = rw c.site.ensures.value at c.in_ok-strap.ensures in
     let some = table_at declared c.args.j arc _ c.requires.place found in
+    let base = tank_base declared arc _ some c.requires.base in
+    let base_fits : FitsSigned w128 arc.base = omega (arith, ints, base.0, base.1) in
+    let is = simp to_z-of_z at c.measured.ensures.value in
     let holds = rw c.facts.ensures.value at (simp to_z-of_z at c.in_ok-held.ensures.value) in
-    ap (λ (m : Meas). Some m) c.measured.ensures.value
+    ap (λ (m : Meas). Some m) is
     ∙ ap (option_map (measurement arc.base)) (holds ∙ sym (ap (option_and_then (held_at (live_facts (facts_of c.args.book.now)) arc.name c.args.day)) some))

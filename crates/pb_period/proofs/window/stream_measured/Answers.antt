@@ -1,5 +1,7 @@
 use Rattle.std.specs.Prelude.{◌-◌, All, option_and_then, slice_index_or}
-use Rattle.std.proofs.Common.{◌≡◌, ◌∙◌, ◌<◌, ℕ, List, length, slice_get, get_or, Option, Some, sym, ap, subst, arith}
+use Rattle.std.proofs.Common.{◌≡◌, ◌∙◌, ◌<◌, ℕ, List, length, slice_get, get_or, Option, Some, FitsSigned, sym, ap, subst, arith, rules}
+use mir.Syntax.{w32}
+use Rattle.std.proofs.lemmas.Int.{to_z-of_z}
 use Rattle.pb_graph.specs.declared.records.Meas.{Meas}
 use Rattle.pb_site.specs.declared.declared.Arc.{Arc}
 use Rattle.pb_site.specs.Site.{arcs_of}
@@ -32,4 +34,6 @@ pub returns-in-Content-clause-value : goal.returns-in-Content-clause-value
 returns-in-Content-clause-value c =
     let rows = c.args.book.now in
     let at = rw c.site.ensures.value at c.arc-arc.ensures.value in
-    content_is rows (periods_at rows c.args.places.now) c.args.stream.now c.arc-arc.result c.in-Content.day c.content_measured.result at c.in-Content.is c.content_measured.ensures.value
+    let fits : FitsSigned w32 c.in-Content.day = search rules in
+    let is = simp to_z-of_z at c.content_measured.ensures.value in
+    content_is rows (periods_at rows c.args.places.now) c.args.stream.now c.arc-arc.result c.in-Content.day c.content_measured.result at c.in-Content.is is
