@@ -1,6 +1,6 @@
 -- The component graph of a period: how many nodes and streams it has, and the last stage of a study.
-use Rattle.std.specs.Prelude.{◌+◌, IfOk, IfSome, position}
-use Rattle.std.proofs.Common.{◌≡◌, ◌∙◌, ◌<◌, ℕ, zero, suc, Bool, List, [], ◌∷◌, length, map, All, Option, Some, None, Result, Ok, Err, slice_get, get_or, refl, sym, ap, cc, subst, arith}
+use Rattle.std.specs.Prelude.{◌+◌, IfErr, IfOk, IfSome, position}
+use Rattle.std.proofs.Common.{◌≡◌, ◌≢◌, ◌∙◌, ◌<◌, ℕ, zero, suc, Bool, List, [], ◌∷◌, length, map, All, Option, Some, None, Result, Ok, Err, slice_get, get_or, refl, sym, ap, cc, subst, arith}
 use Rattle.std.proofs.lemmas.List.{length-map}
 use Rattle.std.proofs.lemmas.Option.{get_or_from_slice_get, slice_get_within}
 use Rattle.pb_rows.specs.declared.name.Names.{Names}
@@ -8,13 +8,28 @@ use Rattle.pb_graph.specs.declared.records.Stream.{Stream}
 use Rattle.pb_graph.specs.declared.results.Stage.{Stage}
 use Rattle.pb_graph.specs.declared.results.StreamResult.{StreamResult}
 use Rattle.pb_graph.specs.declared.results.Study.{Study}
-use Rattle.pb_graph.specs.ProcessGraph.{ProcessGraph}
+use Rattle.pb_graph.specs.ProcessGraph.{ProcessGraph, IsProcessGraph}
 use Rattle.pb_graph.specs.WellFormed.{IsWellFormed, IsWellFormedStudy}
 use Rattle.pb_assay.specs.declared.component.ComponentFault.{ComponentFault}
 use Rattle.pb_assay.specs.declared.grade.Grade.{Grade}
 use Rattle.pb_assay.specs.Component.{component_of, component_overs, component_streams, component_unless_over}
-use Rattle.pb_session.specs.Keeping.{HasCountsOf}
-use Rattle.pb_session.specs.Session.{AreNamesOf, last_stage}
+use Rattle.pb_elim.specs.Study.{IsStudyOf}
+use Rattle.pb_book.specs.declared.rows.Period.{Period}
+use Rattle.pb_book.specs.declared.rows.StoredRow.{StoredRow}
+use Rattle.pb_book.specs.Assays.{grade_of}
+use Rattle.pb_book.specs.Rows.{periods_of}
+use Rattle.pb_period.specs.Days.{days_of}
+use Rattle.pb_period.specs.Grades.{grades_of}
+use Rattle.pb_period.specs.declared.graph.Assembly.{Assembly}
+use Rattle.pb_period.specs.declared.graph.Assembly.TheVariants.{NoMemory}
+use Rattle.pb_period.specs.PeriodGraph.{IsStreamOfGraph, NamesAStream, assembly_of, period_graph, period_names}
+use Rattle.pb_session.specs.Criticals.{critical_of}
+use Rattle.pb_session.specs.Keeping.{HasCountsOf, IsBalanceAt}
+use Rattle.pb_session.specs.Kept.{IsKeptAt}
+use Rattle.pb_session.specs.Session.{AreNamesOf, Balances, BalancesBy, BalancesIn, IsBalanceOf, SessionState, last_stage}
+use Rattle.pb_session.proofs.KeepingLemmas.{first_classes, has_graph}
+use Rattle.pb_session.proofs.NamedLemmas.{unless_is}
+use Rattle.pb_session.proofs.ReportLemmas.{at_found}
 
 -- an item of a list of which this holds throughout
 at_place : {X : Type 0} (P : X → Type 0) (xs : List X) (i : ℕ) (x : X) → slice_get xs i ≡ Some x → All P xs → P x
@@ -66,3 +81,120 @@ names_as names graph other named counts = record {
   nodes = named.nodes;
   streams = named.streams;
 }
+
+-- ---- that of a period
+
+-- the answer for the graph of a period that is found
+pub balance_at : (state : SessionState) (component : List ℕ) (found : Option Period) (period : Period) (graph : ProcessGraph) (grades : List (Option Grade)) (answer : Result ProcessGraph Assembly)
+    → found ≡ Some period → Ok graph ≡ assembly_of state.rows (days_of period) → grades ≡ grades_of state.rows component period → IsBalanceOf state graph grades answer
+    → IsBalanceAt state component found answer
+balance_at state component found period graph grades answer there is grades_are of =
+    let here : IsBalanceOf state graph (grades_of state.rows component period) answer = subst (λ (gs : List (Option Grade)). IsBalanceOf state graph gs answer) grades_are of in
+    subst (λ (o : Option Period). IsBalanceAt state component o answer) (sym there) (subst (λ (a : Result ProcessGraph Assembly). BalancesIn state component period a answer) is here)
+
+-- and if the period has no graph
+pub fault_at : (state : SessionState) (component : List ℕ) (found : Option Period) (period : Period) (why : Assembly) → found ≡ Some period → Err why ≡ assembly_of state.rows (days_of period)
+    → IsBalanceAt state component found (Err why)
+fault_at state component found period why there is =
+    let answer : Result ProcessGraph Assembly = Err why in
+    subst (λ (o : Option Period). IsBalanceAt state component o answer) (sym there) (subst (λ (a : Result ProcessGraph Assembly). BalancesIn state component period a answer) is refl)
+
+-- what holds of the graph of a period that is found holds of its assembled graph
+pub of_graph : (P : ProcessGraph → Type 0) (rows : List StoredRow) (found : Option Period) (period : Period) (graph : ProcessGraph) → found ≡ Some period
+    → Ok graph ≡ assembly_of rows (days_of period) → P graph → IfSome found (λ (p : Period). P (period_graph rows (days_of p)))
+of_graph P rows found period graph there is holds =
+    let same : period_graph rows (days_of period) ≡ graph = unless_is (period_graph rows (days_of period)) graph _ is in
+    subst (λ (o : Option Period). IfSome o (λ (p : Period). P (period_graph rows (days_of p)))) (sym there) (subst P (sym same) holds)
+
+-- the text of the balance for an answer of the period that is found
+pub balances_at : (state : SessionState) (component : List ℕ) (found : Option Period) (period : Period) (answer : Result ProcessGraph Assembly) (text : List ℕ) → found ≡ Some period
+    → IsBalanceAt state component found answer → BalancesBy state component period answer text → Balances state component found text
+balances_at state component found period answer text there at by =
+    let here : IsBalanceAt state component (Some period) answer = subst (λ (o : Option Period). IsBalanceAt state component o answer) there at in
+    let balance : Balances state component (Some period) text = (answer, here, by) in
+    subst (λ (o : Option Period). Balances state component o text) (sym there) balance
+
+-- ---- what the component graph of a period is made of
+
+-- the graph of a period that is found, and its study
+pub record IsStudiedAt (state : SessionState) (found : Option Period) (graph : ProcessGraph) (study : Study) : Type 0 where
+  pub period : Period
+  pub there : found ≡ Some period
+  pub is : Ok graph ≡ assembly_of state.rows (days_of period)
+  pub limits : IsProcessGraph graph
+  pub is_study : IsStudyOf graph state.options (critical_of state.rows) study
+  pub formed : IsWellFormedStudy graph study
+
+-- those of a study that is kept
+pub kept_studied : (state : SessionState) (found : Option Period) (study : Study) (stage : Stage) → IsKeptAt state found study → slice_get study.stages 0 ≡ Some stage
+    → IsStudiedAt state found stage.graph study
+kept_studied state found study stage kept at =
+    let has = has_graph state found study kept in
+    let same = (first_classes has.graph _ _ study stage has.kept.is_study at).0 in
+    subst (λ (g : ProcessGraph). IsStudiedAt state found g study) (sym same) (record {
+      period = has.period;
+      there = has.there;
+      is = has.is;
+      limits = has.kept.limits;
+      is_study = has.kept.is_study;
+      formed = has.kept.formed;
+    })
+
+-- the grades of its streams
+pub record AreGradesAt (state : SessionState) (found : Option Period) (component : List ℕ) (grades : List (Option Grade)) : Type 0 where
+  pub are : (period : Period) → found ≡ Some period → grades ≡ grades_of state.rows component period
+  pub each : (period : Period) → found ≡ Some period → length grades ≡ length (period_graph state.rows (days_of period)).streams
+
+pub grades_at : (state : SessionState) (rows : List StoredRow) (i : ℕ) (component : List ℕ) (streams asked : List (List ℕ)) (grades : List (Option Grade)) → rows ≡ state.rows → asked ≡ streams
+    → IfSome (slice_get (periods_of rows) i) (λ (p : Period). grades ≡ map (grade_of rows component p.name) asked)
+    → IfSome (slice_get (periods_of state.rows) i) (λ (p : Period). streams ≡ (period_names state.rows (days_of p)).streams)
+    → IfSome (slice_get (periods_of state.rows) i) (λ (p : Period). length streams ≡ length (period_graph state.rows (days_of p)).streams)
+    → AreGradesAt state (slice_get (periods_of state.rows) i) component grades
+grades_at state rows i component streams asked grades rows_is asked_is value names each = record {
+  are = λ period there. given period there ∙ ap (map (grade_of state.rows component period.name)) (asked_is ∙ at_found found period (λ (p : Period). streams ≡ (period_names state.rows (days_of p)).streams) there names);
+  each = λ period there.
+      ap (λ (gs : List (Option Grade)). length gs) (given period there) ∙ length-map asked (grade_of state.rows component period.name) ∙ ap (λ (ss : List (List ℕ)). length ss) asked_is
+      ∙ at_found found period (λ (p : Period). length streams ≡ length (period_graph state.rows (days_of p)).streams) there each;
+}
+  where
+    found : Option Period
+    found = slice_get (periods_of state.rows) i
+
+    value_now : IfSome found (λ (p : Period). grades ≡ map (grade_of state.rows component p.name) asked)
+    value_now = subst (λ (rs : List StoredRow). IfSome (slice_get (periods_of rs) i) (λ (p : Period). grades ≡ map (grade_of rs component p.name) asked)) rows_is value
+
+    given : (period : Period) → found ≡ Some period → grades ≡ map (grade_of state.rows component period.name) asked
+    given period there = at_found found period (λ (p : Period). grades ≡ map (grade_of state.rows component p.name) asked) there value_now
+
+-- there is one for each stream
+pub grades_each : (state : SessionState) (found : Option Period) (component : List ℕ) (graph : ProcessGraph) (study : Study) (grades : List (Option Grade)) → IsStudiedAt state found graph study
+    → AreGradesAt state found component grades → length grades ≡ length graph.streams
+grades_each state found component graph study grades studied graded =
+    graded.each studied.period studied.there ∙ ap (λ (g : ProcessGraph). length g.streams) (unless_is (period_graph state.rows (days_of studied.period)) graph _ studied.is)
+
+-- the answer of the component graph by these
+pub record AnswersAt (state : SessionState) (found : Option Period) (component : List ℕ) (answer : Result ProcessGraph Assembly) : Type 0 where
+  pub at : answer ≢ Err NoMemory → IsBalanceAt state component found answer
+  pub counts : IfSome found (λ (p : Period). IfOk answer (HasCountsOf (period_graph state.rows (days_of p))))
+  pub over : IfSome found (λ (p : Period). IfErr answer (NamesAStream state.rows (days_of p)))
+
+pub answers_at : (state : SessionState) (found : Option Period) (component : List ℕ) (graph : ProcessGraph) (study : Study) (grades : List (Option Grade)) (answer : Result ProcessGraph Assembly)
+    → IsStudiedAt state found graph study → AreGradesAt state found component grades → (answer ≢ Err NoMemory → IsBalanceOf state graph grades answer)
+    → IfOk answer (HasCountsOf graph) → IfErr answer (IsStreamOfGraph graph) → AnswersAt state found component answer
+answers_at state found component graph study grades answer studied graded of counts over = record {
+  at = λ sure. balance_at state component found studied.period graph grades answer studied.there studied.is (graded.are studied.period studied.there) (of sure);
+  counts = of_graph (λ (g : ProcessGraph). IfOk answer (HasCountsOf g)) state.rows found studied.period graph studied.there studied.is counts;
+  over = of_graph (λ (g : ProcessGraph). IfErr answer (IsStreamOfGraph g)) state.rows found studied.period graph studied.there studied.is over;
+}
+
+-- and that of a period without a graph
+pub fails_at : (state : SessionState) (found : Option Period) (component : List ℕ) (period : Period) (why : Assembly) → found ≡ Some period
+    → (why ≢ NoMemory → Err why ≡ assembly_of state.rows (days_of period)) → IsStreamOfGraph (period_graph state.rows (days_of period)) why
+    → AnswersAt state found component (Err why)
+fails_at state found component period why there is over =
+    let answer : Result ProcessGraph Assembly = Err why in
+    record {
+      at = λ sure. fault_at state component found period why there (is (λ none. sure (ap (λ (w : Assembly). let e : Result ProcessGraph Assembly = Err w in e) none)));
+      counts = subst (λ (o : Option Period). IfSome o (λ (p : Period). IfOk answer (HasCountsOf (period_graph state.rows (days_of p))))) (sym there) tt;
+      over = subst (λ (o : Option Period). IfSome o (λ (p : Period). IfErr answer (NamesAStream state.rows (days_of p)))) (sym there) over;
+    }
