@@ -6,6 +6,7 @@ ghost use Rattle.pb_cli.specs.declared.status.Status.TheVariants.{ReadFault, Wri
 use crate::inputs::{joined, words_from};
 use pb_cli::*;
 use pb_io::{MemSink, MemSource, SureSink, SureSource, sure_law};
+use pb_limits::MOST_BYTES;
 use std::alloc::{AllocError, Global};
 use std::process::Abort;
 
@@ -192,6 +193,27 @@ fn runs_over_sure_ends(rt: HostRuntime) -> Result<(), AllocError> {
     let ran = sure_run_of_two_meters(rt.alloc())?;
     assert_eq!(rt; ran, (Status::Done, REPORT.len() as u64), "the run");
     Ok(())
+}
+
+/// Words that are no command. More of them are tried on the built program.
+#[test]
+fn refuses_other_words(rt: HostRuntime) -> Result<(), AllocError> {
+    let ends = Ends {
+        words: &["run", "run"],
+        ..PLAIN
+    };
+    gives(&rt, rt.alloc(), ends, b"", Status::Usage, "")
+}
+
+/// One byte more than the limit.
+#[test]
+fn refuses_one_byte_too_many(rt: HostRuntime) -> Result<(), AllocError> {
+    let ends = Ends {
+        take: 1 << 20,
+        ..PLAIN
+    };
+    let feeds = vec![in rt.alloc(); b'\n'; MOST_BYTES + 1]?;
+    gives(&rt, rt.alloc(), ends, &feeds, Status::TooLarge, "")
 }
 
 /// Input that is cut, and names and numbers of another form.

@@ -27,55 +27,53 @@ fn is_refused(session: &mut Session, at: u32, row: &Row, out: &mut Vec<u8>) -> R
     Ok(session.row(at, row, out)?)
 }
 
-// Takes rows one after the other, and counts those that are refused.
-fn take_all(session: &mut Session, rows: &Rows, out: &mut Vec<u8>) -> Result<u32, Fail> {
+// Takes rows one after the other, and says whether the last one is refused.
+fn take_all(session: &mut Session, rows: &Rows, out: &mut Vec<u8>) -> Result<bool, Fail> {
     let mut at = 0u32;
-    let mut refused = 0u32;
+    let mut refused = false;
     for i in 0..rows.len() {
         at = at.saturating_add(1);
-        if is_refused(session, at, rows.at(i), out)? {
-            refused = refused.saturating_add(1);
-        }
+        refused = is_refused(session, at, rows.at(i), out)?;
     }
     Ok(refused)
 }
 
-// Writes the output of a session of rows, and counts the rows that are refused.
-fn write_by(alloc: Global, options: Options, rows: &Rows, out: &mut Vec<u8>) -> Result<u32, Fail>
+// Writes the output of a session of rows, and says whether the last one is refused.
+fn write_by(alloc: Global, options: Options, rows: &Rows, out: &mut Vec<u8>) -> Result<bool, Fail>
     requires { AreOptions options }
 {
     let mut session = Session::new(alloc, options, Form::Csv);
     take_all(&mut session, rows, out)
 }
 
-// The output of a session, and how many of its records were refused.
-fn output(alloc: Global, text: &str) -> Result<(Vec<u8>, u32), Fail> {
+// The output of a session, and whether its last record is refused.
+fn output(alloc: Global, text: &str) -> Result<(Vec<u8>, bool), Fail> {
     let rows = Rows::of(alloc, text.as_bytes())?;
     let mut out = Vec::new(alloc);
     let refused = write_by(alloc, asked(), &rows, &mut out)?;
     Ok((out, refused))
 }
 
-// Whether the output of a session is this one, and how many of its records were refused.
-fn gives(alloc: Global, text: &str, want: &str) -> Result<(bool, u32), Fail> {
+// Whether the output of a session is this one, and whether its last record is refused.
+fn gives(alloc: Global, text: &str, want: &str) -> Result<(bool, bool), Fail> {
     let (out, refused) = output(alloc, text)?;
     Ok((out.as_slice() == want.as_bytes(), refused))
 }
 
 #[test]
 fn answers_records(rt: HostRuntime) -> Result<(), Fail> {
-    let table: [(&str, &str, u32); 4] = [
-        ("unit,U\nunit,U\n", "refused,2,7,duplicate\n", 1),
-        ("design\n", "design,1,0\n", 0),
+    let table: [(&str, &str, bool); 4] = [
+        ("unit,U\nunit,U\n", "refused,2,7,duplicate\n", true),
+        ("design\n", "design,1,0\n", false),
         (
             "unit,U\nunit,V\nstream,P,U,V,plain,0\nstream,R,V,U,plain,0\nadvise,P,2,R,1\n",
             "advise,1,1\nmeter,R,1,+R +P\n",
-            0,
+            false,
         ),
         (
             "unit,U\nstream,A,env,U,metered,1\nstream,B,U,env,plain,0\nperiod,d1,2024-03-01,2024-03-01\nreading,r1,A,2024-03-01,5,0\nreport,d1\nclose,d1\nhistory,d1\n",
             "report,d1,0,2,2,10,5000\nnode,env,0\nnode,U,0\nstream,A,env,U,5,1,nonredundant,5,5,5,5,5,cycle,,+A +B\nstream,B,U,env,,,observable,5,5,5,5,5,cut,U,+A -B\nsolved,0,converged,0,0,0,0,0\nend,d1,0\nhistory,d1,closed,1\nedit,7,close,,\n",
-            0,
+            false,
         ),
     ];
     for (text, want, refused) in table {
