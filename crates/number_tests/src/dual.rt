@@ -1,9 +1,10 @@
-//! Prices of two meters, worked by hand. Those of other plants are data, in examples/worked.
+//! Prices of small graphs, worked by hand. Those of other plants are data, in examples/worked.
 
 use crate::common::{assert_count, assert_listed, graph_of, metered, plain};
 use pb_dual::Dual;
+use pb_graph::Stream;
 use pb_merge::Groups;
-use std::alloc::AllocError;
+use std::alloc::{AllocError, Global};
 use std::process::Abort;
 
 /// There are as many groups as prices, and they have these.
@@ -15,14 +16,69 @@ fn check_prices(rt: &impl Abort, name: &str, dual: &Dual, prices: &[i128]) {
 }
 
 /// A first sweep leads from no prices to the given ones, a second one leaves them, and after a reset there are none.
-fn check_sweeps(rt: &impl Abort, dual: &mut Dual, none: &[i128], prices: &[i128]) {
-    check_prices(rt, "before a sweep", dual, none);
-    assert!(rt; dual.sweep(), "the first sweep");
-    check_prices(rt, "after a sweep", dual, prices);
-    assert!(rt; !dual.sweep(), "the second sweep");
-    check_prices(rt, "after two sweeps", dual, prices);
+fn check_sweeps(rt: &impl Abort, name: &str, dual: &mut Dual, none: &[i128], prices: &[i128]) {
+    check_prices(rt, name, dual, none);
+    assert_eq!(rt; dual.sweep(), prices != none, "{name}, first sweep");
+    check_prices(rt, name, dual, prices);
+    assert!(rt; !dual.sweep(), "{name}, second sweep");
+    check_prices(rt, name, dual, prices);
     dual.reset();
-    check_prices(rt, "after a reset", dual, none);
+    check_prices(rt, name, dual, none);
+}
+
+/// Checks the sweeps of the graph with these streams.
+fn check_graph(
+    rt: &impl Abort,
+    alloc: Global,
+    name: &str,
+    nodes: u32,
+    streams: &[Stream],
+    none: &[i128],
+    prices: &[i128],
+) -> Result<(), AllocError> {
+    let g = graph_of(rt, alloc, nodes, streams)?;
+    let groups = Groups::of(alloc, &g)?;
+    let mut dual = Dual::new(alloc, &g, groups.numbers())?;
+    check_sweeps(rt, name, &mut dual, none, prices);
+    Ok(())
+}
+
+#[test]
+fn sweeps_of_two_meters(rt: HostRuntime) -> Result<(), AllocError> {
+    let cases = [
+        (
+            "two meters disagree",
+            metered(0, 1, 102_000_000, 1_000_000_000_000),
+            metered(1, 0, 100_000_000, 1_000_000_000_000),
+            -72_057_594_038,
+        ),
+        (
+            "half a gram",
+            metered(0, 1, 1, 1),
+            metered(1, 0, 0, 1),
+            -36_028_797_018_963_968,
+        ),
+    ];
+    for (name, first, second, price) in cases {
+        check_graph(
+            &rt,
+            rt.alloc(),
+            name,
+            2,
+            &[first, second],
+            &[0, 0],
+            &[0, price],
+        )?;
+    }
+    Ok(())
+}
+
+#[test]
+fn the_box_holds_the_price(rt: HostRuntime) -> Result<(), AllocError> {
+    let mut streams = [metered(0, 1, 1_000_000_000_000_000, 1); 101];
+    streams[100] = metered(1, 0, 0, 10_000_000_000_000_000_000_000);
+    let prices = [0, -519_229_685_853];
+    check_graph(&rt, rt.alloc(), "box", 2, &streams, &[0, 0], &prices)
 }
 
 /// Takes the step of a group, and compares the prices.
@@ -38,19 +94,6 @@ fn check_dual_flows(rt: &impl Abort, dual: &Dual, flows: &[i128]) {
     for j in 0..dual.graph().len() {
         assert_listed(rt, "stream", j, dual.dual_flow(j), flows);
     }
-}
-
-#[test]
-fn sweeps_of_two_meters(rt: HostRuntime) -> Result<(), AllocError> {
-    let streams = [
-        metered(0, 1, 102_000_000, 1_000_000_000_000),
-        metered(1, 0, 100_000_000, 1_000_000_000_000),
-    ];
-    let g = graph_of(&rt, rt.alloc(), 2, &streams)?;
-    let groups = Groups::of(rt.alloc(), &g)?;
-    let mut dual = Dual::new(rt.alloc(), &g, groups.numbers())?;
-    check_sweeps(&rt, &mut dual, &[0, 0], &[0, -72_057_594_038]);
-    Ok(())
 }
 
 #[test]
