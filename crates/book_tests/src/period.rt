@@ -1,4 +1,4 @@
-// What no clause says: that calls succeed where memory is ample, and values from outside.
+// What no clause says: that calls succeed where memory is ample. What more periods measured is data, in examples/worked.
 
 use crate::book::first_refused;
 use pb_book::Book;
@@ -7,18 +7,6 @@ use pb_period::{Assembly, assemble, design, names};
 use pb_rows::{NameList, Names, Rows};
 use std::alloc::Global;
 use std::test::Fail;
-
-/// A stream that carries a transfer, and one period for each of its days and the day after.
-const TRANSFER: &[u8] =
-    b"unit,U\nstream,T,env,U,batch,1\nstream,O,U,env,plain,0\nperiod,d1,2024-01-30,2024-01-30\nperiod,d2,2024-01-31,2024-01-31\nperiod,d3,2024-02-01,2024-02-01\nperiod,d4,2024-02-02,2024-02-02\ntransfer,t1,T,2024-01-30,2024-02-01,10,9\n";
-
-/// A refinery day before its dips.
-const REFINERY: &[u8] =
-    b"unit,CDU\ntank,TK1,1000000\nstrap,TK1,0,0\nstrap,TK1,10000,5000000000\nstream,CRUDE,env,CDU,metered,1\nstream,RES,CDU,env,metered,1\nstream,NAPH,CDU,TK1,plain,0\nstream,SHIP,TK1,env,batch,1000000\nperiod,may1,2024-05-01,2024-05-01\nreading,r1,CRUDE,2024-05-01,10000000000,2500000000000000\nreading,r2,RES,2024-05-01,6000000000,900000000000000\ntransfer,t1,SHIP,2024-05-01,2024-05-01,2583475000,100000000000\n";
-
-/// Two days, on the second of which one stream isn't read.
-const TWO_DAYS: &[u8] =
-    b"unit,U\nstream,A,env,U,metered,1\nstream,B,U,env,metered,1\nperiod,d1,2024-03-01,2024-03-02\nreading,r1,A,2024-03-01,5,0\nreading,r2,A,2024-03-02,5,0\nreading,r3,B,2024-03-01,4,0\n";
 
 /// A plant whose tank and streams are in service on some days alone, with a period before these days, one of them and one after.
 const SERVED: &[u8] =
@@ -87,72 +75,6 @@ fn designs_measure_all_but_plain_streams(rt: HostRuntime) -> Result<(), Fail> {
     ] {
         let found = measured(rt.alloc(), text, b"", None, j)?;
         assert!(rt; found == Ok(want), "the stream {j}");
-    }
-    Ok(())
-}
-
-#[test]
-fn periods_share_a_transfer(rt: HostRuntime) -> Result<(), Fail> {
-    for (period, j, want) in [
-        (0, 0, Some((3, 4))),
-        (1, 0, Some((3, 4))),
-        (2, 0, Some((4, 4))),
-        (3, 0, Some((0, 1))),
-        (0, 1, None),
-    ] {
-        let found = measured(rt.alloc(), TRANSFER, b"", Some(period), j)?;
-        assert!(rt; found == Ok(want), "the stream {j} of the period {period}");
-    }
-    Ok(())
-}
-
-#[test]
-fn measures_a_refinery_day(rt: HostRuntime) -> Result<(), Fail> {
-    let rising =
-        b"dip,p1,TK1,2024-04-30,0,850000,500000000000\ndip,p2,TK1,2024-05-01,3333,850000,500000000000\n";
-    for (j, want) in [
-        (0, Some((1_416_525_000, 1_000_001_000_000))),
-        (1, Some((10_000_000_000, 2_500_000_000_000_001))),
-        (2, Some((6_000_000_000, 900_000_000_000_001))),
-        (3, None),
-        (4, Some((2_583_475_000, 100_001_000_000))),
-    ] {
-        let found = measured(rt.alloc(), REFINERY, rising, Some(0), j)?;
-        assert!(rt; found == Ok(want), "the stream {j}");
-    }
-    Ok(())
-}
-
-#[test]
-fn measures_a_tank_by_its_dips(rt: HostRuntime) -> Result<(), Fail> {
-    let table: [(&[u8], Option<(i128, i128)>); 3] = [
-        (
-            b"dip,p1,TK1,2024-04-30,3333,850000,500000000000\ndip,p2,TK1,2024-05-01,0,850000,500000000000\n",
-            Some((-1_416_525_000, 1_000_001_000_000)),
-        ),
-        (
-            b"dip,p2,TK1,2024-05-01,3333,850000,500000000000\ndip,p3,TK1,2024-05-02,0,850000,1\n",
-            None,
-        ),
-        (b"dip,p1,TK1,2024-04-30,0,850000,1\n", None),
-    ];
-    for (dips, want) in table {
-        let found = measured(rt.alloc(), REFINERY, dips, Some(0), 0)?;
-        assert!(rt; found == Ok(want), "the tank with the dips {dips:?}");
-    }
-    Ok(())
-}
-
-#[test]
-fn measures_a_stream_that_is_read_each_day(rt: HostRuntime) -> Result<(), Fail> {
-    let table: [(&[u8], u32, Option<(i128, i128)>); 3] = [
-        (b"", 0, Some((10, 1))),
-        (b"", 1, None),
-        (b"reading,r4,B,2024-03-02,6,2\n", 1, Some((10, 3))),
-    ];
-    for (more, j, want) in table {
-        let found = measured(rt.alloc(), TWO_DAYS, more, Some(0), j)?;
-        assert!(rt; found == Ok(want), "the stream {j} with the rows {more:?}");
     }
     Ok(())
 }
@@ -247,11 +169,10 @@ fn named(alloc: Global, text: &[u8], period: u32) -> Result<Vec<u8>, Fail> {
 
 #[test]
 fn names_what_is_in_service(rt: HostRuntime) -> Result<(), Fail> {
-    let table: [(&[u8], u32, &[u8]); 4] = [
+    let table: [(&[u8], u32, &[u8]); 3] = [
         (SERVED, 0, b" env U K | B T"),
         (SERVED, 1, b" env U K | K A B T"),
         (SERVED, 2, b" env U K | B"),
-        (REFINERY, 0, b" env CDU TK1 | TK1 CRUDE RES NAPH SHIP"),
     ];
     for (text, period, want) in table {
         let found = named(rt.alloc(), text, period)?;

@@ -1,5 +1,7 @@
 // Each public call at a small graph.
 
+ghost use Rattle.pb_graph.specs.Neighbours.{IsNeighbours};
+
 use crate::graphs::{graph_of, stream};
 use pb_graph::{
     Bounds, Class, Classified, GlobalTest, Graph, List, Meas, Member, Neighbours, NodalTest, Parts,
@@ -63,9 +65,7 @@ fn fits_at_the_limits(rt: HostRuntime) {
     }
 }
 
-#[test]
-fn decides_cuts(rt: HostRuntime) -> Result<(), AllocError> {
-    let g = line(&rt, rt.alloc())?;
+fn assert_cuts(rt: &impl Abort, g: &Graph) {
     let members = [member(0, 1), member(1, -1)];
     let cases: [(&[bool], &[Member], bool); 4] = [
         (&[false, true, false], &members, true),
@@ -76,12 +76,16 @@ fn decides_cuts(rt: HostRuntime) -> Result<(), AllocError> {
     for (side, members, is_cut) in cases {
         assert_eq!(rt; g.is_cut(side, members), is_cut, "{side:?} and {members:?}");
     }
-    Ok(())
 }
 
 #[test]
-fn decides_cycles(rt: HostRuntime) -> Result<(), AllocError> {
+fn decides_cuts(rt: HostRuntime) -> Result<(), AllocError> {
     let g = line(&rt, rt.alloc())?;
+    assert_cuts(&rt, &g);
+    Ok(())
+}
+
+fn assert_cycles(rt: &impl Abort, g: &Graph) {
     let round = [step(0, true), step(1, true), step(2, true)];
     let there_and_back = [step(0, true), step(0, false)];
     let twice = [
@@ -102,40 +106,84 @@ fn decides_cycles(rt: HostRuntime) -> Result<(), AllocError> {
     for (steps, is_cycle) in cases {
         assert_eq!(rt; g.is_cycle(steps), is_cycle, "{steps:?}");
     }
+}
+
+#[test]
+fn decides_cycles(rt: HostRuntime) -> Result<(), AllocError> {
+    let g = line(&rt, rt.alloc())?;
+    assert_cycles(&rt, &g);
     Ok(())
+}
+
+fn assert_balances(rt: &impl Abort, g: &Graph) {
+    assert!(rt; g.len() == 3 && g.nodes() == 3, "the line");
+    assert_eq!(rt;
+        (g.is_balanced(&[7, 7, 7]), g.is_balanced(&[7, 7, 8])),
+        (true, false),
+        "a balance"
+    );
+    assert_eq!(rt;
+        (g.net(&[7, 5, 8], 1), g.net(&[7, 5, 8], 0)),
+        (2, 1),
+        "net flows"
+    );
 }
 
 #[test]
 fn balances(rt: HostRuntime) -> Result<(), AllocError> {
     let g = line(&rt, rt.alloc())?;
-    assert!(rt; g.len() == 3 && g.nodes() == 3);
-    assert!(rt; g.is_balanced(&[7, 7, 7]));
-    assert!(rt; !g.is_balanced(&[7, 7, 8]));
-    assert_eq!(rt; g.net(&[7, 5, 8], 1), 2);
-    assert_eq!(rt; g.net(&[7, 5, 8], 0), 1);
+    assert_balances(&rt, &g);
+    Ok(())
+}
+
+// The line without the meter of its last stream.
+fn bare(rt: &impl Abort, alloc: Global, g: &Graph) -> Result<Graph, AllocError> {
+    assert!(rt; g.len() == 3, "the line");
+    g.unmeasure(alloc, 2)
+}
+
+fn assert_streams(rt: &impl Abort, g: &Graph, last: Option<Meas>) {
+    let want = [stream(0, 1, METER), stream(1, 2, None), stream(2, 0, last)];
+    assert_eq!(rt; g.streams(), want.as_slice(), "the streams");
+}
+
+#[test]
+fn unmeasures(rt: HostRuntime) -> Result<(), AllocError> {
+    let g = bare(&rt, rt.alloc(), &line(&rt, rt.alloc())?)?;
+    assert_streams(&rt, &g, None);
     Ok(())
 }
 
 #[test]
 fn copies(rt: HostRuntime) -> Result<(), AllocError> {
-    let g = line(&rt, rt.alloc())?;
-    assert!(rt; g.len() == 3 && g.nodes() == 3);
-    let bare = g.unmeasure(rt.alloc(), 2)?;
-    let want = [stream(0, 1, METER), stream(1, 2, None), stream(2, 0, None)];
-    assert_eq!(rt; bare.streams(), want.as_slice());
-    let same = g.copy(rt.alloc())?;
-    assert_eq!(rt; same.streams(), g.streams());
+    let g = line(&rt, rt.alloc())?.copy(rt.alloc())?;
+    assert_streams(&rt, &g, METER);
     Ok(())
 }
 
 // The streams beside a node, and the nodes that B joins.
-fn assert_reached(rt: &impl Abort, alloc: Global, g: &Graph) -> Result<(), AllocError> {
-    assert!(rt; g.len() == 3 && g.nodes() == 3);
-    let near = Neighbours::of(alloc, g)?;
-    assert_eq!(rt; near.at(1).as_slice(), [0, 1].as_slice());
-    let reached = reach(alloc, g, &near, &[false, true, false], 2)?;
-    assert_eq!(rt; reached.as_slice(), [false, true, true].as_slice());
+fn assert_near(
+    rt: &impl Abort,
+    alloc: Global,
+    g: &Graph,
+    near: &Neighbours,
+) -> Result<(), AllocError>
+    requires { IsNeighbours g.now near.now }
+{
+    assert!(rt; g.len() == 3 && g.nodes() == 3, "the line");
+    assert_eq!(rt; near.at(1).as_slice(), [0, 1].as_slice(), "beside U");
+    let reached = reach(alloc, g, near, &[false, true, false], 2)?;
+    assert_eq!(rt;
+        reached.as_slice(),
+        [false, true, true].as_slice(),
+        "from V"
+    );
     Ok(())
+}
+
+fn assert_reached(rt: &impl Abort, alloc: Global, g: &Graph) -> Result<(), AllocError> {
+    let near = Neighbours::of(alloc, g)?;
+    assert_near(rt, alloc, g, &near)
 }
 
 #[test]
@@ -198,17 +246,25 @@ fn begins_lists(rt: HostRuntime) {
     assert!(rt; none.is_empty(), "a list without items");
 }
 
+// The boundary of U, and the ends of B.
+fn assert_boundary(rt: &impl Abort, alloc: Global, g: &Graph) -> Result<(), AllocError> {
+    let side = [false, true, false];
+    assert!(rt; g.nodes() == 3 && g.len() == 3, "the line");
+    let ends = (g.stream(1).end_from(2), g.stream(1).end_from(1));
+    assert_eq!(rt; ends, (1, 2), "the ends of B");
+    let members = boundary(alloc, g.streams(), &side)?;
+    assert_eq!(rt;
+        (members.len(), g.is_cut(&side, members.as_slice())),
+        (2, true),
+        "the boundary of U"
+    );
+    Ok(())
+}
+
 #[test]
 fn makes_boundaries(rt: HostRuntime) -> Result<(), AllocError> {
     let g = line(&rt, rt.alloc())?;
-    let side = [false, true, false];
-    assert!(rt; g.nodes() == 3 && g.len() == 3);
-    let members = boundary(rt.alloc(), g.streams(), &side)?;
-    assert!(rt; g.is_cut(&side, members.as_slice()));
-    assert_eq!(rt; members.len(), 2);
-    assert_eq!(rt; g.stream(1).end_from(2), 1);
-    assert_eq!(rt; g.stream(1).end_from(1), 2);
-    Ok(())
+    assert_boundary(&rt, rt.alloc(), &g)
 }
 
 /// A cut of the line with these members.
@@ -411,6 +467,10 @@ fn joins_parts(rt: HostRuntime) -> Result<(), AllocError> {
     Ok(())
 }
 
+fn alike_both_ways(g: &Graph, other: &Graph) -> (bool, bool) {
+    (g.alike(other), other.alike(g))
+}
+
 // Whether the graph is alike to one of these streams, and the other way round.
 fn are_alike(
     rt: &impl Abort,
@@ -419,9 +479,8 @@ fn are_alike(
     nodes: u32,
     streams: &[Stream],
 ) -> Result<(bool, bool), AllocError> {
-    assert!(rt; nodes >= 1 && nodes <= 1_001);
-    let other = graph_of(rt, alloc, nodes, streams)?;
-    Ok((g.alike(&other), other.alike(g)))
+    assert!(rt; nodes >= 1 && nodes <= 1_001, "{nodes} nodes");
+    Ok(alike_both_ways(g, &graph_of(rt, alloc, nodes, streams)?))
 }
 
 /// Values and variances may differ, and nothing else.

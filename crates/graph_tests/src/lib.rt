@@ -1,10 +1,8 @@
-//! Tests of the graph, its groups, its forest, its points, its classes, its advice and its windows, by their public names alone.
+//! Tests of the graph, its groups, its forest, its points, its advice and its windows, by their public names alone.
 #![tactic(auto)]
 
 #[cfg(test)]
 mod advise;
-#[cfg(test)]
-mod classify;
 #[cfg(test)]
 mod forest;
 #[cfg(test)]

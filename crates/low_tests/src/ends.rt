@@ -1,5 +1,5 @@
-// What no clause says: that calls succeed with ample memory, and what readers and writers of std
-// do through their adapters.
+// What no clause says: that calls succeed with ample memory, and what readers and writers of std that fail do through their
+// adapters. The program reads and writes through them in each worked case.
 use pb_io::*;
 use std::alloc::{AllocError, Global};
 use std::io;
@@ -93,31 +93,16 @@ impl Write for Broken {
     }
 }
 
-// Whether a reader's bytes are read whole.
-fn reads_std(alloc: Global, bytes: &[u8]) -> Result<bool, ReadEnd> {
-    let read = read_all(alloc, &mut StdSource::new(bytes), 100)?;
-    Ok(read.as_slice() == bytes)
-}
-
 #[test]
 fn adapts_readers(rt: HostRuntime) {
     let broken = read_all(rt.alloc(), &mut StdSource::new(Broken), 100).err();
     assert_eq!(rt; broken, Some(ReadEnd::Fault), "a reader that fails");
-    assert_eq!(rt; reads_std(rt.alloc(), b"unit,U\n"), Ok(true), "a slice");
-}
-
-// Whether bytes are written whole to a writer.
-fn writes_std(alloc: Global, bytes: &[u8]) -> Result<bool, SinkFailed> {
-    let mut written = Vec::new(alloc);
-    write_all(&mut StdSink::new(&mut written), bytes)?;
-    Ok(written.as_slice() == bytes)
 }
 
 #[test]
 fn adapts_writers(rt: HostRuntime) {
     let broken = write_all(&mut StdSink::new(Broken), b"report");
     assert_eq!(rt; broken, Err(SinkFailed), "a writer that takes no byte");
-    assert_eq!(rt; writes_std(rt.alloc(), b"unit,U\n"), Ok(true), "a vector");
 }
 
 // A writer that takes one byte a call.

@@ -1,4 +1,4 @@
-//! Prices of small graphs, worked by hand.
+//! Prices of small graphs, worked by hand. Those of other plants are data, in examples/worked.
 
 use crate::common::{assert_count, assert_listed, graph_of, metered, plain};
 use pb_dual::Dual;
@@ -71,19 +71,6 @@ fn sweeps_of_two_meters(rt: HostRuntime) -> Result<(), AllocError> {
         )?;
     }
     Ok(())
-}
-
-#[test]
-fn sweeps_apart_from_the_environment(rt: HostRuntime) -> Result<(), AllocError> {
-    let streams = [metered(1, 2, 10, 1), metered(2, 1, 14, 1)];
-    let prices = [0, -144_115_188_075_855_872, 0];
-    check_graph(&rt, rt.alloc(), "apart", 3, &streams, &[0; 3], &prices)
-}
-
-#[test]
-fn sweeps_beside_a_plain_stream(rt: HostRuntime) -> Result<(), AllocError> {
-    let streams = [plain(1, 2), metered(1, 2, 5, 1)];
-    check_graph(&rt, rt.alloc(), "beside", 3, &streams, &[0, 0], &[0, 0])
 }
 
 #[test]

@@ -1,4 +1,5 @@
-// What no clause says: that calls succeed where memory is ample, and rows from outside.
+// What no clause says: that calls succeed where memory is ample, and rows that no session gives. What sessions give is data, in
+// examples/worked.
 
 mod histories;
 mod json;
@@ -11,8 +12,8 @@ ghost use Rattle.pb_report.specs.Names.{IsNamed};
 
 use pb_advise::{MOST_COST, advise};
 use pb_graph::{
-    Bounds, Class, Classified, Graph, List, MOST_NODES, Meas, MeasureTest, Member, NodalTest,
-    Options, Solved, Stage, Step, Stream, StreamResult, Study, Tests, Verdict, Witness,
+    Bounds, Class, Classified, Graph, List, MOST_NODES, Meas, Member, Options, Stage, Step, Stream,
+    StreamResult, Study, Witness,
 };
 use pb_report::{Form, write_advice, write_design, write_over, write_refused, write_study};
 use pb_rows::{Name, NameList, Names};
@@ -378,12 +379,12 @@ fn study(alloc: Global, stage: Stage) -> Result<Study, Fail> {
     })
 }
 
-// The results of two meters, which share a flow: the cut of the environment, and that of the unit.
+// The results of two meters, which share a flow and its bounds: the cut of the environment, and that of the unit.
 fn results_of_two_meters(
     alloc: Global,
     flow: i128,
-    bounds: [Bounds; 2],
-    least: [Option<Bounds>; 2],
+    bounds: Bounds,
+    least: Option<Bounds>,
 ) -> Result<List<StreamResult>, Fail> {
     let at_env: &[Member] = &[leaves(0), enters(1)];
     let at_unit: &[Member] = &[enters(0), leaves(1)];
@@ -391,65 +392,8 @@ fn results_of_two_meters(
     results(
         alloc,
         &[
-            (class, &[true, false], at_env, flow, bounds[0], least[0]),
-            (class, &[false, true], at_unit, flow, bounds[1], least[1]),
+            (class, &[true, false], at_env, flow, bounds, least),
+            (class, &[false, true], at_unit, flow, bounds, least),
         ],
     )
-}
-
-fn stage_of_two_meters(alloc: Global) -> Result<Stage, Fail> {
-    let bounds = [
-        between(100_999_997, 101_000_002),
-        between(100_999_998, 101_000_003),
-    ];
-    let least = [
-        Some(between(100_999_998, 101_000_001)),
-        Some(between(100_999_999, 101_000_002)),
-    ];
-    let prices = list(alloc, &[0, -72_057_594_038])?;
-    let graph = meters(alloc, 102_000_000, 100_000_000, 1_000_000_000_000)?;
-    let streams = results_of_two_meters(alloc, 101_000_000, bounds, least)?;
-    Ok(Stage {
-        graph,
-        streams,
-        prices,
-        solved: Solved::Converged(1),
-        g: 2,
-        h: 0,
-        dof: 1,
-        low: 1999,
-        high: Some(2000),
-        tests: None,
-    })
-}
-
-fn two_meters(alloc: Global, tests: Option<Tests>) -> Result<Study, Fail> {
-    let stage = stage_of_two_meters(alloc)?;
-    study(alloc, Stage { tests, ..stage })
-}
-
-fn measure(
-    stream: u32,
-    low: i128,
-    high: i128,
-    critical: Option<i64>,
-    verdict: Verdict,
-) -> MeasureTest {
-    MeasureTest {
-        stream,
-        low,
-        high: Some(high),
-        critical,
-        verdict,
-    }
-}
-
-fn nodal(node: u32, net: i128, variance: i128) -> NodalTest {
-    NodalTest {
-        node,
-        net,
-        variance,
-        critical: None,
-        verdict: Verdict::NoCritical,
-    }
 }
