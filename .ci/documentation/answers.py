@@ -10,7 +10,8 @@ answer is looked for by these signs:
   `true` or `false`, or a variant, which may also stand in the helper that makes the call;
 - a program of cases makes the call and has an arm that turns the answer into a word, with which an
   expected answer of it begins;
-- a row of an expected output has the word of the answer.
+- a row of an expected output has the word of the answer;
+- an expected output has a row that the program writes only after the call's success.
 """
 
 from __future__ import annotations
@@ -31,6 +32,17 @@ WRITTEN = {
     "Refused": ("refused", "cause_words", 3),
     "Test": ("no", "test_words", 4),
     "RowFault": ("unreadable", "unread_words", 3),
+}
+# Calls that the program makes before it writes a row of a kind: without what they return there is
+# no such row. A check says yes to a block that is read.
+WRITTEN_AFTER = {
+    "pb_blocks::Known::add": "yes",
+    "pb_blocks::Known::list": "yes",
+    "pb_blocks::result_of": "yes",
+    "pb_blocks::said_stream": "yes",
+    "pb_book::Book::costs": "advise",
+    "pb_report::write_row": "report",
+    "pb_window::window_places": "place",
 }
 # How a test names an answer that isn't a variant of an enum of the libraries.
 SIGNS = {
@@ -192,12 +204,18 @@ def by_cases(texts: Texts, call: Call, expected: str) -> None:
 
 
 def by_outputs(sources: Sources, types: Types, calls: list[Call]) -> None:
-    """Note which answers stand as a word in an expected output of the program."""
+    """Note which answers stand as a word in an expected output of the program, or before a row."""
     rows = [
         (path, line.split(","))
         for path in sources.files(r"examples/.*\.out(?:\.csv)?|crates/[^/]+/stdout")
         for line in sources.text(path).splitlines()
     ]
+    first = {row[0]: path for path, row in reversed(rows)}
+    for call in calls:
+        path = first.get(WRITTEN_AFTER.get(call.shown, ""))
+        for answer, reached in call.answers.items():
+            if path and not answer.enum:
+                reached.append(path)
     for enum, (kind, words, place) in WRITTEN.items():
         listed = Values(sources).of(sources.spec("pb_form.specs.Words"), words)
         for name, word in zip(types.enums.get(enum, {}), listed):

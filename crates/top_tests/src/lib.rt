@@ -12,6 +12,8 @@ mod program;
 #[cfg(test)]
 mod session;
 #[cfg(test)]
+mod stage;
+#[cfg(test)]
 mod summary;
 #[cfg(test)]
 mod words;
