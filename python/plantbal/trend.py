@@ -163,7 +163,7 @@ _EPOCH = datetime.date(1970, 1, 1)
 def _rounds_of(output: Output) -> dict[str, _Rounds]:
     """Return the rounds of each period's last report; what is cut off is left out."""
     found: dict[str, _Rounds] = {}
-    for block in output.blocks_in_order:
+    for block in output.reports:
         if not block.ended or not block.solved:
             continue
         if block.round == 0:

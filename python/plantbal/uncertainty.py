@@ -14,7 +14,7 @@ from typing import TYPE_CHECKING, Any
 from plantbal.amounts import tonnes_text
 from plantbal.faults import InputFault, ToolMissing
 from plantbal.output import Output, read_whole
-from plantbal.report import Block, Values
+from plantbal.report import Block, Values, last_blocks
 from plantbal.solver import Labels, Plant, plant_of
 
 if TYPE_CHECKING:
@@ -23,7 +23,8 @@ if TYPE_CHECKING:
 HELP = """
 OUTPUT is what plantbal wrote, as CSV or as JSON lines; without it standard input is read. Of each
 period's last report the last round is taken. There is a row for each stream that is measured or
-observable; an unobservable one has no flow to book, and no uncertainty.
+observable; an unobservable one has no flow to book, and no uncertainty. Windows and balances of
+components stand under names of their own, such as may to june and cu in may.
 
   text   tonnes, as a table to be read: flow, its standard deviation, that of the meter alone, by
          how much it is smaller (the gain), and the three meters that contribute most to it
@@ -105,9 +106,9 @@ def uncertainty_of(found: Output | Block | Iterable[Block]) -> pandas.DataFrame:
 
 def last_of_each_period(output: Output) -> pandas.DataFrame:
     """Return the rows of the last round of each period's last report."""
-    last = {block.period: block.number for block in output.blocks_in_order}
+    last = [block.number for block in last_blocks(output.blocks_in_order).values()]
     table = output.uncertainty
-    return table[table["block"].isin(list(last.values()))].reset_index(drop=True)
+    return table[table["block"].isin(last)].reset_index(drop=True)
 
 
 def _rows_of(block: Block) -> list[tuple[Any, ...]]:
@@ -137,7 +138,7 @@ def _rows_of(block: Block) -> list[tuple[Any, ...]]:
             share = float(parts[row, place] / total[place]) if sd else 0.0
             shares += [names[row], share] if share > _LEAST_SHARE else ["", _NAN]
         shares += ["", _NAN] * (MOST_METERS - len(leading))
-        head = (block.number, block.period, block.round, stream["name"], stream["class"])
+        head = (block.number, block.subject, block.round, stream["name"], stream["class"])
         rows.append((*head, sd, meter_sd, gain, *shares))
     return rows
 
@@ -317,12 +318,17 @@ def in_tonnes(output: Output, table: pandas.DataFrame) -> pandas.DataFrame:
     flows = output.streams.set_index(["block", "name"])["flow"]
     lines = []
     for row in table.to_dict("records"):
+        shown = output.blocks_in_order[row["block"]].shown
         measured = row["meter_sd"] == row["meter_sd"]
-        rests = [f"{row[r]} {row[f'{r}_share']:.0%}" for r in _RANKS if row[f"{r}_share"] >= 0.005]
+        rests = [
+            f"{shown(row[rank])} {row[f'{rank}_share']:.0%}"
+            for rank in _RANKS
+            if row[f"{rank}_share"] >= 0.005
+        ]
         lines.append(
             {
                 "period": row["period"],
-                "stream": row["name"],
+                "stream": shown(row["name"]),
                 "class": row["class"],
                 "flow t": tonnes_text(flows[row["block"], row["name"]]),
                 "± t": f"{row['sd'] / 1e6:,.3f}",
