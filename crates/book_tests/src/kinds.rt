@@ -1,7 +1,7 @@
 // Records of a session, read as effects and written again.
 
 use pb_kinds::{Request, read_request, write_effect};
-use pb_rows::{Records, Row};
+use pb_rows::{Name, Records, Row};
 use pb_site::Version;
 use std::alloc::{AllocError, Global};
 use std::process::Abort;
@@ -32,7 +32,7 @@ fn written_again(
 
 #[test]
 fn writes_what_it_reads(rt: HostRuntime) -> Result<(), Fail> {
-    let table: [&[u8]; 20] = [
+    let table: [&[u8]; 22] = [
         b"unit,U\n",
         b"tank,T,1\n",
         b"strap,T,100000,1000000000000\n",
@@ -53,6 +53,8 @@ fn writes_what_it_reads(rt: HostRuntime) -> Result<(), Fail> {
         b"amend,d1,0,1,2,\"a meter, read late\"\n",
         b"strike,r1,~\n",
         b"close,p\n",
+        b"assay,cu,S,p,1000000,0\n",
+        b"assay,p,T,cu,0,100000000\n",
     ];
     for line in table {
         let text = written_again(rt.alloc(), Some(Version::One), line)?;
@@ -64,7 +66,7 @@ fn writes_what_it_reads(rt: HostRuntime) -> Result<(), Fail> {
 #[test]
 fn writes_what_it_reads_in_version_2(rt: HostRuntime) -> Result<(), Fail> {
     let two = Some(Version::Two);
-    let table: [(Option<Version>, &[u8]); 7] = [
+    let table: [(Option<Version>, &[u8]); 9] = [
         (None, b"version,2\n"),
         (None, b"unit,U\n"),
         (two, b"boundary,PORT\n"),
@@ -72,6 +74,8 @@ fn writes_what_it_reads_in_version_2(rt: HostRuntime) -> Result<(), Fail> {
         (two, b"stream,S,U,PORT,metered,1,1900-01-01,2024-03-01\n"),
         (two, b"stream,S,U,PORT,batch,7,2024-03-01,2024-03-01\n"),
         (two, b"stream,S,U,PORT,plain,0,2024-03-01,2024-02-29\n"),
+        (None, b"assay,cu,S,p,31000,2\n"),
+        (two, b"assay,cu,S,p,31000,2\n"),
     ];
     for (version, line) in table {
         let text = written_again(rt.alloc(), version, line)?;
@@ -95,6 +99,28 @@ fn stores_nothing_of_the_other_version(rt: HostRuntime) -> Result<(), Fail> {
     for (version, line) in table {
         let text = written_again(rt.alloc(), version, line)?;
         assert_eq!(rt; text.len(), 0, "nothing of {line:?}");
+    }
+    Ok(())
+}
+
+// The two names that a record asks a report of: the first and the last period of a window, or a component and a period.
+fn names_asked(row: &Row) -> Option<(bool, Name, Name)> {
+    match read_request(Some(Version::One), row) {
+        Ok(Request::Window(first, last)) => Some((true, first, last)),
+        Ok(Request::Component(component, period)) => Some((false, component, period)),
+        _ => None,
+    }
+}
+
+#[test]
+fn tells_windows_from_components(rt: HostRuntime) -> Result<(), Fail> {
+    let table: [(&[u8], bool); 2] = [(b"window,a,b", true), (b"component,a,b", false)];
+    for (line, window) in table {
+        let row = record_of(rt.alloc(), line)?;
+        let (asks_window, one, other) = names_asked(&row).ok_or("two names")?;
+        assert_eq!(rt; asks_window, window, "what {line:?} asks");
+        assert_eq!(rt; one.as_str(), "a", "the first name of {line:?}");
+        assert_eq!(rt; other.as_str(), "b", "the second name of {line:?}");
     }
     Ok(())
 }

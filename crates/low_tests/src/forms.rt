@@ -21,7 +21,7 @@ fn record_of(alloc: Global, line: &[u8]) -> Result<Row, AllocError> {
 
 #[test]
 fn tells_kinds(rt: HostRuntime) -> Result<(), Fail> {
-    let table: [(&[u8], Result<SessionKind, FormFault>); 18] = [
+    let table: [(&[u8], Result<SessionKind, FormFault>); 24] = [
         (b"unit,A", Ok(SessionKind::Unit)),
         (b"unit,A,,", Ok(SessionKind::Unit)),
         (b"unit", Err(FormFault::Fields)),
@@ -39,7 +39,13 @@ fn tells_kinds(rt: HostRuntime) -> Result<(), Fail> {
         (b"amend,a,1,2,x", Ok(SessionKind::AmendAmount)),
         (b"amend,a,1,2,3,x", Ok(SessionKind::AmendLevel)),
         (b"amend,a", Err(FormFault::Fields)),
-        (b"window,a,b", Err(FormFault::Kind)),
+        (b"assay,a,b,c,1,2", Ok(SessionKind::Assay)),
+        (b"assay,a,b,c,1", Err(FormFault::Fields)),
+        (b"late,assay,a,b,c,1,2", Err(FormFault::Kind)),
+        (b"window,a,b", Ok(SessionKind::Window)),
+        (b"window,a,b,c", Err(FormFault::Fields)),
+        (b"component,a,b", Ok(SessionKind::Component)),
+        (b"component", Err(FormFault::Fields)),
     ];
     for (line, kind) in table {
         let row = record_of(rt.alloc(), line)?;
@@ -63,9 +69,10 @@ fn fault_of<'a>(schema: &'a Schema, row: &'a Row) -> Option<FormFault> {
 #[test]
 fn tells_the_first_fault(rt: HostRuntime) -> Result<(), Fail> {
     let reading = session_schema(SessionKind::Reading);
+    let assay = session_schema(SessionKind::Assay);
     let solved = output_schema(OutputKind::Solved);
     let stream = output_schema(OutputKind::Stream);
-    let table: [(&Schema, &[u8], Option<FormFault>); 12] = [
+    let table: [(&Schema, &[u8], Option<FormFault>); 17] = [
         (
             reading,
             b"reading,r 1,S,2024-13-01,x,1",
@@ -92,6 +99,11 @@ fn tells_the_first_fault(rt: HostRuntime) -> Result<(), Fail> {
             b"reading,r1,S,2024-12-01,10000000000001,1",
             Some(FormFault::Number),
         ),
+        (assay, b"assay,cu,A,p,1000000,100000000", None),
+        (assay, b"assay,cu,A,p,1000001,0", Some(FormFault::Number)),
+        (assay, b"assay,cu,A,p,0,100000001", Some(FormFault::Number)),
+        (assay, b"assay,cu,A,p,0,-1", Some(FormFault::Number)),
+        (assay, b"assay,cu,A,p q,x,0", Some(FormFault::Name)),
         (solved, b"solved,1,done,0,0,0,x,", Some(FormFault::Number)),
         (solved, b"solved,1,done,0,0,0,0,", Some(FormFault::Word)),
         (

@@ -1,14 +1,13 @@
 -- Statement. The kind of a row among those that may stand somewhere, and the rows that are passed over between blocks.
-use Rattle.std.specs.Prelude.{ℕ, Bool, ◌||◌, List, [], ◌∷◌, Result, bytes_eq, codes, find, if◌then◌else◌}
+use Rattle.std.specs.Prelude.{ℕ, Bool, List, [], ◌∷◌, Result, find, if◌then◌else◌}
 use Rattle.std.specs.List.{list_any}
 use Rattle.std.specs.Option.{ok_or}
 use Rattle.pb_form.specs.OutputRows.{output_schema}
 use Rattle.pb_form.specs.Telling.{has_words, is_of}
 use Rattle.pb_form.specs.declared.output.OutputKind.{OutputKind}
-use Rattle.pb_form.specs.declared.output.OutputKind.TheVariants.{Advise, Class, Design, Edit, History, Meter, Over, Refused, Stop, Taken}
+use Rattle.pb_form.specs.declared.output.OutputKind.TheVariants.{Advise, Class, Component, Design, Edit, History, Meter, Over, Place, Refused, Stop, Taken, Window}
 use Rattle.pb_blocks.specs.declared.fault.RowFault.{RowFault}
 use Rattle.pb_blocks.specs.declared.fault.RowFault.TheVariants.{Kind, Fields}
-use Rattle.pb_blocks.specs.Texts.{field}
 
 -- a row has a kind's word, whatever its other fields
 abbrev pub has_word_of : List (List ℕ) → OutputKind → Bool
@@ -22,12 +21,9 @@ kind_among kinds row =
 
 -- the kinds of rows that are passed over between blocks: a report may stand among the other rows of a session's output
 abbrev pub passed_kinds : List OutputKind
-passed_kinds = Refused ∷ Over ∷ Design ∷ Class ∷ History ∷ Edit ∷ Taken ∷ Stop ∷ Advise ∷ Meter ∷ []
-
--- the words of rows that are passed over too, though no session writes them yet: those of windows and of component balances
-abbrev pub coming_words : List (List ℕ)
-coming_words = codes "window" ∷ codes "place" ∷ codes "component" ∷ []
+passed_kinds =
+    Refused ∷ Over ∷ Design ∷ Class ∷ History ∷ Edit ∷ Taken ∷ Stop ∷ Advise ∷ Meter ∷ Window ∷ Place ∷ Component ∷ []
 
 -- a row that is passed over between blocks, whatever its other fields
 abbrev pub is_passed_over : List (List ℕ) → Bool
-is_passed_over row = list_any (has_word_of row) passed_kinds || list_any (bytes_eq (field row 0)) coming_words
+is_passed_over row = list_any (has_word_of row) passed_kinds

@@ -1,17 +1,14 @@
 // The kind of a row, by its word and the number of its fields.
 
-ghost use Rattle.std.specs.Prelude.{◌≡◌, bytes_eq, find, if◌then◌else◌, option_copied};
+ghost use Rattle.std.specs.Prelude.{◌≡◌, find, if◌then◌else◌, option_copied};
 ghost use Rattle.std.specs.List.{list_any};
 ghost use Rattle.pb_form.specs.OutputRows.{output_schema};
 ghost use Rattle.pb_form.specs.Telling.{is_of};
 ghost use Rattle.pb_form.specs.declared.output.OutputKind.{OutputKind};
 ghost use Rattle.pb_blocks.specs.Kinds.{has_word_of, is_passed_over, kind_among, passed_kinds};
-ghost use Rattle.pb_blocks.specs.Texts.{field};
 ghost use Rattle.pb_blocks.specs.declared.fault.RowFault.TheVariants.{Fields as OtherFields, Kind as OtherKind};
 
-use crate::beside::is_word;
 use crate::fault::RowFault;
-use crate::texts::field;
 use pb_form::{Fields, FormFault, OutputKind, output_schema, tell};
 use pb_rows::Row;
 
@@ -74,21 +71,7 @@ fn has_word_of(kind: OutputKind, fields: &Fields) -> bool
 pub fn is_passed_over(row: &Row) -> bool
     ensures { result ≡ is_passed_over row.now }
 {
-    let fields = Fields::all(row);
-    has_word_among(passed_kinds(), &fields) || begins_with_one(COMING_WORDS, &fields)
-}
-
-// The words of rows that are passed over too, though no session writes them yet: those of windows and of component balances.
-const COMING_WORDS: &[&str] = &["window", "place", "component"];
-
-// Whether the first field of a record is one of these words.
-fn begins_with_one(words: &[&str], fields: &Fields) -> bool
-    ensures { result
-        ≡ list_any (λ word. bytes_eq (field fields.now 0) word.now) words.now }
-{
-    words
-        .iter()
-        .any(|word| is_word(field(fields, 0), word.as_bytes()))
+    has_word_among(passed_kinds(), &Fields::all(row))
 }
 
 // The kinds of the rows that are passed over.
@@ -106,5 +89,8 @@ fn passed_kinds() -> &'static [OutputKind]
         OutputKind::Stop,
         OutputKind::Advise,
         OutputKind::Meter,
+        OutputKind::Window,
+        OutputKind::Place,
+        OutputKind::Component,
     ]
 }

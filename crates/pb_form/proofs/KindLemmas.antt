@@ -319,10 +319,13 @@ place_in kind.AmendAmount = (22, refl)
 place_in kind.AmendLevel = (23, refl)
 place_in kind.Strike = (24, refl)
 place_in kind.Close = (25, refl)
-place_in kind.Design = (26, refl)
-place_in kind.Report = (27, refl)
-place_in kind.History = (28, refl)
-place_in kind.Advise = (29, refl)
+place_in kind.Assay = (26, refl)
+place_in kind.Design = (27, refl)
+place_in kind.Report = (28, refl)
+place_in kind.History = (29, refl)
+place_in kind.Advise = (30, refl)
+place_in kind.Window = (31, refl)
+place_in kind.Component = (32, refl)
 
 -- the schemas of the kinds from a place on
 pub schemas_from : (schemas : List coded.Schema) (start : ℕ) → map schema_seen schemas ≡ session_schemas

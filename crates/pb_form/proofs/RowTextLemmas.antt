@@ -189,3 +189,6 @@ rows_begin kind.No values = refl
 rows_begin kind.Unreadable values = refl
 rows_begin kind.Advise values = refl
 rows_begin kind.Meter values = refl
+rows_begin kind.Window values = refl
+rows_begin kind.Place values = refl
+rows_begin kind.Component values = refl

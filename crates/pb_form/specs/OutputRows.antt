@@ -1,5 +1,5 @@
 -- Statement. The rows of an output: the columns of each kind.
-use Rattle.std.specs.Prelude.{◌-◌, ◌^◌, pos, neg_ℤ, List, [], ◌∷◌, codes, map}
+use Rattle.std.specs.Prelude.{◌-◌, ◌^◌, pos, neg_ℤ, List, [], ◌∷◌, codes}
 use Rattle.pb_limits.specs.Limits.{most_freedom, most_gap, most_price, most_rounds, most_sweeps, most_value, most_variance, most_wide}
 use Rattle.pb_form.specs.Columns.{Column, Schema, column, optional, word_column}
 use Rattle.pb_form.specs.Holds.{Holds, Word, Name, Reason, Number, Items}
@@ -139,6 +139,14 @@ output_columns kind.Advise =
 output_columns kind.Meter =
     word_column (codes "row") (codes "meter") ∷ column (codes "stream") Name ∷ column (codes "cost") cost_range
     ∷ column (codes "parts") Items ∷ []
+output_columns kind.Window =
+    word_column (codes "row") (codes "window") ∷ column (codes "first") Name ∷ column (codes "last") Name
+    ∷ column (codes "periods") natural_range ∷ []
+output_columns kind.Place =
+    word_column (codes "row") (codes "place") ∷ column (codes "code") Name ∷ column (codes "period") Name
+    ∷ column (codes "name") Name ∷ []
+output_columns kind.Component =
+    word_column (codes "row") (codes "component") ∷ column (codes "component") Name ∷ column (codes "period") Name ∷ []
 
 -- the schema of each kind
 abbrev pub output_schema : OutputKind → Schema
@@ -149,8 +157,5 @@ abbrev pub output_kinds : List OutputKind
 output_kinds =
     kind.Refused ∷ kind.Over ∷ kind.Design ∷ kind.Class ∷ kind.History ∷ kind.Edit ∷ kind.Report ∷ kind.Node ∷ kind.Stream
     ∷ kind.StreamBefore ∷ kind.Solved ∷ kind.Global ∷ kind.Nodal ∷ kind.Measure ∷ kind.End ∷ kind.Taken ∷ kind.Stop
-    ∷ kind.Summary ∷ kind.Yes ∷ kind.No ∷ kind.Unreadable ∷ kind.Advise ∷ kind.Meter ∷ []
-
--- the schemas of all kinds
-abbrev pub output_schemas : List Schema
-output_schemas = map output_schema output_kinds
+    ∷ kind.Summary ∷ kind.Yes ∷ kind.No ∷ kind.Unreadable ∷ kind.Advise ∷ kind.Meter ∷ kind.Window ∷ kind.Place
+    ∷ kind.Component ∷ []

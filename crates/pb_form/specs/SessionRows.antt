@@ -1,6 +1,6 @@
 -- Statement. The rows of a session: the columns of each kind.
 use Rattle.std.specs.Prelude.{ℕ, ◌^◌, pos, neg_ℤ, Bool, true, false, List, [], ◌∷◌, ◌++◌, Option, Some, None, Result, Ok, Err, codes, filter, map, slice_get}
-use Rattle.pb_limits.specs.Limits.{most_critical, most_density, most_freedom, most_grams, most_level, most_row_variance, most_volume}
+use Rattle.pb_limits.specs.Limits.{most_critical, most_density, most_freedom, most_grade, most_grade_variance, most_grams, most_level, most_row_variance, most_volume}
 use Rattle.pb_form.specs.Columns.{Column, Schema, column, word_column}
 use Rattle.pb_form.specs.Holds.{Holds, Name, Reason, Number, Date}
 use Rattle.pb_form.specs.Telling.{schema_told}
@@ -43,6 +43,14 @@ freedom_range = Number (pos 1) (pos most_freedom)
 -- a critical value, in thousandths
 abbrev pub critical_range : Holds
 critical_range = Number (pos 0) (pos most_critical)
+
+-- a grade, in parts per million
+abbrev pub grade_range : Holds
+grade_range = Number (pos 0) (pos most_grade)
+
+-- the variance of a grade, in squares of parts per million
+abbrev pub grade_variance_range : Holds
+grade_variance_range = Number (pos 0) (pos most_grade_variance)
 
 -- the greatest cost of a meter, in whatever unit
 abbrev pub most_meter_cost : ℕ
@@ -127,10 +135,17 @@ session_columns kind.AmendLevel =
 session_columns kind.Strike =
     word_column (codes "row") (codes "strike") ∷ column (codes "id") Name ∷ column (codes "reason") Reason ∷ []
 session_columns kind.Close = word_column (codes "row") (codes "close") ∷ column (codes "period") Name ∷ []
+session_columns kind.Assay =
+    word_column (codes "row") (codes "assay") ∷ column (codes "component") Name ∷ column (codes "stream") Name
+    ∷ column (codes "period") Name ∷ column (codes "ppm") grade_range ∷ column (codes "variance") grade_variance_range ∷ []
 session_columns kind.Design = word_column (codes "row") (codes "design") ∷ []
 session_columns kind.Report = word_column (codes "row") (codes "report") ∷ column (codes "period") Name ∷ []
 session_columns kind.History = word_column (codes "row") (codes "history") ∷ column (codes "period") Name ∷ []
 session_columns kind.Advise = word_column (codes "row") (codes "advise") ∷ []
+session_columns kind.Window =
+    word_column (codes "row") (codes "window") ∷ column (codes "first") Name ∷ column (codes "last") Name ∷ []
+session_columns kind.Component =
+    word_column (codes "row") (codes "component") ∷ column (codes "component") Name ∷ column (codes "period") Name ∷ []
 
 -- the columns of a named cost: a stream, and what a meter on it costs
 abbrev pub cost_columns : List Column
@@ -152,7 +167,7 @@ session_kinds =
     ∷ kind.Unit ∷ kind.Tank ∷ kind.Strap ∷ kind.StreamMetered ∷ kind.StreamBatch ∷ kind.StreamPlain ∷ kind.Period
     ∷ kind.CriticalGlobal ∷ kind.CriticalNodal ∷ kind.CriticalMeasure ∷ kind.Reading ∷ kind.Transfer ∷ kind.Dip
     ∷ kind.LateReading ∷ kind.LateTransfer ∷ kind.LateDip ∷ kind.AmendAmount ∷ kind.AmendLevel ∷ kind.Strike ∷ kind.Close
-    ∷ kind.Design ∷ kind.Report ∷ kind.History ∷ kind.Advise ∷ []
+    ∷ kind.Assay ∷ kind.Design ∷ kind.Report ∷ kind.History ∷ kind.Advise ∷ kind.Window ∷ kind.Component ∷ []
 
 -- the schemas of all kinds
 abbrev pub session_schemas : List Schema

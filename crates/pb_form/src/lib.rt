@@ -26,9 +26,7 @@ pub use fault::FormFault;
 pub use fields::Fields;
 pub use json::write_json;
 pub use laws::{fitting_law, one_kind_law, one_record_law};
-pub use output::{
-    OutputKind, output_json, output_record, output_schema, output_schemas, output_word_law,
-};
+pub use output::{OutputKind, output_json, output_record, output_schema, output_word_law};
 pub use reading::{read, read_columns};
 pub use session::{
     SessionKind, is_of_kind, kind_of_version_1, kind_of_version_2, session_record, session_schema,

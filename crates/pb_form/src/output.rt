@@ -1,9 +1,9 @@
 // The rows of an output: the columns of each kind.
 
-ghost use Rattle.std.specs.Prelude.{◌≡◌, ◌≤◌, ◌++◌, length, map, slice_get, All, IsUtf8, IfOk, OnOk, OnErr};
+ghost use Rattle.std.specs.Prelude.{◌≡◌, ◌≤◌, ◌++◌, length, All, IsUtf8, IfOk, OnOk, OnErr};
 ghost use Rattle.pb_form.specs.Given.{values_as};
 ghost use Rattle.pb_form.specs.Json.{record_line};
-ghost use Rattle.pb_form.specs.OutputRows.{output_columns, output_kinds, output_schema, output_schemas};
+ghost use Rattle.pb_form.specs.OutputRows.{output_columns, output_schema};
 ghost use Rattle.pb_form.specs.Seen.{schema_seen};
 ghost use Rattle.pb_form.specs.TextLaws.{OutputWordLaw};
 ghost use Rattle.pb_form.specs.Texts.{texts_of};
@@ -49,6 +49,9 @@ pub enum OutputKind {
     Unreadable,
     Advise,
     Meter,
+    Window,
+    Place,
+    Component,
 }
 
 // 2^126, the greatest of the numbers that aren't bounded by a plant's limits.
@@ -124,213 +127,264 @@ const CRITICAL: Holds = Holds::Number {
     hi: MOST_CRITICAL as i128,
 };
 
-// The schemas of all kinds, in their order.
-static SCHEMAS: [Schema; 23] = [
-    schema!(
-        word!("row", "refused"),
-        column!("at", NATURAL),
-        column!("code", NATURAL),
-        column!("word", Holds::Word(CAUSE_WORDS))
-    ),
-    schema!(
-        word!("row", "over"),
-        column!("period", Holds::Name),
-        column!("stream", Holds::Name)
-    ),
-    schema!(
-        word!("row", "design"),
-        column!("nodes", NATURAL),
-        column!("streams", NATURAL)
-    ),
-    schema!(
-        word!("row", "class"),
-        column!("name", Holds::Name),
-        column!("from", Holds::Name),
-        column!("to", Holds::Name),
-        column!("measured", Holds::Word(MEASURED_WORDS)),
-        column!("class", Holds::Word(CLASS_WORDS)),
-        column!("shape", Holds::Word(SHAPE_WORDS)),
-        column!("side", Holds::Items),
-        column!("parts", Holds::Items)
-    ),
-    schema!(
-        word!("row", "history"),
-        column!("period", Holds::Name),
-        column!("state", Holds::Word(PERIOD_WORDS)),
-        column!("count", NATURAL)
-    ),
-    schema!(
-        word!("row", "edit"),
-        column!("at", NATURAL),
-        column!("word", Holds::Word(EDIT_WORDS)),
-        optional!("id", Holds::Name),
-        optional!("reason", Holds::Reason)
-    ),
-    schema!(
-        word!("row", "report"),
-        column!("period", Holds::Name),
-        column!("round", ROUND),
-        column!("nodes", WIDE),
-        column!("streams", WIDE),
-        column!("gap", GAP),
-        column!("sweeps", SWEEPS)
-    ),
-    schema!(
-        word!("row", "node"),
-        column!("name", Holds::Name),
-        column!("price", PRICE)
-    ),
-    schema!(
-        word!("row", "stream"),
-        column!("name", Holds::Name),
-        column!("from", Holds::Name),
-        column!("to", Holds::Name),
-        optional!("value", VALUE),
-        optional!("variance", VARIANCE),
-        column!("class", Holds::Word(CLASS_WORDS)),
-        column!("flow", FLOW),
-        optional!("lo", WIDE),
-        optional!("hi", WIDE),
-        optional!("least_lo", WIDE),
-        optional!("least_hi", WIDE),
-        column!("shape", Holds::Word(SHAPE_WORDS)),
-        column!("side", Holds::Items),
-        column!("parts", Holds::Items)
-    ),
-    schema!(
-        word!("row", "stream"),
-        column!("name", Holds::Name),
-        column!("from", Holds::Name),
-        column!("to", Holds::Name),
-        optional!("value", VALUE),
-        optional!("variance", VARIANCE),
-        column!("class", Holds::Word(CLASS_WORDS)),
-        column!("flow", FLOW),
-        optional!("lo", WIDE),
-        optional!("hi", WIDE),
-        column!("shape", Holds::Word(SHAPE_WORDS)),
-        column!("side", Holds::Items),
-        column!("parts", Holds::Items)
-    ),
-    schema!(
-        word!("row", "solved"),
-        column!("k", SWEEPS),
-        column!("state", Holds::Word(STATE_WORDS)),
-        column!("g", GAP_NUMBER),
-        column!("h", EXPONENT),
-        column!("dof", DOF),
-        column!("low", WIDE),
-        optional!("high", WIDE)
-    ),
-    schema!(
-        word!("row", "global"),
-        optional!("critical", CRITICAL),
-        column!("verdict", Holds::Word(VERDICT_WORDS))
-    ),
-    schema!(
-        word!("row", "nodal"),
-        column!("node", Holds::Name),
-        column!("net", WIDE),
-        column!("variance", WIDE),
-        optional!("critical", CRITICAL),
-        column!("verdict", Holds::Word(VERDICT_WORDS))
-    ),
-    schema!(
-        word!("row", "measure"),
-        column!("stream", Holds::Name),
-        column!("low", WIDE),
-        optional!("high", WIDE),
-        optional!("critical", CRITICAL),
-        column!("verdict", Holds::Word(VERDICT_WORDS))
-    ),
-    schema!(
-        word!("row", "end"),
-        column!("period", Holds::Name),
-        column!("round", ROUND)
-    ),
-    schema!(
-        word!("row", "taken"),
-        column!("period", Holds::Name),
-        column!("round", ROUND),
-        column!("stream", Holds::Name),
-        column!("low", WIDE)
-    ),
-    schema!(
-        word!("row", "stop"),
-        column!("period", Holds::Name),
-        column!("reason", Holds::Word(STOP_WORDS)),
-        column!("rounds", ROUND)
-    ),
-    schema!(
-        word!("row", "summary"),
-        column!("number", NATURAL),
-        column!("streams", NATURAL),
-        column!("rows", NATURAL),
-        column!("observable", NATURAL),
-        column!("unobservable", NATURAL),
-        column!("redundant", NATURAL),
-        column!("nonredundant", NATURAL),
-        column!("dof", NATURAL),
-        column!("state", Holds::Word(STATE_WORDS)),
-        column!("k", NATURAL),
-        column!("low", WIDE),
-        optional!("high", WIDE)
-    ),
-    schema!(
-        word!("row", "yes"),
-        column!("period", Holds::Name),
-        column!("round", ROUND)
-    ),
-    schema!(
-        word!("row", "no"),
-        column!("period", Holds::Name),
-        column!("round", ROUND),
-        column!("code", NATURAL),
-        column!("word", Holds::Word(TEST_WORDS)),
-        optional!("name", Holds::Name),
-        column!("stated", WIDE),
-        column!("found", WIDE)
-    ),
-    schema!(
-        word!("row", "unreadable"),
-        column!("at", NATURAL),
-        column!("code", NATURAL),
-        column!("word", Holds::Word(UNREAD_WORDS))
-    ),
-    schema!(
-        word!("row", "advise"),
-        column!("count", NATURAL),
-        column!("total", NATURAL)
-    ),
-    schema!(
-        word!("row", "meter"),
-        column!("stream", Holds::Name),
-        column!("cost", COST),
-        column!("parts", Holds::Items)
-    ),
-];
+static REFUSED: Schema = schema!(
+    word!("row", "refused"),
+    column!("at", NATURAL),
+    column!("code", NATURAL),
+    column!("word", Holds::Word(CAUSE_WORDS))
+);
 
-/// The schemas of the kinds of an output, in the order of the kinds.
-pub fn output_schemas() -> &'static [Schema]
-    ensures { map schema_seen result.now ≡ output_schemas }
-{
-    &SCHEMAS
-}
+static OVER: Schema = schema!(
+    word!("row", "over"),
+    column!("period", Holds::Name),
+    column!("stream", Holds::Name)
+);
+
+static DESIGN: Schema = schema!(
+    word!("row", "design"),
+    column!("nodes", NATURAL),
+    column!("streams", NATURAL)
+);
+
+static CLASS: Schema = schema!(
+    word!("row", "class"),
+    column!("name", Holds::Name),
+    column!("from", Holds::Name),
+    column!("to", Holds::Name),
+    column!("measured", Holds::Word(MEASURED_WORDS)),
+    column!("class", Holds::Word(CLASS_WORDS)),
+    column!("shape", Holds::Word(SHAPE_WORDS)),
+    column!("side", Holds::Items),
+    column!("parts", Holds::Items)
+);
+
+static HISTORY: Schema = schema!(
+    word!("row", "history"),
+    column!("period", Holds::Name),
+    column!("state", Holds::Word(PERIOD_WORDS)),
+    column!("count", NATURAL)
+);
+
+static EDIT: Schema = schema!(
+    word!("row", "edit"),
+    column!("at", NATURAL),
+    column!("word", Holds::Word(EDIT_WORDS)),
+    optional!("id", Holds::Name),
+    optional!("reason", Holds::Reason)
+);
+
+static REPORT: Schema = schema!(
+    word!("row", "report"),
+    column!("period", Holds::Name),
+    column!("round", ROUND),
+    column!("nodes", WIDE),
+    column!("streams", WIDE),
+    column!("gap", GAP),
+    column!("sweeps", SWEEPS)
+);
+
+static NODE: Schema = schema!(
+    word!("row", "node"),
+    column!("name", Holds::Name),
+    column!("price", PRICE)
+);
+
+static STREAM: Schema = schema!(
+    word!("row", "stream"),
+    column!("name", Holds::Name),
+    column!("from", Holds::Name),
+    column!("to", Holds::Name),
+    optional!("value", VALUE),
+    optional!("variance", VARIANCE),
+    column!("class", Holds::Word(CLASS_WORDS)),
+    column!("flow", FLOW),
+    optional!("lo", WIDE),
+    optional!("hi", WIDE),
+    optional!("least_lo", WIDE),
+    optional!("least_hi", WIDE),
+    column!("shape", Holds::Word(SHAPE_WORDS)),
+    column!("side", Holds::Items),
+    column!("parts", Holds::Items)
+);
+
+static STREAM_BEFORE: Schema = schema!(
+    word!("row", "stream"),
+    column!("name", Holds::Name),
+    column!("from", Holds::Name),
+    column!("to", Holds::Name),
+    optional!("value", VALUE),
+    optional!("variance", VARIANCE),
+    column!("class", Holds::Word(CLASS_WORDS)),
+    column!("flow", FLOW),
+    optional!("lo", WIDE),
+    optional!("hi", WIDE),
+    column!("shape", Holds::Word(SHAPE_WORDS)),
+    column!("side", Holds::Items),
+    column!("parts", Holds::Items)
+);
+
+static SOLVED: Schema = schema!(
+    word!("row", "solved"),
+    column!("k", SWEEPS),
+    column!("state", Holds::Word(STATE_WORDS)),
+    column!("g", GAP_NUMBER),
+    column!("h", EXPONENT),
+    column!("dof", DOF),
+    column!("low", WIDE),
+    optional!("high", WIDE)
+);
+
+static GLOBAL: Schema = schema!(
+    word!("row", "global"),
+    optional!("critical", CRITICAL),
+    column!("verdict", Holds::Word(VERDICT_WORDS))
+);
+
+static NODAL: Schema = schema!(
+    word!("row", "nodal"),
+    column!("node", Holds::Name),
+    column!("net", WIDE),
+    column!("variance", WIDE),
+    optional!("critical", CRITICAL),
+    column!("verdict", Holds::Word(VERDICT_WORDS))
+);
+
+static MEASURE: Schema = schema!(
+    word!("row", "measure"),
+    column!("stream", Holds::Name),
+    column!("low", WIDE),
+    optional!("high", WIDE),
+    optional!("critical", CRITICAL),
+    column!("verdict", Holds::Word(VERDICT_WORDS))
+);
+
+static END: Schema = schema!(
+    word!("row", "end"),
+    column!("period", Holds::Name),
+    column!("round", ROUND)
+);
+
+static TAKEN: Schema = schema!(
+    word!("row", "taken"),
+    column!("period", Holds::Name),
+    column!("round", ROUND),
+    column!("stream", Holds::Name),
+    column!("low", WIDE)
+);
+
+static STOP: Schema = schema!(
+    word!("row", "stop"),
+    column!("period", Holds::Name),
+    column!("reason", Holds::Word(STOP_WORDS)),
+    column!("rounds", ROUND)
+);
+
+static SUMMARY: Schema = schema!(
+    word!("row", "summary"),
+    column!("number", NATURAL),
+    column!("streams", NATURAL),
+    column!("rows", NATURAL),
+    column!("observable", NATURAL),
+    column!("unobservable", NATURAL),
+    column!("redundant", NATURAL),
+    column!("nonredundant", NATURAL),
+    column!("dof", NATURAL),
+    column!("state", Holds::Word(STATE_WORDS)),
+    column!("k", NATURAL),
+    column!("low", WIDE),
+    optional!("high", WIDE)
+);
+
+static YES: Schema = schema!(
+    word!("row", "yes"),
+    column!("period", Holds::Name),
+    column!("round", ROUND)
+);
+
+static NO: Schema = schema!(
+    word!("row", "no"),
+    column!("period", Holds::Name),
+    column!("round", ROUND),
+    column!("code", NATURAL),
+    column!("word", Holds::Word(TEST_WORDS)),
+    optional!("name", Holds::Name),
+    column!("stated", WIDE),
+    column!("found", WIDE)
+);
+
+static UNREADABLE: Schema = schema!(
+    word!("row", "unreadable"),
+    column!("at", NATURAL),
+    column!("code", NATURAL),
+    column!("word", Holds::Word(UNREAD_WORDS))
+);
+
+static ADVISE: Schema = schema!(
+    word!("row", "advise"),
+    column!("count", NATURAL),
+    column!("total", NATURAL)
+);
+
+static METER: Schema = schema!(
+    word!("row", "meter"),
+    column!("stream", Holds::Name),
+    column!("cost", COST),
+    column!("parts", Holds::Items)
+);
+
+static WINDOW: Schema = schema!(
+    word!("row", "window"),
+    column!("first", Holds::Name),
+    column!("last", Holds::Name),
+    column!("periods", NATURAL)
+);
+
+static PLACE: Schema = schema!(
+    word!("row", "place"),
+    column!("code", Holds::Name),
+    column!("period", Holds::Name),
+    column!("name", Holds::Name)
+);
+
+static COMPONENT: Schema = schema!(
+    word!("row", "component"),
+    column!("component", Holds::Name),
+    column!("period", Holds::Name)
+);
 
 /// The schema of a kind.
 pub fn output_schema(kind: OutputKind) -> &'static Schema
     ensures value { schema_seen result.now ≡ output_schema kind }
     ensures few { length result.now.columns.now ≤ ROOM }
 {
-    let schemas = output_schemas();
-    &schemas[place_of(kind)]
-}
-
-// The place of a kind among all kinds.
-fn place_of(kind: OutputKind) -> usize
-    ensures { slice_get output_kinds result ≡ Some kind }
-{
-    kind as usize
+    match kind {
+        OutputKind::Refused => &REFUSED,
+        OutputKind::Over => &OVER,
+        OutputKind::Design => &DESIGN,
+        OutputKind::Class => &CLASS,
+        OutputKind::History => &HISTORY,
+        OutputKind::Edit => &EDIT,
+        OutputKind::Report => &REPORT,
+        OutputKind::Node => &NODE,
+        OutputKind::Stream => &STREAM,
+        OutputKind::StreamBefore => &STREAM_BEFORE,
+        OutputKind::Solved => &SOLVED,
+        OutputKind::Global => &GLOBAL,
+        OutputKind::Nodal => &NODAL,
+        OutputKind::Measure => &MEASURE,
+        OutputKind::End => &END,
+        OutputKind::Taken => &TAKEN,
+        OutputKind::Stop => &STOP,
+        OutputKind::Summary => &SUMMARY,
+        OutputKind::Yes => &YES,
+        OutputKind::No => &NO,
+        OutputKind::Unreadable => &UNREADABLE,
+        OutputKind::Advise => &ADVISE,
+        OutputKind::Meter => &METER,
+        OutputKind::Window => &WINDOW,
+        OutputKind::Place => &PLACE,
+        OutputKind::Component => &COMPONENT,
+    }
 }
 
 /// The record of a kind: the text of each value, of which the first is the kind's word.

@@ -17,8 +17,8 @@ use crate::telling::{is_of, tell};
 use crate::value::{ROOM, Value};
 use crate::writing::write;
 use pb_limits::{
-    MOST_CRITICAL, MOST_DENSITY, MOST_FREEDOM, MOST_GRAMS, MOST_LEVEL, MOST_ROW_VARIANCE,
-    MOST_VOLUME,
+    MOST_CRITICAL, MOST_DENSITY, MOST_FREEDOM, MOST_GRADE, MOST_GRADE_VARIANCE, MOST_GRAMS,
+    MOST_LEVEL, MOST_ROW_VARIANCE, MOST_VOLUME,
 };
 use pb_rows::Row;
 use std::alloc::{AllocError, Global};
@@ -53,14 +53,17 @@ pub enum SessionKind {
     AmendLevel,
     Strike,
     Close,
+    Assay,
     Design,
     Report,
     History,
     Advise,
+    Window,
+    Component,
 }
 
 // The kinds in the order of their schemas.
-static KINDS: [SessionKind; 30] = [
+static KINDS: [SessionKind; 33] = [
     SessionKind::Version,
     SessionKind::Boundary,
     SessionKind::TankInService,
@@ -87,10 +90,13 @@ static KINDS: [SessionKind; 30] = [
     SessionKind::AmendLevel,
     SessionKind::Strike,
     SessionKind::Close,
+    SessionKind::Assay,
     SessionKind::Design,
     SessionKind::Report,
     SessionKind::History,
     SessionKind::Advise,
+    SessionKind::Window,
+    SessionKind::Component,
 ];
 
 // The places of the first kind of version 2 and of the first one of version 1.
@@ -115,6 +121,10 @@ const ML: Column = number!("ml", 0, MOST_VOLUME as i128);
 
 const DENSITY: Column = number!("density", 1, MOST_DENSITY as i128);
 
+const PPM: Column = number!("ppm", 0, MOST_GRADE as i128);
+
+const GRADE_VARIANCE: Column = number!("variance", 0, MOST_GRADE_VARIANCE as i128);
+
 const COST: Column = number!("cost", 0, MOST_METER_COST);
 
 const DOF: Column = number!("dof", 1, MOST_FREEDOM as i128);
@@ -135,6 +145,12 @@ const TO: Column = column!("to", Holds::Name);
 
 const PERIOD: Column = column!("period", Holds::Name);
 
+const FIRST_PERIOD: Column = column!("first", Holds::Name);
+
+const LAST_PERIOD: Column = column!("last", Holds::Name);
+
+const COMPONENT: Column = column!("component", Holds::Name);
+
 const REASON: Column = column!("reason", Holds::Reason);
 
 const DAY: Column = column!("day", Holds::Date);
@@ -148,7 +164,7 @@ const SINCE: Column = column!("since", Holds::Date);
 const UNTIL: Column = column!("until", Holds::Date);
 
 // The schemas of all kinds, in their order.
-static SCHEMAS: [Schema; 30] = [
+static SCHEMAS: [Schema; 33] = [
     schema!(word!("row", "version"), word!("number", "2")),
     schema!(word!("row", "boundary"), NAME),
     schema!(word!("row", "tank"), NAME, BASE, SINCE, UNTIL),
@@ -262,6 +278,14 @@ static SCHEMAS: [Schema; 30] = [
     schema!(word!("row", "amend"), ID, MM, DENSITY, VARIANCE, REASON),
     schema!(word!("row", "strike"), ID, REASON),
     schema!(word!("row", "close"), PERIOD),
+    schema!(
+        word!("row", "assay"),
+        COMPONENT,
+        STREAM,
+        PERIOD,
+        PPM,
+        GRADE_VARIANCE
+    ),
     schema!(word!("row", "design")),
     schema!(word!("row", "report"), PERIOD),
     schema!(word!("row", "history"), PERIOD),
@@ -269,6 +293,8 @@ static SCHEMAS: [Schema; 30] = [
         columns: &[word!("row", "advise")],
         tail: &[STREAM, COST],
     },
+    schema!(word!("row", "window"), FIRST_PERIOD, LAST_PERIOD),
+    schema!(word!("row", "component"), COMPONENT, PERIOD),
 ];
 
 /// The schemas of the kinds of a session, in the order of the kinds.

@@ -146,10 +146,16 @@ asked_in_range kind.AmendLevel values fit = (
 )
 asked_in_range kind.Strike values fit = tt
 asked_in_range kind.Close values fit = tt
+asked_in_range kind.Assay values fit =
+    let ppm = between (session_columns kind.Assay) values 0 4 4 _ _ _ fit refl refl in
+    let variance = between (session_columns kind.Assay) values 0 5 5 _ _ _ fit refl refl in
+    record { least = ppm.0; most = ppm.1; exact = variance.0; widest = variance.1 }
 asked_in_range kind.Design values fit = tt
 asked_in_range kind.Report values fit = tt
 asked_in_range kind.History values fit = tt
 asked_in_range kind.Advise values fit = tt
+asked_in_range kind.Window values fit = tt
+asked_in_range kind.Component values fit = tt
 
 -- ---- names
 
@@ -171,10 +177,10 @@ name_one : (columns : List Column) (values : List Value) (key : List ℕ) → Fi
     → list_all is_name (name_there values 1 ∷ []) ≡ true
 name_one columns values key fit has = one_name (name_there values 1) (named columns values 0 1 1 key fit refl has)
 
-stream_names : (columns : List Column) (values : List Value) (name from to : List ℕ) → FitEach columns values → slice_get columns 1 ≡ Some (column name holds.Name)
+three_from_one : (columns : List Column) (values : List Value) (name from to : List ℕ) → FitEach columns values → slice_get columns 1 ≡ Some (column name holds.Name)
     → slice_get columns 2 ≡ Some (column from holds.Name) → slice_get columns 3 ≡ Some (column to holds.Name)
     → list_all is_name (name_there values 1 ∷ (name_there values 2 ∷ (name_there values 3 ∷ []))) ≡ true
-stream_names columns values name from to fit a b c =
+three_from_one columns values name from to fit a b c =
     three_names (name_there values 1) (name_there values 2) (name_there values 3) (named columns values 0 1 1 name fit refl a) (named columns values 0 2 2 from fit refl b) (named columns values 0 3 3 to fit refl c)
 
 names_from : (columns : List Column) (values : List Value) (at : ℕ) (id of : List ℕ) → FitEach columns (drop at values) → slice_get columns 0 ≡ Some (column id holds.Name)
@@ -186,15 +192,15 @@ pub asked_named : (it : SessionKind) (values : List Value) → FitEach (session_
 asked_named kind.Version values fit = refl
 asked_named kind.Boundary values fit = name_one (session_columns kind.Boundary) values _ fit refl
 asked_named kind.TankInService values fit = name_one (session_columns kind.TankInService) values _ fit refl
-asked_named kind.MeteredInService values fit = stream_names (session_columns kind.MeteredInService) values _ _ _ fit refl refl refl
-asked_named kind.BatchInService values fit = stream_names (session_columns kind.BatchInService) values _ _ _ fit refl refl refl
-asked_named kind.PlainInService values fit = stream_names (session_columns kind.PlainInService) values _ _ _ fit refl refl refl
+asked_named kind.MeteredInService values fit = three_from_one (session_columns kind.MeteredInService) values _ _ _ fit refl refl refl
+asked_named kind.BatchInService values fit = three_from_one (session_columns kind.BatchInService) values _ _ _ fit refl refl refl
+asked_named kind.PlainInService values fit = three_from_one (session_columns kind.PlainInService) values _ _ _ fit refl refl refl
 asked_named kind.Unit values fit = name_one (session_columns kind.Unit) values _ fit refl
 asked_named kind.Tank values fit = name_one (session_columns kind.Tank) values _ fit refl
 asked_named kind.Strap values fit = name_one (session_columns kind.Strap) values _ fit refl
-asked_named kind.StreamMetered values fit = stream_names (session_columns kind.StreamMetered) values _ _ _ fit refl refl refl
-asked_named kind.StreamBatch values fit = stream_names (session_columns kind.StreamBatch) values _ _ _ fit refl refl refl
-asked_named kind.StreamPlain values fit = stream_names (session_columns kind.StreamPlain) values _ _ _ fit refl refl refl
+asked_named kind.StreamMetered values fit = three_from_one (session_columns kind.StreamMetered) values _ _ _ fit refl refl refl
+asked_named kind.StreamBatch values fit = three_from_one (session_columns kind.StreamBatch) values _ _ _ fit refl refl refl
+asked_named kind.StreamPlain values fit = three_from_one (session_columns kind.StreamPlain) values _ _ _ fit refl refl refl
 asked_named kind.Period values fit = name_one (session_columns kind.Period) values _ fit refl
 asked_named kind.CriticalGlobal values fit = refl
 asked_named kind.CriticalNodal values fit = refl
@@ -209,7 +215,10 @@ asked_named kind.AmendAmount values fit = name_one (session_columns kind.AmendAm
 asked_named kind.AmendLevel values fit = name_one (session_columns kind.AmendLevel) values _ fit refl
 asked_named kind.Strike values fit = name_one (session_columns kind.Strike) values _ fit refl
 asked_named kind.Close values fit = name_one (session_columns kind.Close) values _ fit refl
+asked_named kind.Assay values fit = three_from_one (session_columns kind.Assay) values _ _ _ fit refl refl refl
 asked_named kind.Design values fit = refl
 asked_named kind.Report values fit = refl
 asked_named kind.History values fit = refl
 asked_named kind.Advise values fit = refl
+asked_named kind.Window values fit = refl
+asked_named kind.Component values fit = refl

@@ -1,14 +1,20 @@
 -- Statement. The ranges of the numbers and days of what a record asks to be stored.
+use Rattle.std.specs.Prelude.{ℕ}
 use Rattle.pb_rows.specs.Date.{IsDay}
 use Rattle.pb_site.specs.Row.{IsInRange as IsDeclaredInRange}
 use Rattle.pb_facts.specs.Changes.{IsChangeInRange}
 use Rattle.pb_facts.specs.Fact.{IsInRange as IsFactInRange}
+use Rattle.pb_assay.specs.Grade.{IsGrade}
 use Rattle.pb_kinds.specs.declared.rows.Edit.{Edit}
 use Rattle.pb_kinds.specs.declared.rows.Edit.TheVariants.{Change, Strike}
 use Rattle.pb_kinds.specs.declared.rows.Effect.{Effect}
-use Rattle.pb_kinds.specs.declared.rows.Effect.TheVariants.{Declares, Opens, Books, Edits, Closes}
+use Rattle.pb_kinds.specs.declared.rows.Effect.TheVariants.{Declares, Opens, Books, Edits, Closes, Assays}
 use Rattle.pb_kinds.specs.declared.rows.Request.{Request}
 use Rattle.pb_kinds.specs.declared.rows.Request.TheVariants.{Store}
+
+-- how many assays a book has at the most
+abbrev pub most_assays : ℕ
+most_assays = 20000
 
 -- the new values of a fact lie in their ranges
 abbrev pub IsEditInRange : Edit → Type 0
@@ -22,6 +28,7 @@ IsEffectInRange (Opens name first last) = IsDay first × IsDay last
 IsEffectInRange (Books fact late) = IsFactInRange fact
 IsEffectInRange (Edits id edit reason) = IsEditInRange edit
 IsEffectInRange (Closes name) = Unit {0}
+IsEffectInRange (Assays assay) = IsGrade assay.grade
 
 -- so do those of an effect that is asked to be stored
 abbrev pub IsRequestInRange : Request → Type 0

@@ -19,11 +19,12 @@ use Rattle.pb_site.specs.declared.declared.Version.TheVariants.{One, Two}
 use Rattle.pb_facts.specs.declared.fact.Change.TheVariants.{Amount, Level}
 use Rattle.pb_facts.specs.declared.fact.Fact.{Fact}
 use Rattle.pb_facts.specs.declared.fact.Fact.TheVariants.{Reading, Transfer, Dip}
+use Rattle.pb_kinds.specs.declared.rows.Assay.{Assay}
 use Rattle.pb_kinds.specs.declared.rows.Edit.{Edit}
 use Rattle.pb_kinds.specs.declared.rows.Edit.TheVariants.{Change, Strike}
-use Rattle.pb_kinds.specs.declared.rows.Effect.TheVariants.{Declares, Opens, Books, Edits, Closes}
+use Rattle.pb_kinds.specs.declared.rows.Effect.TheVariants.{Declares, Opens, Books, Edits, Closes, Assays}
 use Rattle.pb_kinds.specs.declared.rows.Request.{Request}
-use Rattle.pb_kinds.specs.declared.rows.Request.TheVariants.{Blank, Store, Design, Report, History, Advise}
+use Rattle.pb_kinds.specs.declared.rows.Request.TheVariants.{Blank, Store, Design, Report, History, Advise, Window, Component}
 
 -- the name, the reason, the number or the day that stands at a place of a row's values; each column holds what its place is asked for
 abbrev pub name_there : List Value → ℕ → List ℕ
@@ -62,6 +63,15 @@ abbrev pub dip_from : List Value → ℕ → Fact
 dip_from values at =
     Dip (name_there values at) (name_there values (at + 1)) (day_there values (at + 2)) (number_there values (at + 3))
     (number_there values (at + 4)) (number_there values (at + 5))
+
+-- the assay of a component in a stream over a period: a grade and its variance
+abbrev pub assay_in : List Value → Assay
+assay_in values = record {
+  component = name_there values 1;
+  stream = name_there values 2;
+  period = name_there values 3;
+  grade = record { ppm = number_there values 4; variance = number_there values 5 };
+}
 
 -- the fact of the id in the first column behind the word is edited, for the reason in the column at a place
 abbrev pub edits : Edit → List Value → ℕ → Request
@@ -105,10 +115,13 @@ request_of kind.AmendLevel values =
     edits (Change (Level (number_there values 2) (number_there values 3) (number_there values 4))) values 5
 request_of kind.Strike values = edits Strike values 2
 request_of kind.Close values = Store (Closes (name_there values 1))
+request_of kind.Assay values = Store (Assays (assay_in values))
 request_of kind.Design values = Design
 request_of kind.Report values = Report (name_there values 1)
 request_of kind.History values = History (name_there values 1)
 request_of kind.Advise values = Advise
+request_of kind.Window values = Window (name_there values 1) (name_there values 2)
+request_of kind.Component values = Component (name_there values 1) (name_there values 2)
 
 -- the request of values that were read, or their fault
 abbrev pub request_by : SessionKind → Result (List Value) FormFault → Result Request FormFault

@@ -1,6 +1,9 @@
 // Laws of what records ask.
 
+ghost use Rattle.std.specs.Prelude.{◌≡◌};
 ghost use Rattle.pb_kinds.specs.Laws.{AskingLaw, NamedCostsLaw, StoredLaw};
+ghost use Rattle.pb_kinds.specs.Ranges.{most_assays};
+ghost use Rattle.pb_kinds.specs.declared.rows.TheConstants.{MOST_ASSAYS};
 
 use pb_form::{fitting_law, one_kind_law};
 
@@ -11,6 +14,11 @@ pub fn stored_law()
 {
     fitting_law();
 }
+
+/// The constant of the most assays is the number of its definition.
+pub fn most_assays_law()
+    ensures { MOST_ASSAYS ≡ most_assays }
+{}
 
 /// The law that each cost which a record names that asks for an advice is what a meter may cost.
 pub fn named_costs_law()

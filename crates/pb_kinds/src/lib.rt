@@ -14,7 +14,7 @@ mod there;
 mod writing;
 
 pub use costs::{NamedCost, NamedCosts};
-pub use laws::{asking_law, named_costs_law, stored_law};
+pub use laws::{asking_law, most_assays_law, named_costs_law, stored_law};
 pub use reading::read_request;
-pub use rows::{Edit, Effect, Request};
+pub use rows::{Assay, Edit, Effect, MOST_ASSAYS, Request};
 pub use writing::write_effect;

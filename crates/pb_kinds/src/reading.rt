@@ -10,8 +10,9 @@ ghost use Rattle.pb_kinds.specs.There.{IsNameThere};
 ghost use Rattle.pb_kinds.specs.Versions.{may_ask};
 
 use crate::facts::{dip_from, reading_from, transfer_from};
-use crate::rows::{Edit, Effect, Request};
+use crate::rows::{Assay, Edit, Effect, Request};
 use crate::there::{day_there, dof_there, long_there, name_there, number_there, reason_there};
+use pb_assay::Grade;
 use pb_facts::{Change, Fact};
 use pb_form::{
     Fields, FormFault, SessionKind, Values, is_of_kind, kind_of_version_1, kind_of_version_2, read,
@@ -111,10 +112,13 @@ fn request_of(kind: SessionKind, values: &Values) -> Request
         SessionKind::AmendLevel => amend_level(values),
         SessionKind::Strike => strike(values),
         SessionKind::Close => Request::Store(Effect::Closes(name_there(values, 1))),
+        SessionKind::Assay => assay(values),
         SessionKind::Design => Request::Design,
         SessionKind::Report => Request::Report(name_there(values, 1)),
         SessionKind::History => Request::History(name_there(values, 1)),
         SessionKind::Advise => Request::Advise,
+        SessionKind::Window => Request::Window(name_there(values, 1), name_there(values, 2)),
+        SessionKind::Component => Request::Component(name_there(values, 1), name_there(values, 2)),
     }
 }
 
@@ -302,4 +306,21 @@ fn strike(values: &Values) -> Request
         edit: Edit::Strike,
         reason: reason_there(values, 2),
     })
+}
+
+// `assay,COMPONENT,STREAM,PERIOD,PPM,VARIANCE`
+fn assay(values: &Values) -> Request
+    requires { FitEach (session_columns kinds.Assay) values.now }
+    ensures { result ≡ request_of kinds.Assay values.now }
+{
+    let grade = Grade {
+        ppm: long_there(values, 4),
+        variance: long_there(values, 5),
+    };
+    Request::Store(Effect::Assays(Assay {
+        component: name_there(values, 1),
+        stream: name_there(values, 2),
+        period: name_there(values, 3),
+        grade,
+    }))
 }

@@ -1,8 +1,12 @@
 // What a record asks, and what a stored row does.
 
+use pb_assay::Grade;
 use pb_facts::{Change, Fact};
 use pb_rows::{Name, Reason};
 use pb_site::Declared;
+
+/// The most assays of a book.
+pub const MOST_ASSAYS: usize = 20_000;
 
 /// What a stored row does.
 #[derive(Clone, Copy)]
@@ -28,6 +32,17 @@ pub enum Effect {
     },
     /// The period of this name is closed.
     Closes(Name),
+    /// The grade of a component in a stream over a period is known.
+    Assays(Assay),
+}
+
+/// The grade of a component in a stream, or in what a tank gains, over a period.
+#[derive(Clone, Copy)]
+pub struct Assay {
+    pub component: Name,
+    pub stream: Name,
+    pub period: Name,
+    pub grade: Grade,
 }
 
 /// What becomes of a fact: it gets new values, or it counts no more.
@@ -51,4 +66,8 @@ pub enum Request {
     History(Name),
     /// The cheapest metering of the declared plant, at the costs that the record names.
     Advise,
+    /// The report of consecutive periods at once, from the one of the first name to the one of the second.
+    Window(Name, Name),
+    /// The balance of the component of the first name over the period of the second.
+    Component(Name, Name),
 }

@@ -13,15 +13,16 @@ ghost use Rattle.pb_facts.specs.Changes.{IsChangeInRange};
 ghost use Rattle.pb_facts.specs.Fact.{IsInRange as IsFactInRange};
 ghost use Rattle.pb_facts.specs.declared.fact.Change.TheVariants as changes;
 ghost use Rattle.pb_facts.specs.declared.fact.Fact.TheVariants as facts;
+ghost use Rattle.pb_assay.specs.Grade.{IsGrade};
 ghost use Rattle.pb_kinds.specs.Ranges.{IsEditInRange, IsEffectInRange};
 ghost use Rattle.pb_kinds.specs.Requests.{request_in};
 ghost use Rattle.pb_kinds.specs.There.{WritesEffect, served_stream_kind, stream_kind};
 ghost use Rattle.pb_kinds.specs.Versions.{may_do};
 ghost use Rattle.pb_kinds.specs.declared.rows.Edit.TheVariants as edits;
-ghost use Rattle.pb_kinds.specs.declared.rows.Effect.TheVariants.{Books, Closes, Declares, Edits, Opens};
+ghost use Rattle.pb_kinds.specs.declared.rows.Effect.TheVariants.{Assays, Books, Closes, Declares, Edits, Opens};
 ghost use Rattle.pb_kinds.specs.declared.rows.Request.TheVariants.{Store};
 
-use crate::rows::{Edit, Effect};
+use crate::rows::{Assay, Edit, Effect};
 use pb_facts::{Change, Fact};
 use pb_form::{SessionKind, Value, session_record};
 use pb_rows::{Name, Reason, Row};
@@ -42,6 +43,7 @@ pub fn write_effect(alloc: Global, effect: &Effect) -> Result<Row, AllocError>
         Effect::Books { fact, late } => booking(alloc, fact, *late),
         Effect::Edits { id, edit, reason } => editing(alloc, id, edit, reason),
         Effect::Closes(name) => close(alloc, name),
+        Effect::Assays(known) => assay(alloc, known),
     }
 }
 
@@ -545,5 +547,24 @@ fn close(alloc: Global, period: &Name) -> Result<Row, AllocError>
         alloc,
         SessionKind::Close,
         &[Value::Word(0), Value::name(period)],
+    )
+}
+
+// `assay,COMPONENT,STREAM,PERIOD,PPM,VARIANCE`
+fn assay(alloc: Global, assay: &Assay) -> Result<Row, AllocError>
+    requires { IsGrade assay.now.grade }
+    ensures { IfOk result (WritesEffect (Assays assay.now)) }
+{
+    session_record(
+        alloc,
+        SessionKind::Assay,
+        &[
+            Value::Word(0),
+            Value::name(&assay.component),
+            Value::name(&assay.stream),
+            Value::name(&assay.period),
+            Value::Number(i128::from(assay.grade.ppm)),
+            Value::Number(i128::from(assay.grade.variance)),
+        ],
     )
 }

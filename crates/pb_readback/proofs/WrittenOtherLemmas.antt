@@ -6,10 +6,12 @@ use Rattle.pb_graph.specs.declared.records.Classified.{Classified}
 use Rattle.pb_graph.specs.declared.records.Stream.{Stream}
 use Rattle.pb_report.specs.declared.history.HistoryRow.{HistoryRow}
 use Rattle.pb_advise.specs.declared.advice.Meter.{Meter}
+use Rattle.pb_window.specs.declared.names.WindowPlace.{WindowPlace}
 use Rattle.pb_report.specs.Advice.{meter_row}
 use Rattle.pb_report.specs.Design.{class_row}
 use Rattle.pb_report.specs.History.{edit_row}
 use Rattle.pb_report.specs.Rows.{rows_with}
+use Rattle.pb_report.specs.Window.{place_row}
 use Rattle.pb_readback.specs.Next.{ArePassedOver}
 use Rattle.pb_readback.specs.Written.{PassedRowsLaw, records_in}
 
@@ -26,7 +28,11 @@ meters_passed : (names : Names) (meters : List Meter) → ArePassedOver (records
 meters_passed names [] = refl
 meters_passed names (meter ∷ meters) = meters_passed names meters
 
--- the rows of refusals, of reports that can't be made, of designs, of histories and of advices
+places_passed : (places : List WindowPlace) → ArePassedOver (records_in (map place_row places))
+places_passed [] = refl
+places_passed (place ∷ places) = places_passed places
+
+-- the rows of refusals, of reports that can't be made, of designs, of histories and of advices, and those before other reports
 pub others_passed : PassedRowsLaw
 others_passed = record {
   refused = λ at code. refl;
@@ -34,4 +40,6 @@ others_passed = record {
   designs = λ names graph classes. classes_passed names 0 graph.streams classes;
   histories = λ period edits. edits_passed edits;
   advices = λ names advice. meters_passed names advice.meter;
+  windows = λ first last periods places. places_passed places;
+  components = λ component period. refl;
 }

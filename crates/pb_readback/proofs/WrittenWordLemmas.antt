@@ -21,6 +21,7 @@ use Rattle.pb_report.specs.Row.{OutputRow, fields_of}
 use Rattle.pb_report.specs.Rows.{rows_with}
 use Rattle.pb_report.specs.Study.{round_rows, stage_rows, stop_row}
 use Rattle.pb_report.specs.Tests.{measure_row, nodal_row, tests_rows}
+use Rattle.pb_report.specs.Window.{place_row}
 use Rattle.pb_readback.specs.Written.{BeginWithWords, RowWordsLaw, records_in}
 
 words_both : (front back : List OutputRow) → BeginWithWords front → BeginWithWords back → BeginWithWords (front ++ back)
@@ -78,6 +79,8 @@ all_words = record {
   designs = λ names graph classes. words_with (class_row names) (λ i stream classified. refl) 0 graph.streams classes;
   histories = λ period edits. words_of edit_row (λ edit. refl) edits;
   advices = λ names advice. words_of (meter_row names) (λ meter. refl) advice.meter;
+  windows = λ first last periods places. words_of place_row (λ place. refl) places;
+  components = λ component period. refl;
   studies = λ names period options study.
       words_both (stage_rows names period options study.taken study.stages) (option_to_list (option_map (stop_row period (length study.taken)) study.stop))
       (stage_words names period options study.taken study.stages) (stop_words period (length study.taken) study.stop);

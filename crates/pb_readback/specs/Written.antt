@@ -13,11 +13,13 @@ use Rattle.pb_graph.specs.declared.results.StreamResult.{StreamResult}
 use Rattle.pb_graph.specs.declared.results.Study.{Study}
 use Rattle.pb_graph.specs.ProcessGraph.{IsProcessGraph, ProcessGraph}
 use Rattle.pb_advise.specs.declared.advice.Advice.{Advice}
+use Rattle.pb_window.specs.declared.names.WindowPlace.{WindowPlace}
 use Rattle.pb_report.specs.declared.history.HistoryRow.{HistoryRow}
 use Rattle.pb_report.specs.declared.history.Period.{Period}
 use Rattle.pb_report.specs.declared.form.Form.TheVariants.{Csv}
 use Rattle.pb_report.specs.Form.{text_in}
 use Rattle.pb_report.specs.Advice.{advice_rows}
+use Rattle.pb_report.specs.Component.{component_row}
 use Rattle.pb_report.specs.Design.{design_rows}
 use Rattle.pb_report.specs.History.{history_rows}
 use Rattle.pb_report.specs.Names.{IsNamedStudy}
@@ -25,6 +27,7 @@ use Rattle.pb_report.specs.Over.{over_row}
 use Rattle.pb_report.specs.Refusal.{refused_row}
 use Rattle.pb_report.specs.Row.{OutputRow, fields_of}
 use Rattle.pb_report.specs.Study.{study_rows}
+use Rattle.pb_report.specs.Window.{window_rows}
 use Rattle.pb_readback.specs.declared.block.Block.{Block}
 use Rattle.pb_readback.specs.Next.{AreBlocks}
 
@@ -87,7 +90,8 @@ StudyRowsLaw =
     (names : Names) (period : List ℕ) (options : Options) (study : Study) → IsReportable names period options study
     → AreBlocks (records_in (study_rows names period options study)) (blocks_from names period options 0 study.stages)
 
--- The rows of refusals, of reports that can't be made, of designs, of histories and of advices are passed over.
+-- The rows of refusals, of reports that can't be made, of designs, of histories and of advices are passed over, and so are those
+-- before the report of a window and before the balance of a component.
 pub record PassedRowsLaw : Type 0 where
   pub refused : (at code : ℕ) → AreBlocks (records_in (refused_row at code ∷ [])) []
   pub over : (period stream : List ℕ) → AreBlocks (records_in (over_row period stream ∷ [])) []
@@ -95,6 +99,9 @@ pub record PassedRowsLaw : Type 0 where
       → AreBlocks (records_in (design_rows names graph classes)) []
   pub histories : (period : Period) (edits : List HistoryRow) → AreBlocks (records_in (history_rows period edits)) []
   pub advices : (names : Names) (advice : Advice) → AreBlocks (records_in (advice_rows names advice)) []
+  pub windows : (first last : List ℕ) (periods : ℕ) (places : List WindowPlace)
+      → AreBlocks (records_in (window_rows first last periods places)) []
+  pub components : (component period : List ℕ) → AreBlocks (records_in (component_row component period ∷ [])) []
 
 -- rows that begin with a word, so that they read back from their text as they were written
 abbrev pub BeginWithWords : List OutputRow → Type 0
@@ -107,6 +114,9 @@ pub record RowWordsLaw : Type 0 where
   pub designs : (names : Names) (graph : ProcessGraph) (classes : List Classified) → BeginWithWords (design_rows names graph classes)
   pub histories : (period : Period) (edits : List HistoryRow) → BeginWithWords (history_rows period edits)
   pub advices : (names : Names) (advice : Advice) → BeginWithWords (advice_rows names advice)
+  pub windows : (first last : List ℕ) (periods : ℕ) (places : List WindowPlace)
+      → BeginWithWords (window_rows first last periods places)
+  pub components : (component period : List ℕ) → BeginWithWords (component_row component period ∷ [])
   pub studies : (names : Names) (period : List ℕ) (options : Options) (study : Study)
       → BeginWithWords (study_rows names period options study)
 

@@ -16,7 +16,8 @@ pub fn study_rows_law()
     number_text_law();
 }
 
-/// The law that the rows of refusals, of reports that can't be made, of designs, of histories and of advices are passed over.
+/// The law that the rows of refusals, of reports that can't be made, of designs, of histories and of advices are passed over, and so
+/// are those before the report of a window and before the balance of a component.
 pub fn passed_rows_law()
     ensures { PassedRowsLaw }
 {}
