@@ -111,10 +111,10 @@ class Picture:
             self.title += f": cycle of {name}"
             return
         for stream in self.streams:
-            if stream["name"] == name:
+            if name in (stream["name"], self.shown(stream["name"])):
                 self.side = set(stream["side"].split(" ")) if stream["side"] else set()
                 self.parts = {part[1:] for part in stream["parts"].split(" ") if part}
-                self.title += f": {stream['shape']} of {name}"
+                self.title += f": {stream['shape']} of {self.shown(stream['name'])}"
                 return
         raise Fault(f"there is no stream {name} in {self.title}")
 

@@ -8,7 +8,7 @@ from __future__ import annotations
 
 import argparse
 import sys
-from collections.abc import Iterable
+from collections.abc import Collection, Iterable
 from typing import TYPE_CHECKING, Any
 
 from plantbal.amounts import tonnes_text
@@ -54,6 +54,8 @@ _STRONG = 1e6
 # A standard deviation below this part of the meters' own is what rounding leaves of 0.
 _NOTHING = 1e-9
 _NAN = float("nan")
+# The columns of the table to be read that hold words.
+_WORDS = ("period", "stream", "class", "rests on")
 _CHECK = "plantbal-desk check says more"
 
 
@@ -111,11 +113,41 @@ def last_of_each_period(output: Output) -> pandas.DataFrame:
     return table[table["block"].isin(last)].reset_index(drop=True)
 
 
+def answers_of(block: Block) -> tuple[dict[str, int], Any, Any]:
+    """Return how the flows of a block answer to one more gram of each of its measurements.
+
+    Parameters
+    ----------
+    block : Block
+        The block.
+
+    Returns
+    -------
+    tuple of dict, array and array
+        The column of each stream that has a flow to book; the answers, a row for each measured
+        stream and a column for each of these; and the variances of the measured streams.
+    """
+    import numpy
+
+    asked = _known(block)
+    plant = _plant_of(block)
+    variance = numpy.array([float(plant.variance[j]) for j in plant.measured])
+    columns = {stream["name"]: column for column, stream in enumerate(asked)}
+    if not asked:
+        return columns, numpy.zeros((len(variance), 0)), variance
+    return columns, _answers(plant, variance, _weights(plant, asked)), variance
+
+
+def _known(block: Block) -> list[Values]:
+    """Return the streams that have a flow to book."""
+    return [stream for stream in block.streams if stream["class"] != "unobservable"]
+
+
 def _rows_of(block: Block) -> list[tuple[Any, ...]]:
     """Return the rows of a block."""
     import numpy
 
-    asked = [stream for stream in block.streams if stream["class"] != "unobservable"]
+    asked = _known(block)
     if not asked:
         return []
     plant = _plant_of(block)
@@ -340,9 +372,8 @@ def in_tonnes(output: Output, table: pandas.DataFrame) -> pandas.DataFrame:
     return pandas.DataFrame(lines)
 
 
-def text_of(table: pandas.DataFrame) -> str:
-    """Return a table as lines of text, numbers to the right, words to the left."""
-    left = {"period", "stream", "class", "rests on"}
+def text_of(table: pandas.DataFrame, left: Collection[str] = _WORDS) -> str:
+    """Return a table as lines of text, numbers to the right, columns of words to the left."""
     columns = []
     for name in table.columns:
         texts = [str(name), *map(str, table[name])]
