@@ -225,8 +225,8 @@ def _data(shares: Iterable[Share]) -> list[dict[str, Any]]:
     names = ("component", "period", "stream", "way", "grams", "sd", "share", "share_sd", "raw")
     rows = []
     for each in shares:
-        values = (getattr(each, name) for name in names)
-        row = {name: None if value != value else value for name, value in zip(names, values)}
+        row = {name: getattr(each, name) for name in names}
+        row = {name: None if value != value else value for name, value in row.items()}
         rows.append({**row, "period": each.period or "all"})
     return rows
 

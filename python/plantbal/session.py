@@ -901,7 +901,7 @@ class Session:
         for tank in self._tables:
             service = self._service.get(tank)
             stays = [is_served(service, each.first, each.last) for each in within]
-            streams += sum(map(max, zip([False, *stays], [*stays, False])))
+            streams += sum(one or other for one, other in zip([False, *stays], [*stays, False]))
         return nodes, streams
 
     # ---- assays

@@ -20,7 +20,8 @@ from plantbal.faults import Fault, Refusal
 from plantbal.records import text_of
 from plantbal.session import Period
 
-_SEALED = 10  # the code of what would change a closed period
+# The codes of what would change a closed period, and of what is of one.
+_SEALED, _CLOSED = 10, 11
 
 
 def add_arguments(parser: argparse.ArgumentParser) -> None:
@@ -53,6 +54,7 @@ def run(options: argparse.Namespace) -> int:
         check_reasons(options, changes)
         reasons = Reasons(options.why or "")
         changes.put(reasons, options.strike)
+        put_assays(years, work)
 
         action = Action(f"add {name}", reasons.said(), options.who)
         for ledger in years.used:
@@ -162,6 +164,39 @@ def check_reasons(options: argparse.Namespace, changes: Changes) -> None:
     are = "is" if len(lines) == 1 else "are"
     what = f"{counted(len(lines), 'fact')} {are} booked otherwise"
     raise Fault(what, remedy='say why: --why "typed a digit short"; nothing is booked')
+
+
+# ---- assays
+
+
+def put_assays(years: Years, work: Converter) -> None:
+    """Put the assays of a workbook that aren't booked yet.
+
+    Raises
+    ------
+    Fault
+        If one is booked with another grade, its period is closed, or there is no such period.
+    """
+    for row in work.session:
+        if row[0] != "assay":
+            continue
+        component, stream, period = row[1:4]
+        ledger = years.of_period(period)
+        there = ledger.assays.get((component, stream, period))
+        if there is None:
+            try:
+                ledger.put(*row)
+            except Refusal as refusal:
+                if refusal.code == _CLOSED:
+                    refusal.remedy = "enter assays before plantbal-desk book close: take it out"
+                raise
+        elif there != (int(row[4]), int(row[5])):
+            raise Fault(
+                f"{stream} has {there[0]:,} ppm of {component} in {period} in the book, and "
+                f"{int(row[4]):,} ppm in the workbook, or another error",
+                text=text_of(row),
+                remedy="an assay can't be amended: mend the workbook",
+            )
 
 
 # ---- the plant and the periods

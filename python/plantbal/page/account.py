@@ -41,10 +41,11 @@ def declared(row: Values, window: Window | None) -> Values:
     """Return a stream row of a window with declared names and periods in place of its codes."""
     if window is None:
         return row
+    name_of = window.shown
 
     def shown(code: str) -> str:
         """Return what stands in place of a code; no part of it may stand on another line."""
-        return window.shown(code).replace(" ", NO_BREAK)
+        return name_of(code).replace(" ", NO_BREAK)
 
     side = " ".join(map(shown, row["side"].split(" "))) if row["side"] else ""
     parts = " ".join(part[:1] + shown(part[1:]) for part in row["parts"].split(" ") if part)
