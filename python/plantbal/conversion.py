@@ -130,6 +130,7 @@ def convert(
         if design:
             work.session.design()
         work.read_facts()
+        work.put_assays()
         work.read_rows()
         work.check_days()
         work.check_whole()

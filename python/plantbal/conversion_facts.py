@@ -35,6 +35,7 @@ class Converter(Readings):
         super().__init__(sheets, reader, skip)
         self.dips: dict[str, dict[datetime.date, Cell]] = {}
         self.tickets: list[tuple[datetime.date, datetime.date, Cell]] = []
+        self.assays: list[tuple[tuple[str, ...], dict[str, Cell]]] = []
 
     def read_estimates(self) -> None:
         """Read estimates, which stand for missing readings."""
@@ -129,7 +130,7 @@ class Converter(Readings):
             days[day] = row["level"]
 
     def read_assays(self) -> None:
-        """Read the grades of components, which are of periods."""
+        """Read the grades of components: rows of a session, with the cells of their columns."""
         for row in self.rows("assays", facts=True):
             name = row.text("stream")
             if name not in self.tanks:
@@ -145,7 +146,12 @@ class Converter(Readings):
                 fields = [row.text("component"), name, row.text("period"), str(ppm), str(variance)]
                 cells = {"ppm": row["grade"], "variance": row["error"]}
                 cells |= {head: row[head] for head in ("component", "stream", "period")}
-                self.put(["assay", *fields], cells)
+                self.assays.append((("assay", *fields), cells))
+
+    def put_assays(self) -> None:
+        """Give the assays to the session, whose periods are there by then."""
+        for fields, cells in self.assays:
+            self.put(fields, cells)
 
     def read_facts(self) -> None:
         """Read all facts, and the periods: before them if they have a sheet."""

@@ -20,6 +20,8 @@ _POWER = re.compile(r"(?<=,)-?[0-9]+(?:\.[0-9]+)?[eE]\+[0-9]+(?=[,\r\n])")
 # A row by its columns; `row` has its kind. A stream of an older report has no least bounds.
 Values = dict[str, str]
 _AS_WRITTEN = "give the file as plantbal wrote it: this one was cut off, or edited"
+_REPORT = "report,PERIOD"
+_ASKING = {"component": "component,COMPONENT,PERIOD", "design": "design"}
 _OF_CHECKS = ("yes", "no", "unreadable")
 
 
@@ -188,7 +190,7 @@ def read_rows(path: str | Path, *wanted: str) -> list[Values]:
         raise InputFault(
             f"there is no {' and no '.join(wanted)} in it",
             place=Place(file=source),
-            remedy="ask for one in the session, by a row such as report,PERIOD",
+            remedy=f"ask for one in the session, by a row such as {_ASKING.get(wanted[0], _REPORT)}",
         )
     return rows
 

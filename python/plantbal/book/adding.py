@@ -16,7 +16,7 @@ from plantbal.book.said import FIRST, added, changed, counted, doubts, lacking
 from plantbal.book.store import METERS, PLANT, Action, Book
 from plantbal.book.years import Years
 from plantbal.conversion_facts import Converter
-from plantbal.faults import Fault, Refusal
+from plantbal.faults import Fault, InputFault, Refusal
 from plantbal.records import text_of
 from plantbal.session import Period
 
@@ -177,24 +177,27 @@ def put_assays(years: Years, work: Converter) -> None:
     Fault
         If one is booked with another grade, its period is closed, or there is no such period.
     """
-    for row in work.session:
-        if row[0] != "assay":
-            continue
+    for row, cells in work.assays:
         component, stream, period = row[1:4]
-        ledger = years.of_period(period)
+        place = cells["period"].place()
+        try:
+            ledger = years.of_period(period)
+        except Fault as fault:
+            raise InputFault(fault.what, place=place, remedy=fault.remedy) from fault
         there = ledger.assays.get((component, stream, period))
         if there is None:
             try:
                 ledger.put(*row)
             except Refusal as refusal:
+                refusal.place = place
                 if refusal.code == _CLOSED:
                     refusal.remedy = "enter assays before plantbal-desk book close: take it out"
                 raise
         elif there != (int(row[4]), int(row[5])):
-            raise Fault(
+            raise InputFault(
                 f"{stream} has {there[0]:,} ppm of {component} in {period} in the book, and "
                 f"{int(row[4]):,} ppm in the workbook, or another error",
-                text=text_of(row),
+                place=cells["ppm"].place(),
                 remedy="an assay can't be amended: mend the workbook",
             )
 
