@@ -197,8 +197,8 @@ def test_lint(say: Desk) -> None:
     assert "[no-balance]" in say("lint", "-", text=text.replace("component,cu,jun03\n", "")).out
     late = text + "assay,cu,ROUGHER_CONC,jun03,150000,90000\n"
     assert "ROUGHER_CONC comes after the last balance" in say("lint", "-", text=late).out
-    unit = text.replace("assay,cu,FEED,jun05,9300,", "assay,cu,FEED,jun05,93,")
-    assert "is 10,000 ppm" in say("lint", "-", text=unit).out or "[grade]" not in unit
+    unit = text.replace("assay,cu,FEED,jun05,9300,", "assay,cu,FEED,jun05,9,")
+    assert "a percent is 10,000 ppm" in say("lint", "-", text=unit).out
     alone = "\n".join(
         line
         for line in text.splitlines()
