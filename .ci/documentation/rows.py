@@ -20,6 +20,8 @@ Data = dict[str, Any]
 SCHEMA = "python/plantbal/schema.json"
 # The columns of sessions that the guide calls otherwise than the table does.
 LABELS = {"base": "BASEVAR", "day": "DATE"}
+# Those of one kind alone: the variance of a grade has a range of its own.
+OWN_LABELS = {("assay", "variance"): "GRADEVAR"}
 # What the lists of an output hold.
 ITEMS = {"side": "names", "parts": "parts"}
 # The rows that another command than `run` writes.
@@ -79,9 +81,10 @@ def kinds_of(sources: Sources, module: str, table: str) -> list[Kind]:
     return found
 
 
-def labelled(column: Data) -> Data:
+def labelled(column: Data, kind: str) -> Data:
     """Return a column of a session with what the guide calls it."""
     label = LABELS.get(column["name"], column["name"].upper())
+    label = OWN_LABELS.get((kind, column["name"]), label)
     if column["type"] == "word" and len(column["words"]) == 1:
         label = column["words"][0]
     elif column["type"] == "number" and column["from"] == column["to"]:
@@ -104,8 +107,9 @@ def session(sources: Sources) -> list[Data]:
         if variant:
             row["variant"] = variant
         if kind.tail:
-            row["tail"] = [labelled(column) for column in kind.tail]
-        found.append({**row, "columns": [labelled(column) for column in kind.columns]})
+            row["tail"] = [labelled(column, kind.word) for column in kind.tail]
+        columns = [labelled(column, kind.word) for column in kind.columns]
+        found.append({**row, "columns": columns})
     first = {row["kind"]: place for place, row in enumerate(found) if not is_dated(row)}
     found.sort(key=lambda row: (first[row["kind"]], is_dated(row)))
     shown = [(row["kind"], row.get("variant")) for row in found]
@@ -137,6 +141,7 @@ def limits(sources: Sources) -> dict[str, int]:
     values, found = Values(sources), {}
     for module, names in (
         ("pb_limits.specs.Limits", None),
+        ("pb_kinds.specs.Ranges", ["most_assays"]),
         ("pb_rows.specs.Reason", ["most_reason"]),
         ("pb_rows.specs.Date", ["first_year", "last_year"]),
     ):

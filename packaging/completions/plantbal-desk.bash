@@ -26,7 +26,7 @@ _plantbal_desk() {
     fi
     for ((at = 1; at < COMP_CWORD; at++)); do
         case ${COMP_WORDS[at]} in
-        run|lint|explain|check|archive|audit|report|solve|convert|book|template|from-spreadsheet|tables|uncertainty|advise|draw|chart|page|fleet|critical|from-scipy|schema) word=${COMP_WORDS[at]}; break ;;
+        run|lint|explain|check|archive|audit|report|solve|convert|book|template|from-spreadsheet|tables|uncertainty|advise|recovery|draw|chart|page|fleet|critical|from-scipy|schema) word=${COMP_WORDS[at]}; break ;;
         esac
     done
     case $word:$before in
@@ -35,7 +35,7 @@ _plantbal_desk() {
         run:--gap) :; return ;;
         run:--sweeps) :; return ;;
         run:--eliminate) :; return ;;
-        lint:--ignore) _plantbal_words 'refused nothing-asked missing-reading missing-dip no-period after-report one-sided never-served near-names magnitude small-deviation large-deviation density worse-class no-critical nearly-full untested no-elimination no-transfer unused-dip not-reported'; return ;;
+        lint:--ignore) _plantbal_words 'refused nothing-asked missing-reading missing-dip no-period after-report one-sided never-served near-names magnitude small-deviation large-deviation density worse-class no-critical no-balance after-balance unchecked-grade grade nearly-full untested no-elimination no-transfer unused-dip not-reported'; return ;;
         explain:--program) _plantbal_files -f; return ;;
         check:--program) _plantbal_files -f; return ;;
         archive:--period) :; return ;;
@@ -78,17 +78,25 @@ _plantbal_desk() {
         from-spreadsheet:--missing) :; return ;;
         from-spreadsheet:--skip) :; return ;;
         from-spreadsheet:--before) _plantbal_files -f; return ;;
+        tables:--component) :; return ;;
         uncertainty:--form) _plantbal_words 'text csv json'; return ;;
         advise:--form) _plantbal_words 'text csv'; return ;;
         advise:--draw) _plantbal_files -f; return ;;
         advise:--locale) :; return ;;
         advise:--program) _plantbal_files -f; return ;;
+        recovery:--component) :; return ;;
+        recovery:--product) :; return ;;
+        recovery:--form) _plantbal_words 'text csv json'; return ;;
+        recovery:--chart) _plantbal_files -f; return ;;
+        recovery:--session) _plantbal_files -f; return ;;
         draw:--period) :; return ;;
         draw:--round) :; return ;;
+        draw:--component) :; return ;;
         draw:--mark) :; return ;;
         draw:--out) _plantbal_files -f; return ;;
         chart:--most) :; return ;;
         chart:--stream) :; return ;;
+        chart:--component) :; return ;;
         chart:--session) _plantbal_files -f; return ;;
         chart:--out) _plantbal_files -f; return ;;
         page:--title) :; return ;;
@@ -191,10 +199,10 @@ _plantbal_desk() {
     tables)
         if [[ $here != -* ]]; then
             _plantbal_files -f
-            _plantbal_more 'flows classes count suspects imbalance'
+            _plantbal_more 'flows classes count contents suspects imbalance'
             return
         fi
-        _plantbal_words '-h --help' ;;
+        _plantbal_words '-h --help --component --window' ;;
     uncertainty)
         if [[ $here != -* ]]; then
             _plantbal_files -f
@@ -207,18 +215,24 @@ _plantbal_desk() {
             return
         fi
         _plantbal_words '-h --help --form --draw --locale --program' ;;
+    recovery)
+        if [[ $here != -* ]]; then
+            _plantbal_files -f
+            return
+        fi
+        _plantbal_words '-h --help --component --product --form --chart --session' ;;
     draw)
         if [[ $here != -* ]]; then
             _plantbal_files -f
             return
         fi
-        _plantbal_words '-h --help --period --round --advice --mark --dot --out' ;;
+        _plantbal_words '-h --help --period --round --component --window --advice --mark --dot --out' ;;
     chart)
         if [[ $here != -* ]]; then
             _plantbal_files -f
             return
         fi
-        _plantbal_words '-h --help --most --stream --session --out' ;;
+        _plantbal_words '-h --help --most --stream --component --session --out' ;;
     page)
         if [[ $here != -* ]]; then
             _plantbal_files -f
@@ -241,7 +255,7 @@ _plantbal_desk() {
         _plantbal_words '-h --help --period --change --without-least' ;;
     schema)
         _plantbal_words '-h --help' ;;
-    *) _plantbal_words 'run lint explain check archive audit report solve convert book template from-spreadsheet tables uncertainty advise draw chart page fleet critical from-scipy schema -h --help --version' ;;
+    *) _plantbal_words 'run lint explain check archive audit report solve convert book template from-spreadsheet tables uncertainty advise recovery draw chart page fleet critical from-scipy schema -h --help --version' ;;
     esac
 }
 

@@ -5,7 +5,7 @@ _plantbal_desk() {
     local -a specifications
     local word at
     for ((at = 2; at < CURRENT; at++)); do
-        case $words[at] in run|lint|explain|check|archive|audit|report|solve|convert|book|template|from-spreadsheet|tables|uncertainty|advise|draw|chart|page|fleet|critical|from-scipy|schema) word=$words[at]; break ;; esac
+        case $words[at] in run|lint|explain|check|archive|audit|report|solve|convert|book|template|from-spreadsheet|tables|uncertainty|advise|recovery|draw|chart|page|fleet|critical|from-scipy|schema) word=$words[at]; break ;; esac
     done
     case $word in
     run)
@@ -27,7 +27,7 @@ _plantbal_desk() {
             '--help[show this help message and exit]'
             '--json[a list of objects in place of lines]'
             '--strict[status 1 on warnings too]'
-            '--ignore=[leave findings of this code out; may be said several times]:CODE:(refused nothing-asked missing-reading missing-dip no-period after-report one-sided never-served near-names magnitude small-deviation large-deviation density worse-class no-critical nearly-full untested no-elimination no-transfer unused-dip not-reported)'
+            '--ignore=[leave findings of this code out; may be said several times]:CODE:(refused nothing-asked missing-reading missing-dip no-period after-report one-sided never-served near-names magnitude small-deviation large-deviation density worse-class no-critical no-balance after-balance unchecked-grade grade nearly-full untested no-elimination no-transfer unused-dip not-reported)'
             '1:word:(lint)'
             '*:SESSION:_files'
         ) ;;
@@ -164,8 +164,10 @@ _plantbal_desk() {
         specifications=(
             '-h[show this help message and exit]'
             '--help[show this help message and exit]'
+            '--component=[of the balances of a component]:NAME:'
+            '--window[of the last window]'
             '1:word:(tables)'
-            '2:WHAT:(flows classes count suspects imbalance)'
+            '2:WHAT:(flows classes count contents suspects imbalance)'
             '*:OUTPUT:_files'
         ) ;;
     uncertainty)
@@ -188,12 +190,26 @@ _plantbal_desk() {
             '2:SESSION:_files'
             '*:COSTS:'
         ) ;;
+    recovery)
+        specifications=(
+            '-h[show this help message and exit]'
+            '--help[show this help message and exit]'
+            '--component=[of this component alone]:NAME:'
+            '--product=[chart the recovery of this stream; may be given more than once]:NAME:'
+            '--form=[the form of the table (default\: text)]:FORM:(text csv json)'
+            '--chart=[a .svg, .png or .pdf file]:FILE:_files'
+            '--session=[the session, which has the days of the periods]:SESSION:_files'
+            '1:word:(recovery)'
+            '*:OUTPUT:_files'
+        ) ;;
     draw)
         specifications=(
             '-h[show this help message and exit]'
             '--help[show this help message and exit]'
             '--period=[the period to draw]:NAME:'
             '--round=[the round to draw, 0 for the one before any meter was taken]:N:'
+            '--component=[draw its balance]:NAME:'
+            '--window[draw a window of several periods]'
             '--advice[draw which streams to meter]'
             '--mark=[the stream whose cut or cycle is marked]:STREAM:'
             '--dot[write the text for Graphviz in place of SVG]'
@@ -207,6 +223,7 @@ _plantbal_desk() {
             '--help[show this help message and exit]'
             '--most=[show the N meters that are adjusted most (default\: 12)]:N:'
             '--stream=[show this stream, measured or observable; may be given more than once]:NAME:'
+            '--component=[chart the balances of a component in place of the reports of mass]:NAME:'
             '--session=[the session, which has the days of the periods]:SESSION:_files'
             '--out=[a .svg, .png or .pdf file]:FILE:_files'
             '1:word:(chart)'
@@ -279,7 +296,7 @@ _plantbal_desk() {
             '-h[show this help message and exit]'
             '--help[show this help message and exit]'
             '--version[write the version and end]'
-            "1:word:((run\:'run a session, and say what has to be looked at' lint\:'say what of a session is accepted and looks wrong' explain\:'say of each refused row what is wrong with it' check\:'check a report, of CSV or of JSON lines' archive\:'put a month into a bundle with digests' audit\:'say whether a bundle, or a report and its session, holds' report\:'turn a report into CSV, SQLite or a workbook' solve\:'reconcile by scipy what sweeps don'\''t come near' convert\:'a session from a plant'\''s workbook' book\:'keep a plant'\''s book, a session for each year' template\:'an empty workbook for convert' from-spreadsheet\:'a session from daily readings and tags' tables\:'tables of flows, classes, suspects, imbalances' uncertainty\:'how good each flow is, and the meters that it rests on' advise\:'which streams to meter so that each is observable, at least cost' draw\:'draw a report, a design, or which streams to meter' chart\:'chart the periods of a session' page\:'the month'\''s statement\: a page, a workbook, a PDF' fleet\:'run a folder of sessions' critical\:'critical values as rows of a session' from-scipy\:'another program'\''s figures in the form of a report' schema\:'the rows of sessions and outputs as data'))"
+            "1:word:((run\:'run a session, and say what has to be looked at' lint\:'say what of a session is accepted and looks wrong' explain\:'say of each refused row what is wrong with it' check\:'check a report, of CSV or of JSON lines' archive\:'put a month into a bundle with digests' audit\:'say whether a bundle, or a report and its session, holds' report\:'turn a report into CSV, SQLite or a workbook' solve\:'reconcile by scipy what sweeps don'\''t come near' convert\:'a session from a plant'\''s workbook' book\:'keep a plant'\''s book, a session for each year' template\:'an empty workbook for convert' from-spreadsheet\:'a session from daily readings and tags' tables\:'tables of flows, classes, suspects, imbalances' uncertainty\:'how good each flow is, and the meters that it rests on' advise\:'which streams to meter so that each is observable, at least cost' recovery\:'where a component goes\: what streams carry, recovery, a chart' draw\:'draw a report, a design, or which streams to meter' chart\:'chart the periods of a session' page\:'the month'\''s statement\: a page, a workbook, a PDF' fleet\:'run a folder of sessions' critical\:'critical values as rows of a session' from-scipy\:'another program'\''s figures in the form of a report' schema\:'the rows of sessions and outputs as data'))"
         ) ;;
     esac
     _arguments -s : $specifications

@@ -99,7 +99,7 @@ def manifest_of(
         stated,
         first=day_text(days.first),
         last=day_text(days.last),
-        reports=[f"{block.period}, round {block.round}" for block in output.blocks_in_order],
+        reports=[f"{block.subject}, round {block.round}" for block in output.blocks_in_order],
         refused=sum(row["row"] == "refused" for row in output.rows),
         files={name: digest(data) for name, data in sorted(files.items())},
     )
@@ -113,12 +113,12 @@ def period_of(output: Output, wanted: str | None) -> str:
     Fault
         If there is no report of it.
     """
-    reported = list(dict.fromkeys(block.period for block in output.blocks_in_order))
+    reported = list(dict.fromkeys(block.period for block in output.reports))
     if not reported:
         remedy = "add the row report,PERIOD to the session"
         raise Fault("there is no report, so nothing can be archived", remedy=remedy)
     if wanted is None:
-        return output.blocks_in_order[-1].period
+        return output.reports[-1].period
     if wanted not in reported:
         remedy = f"there are reports of {', '.join(reported)}"
         raise Fault(f"there is no report of the period {wanted}", text=wanted, remedy=remedy)

@@ -24,7 +24,7 @@ from plantbal.bundle import (
     unpacked,
 )
 from plantbal.faults import Fault, InputFault, Place, ProgramFault, ToolMissing, read_bytes
-from plantbal.held import Ledger, Pair, answers_of, refused_differ
+from plantbal.held import Ledger, Pair, answers_of, pairs_of, refused_differ
 from plantbal.options import add_program
 from plantbal.output import Output, parse_report
 from plantbal.program import call, find_program
@@ -323,17 +323,25 @@ def hold(audit: Audit, given: Given, verdicts: list[str], checks: str) -> None:
         what = f"the session asks for {asked}, and the output has {len(answers)}"
         audit.add("wrong", f"{given.report}: {what}")
     held: list[bool] = []
-    for pair in map(Pair, ledger.seen, answers):
+    loose: list[bool] = []
+    for pair in pairs_of(ledger.seen, answers):
         held += _pair_held(audit, given, pair)
+        is_loose = pair.seen.component != "" and pair.mass is None
+        loose += [is_loose] * len(pair.answer.blocks)
     try:
         blocks = blocks_named(parse_report(given.output.decode("utf-8"), given.report))
     except (InputFault, ValueError):
         blocks = []  # the check has said why
     good = [one == "yes" and other for one, other in zip(verdicts, held)]
-    for holds, (block, name, last) in zip(good, blocks):
+    for holds, is_loose, (block, name, last) in zip(good, loose, blocks):
         if holds:
-            _block_holds(audit, block, Named(name, last, checks))
-    _open_periods(audit, ledger, [block.period for block, _, _ in blocks])
+            _block_holds(audit, block, Named(name, last, checks, is_loose))
+    reported = [
+        period
+        for block, _, _ in blocks
+        for period in (block.window.periods if block.window else [block.period])
+    ]
+    _open_periods(audit, ledger, reported)
     _refused(audit, given, ledger)
 
 
@@ -344,18 +352,28 @@ def _pair_held(audit: Audit, given: Given, pair: Pair) -> list[bool]:
         audit.add("wrong", _at(given, each.line, each.text))
     if pair.answer.over is not None:
         stream = pair.answer.over.fields[-1]
-        what = f"period {pair.seen.period.name} has no report: the total of {stream} is beyond"
+        subject = pair.seen.subject
+        name = subject if pair.seen.component or pair.seen.last else f"period {subject}"
+        what = f"{name} has no report: the total of {stream} is beyond"
         audit.add("note", f"{given.report}: {what} the limits")
+    elif pair.seen.component and pair.mass is None:
+        what = f"{pair.seen.subject}: no report of the period before it has the same facts"
+        rest = "so its values aren't held against the assays: the row report before it would do"
+        audit.add("note", f"{given.report}: {what}, {rest}")
     return [not differ] * len(pair.answer.blocks)
 
 
 @dataclass(frozen=True, slots=True)
 class Named:
-    """How a block is called, whether it is its period's last, and what the checks say of it."""
+    """How a block is called, whether it is its period's last, and what the checks say of it.
+
+    A balance whose values weren't held against the assays is loose.
+    """
 
     name: str
     last: bool
     checks: str
+    is_loose: bool = False
 
 
 def _block_holds(audit: Audit, block: Block, named: Named) -> None:
@@ -363,9 +381,18 @@ def _block_holds(audit: Audit, block: Block, named: Named) -> None:
     measured = sum(bool(row["value"]) for row in block.streams)
     tests = len(block.nodal) + len(block.measure) + (block.whole is not None)
     values = f"its {measured} measured values and variances"
-    values += f" and the critical values of its {tests} tests" if tests else ""
+    tested = f"the critical values of its {tests} tests"
+    if named.is_loose:
+        values = tested if tests else "its streams"
+    elif tests:
+        values += f" and {tested}"
     book = "this is the last report of the period" if named.last else "a later report follows"
-    what = f"flows balance, and {named.checks}; {values} are those of the session"
+    if not block.is_report:
+        book = "this is its last report" if named.last else "a later report of it follows"
+    by = "those of the session"
+    if block.component and not named.is_loose:
+        by = "those of the assays and of the period's flows"
+    what = f"flows balance, and {named.checks}; {values} are {by}"
     audit.add("good", f"{named.name}: {what}; {said_of(block)}; {book}")
     if named.last and (block.whole or {}).get("verdict") == "reject":
         what = "the global test rejects: the measurements don't fit together"

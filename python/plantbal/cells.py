@@ -38,6 +38,14 @@ DENSITIES = {
     "g/mL": Fraction(10**6),
 }
 LENGTHS = {"mm": Fraction(1), "cm": Fraction(10), "m": Fraction(1000)}
+# In parts per million.
+GRADES = {
+    "%": Fraction(10_000),
+    "ppm": Fraction(1),
+    "g/t": Fraction(1),
+    "mg/kg": Fraction(1),
+    "kg/t": Fraction(1000),
+}
 _OTHER_WORDS = {
     "tonne": "t",
     "tonnes": "t",
@@ -68,6 +76,7 @@ _EITHER = re.compile(r"[+-]?[1-9][0-9]{0,2}[.,][0-9]{3}")
 _DAY = re.compile(r"([0-9]{1,4})([./-])\s?([0-9]{1,2})\2\s?([0-9]{1,4})\.?")
 _TIME = re.compile(r"(.*?)[ T]+([0-9]{1,2}:[0-9]{2}(?::[0-9]{2}(?:[.,][0-9]+)?)?)")
 _NAMED = re.compile(r"([0-9]{1,2})\.?[ -]([^\W\d]+)\.?[ -]([0-9]{4})")
+_GRADE = re.compile(r"(.*?[0-9])\s*(%|[^\W\d_]+(?:/[^\W\d_]+)?)")
 _EXACT = Context(prec=400, traps=[Inexact])
 # Days that Excel's numbers stand for: 1954 to 2119.
 _FIRST_SERIAL, _LAST_SERIAL = 20_000, 80_000
@@ -360,7 +369,46 @@ class Reader:
         number, unit = self.split(cell, LENGTHS, head)
         return self.whole(cell, Fraction(number) * LENGTHS[unit or "mm"])
 
+    def grade(self, cell: Cell, unit: Cell | None = None, head: str = "grade") -> Fraction:
+        """Return a grade in parts per million; it needs a unit after it or in a cell of its own."""
+        if isinstance(cell.value, Percent):
+            return Fraction(cell.value.number) * GRADES["%"]
+        own = ""
+        if isinstance(cell.value, str):
+            parted = _GRADE.fullmatch(cell.value.strip())
+            if parted and unit_of(parted.group(2)) in GRADES:
+                number, own = self.number_of(cell, parted.group(1), head), unit_of(parted.group(2))
+                return Fraction(number) * GRADES[own]
+        number = self.number(cell, head)
+        own = self.unit(unit, GRADES, "")
+        if not own:
+            remedy = "write its unit after it, such as 0.9 %, 12.4 g/t or 9000 ppm"
+            raise self.fault(cell, f"the grade {cell.text} has no unit", remedy, head)
+        return Fraction(number) * GRADES[own]
+
     # ---- errors
+
+    def grade_error(self, cell: Cell, grade: Fraction, head: str = "error") -> Fraction:
+        """Return the standard deviation of a grade in parts per million.
+
+        A percentage is one of the grade, as it is of other figures; `180 ppm` and `2 g/t` are
+        absolute.
+        """
+        if isinstance(cell.value, Percent):
+            return Fraction(cell.value.number) / 100 * grade / self.divisor
+        found = []
+        for part in re.split(r"\s+(?:or|oder|ou)\s+", cell.text):
+            parted = _GRADE.fullmatch(part.strip())
+            unit = unit_of(parted.group(2)) if parted else ""
+            if parted is None or unit not in GRADES:
+                what = f"{cell.text!r} is no error with its unit"
+                remedy = "write `2 %` of the grade, `180 ppm`, or `2 % or 20 ppm`"
+                raise self.fault(cell, what, remedy, head)
+            number = Fraction(self.number_of(cell, parted.group(1), head)) / self.divisor
+            if number < 0:
+                raise self.fault(cell, f"{cell.text} is below 0", "an error is 0 or more", head)
+            found.append(number / 100 * grade if unit == "%" else number * GRADES[unit])
+        return max(found)
 
     def error(
         self, cell: Cell, density: Fraction | None = None, level: bool = False, head: str = "error"
@@ -392,7 +440,8 @@ class Reader:
 def unit_of(text: str) -> str:
     """Return a unit as it is written here."""
     plain = text.strip().strip("[]()").strip()
-    known = {name.casefold(): name for name in (*GRAMS, *VOLUMES, *DENSITIES, *LENGTHS, "%")}
+    units = (*GRAMS, *VOLUMES, *DENSITIES, *LENGTHS, *GRADES)
+    known = {name.casefold(): name for name in units}
     plain = _OTHER_WORDS.get(plain.casefold(), plain)
     return known.get(plain.casefold(), plain)
 

@@ -302,6 +302,8 @@ def add_arguments(parser: argparse.ArgumentParser) -> None:
         default=[],
         help="show this stream, measured or observable; may be given more than once",
     )
+    component = "chart the balances of a component in place of the reports of mass"
+    parser.add_argument("--component", metavar="NAME", default="", help=component)
     parser.add_argument(
         "--session", metavar="SESSION", help="the session, which has the days of the periods"
     )
@@ -316,7 +318,7 @@ def run(options: argparse.Namespace) -> int:
             f"{options.out} ends with {form!r}", text=options.out, remedy="say .svg, .png or .pdf"
         )
     session = read_bytes(options.session)[1] if options.session else b""
-    trend = trend_of(read_whole(options.output, "report"), session)
+    trend = trend_of(read_whole(options.output, "report"), session, options.component)
     lines = chosen(trend, options.most, options.stream)
     if options.out:
         with replacing(options.out) as made:

@@ -18,7 +18,7 @@ from plantbal.output import Output, parse_report, read_report
 from plantbal.program import STATUSES, check, run
 from plantbal.progress import Progress
 from plantbal.records import read_records
-from plantbal.report import Block, refuse_other, refuse_parts
+from plantbal.report import Block, last_blocks, refuse_other, refuse_parts
 
 OUTPUT_HELP = """
 The report goes to standard output, or to the file of --out by its ending: .csv, .sqlite or .xlsx.
@@ -134,7 +134,7 @@ def periods_of(data: bytes, output: Output) -> list[str]:
     output : Output
         Its output.
     """
-    last = {block.period: block for block in output.blocks_in_order}
+    last = last_blocks(output.blocks_in_order)
     over = {row["period"]: row["stream"] for row in output.rows if row["row"] == "over"}
     refused = {row["at"] for row in output.rows if row["row"] == "refused"}
     accepted = [
@@ -154,8 +154,9 @@ def periods_of(data: bytes, output: Output) -> list[str]:
 
 
 def _state(block: Block) -> str:
-    """Return what a period's last report says as a whole."""
-    said = f"a report, {block.solved['state']}" if block.solved else "a report that is cut off"
+    """Return what the last report of a period, a window or a component says as a whole."""
+    what = "a balance" if block.component else "a report"
+    said = f"{what}, {block.solved['state']}" if block.solved else f"{what} that is cut off"
     if block.taken:
         said += f" after {', '.join(block.taken)} was taken out"
     if block.whole:

@@ -28,6 +28,7 @@ WORKBOOK is an xlsx file, or a folder of CSV files, of which each is a sheet by 
   dips       tank, day, level, density, error
   tickets    id, stream, first, last, amount, unit, density, error
   estimates  tag, day, amount, unit, density, error: a figure with a wide error for a missing day
+  assays     component, stream, period, grade, error, unit
   critical   test, dof, value
   periods    name, first, last (without it, each calendar month with a reading is a period)
   rows       rows of a session as they are, such as amend, strike and close
@@ -35,7 +36,8 @@ WORKBOOK is an xlsx file, or a folder of CSV files, of which each is a sheet by 
 Columns stand in any order; titles above, a row of units, sums below and remarks are passed over.
 Units are t, kt, kg, g, lb, klb, and with a density m3, L, mL, bbl; densities are in kg/m3, levels
 in mm, if no unit stands after them. An error is `1.5 %`, `0.2 t`, or both with `or` between; a
-tank's may be `3 mm`. What is finer than a gram is rounded, and that is said. A stream or tank is in
+tank's may be `3 mm`. A grade has its unit after it, %, ppm or g/t, and a percentage as its error is
+one of the grade; a balance is asked for each component of a period. What is finer than a gram is rounded, and that is said. A stream or tank is in
 service from its day `since` to its day `until`, both counted; without a day there is no such end.
 With these columns, or with boundaries, the session is of version 2. If there is a fault, no session
 is written; all faults are said at once.
@@ -128,15 +130,21 @@ def convert(
         if design:
             work.session.design()
         work.read_facts()
+        work.put_assays()
         work.read_rows()
         work.check_days()
         work.check_whole()
         work.say_rounded()
     work.faults += work.session.refused
     reported = {row[1] for row in work.session if row[0] == "report"}
+    balanced = {row[1:3] for row in work.session if row[0] == "component"}
+    assayed = list(dict.fromkeys((each[0], each[2]) for each in work.session.assays))
     for period in work.session.periods:
         if period.name not in reported:
             work.session.report(period.name)
+        for component, name in assayed:
+            if name == period.name and (component, name) not in balanced:
+                work.session.component(component, name)
     return Conversion(work.session, work.faults, work.notes)
 
 

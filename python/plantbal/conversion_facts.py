@@ -5,6 +5,7 @@ from __future__ import annotations
 import calendar
 import datetime
 import difflib
+import math
 from collections.abc import Iterable
 from decimal import Decimal
 
@@ -34,6 +35,7 @@ class Converter(Readings):
         super().__init__(sheets, reader, skip)
         self.dips: dict[str, dict[datetime.date, Cell]] = {}
         self.tickets: list[tuple[datetime.date, datetime.date, Cell]] = []
+        self.assays: list[tuple[tuple[str, ...], dict[str, Cell]]] = []
 
     def read_estimates(self) -> None:
         """Read estimates, which stand for missing readings."""
@@ -127,6 +129,30 @@ class Converter(Readings):
         if self.put(["dip", *fields], cells):
             days[day] = row["level"]
 
+    def read_assays(self) -> None:
+        """Read the grades of components: rows of a session, with the cells of their columns."""
+        for row in self.rows("assays", facts=True):
+            name = row.text("stream")
+            if name not in self.tanks:
+                stream = self.named(row["stream"], "stream")
+                if stream is None:
+                    continue
+                name = stream.name
+            with self.kept():
+                exact = self.reader.grade(row["grade"], row["unit"])
+                deviation = self.reader.grade_error(row["error"], exact)
+                ppm = self.reader.whole(row["grade"], exact)
+                variance = math.ceil(deviation * deviation)
+                fields = [row.text("component"), name, row.text("period"), str(ppm), str(variance)]
+                cells = {"ppm": row["grade"], "variance": row["error"]}
+                cells |= {head: row[head] for head in ("component", "stream", "period")}
+                self.assays.append((("assay", *fields), cells))
+
+    def put_assays(self) -> None:
+        """Give the assays to the session, whose periods are there by then."""
+        for fields, cells in self.assays:
+            self.put(fields, cells)
+
     def read_facts(self) -> None:
         """Read all facts, and the periods: before them if they have a sheet."""
         if self.sheets["periods"]:
@@ -137,6 +163,7 @@ class Converter(Readings):
         self.read_dips()
         if not self.sheets["periods"]:
             self.read_periods()
+        self.read_assays()
 
     # ---- periods
 

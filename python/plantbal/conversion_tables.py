@@ -29,6 +29,7 @@ SHEETS: dict[str, tuple[tuple[str, ...], tuple[str, ...]]] = {
     "dips": (("tank", "day", "level"), ("density", "error")),
     "tickets": (("id", "stream", "first", "amount"), ("last", "unit", "density", "error")),
     "estimates": (("day", "amount", "error"), ("tag", "stream", "unit", "density")),
+    "assays": (("component", "stream", "period", "grade", "error"), ("unit",)),
     "critical": (("test", "value"), ("dof",)),
     "periods": (("name", "first", "last"), ()),
     "rows": ((), ()),

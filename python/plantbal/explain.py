@@ -17,7 +17,7 @@ from plantbal.meant import number_meant
 from plantbal.records import Record, read_records, without_empty_end
 from plantbal.report import Values, read_rows
 from plantbal.schema import Column, Row, schema
-from plantbal.session import Session, field_fits, kind_near, rows_of_kind, rows_of_word
+from plantbal.session import ASKS, Session, field_fits, kind_near, rows_of_kind, rows_of_word
 
 HELP = """
 SESSION is a file as plantbal reads it; `-` is standard input. Each refused row is shown with its
@@ -51,6 +51,9 @@ _USES = {
     "tank": ("node",),
     "stream": ("stream",),
     "period": ("period",),
+    "first": ("period",),
+    "last": ("period",),
+    "component": ("component",),
     "id": ("fact",),
 }
 _WIDEST = 110
@@ -600,8 +603,7 @@ def whole_file(text: Text, refused: dict[int, Refusal]) -> list[Told]:
         if last.number in refused:
             made.under = [_short(text, last, refused)]
         found.append(made)
-    asks = {"report", "design", "advise", "history"}
-    asked = any(record.fields[0] in asks for record in text.records)
+    asked = any(record.fields[0] in ASKS for record in text.records)
     if not asked and not by_sign:
         found.append(_told("it asks for nothing; add a row report,PERIOD after the facts"))
     return found
@@ -631,6 +633,8 @@ def _declares(row: tuple[str, ...]) -> list[tuple[str, str]]:
     kind = kind_near(row[0])
     if kind == "late":
         return [("fact", row[2])] if len(row) > 2 else []
+    if kind == "assay":
+        return [("component", row[1])]
     if kind in _NAMED:
         return [(_NAMED[kind], row[1])]
     if kind in _FACTS:
@@ -694,6 +698,8 @@ class _Names:
             keys.append((plain[0], plain[2], plain[3]))
         if plain[0] == "critical":
             keys.append(plain[:-1])
+        if plain[0] == "assay" and len(plain) > 3:
+            keys.append(plain[:4])
         return keys
 
     def instead(self, record: Record, refusal: Refusal) -> str:
@@ -701,7 +707,9 @@ class _Names:
         row = refusal.row
         if refusal.code == 7:
             for key in self._keys(row):
-                if key in self._here and (key[0] not in ("reading", "dip") or len(key) == 3):
+                is_day = key[0] not in ("reading", "dip") or len(key) == 3
+                is_assay = row[0] != "assay" or len(key) == 4
+                if key in self._here and is_day and is_assay:
                     return f"the first is in line {self._here[key]}: {refusal.remedy}"
         if refusal.code == 6 and "was struck" not in refusal.said:
             for what in _USES.get(refusal.column, ()):
@@ -796,6 +804,8 @@ def is_report(data: bytes) -> bool:
     kind, count = first.fields[0], len(without_empty_end(first.fields))
     if kind in ("report", "design", "advise", "history"):
         return count > 2 or (kind == "design" and count > 1)
+    if kind == "window":
+        return count > 3
     return kind in schema().output
 
 

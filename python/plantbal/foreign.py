@@ -8,7 +8,7 @@ import re
 
 from plantbal.faults import Fault
 from plantbal.files import write_text
-from plantbal.report import blocks_of, csv_of, read_rows
+from plantbal.report import csv_of, read_rows, reports_of
 from plantbal.solver import solved_rows
 
 HELP = """
@@ -44,7 +44,7 @@ def add_arguments(parser: argparse.ArgumentParser) -> None:
 
 def run(options: argparse.Namespace) -> int:
     """Write the report."""
-    every = blocks_of(read_rows(options.report, "report"))
+    every = reports_of(read_rows(options.report, "report"))
     blocks = [b for b in every if options.period in (None, b.period) and b.round == 0]
     if not blocks:
         there = ", ".join(dict.fromkeys(block.period for block in every))

@@ -3,16 +3,17 @@ the output says of it."""
 
 from __future__ import annotations
 
-from collections.abc import Iterator
-from dataclasses import dataclass, field
+from collections.abc import Iterator, Mapping
+from dataclasses import dataclass, field, replace
 
-from plantbal.lintbook import Book, Fact, Stream
+from plantbal.lintbook import Assay, Book, Fact, Stream
 from plantbal.records import Record, read_records
 from plantbal.schema import schema
-from plantbal.session import Period
+from plantbal.session import ENV, Period
 from plantbal.topology import Arc
 
 MOST_VALUE, MOST_VARIANCE = 10**15, 10**22
+PPM = 10**6
 
 
 @dataclass(frozen=True, slots=True)
@@ -54,20 +55,28 @@ class Measured:
 
 @dataclass(frozen=True, slots=True)
 class Seen:
-    """What an accepted `report` row of a session saw.
+    """What an accepted `report`, `window` or `component` row of a session saw.
 
     Attributes
     ----------
     period : Period
-        The period.
+        The period; of a window the first one.
     line : int
         Its line.
     nodes : list of str
         The nodes in their order.
     streams : dict of str to Measured
-        The streams in their order.
+        The streams in their order; of a component those of mass.
     critical : dict of (str, int) to int
         The critical values by their test and its degrees of freedom; 0 if these aren't asked.
+    component : str
+        The component whose balance is asked for, if one is.
+    grades : dict of str to Assay
+        The grades of the component by the streams that have one.
+    last : str
+        The last period of a window, if one is asked for.
+    places : list of tuple of str
+        The code, the period and the name of each node and stream of a window, in their order.
     """
 
     period: Period
@@ -75,6 +84,17 @@ class Seen:
     nodes: list[str]
     streams: dict[str, Measured]
     critical: dict[tuple[str, int], int]
+    component: str = ""
+    grades: dict[str, Assay] = field(default_factory=dict)
+    last: str = ""
+    places: list[tuple[str, str, str]] = field(default_factory=list)
+
+    @property
+    def subject(self) -> str:
+        """What is asked for, as `plantbal.report.Block.subject` says it."""
+        if self.component:
+            return f"{self.component} in {self.period.name}"
+        return f"{self.period.name} to {self.last}" if self.last else self.period.name
 
     @property
     def over(self) -> str:
@@ -84,12 +104,12 @@ class Seen:
 
 @dataclass
 class Ledger(Book):
-    """A session's accepted rows, and what each of its `report` rows saw.
+    """A session's accepted rows, and what each row saw that asks for flows.
 
     Attributes
     ----------
     seen : list of Seen
-        What the `report` rows saw, in their order.
+        What the `report`, `window` and `component` rows saw, in their order.
     closed : dict of str to int
         The closed periods, and the lines of their `close` rows.
     """
@@ -108,7 +128,10 @@ class Ledger(Book):
 
     def _take_report(self, name: str, line: int) -> None:
         super()._take_report(name, line)
-        period = self.periods[name]
+        self.seen.append(self._seen_of(self.periods[name], line))
+
+    def _seen_of(self, period: Period, line: int) -> Seen:
+        """Return what the facts so far give the streams of a period."""
         facts: dict[str, list[Fact]] = {stream: [] for stream in self.streams}
         for fact in self._touching(period):
             facts[fact.of].append(fact)
@@ -116,7 +139,79 @@ class Ledger(Book):
             each.arc.name: self._measured(each, period, facts[each.arc.name])
             for each in self.served(period)
         }
-        self.seen.append(Seen(period, line, self.nodes_in(period), streams, dict(self.values)))
+        return Seen(period, line, self.nodes_in(period), streams, dict(self.values))
+
+    def _take_component(self, component: str, period: str, line: int) -> None:
+        super()._take_component(component, period, line)
+        grades = {
+            name: assay
+            for (of, name, when), assay in self.assays.items()
+            if (of, when) == (component, period)
+        }
+        seen = self._seen_of(self.periods[period], line)
+        self.seen.append(replace(seen, component=component, grades=grades))
+
+    def _take_window(self, first: str, last: str, line: int) -> None:
+        super()._take_window(first, last, line)
+        periods = self.window_of(first, last)
+        seen = [self._seen_of(period, line) for period in periods]
+        nodes = [
+            (f"n{turn}.{place}", period.period.name, name)
+            for turn, period in enumerate(seen, 1)
+            for place, name in enumerate(period.nodes)
+            if place
+        ]
+        code = {(when, name): each for each, when, name in nodes}
+        flows, places = self._window_flows(seen, code)
+        for name, arc, when, content in self._contents(periods, code):
+            flows[arc.name] = content
+            places.append((arc.name, when, name))
+        codes = [ENV, *(each for each, _, _ in nodes)]
+        values = dict(self.values)
+        whole = Seen(periods[0], line, codes, flows, values, last=last, places=nodes + places)
+        self.seen.append(whole)
+
+    def _window_flows(
+        self, seen: list[Seen], code: dict[tuple[str, str], str]
+    ) -> tuple[dict[str, Measured], list[tuple[str, str, str]]]:
+        """Return the flows of a window by their codes, and what each code stands for."""
+        flows: dict[str, Measured] = {}
+        places = []
+        for turn, each in enumerate(seen, 1):
+            when = each.period.name
+            for place, (name, found) in enumerate(each.streams.items()):
+                if self.streams[name].kind != "tank":
+                    ends = [code.get((when, end), ENV) for end in (found.arc.from_, found.arc.to)]
+                    arc = Arc(f"s{turn}.{place}", *ends)
+                    flows[arc.name] = replace(found, arc=arc)
+                    places.append((arc.name, when, name))
+        return flows, places
+
+    def _contents(
+        self, periods: list[Period], code: dict[tuple[str, str], str]
+    ) -> Iterator[tuple[str, Arc, str, Measured]]:
+        """Give what tanks hold between the periods of a window: tank, stream, period, content."""
+        dips = {(fact.of, fact.first): fact for fact in self.live() if fact.kind == "dip"}
+        for number, stream in enumerate(self.streams.values()):
+            if stream.kind != "tank":
+                continue
+            tank = stream.arc.name
+            for turn in range(len(periods) + 1):
+                before, after = (
+                    periods[at] if 0 <= at < len(periods) and stream.is_in(periods[at]) else None
+                    for at in (turn - 1, turn)
+                )
+                if before is None and after is None:
+                    continue
+                ends = [code[each.name, tank] if each else ENV for each in (before, after)]
+                arc = Arc(f"c{turn}.{number}", *ends)
+                day = stream.ends_of(before)[1] if before else stream.ends_of(after or periods[0])[0]
+                dip = dips.get((tank, day))
+                found = Measured(arc, None, None)
+                if dip is not None:
+                    variance = stream.base + dip.variance
+                    found = Measured(arc, self.content(dip), variance, (dip.line,))
+                yield tank, arc, periods[max(turn - 1, 0)].name, found
 
     def _take_fact(self, row: list[str], line: int) -> None:
         super()._take_fact(row, line)
@@ -169,35 +264,69 @@ def share(total: int, fact: Fact, period: Period) -> int:
 
 @dataclass
 class Answer:
-    """What an output says of one `report` row: the records of its blocks, or an `over` row.
+    """What an output says of one row that asks for flows: the records of its blocks, or `over`.
 
     Attributes
     ----------
     period : str
-        The period.
+        The period; of a window the first one.
     blocks : list of list of Record
         The records of each block; none if the total of a stream is beyond the limits.
     over : Record or None
         The `over` row.
     taken : list of str
         The streams that were taken, in their order.
+    component : str
+        The component whose balance it is, if it is one.
+    last : str
+        The last period of a window, if it is one.
+    places : list of Record
+        The `window` row and its `place` rows.
     """
 
     period: str
     blocks: list[list[Record]] = field(default_factory=list)
     over: Record | None = None
     taken: list[str] = field(default_factory=list)
+    component: str = ""
+    last: str = ""
+    places: list[Record] = field(default_factory=list)
+
+    @property
+    def subject(self) -> str:
+        """What it is of, as `plantbal.report.Block.subject` says it."""
+        if self.component:
+            return f"{self.component} in {self.period}"
+        return f"{self.period} to {self.last}" if self.last else self.period
+
+    def flows(self) -> dict[str, tuple[int, bool]]:
+        """Return the flow of each stream in the last round, and whether it is unobservable."""
+        found = {}
+        for record in self.blocks[-1] if self.blocks else ():
+            if record.fields[0] == "stream":
+                row = columns_of(record)
+                flow = number_of(row.get("flow", "")) or 0
+                found[row.get("name", "")] = flow, row.get("class") == "unobservable"
+        return found
 
 
 def answers_of(data: bytes) -> list[Answer]:
-    """Return what an output says of each report that was asked for, in order."""
+    """Return what an output says of each report, window and balance, in order."""
     found: list[Answer] = []
     inside = False
+    component, places = "", list[Record]()
     for record in read_records(data):
         fields = (*record.fields, "", "", "", "")
-        if fields[0] == "report":
+        if fields[0] == "component":
+            component = fields[1]
+        elif fields[0] in ("window", "place"):
+            places.append(record)
+        elif fields[0] == "report":
             if fields[2] == "0" or not found:
-                found.append(Answer(fields[1]))
+                last = (*places[0].fields, "", "")[2] if places else ""
+                answer = Answer(fields[1], component=component, last=last, places=places)
+                found.append(answer)
+                component, places = "", []
             found[-1].blocks.append([record])
         elif fields[0] == "over":
             found.append(Answer(fields[1], over=record))
@@ -245,8 +374,29 @@ def number_of(text: str) -> int | None:
         return None
 
 
+def carried(seen: Seen, flows: Mapping[str, tuple[int, bool]]) -> dict[str, Measured]:
+    """Return what the streams carry of a component, by the flows of the period's last round.
+
+    Parameters
+    ----------
+    seen : Seen
+        What the `component` row saw.
+    flows : mapping
+        The flow of each stream, and whether it is unobservable.
+    """
+    found = {}
+    for name, mass in seen.streams.items():
+        grade, (flow, is_unobservable) = seen.grades.get(name), flows.get(name, (0, True))
+        found[name] = Measured(mass.arc, None, None)
+        if grade is not None and not is_unobservable:
+            value = flow * grade.ppm // PPM
+            variance = -(-flow * flow * grade.variance // PPM**2) + 1
+            found[name] = Measured(mass.arc, value, variance, (grade.line,))
+    return found
+
+
 def block_differs(block: list[Record], seen: Seen, taken: list[str]) -> Iterator[Differs]:
-    """Give the places at which a block isn't of what its `report` row saw.
+    """Give the places at which a block isn't of what its row saw.
 
     Parameters
     ----------
@@ -343,20 +493,37 @@ def refused_differ(output: bytes, ledger: Ledger) -> Iterator[Differs]:
 
 @dataclass(frozen=True, slots=True)
 class Pair:
-    """A report that a session asks for, and what an output says of it."""
+    """A report, a window or a balance that a session asks for, and what an output says of it.
+
+    Attributes
+    ----------
+    seen : Seen
+        What the row saw.
+    answer : Answer
+        What the output says.
+    mass : Answer or None
+        Of a balance, a report of the same facts of its period, by whose flows it can be held.
+    """
 
     seen: Seen
     answer: Answer
+    mass: Answer | None = None
 
     def differ(self) -> Iterator[Differs]:
         """Give the places at which the answer isn't that of the session."""
-        name, over = self.seen.period.name, self.seen.over
-        if self.answer.period != name:
+        is_over = self.answer.over is not None
+        name = self.seen.period.name if is_over else self.seen.subject
+        if name != (self.answer.period if is_over else self.answer.subject):
             lines = [block[0].line for block in self.answer.blocks]
             line = lines[0] if lines else getattr(self.answer.over, "line", 0)
-            what = f"this is a report of {self.answer.period}, and the session asks for {name} here"
+            said = self.answer.period if is_over else self.answer.subject
+            what = f"this is a report of {said}, and the session asks for {name} here"
             yield Differs(line, f"{what} (line {self.seen.line} of the session)")
             return
+        if self.seen.component and not self.seen.over:
+            yield from self._balance_differs()
+            return
+        over = self.seen.over
         if self.answer.over is not None:
             stated = self.answer.over.fields[2] if len(self.answer.over.fields) > 2 else ""
             if stated != over:
@@ -367,5 +534,49 @@ class Pair:
         if over:
             what = f"there is a report, and by the session the total of {over} is beyond the limits"
             yield Differs(self.answer.blocks[0][0].line, what)
+        yield from self._places_differ()
         for number, block in enumerate(self.answer.blocks):
             yield from block_differs(block, self.seen, self.answer.taken[:number])
+
+    def _places_differ(self) -> Iterator[Differs]:
+        """Give the rows of a window that aren't those of the session."""
+        for record, wanted in zip(self.answer.places[1:], self.seen.places):
+            if tuple(record.fields[1:]) != wanted:
+                said = ",".join(record.fields[1:])
+                what = f"the place {said} stands where the session has {','.join(wanted)}"
+                yield Differs(record.line, what)
+        count = len(self.answer.places) - 1 if self.answer.places else 0
+        if count != len(self.seen.places):
+            what = f"the window has {count} places, and by the session {len(self.seen.places)}"
+            yield Differs(self.answer.places[0].line if self.answer.places else 0, what)
+
+    def _balance_differs(self) -> Iterator[Differs]:
+        """Give the places at which the balance of a component isn't that of its grades.
+
+        Without a report of the same facts only its streams and critical values are held.
+        """
+        if self.mass is None or self.answer.over is not None:
+            for block in self.answer.blocks:
+                yield from _critical_differ(block, self.seen)
+            return
+        streams = carried(self.seen, self.mass.flows())
+        for number, block in enumerate(self.answer.blocks):
+            seen = replace(self.seen, streams=streams)
+            yield from block_differs(block, seen, self.answer.taken[:number])
+
+
+def pairs_of(seen: list[Seen], answers: list[Answer]) -> list[Pair]:
+    """Return what a session asks for beside what an output says of it, in order."""
+    found: list[Pair] = []
+    for one, answer in zip(seen, answers):
+        same = [
+            pair.answer
+            for pair in found
+            if one.component
+            and not (pair.seen.component or pair.seen.last)
+            and pair.answer.blocks
+            and (pair.seen.period.name, pair.seen.streams, pair.seen.critical)
+            == (one.period.name, one.streams, one.critical)
+        ]
+        found.append(Pair(one, answer, same[-1] if same else None))
+    return found

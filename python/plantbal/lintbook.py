@@ -12,6 +12,7 @@ from functools import cached_property, lru_cache
 from plantbal.faults import Place, Refusal
 from plantbal.records import read_records, without_empty_end
 from plantbal.session import (
+    ASKS,
     ENV,
     Period,
     Service,
@@ -108,6 +109,15 @@ class Reported:
     undipped: dict[str, list[int]]
 
 
+@dataclass(frozen=True, slots=True)
+class Assay:
+    """An assay: the grade of a component in parts per million, and the variance of it."""
+
+    ppm: int
+    variance: int
+    line: int
+
+
 @dataclass
 class Book:
     """A session's accepted rows.
@@ -118,6 +128,15 @@ class Book:
         What the session is called.
     data : bytes
         Its bytes.
+
+    Attributes
+    ----------
+    assays : dict of (str, str, str) to Assay
+        The assays by component, stream or tank, and period.
+    balanced : dict of (str, str) to int
+        The lines of the last `component` rows by component and period.
+    windows : dict of (str, str) to int
+        The lines of the last `window` rows by their two periods.
     """
 
     source: str
@@ -131,6 +150,9 @@ class Book:
     critical: set[tuple[str, int]] = field(default_factory=set)
     facts: dict[str, Fact] = field(default_factory=dict)
     reported: dict[str, Reported] = field(default_factory=dict)
+    assays: dict[tuple[str, str, str], Assay] = field(default_factory=dict)
+    balanced: dict[tuple[str, str], int] = field(default_factory=dict)
+    windows: dict[tuple[str, str], int] = field(default_factory=dict)
     asked: set[str] = field(default_factory=set)
     _read: dict[int, set[str]] = field(default_factory=dict)
     _dipped: dict[int, set[str]] = field(default_factory=dict)
@@ -172,8 +194,20 @@ class Book:
             self.critical.add((row[1], int(row[2]) if row[1] == "global" else 0))
         elif kind == "report":
             self._take_report(row[1], line)
-        if kind in ("report", "design", "advise", "history"):
+        elif kind == "window":
+            self._take_window(row[1], row[2], line)
+        elif kind == "assay":
+            self.assays[row[1], row[2], row[3]] = Assay(int(row[4]), int(row[5]), line)
+        elif kind == "component":
+            self._take_component(row[1], row[2], line)
+        if kind in ASKS:
             self.asked.add(kind)
+
+    def _take_window(self, first: str, last: str, line: int) -> None:
+        self.windows[first, last] = line
+
+    def _take_component(self, component: str, period: str, line: int) -> None:
+        self.balanced[component, period] = line
 
     def _take_fact(self, row: list[str], line: int) -> None:
         kind, identity, of = row[:3]
@@ -205,6 +239,12 @@ class Book:
             fact.mm, fact.density = int(row[2]), int(row[3])
         else:
             fact.grams = int(row[2])
+
+    def window_of(self, first: str, last: str) -> list[Period]:
+        """Return the periods of a window in order of days."""
+        begin, end = self.periods[first].first, self.periods[last].first
+        found = [each for each in self.periods.values() if begin <= each.first <= end]
+        return sorted(found, key=lambda period: period.first)
 
     def _take_report(self, name: str, line: int) -> None:
         period = self.periods[name]

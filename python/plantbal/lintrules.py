@@ -13,7 +13,7 @@ from statistics import median_low
 
 from plantbal.amounts import tonnes_text
 from plantbal.faults import Place, Refusal
-from plantbal.lintbook import Book, Fact, Reported, day_text
+from plantbal.lintbook import Assay, Book, Fact, Reported, day_text
 from plantbal.schema import schema
 from plantbal.session import ENV, LIMITS, Period, most_streams
 from plantbal.topology import classes_of, degrees_of_freedom
@@ -57,7 +57,7 @@ RULES: dict[str, Rule] = {
     rule.code: rule
     for rule in (
         Rule("refused", "error", "rows are refused, and reports are made without them"),
-        Rule("nothing-asked", "error", "no report, design, advice or history is asked for"),
+        Rule("nothing-asked", "error", "nothing is asked for: no report, and no other output"),
         Rule("missing-reading", "warning", "a meter has no value in a period that is reported"),
         Rule("missing-dip", "warning", "a tank has no value in a period that is reported"),
         Rule("no-period", "warning", "a fact is in no period, so it counts nowhere"),
@@ -71,6 +71,10 @@ RULES: dict[str, Rule] = {
         Rule("density", "warning", "a density is below 400,000 or above 3,000,000 g per m3"),
         Rule("worse-class", "warning", "a stream's class in a report is worse than by design"),
         Rule("no-critical", "warning", "no critical value is there for a report's global test"),
+        Rule("no-balance", "warning", "assays are there of which no balance is asked for"),
+        Rule("after-balance", "warning", "an assay comes after the last balance it would be in"),
+        Rule("unchecked-grade", "warning", "no other assay checks that of a component's balance"),
+        Rule("grade", "warning", "a grade is 50 times that of the same stream in other periods"),
         Rule("nearly-full", "warning", "a session is at 80 % of a limit or above"),
         Rule("untested", "note", "a report is asked for, and no critical value is there"),
         Rule("no-elimination", "note", "critical values that an elimination needs aren't there"),
@@ -240,7 +244,7 @@ def _nothing_asked(book: Book) -> Iterator[Finding]:
     elif book.facts:
         text = f"{len(book.facts)} facts are there, and no report is asked for"
     else:
-        text = "no report, design, advice or history is asked for"
+        text = "no report, window, balance, design, advice or history is asked for"
     periods = list(book.periods)
     remedy = f"add `report,{periods[-1]}`" if periods else "add a period, its facts and its report"
     yield Finding("nothing-asked", text, remedy, _place(book, None))
@@ -280,9 +284,19 @@ def _missing_dips(book: Book) -> Iterator[Finding]:
             what = " and none ".join(_which_dip(book, name, period, day) for day in days)
             text = f"tank {name} has no value in {period.name}: it has no dip {what}"
             remedy = "book the dip; a tank that stood still has the same dip on both days"
+            remedy += _by_window(book, period, days)
             yield Finding(
                 "missing-dip", text, remedy, _place(book, reported.line), name, period.name
             )
+
+
+def _by_window(book: Book, period: Period, days: Sequence[int]) -> str:
+    """Return which window has what a tank held on a day without a dip, or nothing."""
+    for other in book.periods_within(period.first - 1, period.last + 1):
+        one, next_ = sorted((period, other), key=lambda each: each.first)
+        if one is not next_ and one.last in days and (one.name, next_.name) not in book.windows:
+            return f"; if nobody dipped it, `window,{one.name},{next_.name}` has what it held"
+    return ""
 
 
 def _which_dip(book: Book, tank: str, period: Period, day: int) -> str:
@@ -391,12 +405,13 @@ def _no_transfers(book: Book) -> Iterator[Finding]:
 def _not_reported(book: Book) -> Iterator[Finding]:
     if "report" not in book.asked:
         return
+    within = {each.name for pair in book.windows for each in book.window_of(*pair)}
     count: dict[str, int] = defaultdict(int)
     for fact in book.live():
         for period in book.periods_of(fact):
             count[period.name] += fact.kind != "dip" or fact.first == period.last
     for name, facts in count.items():
-        if facts and name not in book.reported:
+        if facts and name not in book.reported and name not in within:
             some = "1 fact" if facts == 1 else f"{facts} facts"
             text = f"{name} has {some}, and no report is asked for"
             yield Finding(
@@ -735,11 +750,63 @@ def _critical(book: Book) -> Iterator[Finding]:
         yield Finding("no-elimination", text, remedy, _place(book, line))
 
 
+# ---- components
+
+
+def _assays(book: Book) -> Iterator[Finding]:
+    """Give what looks wrong with assays and with the balances that rest on them."""
+    of: dict[tuple[str, str], list[str]] = defaultdict(list)
+    for component, name, period in book.assays:
+        of[component, period].append(name)
+    for (component, period), names in of.items():
+        lines = [book.assays[component, name, period].line for name in names]
+        asked = book.balanced.get((component, period))
+        count = "1 assay" if len(names) == 1 else f"{len(names)} assays"
+        remedy = f"add `component,{component},{period}`"
+        if asked is None:
+            text = f"{count} of {component} in {period}, and no balance is asked for"
+            yield Finding("no-balance", text, remedy, _place(book, min(lines)), period=period)
+        elif max(lines) > asked:
+            late = [name for name, line in zip(names, lines) if line > asked]
+            verb = "comes" if len(late) == 1 else "come"
+            text = f"{_some(late)} {verb} after the last balance of {component} in {period}"
+            remedy = f"put `component,{component},{period}` after the last of them"
+            yield Finding("after-balance", text, remedy, _place(book, max(lines)), period=period)
+        elif len(names) == 1:
+            text = f"{names[0]} alone has an assay of {component} in {period}: nothing checks it"
+            remedy = "enter those of feed, products and tailings"
+            yield Finding(
+                "unchecked-grade", text, remedy, _place(book, lines[0]), names[0], period
+            )
+
+
+def _grades(book: Book) -> Iterator[Finding]:
+    """Give the grades that are in another unit than those of the same stream."""
+    of: dict[tuple[str, str], list[tuple[str, Assay]]] = defaultdict(list)
+    for (component, name, period), assay in book.assays.items():
+        of[component, name].append((period, assay))
+    for (component, name), some in of.items():
+        sizes = [assay.ppm for _, assay in some if assay.ppm]
+        if len(sizes) < FEWEST_OF_A_MEDIAN:
+            continue
+        middle = median_low(sizes)
+        for period, assay in some:
+            is_great = assay.ppm >= GREAT_TIMES * middle
+            if is_great or 0 < assay.ppm * SMALL_PART <= middle:
+                text = (
+                    f"{name} has {assay.ppm:,} ppm of {component} in {period}, "
+                    f"and {middle:,} ppm in the middle of its periods"
+                )
+                remedy = "a percent is 10,000 ppm, a gram per tonne is 1 ppm: look at the unit"
+                yield Finding("grade", text, remedy, _place(book, assay.line), name, period)
+
+
 def _nearly_full(book: Book) -> Iterator[Finding]:
     points = max((len(table) for table in book.tables.values()), default=0)
     another, split = "begin another session, with the plant's rows again", "split the plant"
     for count, limit, what, remedy in (
         (len(book.facts), LIMITS["most_facts"], "readings, transfers and dips", another),
+        (len(book.assays), LIMITS["most_assays"], "assays", another),
         (len(book.periods), LIMITS["most_periods"], "periods", another),
         (len(book.nodes) - 1, LIMITS["most_units_and_tanks"], "units and tanks", split),
         (len(book.streams), most_streams(book.session.version), "streams and tanks", split),
@@ -768,5 +835,7 @@ _FINDERS: tuple[Callable[[Book], Iterator[Finding]], ...] = (
     _densities,
     _worse_classes,
     _critical,
+    _assays,
+    _grades,
     _nearly_full,
 )

@@ -11,7 +11,7 @@ from typing import TYPE_CHECKING, Any
 from plantbal.amounts import tonnes_of
 from plantbal.faults import Fault, ToolMissing, read_text
 from plantbal.files import replacing, write_text
-from plantbal.report import Block, Values, blocks_of, csv_of, parse_rows, read_rows
+from plantbal.report import Block, Values, blocks_of, csv_of, last_blocks, parse_rows, read_rows
 from plantbal.schema import Column, schema
 
 if TYPE_CHECKING:
@@ -98,12 +98,13 @@ class Output:
     Attributes
     ----------
     blocks_in_order : list of Block
-        The rounds of its reports.
+        The rounds of its reports, and those of windows and of the balances of components.
 
     Notes
     -----
     Each table is made when it is first asked for. `block` is the number of the round in the output,
-    counted from 0; two reports of one period differ by it.
+    counted from 0; two reports of one period differ by it. `period` says what the round is of: a
+    period, ``cu in may`` for the balance of a component, ``may to june`` for a window.
     """
 
     def __init__(
@@ -192,10 +193,15 @@ class Output:
         count = [len(some) for some in rows]
         front = {
             "block": _repeat([block.number for block in blocks], count),
-            "period": _repeat([block.period for block in blocks], count),
+            "period": _repeat([block.subject for block in blocks], count),
             "round": _repeat([block.round for block in blocks], count),
         }
         return _frame(kind, [row for some in rows for row in some], front)
+
+    @cached_property
+    def reports(self) -> list[Block]:
+        """The rounds of reports of periods: no windows, and no balances of components."""
+        return [block for block in self.blocks_in_order if block.is_report]
 
     @cached_property
     def streams(self) -> pandas.DataFrame:
@@ -218,23 +224,27 @@ class Output:
     def blocks(self) -> pandas.DataFrame:
         """A row a block: its head, its `solved` row, its global test, and what was taken before it.
 
-        The column `last` says whether it is the last block of the last report of its period.
+        The column `component` has the component whose balance it is, `window` the last period of a
+        window, and both are empty of a period's report. `last` says whether it is the last block
+        of the last report of its period, component or window.
         """
         import pandas
 
         blocks = self.blocks_in_order
-        heads = _frame("report", [block.head for block in blocks], {})
+        heads = _frame("report", [{**b.head, "period": b.subject} for b in blocks], {})
         heads.insert(0, "block", range(len(blocks)))
         none: Values = {}
         solved = _frame("solved", [block.solved or none for block in blocks], {})
         whole = _frame("global", [block.whole or none for block in blocks], {})
-        last = {block.period: block.number for block in blocks}
+        last = {block.number for block in last_blocks(blocks).values()}
         rest = pandas.DataFrame(
             {
+                "component": [block.component for block in blocks],
+                "window": [block.window.last if block.window else "" for block in blocks],
                 "taken": [" ".join(block.taken) for block in blocks],
                 "suspects": [" ".join(block.suspects()) for block in blocks],
                 "ended": [block.ended for block in blocks],
-                "last": [last[block.period] == block.number for block in blocks],
+                "last": [block.number in last for block in blocks],
             }
         )
         return pandas.concat([heads, solved, whole, rest], axis=1)
@@ -258,7 +268,7 @@ class Output:
         count, flat = [len(some) for some in rows], [row for some in rows for row in some]
         data: dict[str, Any] = {
             "block": _repeat([block.number for block in blocks], count),
-            "period": _repeat([block.period for block in blocks], count),
+            "period": _repeat([block.subject for block in blocks], count),
             "round": _repeat([block.round for block in blocks], count),
             "test": [row["row"] for row in flat],
             "name": [row.get("stream") or row.get("node") or "" for row in flat],
@@ -357,12 +367,54 @@ class Output:
         return _frame("meter", rows, {"advice": numbers})
 
     @cached_property
+    def components(self) -> pandas.DataFrame:
+        """The streams of the last balance of each component in each period.
+
+        `component` and `period` say whose balance it is; the other columns are those of `streams`.
+        """
+        blocks = [b for b in last_blocks(self.blocks_in_order).values() if b.component]
+        count = [len(block.streams) for block in blocks]
+        front = {
+            "component": _repeat([block.component for block in blocks], count),
+            "period": _repeat([block.period for block in blocks], count),
+            "block": _repeat([block.number for block in blocks], count),
+        }
+        return _frame("stream", [row for block in blocks for row in block.streams], front)
+
+    @cached_property
+    def windows(self) -> pandas.DataFrame:
+        """The streams of the last report of each window, by their declared names and periods.
+
+        `window` is the last period of the window, `period` and `declared` the period and the name
+        that the code `name` stands for, and `what` is ``flow``, ``before`` (what a tank holds
+        before the first period) or ``after`` (what it holds after its period). The other columns
+        are those of `streams`.
+        """
+        rows: list[Values] = []
+        front: dict[str, list[Any]] = {
+            name: [] for name in ("first", "window", "period", "declared", "what", "block")
+        }
+        for block in last_blocks(self.blocks_in_order).values():
+            for row in block.streams if block.window else ():
+                assert block.window is not None
+                spot = block.window.spots[row["name"]]
+                what = "before" if spot.is_opening else "after"
+                said = (block.window.first, block.window.last, spot.period, spot.name)
+                found = (*said, what if spot.is_content else "flow", block.number)
+                for values, value in zip(front.values(), found):
+                    values.append(value)
+                rows.append(row)
+        return _frame("stream", rows, dict(front))
+
+    @cached_property
     def verdicts(self) -> pandas.DataFrame:
         """What a check found, of the output of a check."""
         return verdict_frame(self.rows)
 
     def tonnes(self, *, exact: bool = True, anyway: bool = False) -> pandas.DataFrame:
         """Return the streams of each period's last round with their amounts in tonnes.
+
+        Windows and components have rows of their own, by what stands in the column `period`.
 
         Parameters
         ----------
@@ -378,8 +430,8 @@ class Output:
         """
         if not anyway:
             self.require()
-        last = {block.period: block.number for block in self.blocks_in_order}
-        frame = self.streams[self.streams["block"].isin(list(last.values()))].copy()
+        last = [block.number for block in last_blocks(self.blocks_in_order).values()]
+        frame = self.streams[self.streams["block"].isin(last)].copy()
         for name in _GRAMS:
             amounts = [
                 None if _is_missing(grams) else tonnes_of(int(grams)) for grams in frame[name]
@@ -416,7 +468,8 @@ class Output:
     def tables(self) -> dict[str, pandas.DataFrame]:
         """Return the tables that have rows, by their names."""
         names = "blocks streams uncertainty nodes tests refused over taken stops histories history"
-        found = {name: getattr(self, name) for name in [*names.split(), "classes", "advice"]}
+        more = ["classes", "advice", "components", "windows"]
+        found = {name: getattr(self, name) for name in [*names.split(), *more]}
         found["verdicts"] = self.verdicts
         return {name: table for name, table in found.items() if len(table)}
 

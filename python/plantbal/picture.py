@@ -5,7 +5,7 @@ from __future__ import annotations
 
 import argparse
 import subprocess
-from collections.abc import Iterable
+from collections.abc import Callable, Iterable
 
 from plantbal.amounts import tonnes_text
 from plantbal.faults import Fault, ToolMissing
@@ -79,6 +79,8 @@ class Picture:
         What the names of its elements begin with, so that a page may have several.
     meters : iterable of dict
         The rows of the streams to meter.
+    shown : callable
+        Gives what a person reads in place of a name.
     """
 
     def __init__(
@@ -89,8 +91,9 @@ class Picture:
         suspects: Iterable[str] = (),
         prefix: str = "",
         meters: Iterable[Values] = (),
+        shown: Callable[[str], str] = str,
     ) -> None:
-        self.title, self.streams, self.prefix = title, streams, prefix
+        self.title, self.streams, self.prefix, self.shown = title, streams, prefix, shown
         self.meters = {meter["stream"]: meter for meter in meters}
         self.suspects = list(dict.fromkeys(suspects))
         names = list(nodes) + [end for stream in streams for end in (stream["from"], stream["to"])]
@@ -108,10 +111,10 @@ class Picture:
             self.title += f": cycle of {name}"
             return
         for stream in self.streams:
-            if stream["name"] == name:
+            if name in (stream["name"], self.shown(stream["name"])):
                 self.side = set(stream["side"].split(" ")) if stream["side"] else set()
                 self.parts = {part[1:] for part in stream["parts"].split(" ") if part}
-                self.title += f": {stream['shape']} of {name}"
+                self.title += f": {stream['shape']} of {self.shown(stream['name'])}"
                 return
         raise Fault(f"there is no stream {name} in {self.title}")
 
@@ -135,9 +138,10 @@ class Picture:
             cost = int(self.meters[stream["name"]]["cost"])
             return f"{METER_SIGN} {stream['name']}\nmeter: {cost:,}"
         sign = SUSPECT_SIGN if stream["name"] in self.suspects else SIGNS[stream["class"]]
+        name = self.shown(stream["name"])
         if "flow" not in stream or stream["class"] == "unobservable":
-            return f"{sign} {stream['name']}"
-        return f"{sign} {stream['name']}\n{tonnes_text(stream['flow'])} t"
+            return f"{sign} {name}"
+        return f"{sign} {name}\n{tonnes_text(stream['flow'])} t"
 
     def width(self, stream: Values) -> float:
         """Return the width of a stream: it grows with its tonnes."""
@@ -154,7 +158,7 @@ class Picture:
 
     def node(self, name: str) -> str:
         """Return the line of a unit or a tank; a tank's stream is drawn as the tank itself."""
-        shape, label = "box", name
+        shape, label = "box", self.shown(name)
         look: dict[str, object] = {}
         if name in self.tanks:
             tank = self.tanks[name]
@@ -225,7 +229,8 @@ def picture_of(block: Block, prefix: str = "") -> Picture:
     # if the global test doesn't reject, that of one meter counts for nothing
     rejected = block.whole is not None and block.whole["verdict"] == "reject"
     suspects = block.suspects() if rejected else []
-    return Picture(block.title, block.streams, nodes, suspects + block.taken, prefix)
+    taken = suspects + block.taken
+    return Picture(block.title, block.streams, nodes, taken, prefix, shown=block.shown)
 
 
 def advised(rows: list[Values]) -> Picture:
@@ -248,18 +253,42 @@ def advised(rows: list[Values]) -> Picture:
     return Picture(f"{count} to buy, for {total:,}", designs[-1], meters=meters)
 
 
-def chosen(rows: list[Values], period: str | None, number: int | None) -> Picture:
-    """Return the picture of the last report of the period and the round, or of the last design."""
+def chosen(
+    rows: list[Values],
+    period: str | None,
+    number: int | None,
+    component: str = "",
+    window: bool = False,
+) -> Picture:
+    """Return the picture of the last report of the period and the round, or of the last design.
+
+    Parameters
+    ----------
+    rows : list of dict
+        The rows of an output.
+    period : str or None
+        The period.
+    number : int or None
+        The round.
+    component : str
+        The component whose balance is drawn in place of a report.
+    window : bool
+        Whether a window is drawn; its period is its first one.
+    """
     blocks = [
         block
         for block in blocks_of(rows)
-        if period in (None, block.period) and number in (None, block.round)
+        if period in (None, block.period)
+        and number in (None, block.round)
+        and (block.component, block.window is not None) == (component, window)
     ]
     if blocks:
         return picture_of(blocks[-1])
-    if period is not None or number is not None:
+    if period is not None or number is not None or component or window:
         there = ", ".join(dict.fromkeys(block.title for block in blocks_of(rows)))
         said = "there is no report of this period and round"
+        said = "there is no such window" if window else said
+        said = f"there is no such balance of {component}" if component else said
         raise Fault(said, remedy=f"there are {there or 'none'}")
     designs = designs_of(rows)
     if not designs:
@@ -289,6 +318,8 @@ def add_arguments(parser: argparse.ArgumentParser) -> None:
         type=int,
         help="the round to draw, 0 for the one before any meter was taken",
     )
+    parser.add_argument("--component", metavar="NAME", default="", help="draw its balance")
+    parser.add_argument("--window", action="store_true", help="draw a window of several periods")
     parser.add_argument("--advice", action="store_true", help="draw which streams to meter")
     parser.add_argument("--mark", metavar="STREAM", help="the stream whose cut or cycle is marked")
     parser.add_argument(
@@ -300,10 +331,14 @@ def add_arguments(parser: argparse.ArgumentParser) -> None:
 def run(options: argparse.Namespace) -> int:
     """Write the picture."""
     rows = read_rows(options.output, "report", "design")
-    if options.advice and (options.period is not None or options.round is not None):
+    if options.component and options.window:
+        raise Fault("a balance of a component is of one period", remedy="leave --window out")
+    of_report = options.period is not None or options.round is not None
+    if options.advice and (of_report or options.component or options.window):
         what = "--advice is of a plant, not of a report"
-        raise Fault(what, remedy="leave --period and --round out")
-    picture = advised(rows) if options.advice else chosen(rows, options.period, options.round)
+        raise Fault(what, remedy="leave the words that choose a report out")
+    asked = options.period, options.round, options.component, options.window
+    picture = advised(rows) if options.advice else chosen(rows, *asked)
     if options.mark is not None:
         picture.mark(options.mark)
     dot = picture.dot()

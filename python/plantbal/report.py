@@ -20,6 +20,8 @@ _POWER = re.compile(r"(?<=,)-?[0-9]+(?:\.[0-9]+)?[eE]\+[0-9]+(?=[,\r\n])")
 # A row by its columns; `row` has its kind. A stream of an older report has no least bounds.
 Values = dict[str, str]
 _AS_WRITTEN = "give the file as plantbal wrote it: this one was cut off, or edited"
+_REPORT = "report,PERIOD"
+_ASKING = {"component": "component,COMPONENT,PERIOD", "design": "design"}
 _OF_CHECKS = ("yes", "no", "unreadable")
 
 
@@ -188,7 +190,7 @@ def read_rows(path: str | Path, *wanted: str) -> list[Values]:
         raise InputFault(
             f"there is no {' and no '.join(wanted)} in it",
             place=Place(file=source),
-            remedy="ask for one in the session, by a row such as report,PERIOD",
+            remedy=f"ask for one in the session, by a row such as {_ASKING.get(wanted[0], _REPORT)}",
         )
     return rows
 
@@ -247,6 +249,8 @@ def refuse_parts(source: str, rows: list[Values], *, checks: bool = False) -> No
         wanted = sum(int(row[count]) for row in rows if row["row"] == head)
         if sum(row["row"] == below for row in rows) < wanted:
             cut.append(what)
+    if rows[-1]["row"] in ("window", "place", "component"):
+        cut.append("a window" if rows[-1]["row"] != "component" else "a balance")
     if cut:
         raise InputFault(f"{cut[0]} is cut off", place=place, remedy="run the session again")
 
@@ -265,9 +269,72 @@ def csv_of(rows: Iterable[Values]) -> str:
     return out.getvalue()
 
 
+@dataclass(frozen=True, slots=True)
+class Spot:
+    """What a code of a window stands for: a node or a stream of a period, or a tank's content.
+
+    Attributes
+    ----------
+    code : str
+        The code, such as ``s1.2``.
+    period : str
+        The period; of what a tank holds at the beginning of the window, the first one.
+    name : str
+        The declared name.
+    """
+
+    code: str
+    period: str
+    name: str
+
+    @property
+    def is_content(self) -> bool:
+        """Whether it is what a tank holds between two periods, or at an end of the window."""
+        return self.code.startswith("c")
+
+    @property
+    def is_opening(self) -> bool:
+        """Whether it is what a tank holds before the first period."""
+        return self.code.startswith("c0.")
+
+    @property
+    def shown(self) -> str:
+        """What a person reads in place of the code."""
+        if not self.is_content:
+            return f"{self.name} in {self.period}"
+        return f"{self.name} {'before' if self.is_opening else 'after'} {self.period}"
+
+
+@dataclass(frozen=True, slots=True)
+class Window:
+    """Several periods that are reported at once.
+
+    Attributes
+    ----------
+    first, last : str
+        The first and the last period.
+    spots : dict of str to Spot
+        What each code of a node or a stream stands for, in order.
+    """
+
+    first: str
+    last: str
+    spots: dict[str, Spot] = field(default_factory=dict)
+
+    @property
+    def periods(self) -> list[str]:
+        """The periods in order of days."""
+        flows = [spot.period for spot in self.spots.values() if not spot.is_content]
+        return list(dict.fromkeys([self.first, *flows, self.last]))
+
+    def shown(self, code: str) -> str:
+        """Return what a person reads in place of a code; a name that is no code, as it is."""
+        return self.spots[code].shown if code in self.spots else code
+
+
 @dataclass
 class Block:
-    """One block of rows: a round of a period's report.
+    """One block of rows: a round of a period's report, of a window's, or of a component's balance.
 
     Attributes
     ----------
@@ -283,6 +350,10 @@ class Block:
         Its ``solved`` and its ``global`` row.
     ended : bool
         Whether its ``end`` row is there.
+    component : str
+        The component whose balance it is; empty if it is one of mass.
+    window : Window or None
+        The periods that it is of, if they are reported at once.
     """
 
     number: int
@@ -295,11 +366,29 @@ class Block:
     solved: Values | None = None
     whole: Values | None = None
     ended: bool = False
+    component: str = ""
+    window: Window | None = None
 
     @property
     def period(self) -> str:
-        """The period."""
+        """The period; of a window the first one."""
         return self.head["period"]
+
+    @property
+    def is_report(self) -> bool:
+        """Whether it is of a period's report: no window's, and no component's balance."""
+        return not self.component and self.window is None
+
+    @property
+    def subject(self) -> str:
+        """What it is of: ``may``, ``cu in may`` of a balance, ``may to june`` of a window."""
+        if self.component:
+            return f"{self.component} in {self.period}"
+        return f"{self.window.first} to {self.window.last}" if self.window else self.period
+
+    def shown(self, name: str) -> str:
+        """Return what a person reads in place of the name of a node or a stream."""
+        return self.window.shown(name) if self.window else name
 
     @property
     def round(self) -> int:
@@ -308,8 +397,8 @@ class Block:
 
     @property
     def title(self) -> str:
-        """The period, and the round if it isn't the first."""
-        return f"{self.period}, round {self.round}" if self.round else self.period
+        """What it is of, and the round if it isn't the first."""
+        return f"{self.subject}, round {self.round}" if self.round else self.subject
 
     def suspects(self) -> list[str]:
         """Return the streams whose measurement test rejects, the greatest statistic first."""
@@ -322,13 +411,24 @@ def blocks_of(rows: Iterable[Values]) -> list[Block]:
     found: list[Block] = []
     block: Block | None = None
     taken: list[str] = []
+    component, window = "", None
     for row in rows:
         kind = row["row"]
         if kind == "report":
             if row["round"] == "0":
                 taken = []
-            block = Block(len(found), row, list(taken))
+            elif found:
+                component, window = found[-1].component, found[-1].window
+            block = Block(len(found), row, list(taken), component=component, window=window)
             found.append(block)
+            component, window = "", None
+        elif kind == "component":
+            component = row["component"]
+        elif kind == "window":
+            window = Window(row["first"], row["last"])
+        elif kind == "place":
+            if window is not None:
+                window.spots[row["code"]] = Spot(row["code"], row["period"], row["name"])
         elif kind == "taken":
             taken.append(row["stream"])
         elif block is None:
@@ -362,3 +462,13 @@ def advice_of(rows: list[Values]) -> list[Values] | None:
     if not places:
         return None
     return rows[places[-1] + 1 : places[-1] + 1 + int(rows[places[-1]]["count"])]
+
+
+def reports_of(rows: Iterable[Values]) -> list[Block]:
+    """Return the blocks of the reports of periods in order: no window's, and no balance's."""
+    return [block for block in blocks_of(rows) if block.is_report]
+
+
+def last_blocks(blocks: Iterable[Block]) -> dict[str, Block]:
+    """Return the last round of the last report of each subject, by the subjects in order."""
+    return {block.subject: block for block in blocks}

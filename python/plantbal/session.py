@@ -10,6 +10,7 @@ import csv
 import datetime
 import difflib
 import io
+import math
 import re
 from bisect import bisect_right, insort
 from collections.abc import Callable, Iterable, Iterator, Mapping, Sequence
@@ -38,6 +39,7 @@ _REASON = re.compile(rf"[ -~]{{1,{LIMITS['most_reason']}}}")
 _WHOLE = re.compile(r"0|-?[1-9][0-9]*")
 _DATE = re.compile(r"[0-9]{4}-[0-9]{2}-[0-9]{2}")
 ENV = "env"
+PPM_OF_PERCENT = 10_000
 # From the first to the last day on which a stream or tank is in service, both counted; None is
 # every day.
 Service = tuple[int, int] | None
@@ -124,7 +126,8 @@ def _rows_by_kind(version: int) -> dict[str, list[Row]]:
 
 _ROWS_OF = {version: _rows_by_kind(version) for version in (1, 2)}
 _ROWS = _ROWS_OF[2]
-_ASKS = ("design", "advise", "report", "history")
+# The rows that ask for output and aren't stored.
+ASKS = ("design", "advise", "report", "history", "window", "component")
 
 
 def rows_of_kind(kind: str) -> list[Row]:
@@ -244,6 +247,7 @@ _SCALES = {
     ],
     "mm": [("metres", 1000, "millimetres")],
     "ml": [("cubic metres", 1_000_000, "millilitres")],
+    "ppm": [("percent", 10_000, "parts per million")],
 }
 
 
@@ -309,6 +313,8 @@ class Session:
         self._days: set[tuple[str, int]] = set()
         self._boundaries: dict[str, None] = {}
         self._service: dict[str, tuple[int, int]] = {}
+        self._ends: dict[str, tuple[str, str]] = {}
+        self._assays: dict[tuple[str, str, str], None] = {}
         if version not in (1, 2):
             raise Fault(f"there is no version {version} of sessions", remedy="say 1 or 2")
         if version == 2:
@@ -349,6 +355,11 @@ class Session:
     def boundaries(self) -> tuple[str, ...]:
         """The boundaries, which are further names of ``env``, in order."""
         return tuple(self._boundaries)
+
+    @property
+    def assays(self) -> tuple[tuple[str, str, str], ...]:
+        """The component, the stream or tank, and the period of each assay, in order."""
+        return tuple(self._assays)
 
     def service(self, name: str) -> Service:
         """Return the days on which a stream or tank is in service, as their numbers.
@@ -501,7 +512,7 @@ class Session:
         if word == "version":
             what, remedy = "it isn't the row version,2", "write version,2 as the first row"
             if record == ("version", "2"):
-                if all(row[0] in _ASKS for row in self._rows):
+                if all(row[0] in ASKS for row in self._rows):
                     return _ROWS["version"]
                 what, remedy = "rows are stored before it", "write it as the first row"
                 if self.version == 2:
@@ -681,6 +692,7 @@ class Session:
         def store() -> None:
             self._nodes[name] = "tank"
             self._tables[name] = []
+            self._ends[name] = name, ENV
             if service is not None:
                 self._service[name] = service
 
@@ -743,6 +755,7 @@ class Session:
 
         def store() -> None:
             self._streams[name] = kind
+            self._ends[name] = self.node_of(values["from"]), self.node_of(values["to"])
             if service is not None:
                 self._service[name] = service
 
@@ -795,11 +808,11 @@ class Session:
 
         return store
 
-    def _period(self, record: tuple[str, ...], name: str) -> Period:
+    def _period(self, record: tuple[str, ...], name: str, column: str = "period") -> Period:
         """Return the period of a name, or refuse a record that names none."""
         if name not in self._periods:
             remedy = _near(name, self._periods) or _DECLARE
-            self._refuse(6, record, f"there is no period {name}", "period", name, remedy)
+            self._refuse(6, record, f"there is no period {name}", column, name, remedy)
         return self._periods[name]
 
     def _judge_close(self, record: tuple[str, ...], values: dict[str, str]) -> Callable[[], None]:
@@ -838,6 +851,100 @@ class Session:
 
     def _judge_history(self, record: tuple[str, ...], values: dict[str, str]) -> None:
         self._period(record, values["period"])
+
+    # ---- windows
+
+    def _judge_window(self, record: tuple[str, ...], values: dict[str, str]) -> None:
+        first = self._period(record, values["first"], "first")
+        last = self._period(record, values["last"], "last")
+        if last.first < first.first:
+            what = f"period {last.name} begins before period {first.name}"
+            self._refuse(8, record, what, "last", last.name, "exchange the periods")
+        within = self.periods_between(first, last)
+        for one, other in zip(within, within[1:]):
+            if other.first != one.last + 1:
+                day = day_of_number(one.last + 1)
+                what = f"{day} is in no period, between {one.name} and {other.name}"
+                remedy = "declare a period of the days between, or ask for a window on each side"
+                self._refuse(9, record, what, "last", last.name, remedy)
+        most = LIMITS["most_periods_of_window"]
+        if len(within) > most:
+            what = f"{len(within)} periods are from {first.name} to {last.name}"
+            remedy = f"at most {most} may be: ask for two windows"
+            self._refuse(12, record, what, "last", last.name, remedy)
+        nodes, streams = self._window_size(within)
+        for count, most, things in (
+            (nodes, LIMITS["most_nodes"], "nodes"),
+            (streams, LIMITS["most_streams"], "streams"),
+        ):
+            if count > most:
+                what = f"it would have {count:,} {things}, and at most {most:,} may be"
+                self._refuse(13, record, what, "last", last.name, "ask for fewer periods at once")
+
+    def periods_between(self, first: Period, last: Period) -> list[Period]:
+        """Return the periods from one to another, both among them, in order of days."""
+        names = [name for day, _, name in self._ordered if first.first <= day <= last.first]
+        return [self._periods[name] for name in names]
+
+    def _window_size(self, within: list[Period]) -> tuple[int, int]:
+        """Return how many nodes and streams the window of some periods has."""
+        nodes, streams = 1, 0
+        for period in within:
+            arcs = [
+                (name, ends)
+                for name, ends in self._ends.items()
+                if is_served(self._service.get(name), period.first, period.last)
+            ]
+            streams += sum(name in self._streams for name, _ in arcs)
+            ends = {end for _, pair in arcs for end in pair} - {ENV}
+            nodes += len(self._nodes) if self.version == 1 else len(ends)
+        for tank in self._tables:
+            service = self._service.get(tank)
+            stays = [is_served(service, each.first, each.last) for each in within]
+            streams += sum(one or other for one, other in zip([False, *stays], [*stays, False]))
+        return nodes, streams
+
+    # ---- assays
+
+    def _judge_assay(self, record: tuple[str, ...], values: dict[str, str]) -> Callable[[], None]:
+        component, name = values["component"], values["stream"]
+        if name not in self._streams and name not in self._tables:
+            what, other = f"there is no stream or tank {name}", _DECLARE
+            if name in self._nodes:
+                what = f"{name} is a unit, not a stream or tank"
+                other = "name a stream that leads to it or from it"
+            remedy = _near(name, [*self._streams, *self._tables]) or other
+            self._refuse(6, record, what, "stream", name, remedy)
+        period = self._period(record, values["period"])
+        key = component, name, period.name
+        if key in self._assays:
+            what = f"{name} has an assay of {component} in {period.name} already"
+            remedy = "leave one of the two out: an assay can't be amended, so mend it in the file"
+            self._refuse(7, record, what, "stream", name, remedy)
+        if period.closed:
+            what = f"period {period.name} is closed"
+            remedy = "put it before the close: an assay can't come late"
+            self._refuse(11, record, what, "period", period.name, remedy)
+        service = self._service.get(name)
+        if not is_served(service, period.first, period.last):
+            assert service is not None
+            days = " to ".join(day_of_number(day).isoformat() for day in service)
+            what = f"{name} is in service on no day of {period.name}: it is from {days}"
+            remedy = "mend the period, or leave the row out"
+            self._refuse(12, record, what, "stream", name, remedy)
+        if len(self._assays) >= LIMITS["most_assays"]:
+            what = f"{len(self._assays):,} assays are there, and no more may be"
+            self._refuse(13, record, what, remedy=_ANOTHER)
+        return lambda: self._assays.update({key: None})
+
+    def _judge_component(self, record: tuple[str, ...], values: dict[str, str]) -> None:
+        component, period = values["component"], self._period(record, values["period"])
+        if not any((each[0], each[2]) == (component, period.name) for each in self._assays):
+            what = f"there is no assay of {component} in {period.name}"
+            there = list(dict.fromkeys(each[0] for each in self._assays))
+            remedy = _near(component, [name for name in there if name != component])
+            remedy = remedy or "write its assay rows before this row"
+            self._refuse(6, record, what, "component", component, remedy)
 
     # ---- facts
 
@@ -1353,6 +1460,66 @@ class Session:
         """Ask for the edits that touch a period."""
         self.row("history", period)
 
+    def window(self, first: str, last: str) -> None:
+        """Ask for the report of several periods at once, with the contents of tanks between them.
+
+        Parameters
+        ----------
+        first, last : str
+            The first and the last of the periods. No day between them may be in no period.
+        """
+        self.row("window", first, last)
+
+    def assay(
+        self,
+        component: str,
+        stream: str,
+        period: str,
+        *,
+        ppm: int | None = None,
+        percent: Tonnes | None = None,
+        variance: int | None = None,
+        deviation_ppm: Tonnes | None = None,
+        deviation_percent: Tonnes | None = None,
+    ) -> None:
+        """Book the grade of a component in a stream or a tank's gain, in a period.
+
+        It can't be amended or struck, and isn't accepted once the period is closed.
+
+        Parameters
+        ----------
+        component : str
+            The component, such as ``cu``. It need not be declared.
+        stream : str
+            A stream or a tank; of a tank what it gains in the period is meant.
+        period : str
+            The period.
+        ppm : int, optional
+            The grade in whole parts per million. Or:
+        percent : Decimal, int or str, optional
+            The grade in percent, with at most four decimals.
+        variance : int, optional
+            The variance of the grade, in squares of parts per million. Or:
+        deviation_ppm, deviation_percent : Decimal, int or str, optional
+            The standard deviation of it. Its square is rounded up.
+        """
+        grade, spread = grade_of(ppm, percent), grade_variance(
+            variance, deviation_ppm, deviation_percent
+        )
+        self.row("assay", component, stream, period, grade, spread)
+
+    def component(self, component: str, period: str) -> None:
+        """Ask for the balance of a component in a period.
+
+        Parameters
+        ----------
+        component : str
+            A component that has an assay in the period.
+        period : str
+            The period.
+        """
+        self.row("component", component, period)
+
     # ---- frames
 
     @classmethod
@@ -1545,6 +1712,37 @@ def _amount(grams: int | None, tonnes: Tonnes | None) -> str:
         return whole_of(grams, "GRAMS")
     assert tonnes is not None
     return str(grams_of(tonnes))
+
+
+def grade_of(ppm: int | None, percent: Tonnes | None) -> str:
+    """Return a grade in parts per million, of which exactly one is given."""
+    if (ppm is None) == (percent is None):
+        raise Fault("an assay needs ppm, or percent, and not both")
+    if percent is None:
+        assert ppm is not None
+        return whole_of(ppm, "PPM")
+    exact = decimal_of(percent, "GRADE") * PPM_OF_PERCENT
+    if exact != int(exact):
+        raise Fault(f"GRADE is {percent} %", text=str(percent), remedy="at most four decimals")
+    return str(int(exact))
+
+
+def grade_variance(
+    variance: int | None, deviation_ppm: Tonnes | None, deviation_percent: Tonnes | None
+) -> str:
+    """Return the variance of a grade in squares of parts per million, of which one is given."""
+    given = [each for each in (variance, deviation_ppm, deviation_percent) if each is not None]
+    if len(given) != 1:
+        raise Fault(
+            "an assay needs variance, deviation_ppm or deviation_percent, and one of them alone"
+        )
+    if variance is not None:
+        return whole_of(variance, "GRADEVAR")
+    scale = 1 if deviation_percent is None else PPM_OF_PERCENT
+    deviation = decimal_of(given[0], "the standard deviation") * scale
+    if deviation < 0:
+        raise Fault("a standard deviation is below 0", text=str(given[0]))
+    return str(math.ceil(deviation * deviation))
 
 
 def period_days(period: Period) -> tuple[datetime.date, datetime.date]:

@@ -533,6 +533,9 @@ def solve(
         raise Fault(f"there is no engine {engine!r}", text=engine, remedy="say 'scipy'")
     source, data, left_out = session_bytes(session)
     raw = run(data, tests=False, gap=gap, sweeps=0, program=program, timeout=timeout)
+    if any(block.component for block in raw.blocks_in_order):
+        what = "a balance of a component rests on the flows of the program's own sweeps"
+        raise Fault(what, remedy="leave the component rows out of what is solved elsewhere")
     values = critical_values(data, set(raw.refused["at"])) if tests else []
     reports = [row for row in raw.rows if row["row"] in ("report", "over")]
     numbers = [place for place, row in enumerate(reports) if row["row"] == "report"]

@@ -8,7 +8,7 @@ from plantbal.amounts import tonnes_text
 from plantbal.bundle import OUTPUT, SESSION, Manifest
 from plantbal.held import Ledger
 from plantbal.output import Output
-from plantbal.report import Block, Values
+from plantbal.report import Block, Values, last_blocks
 
 _HEADS = ("stream", "from", "to", "measured t", "booked t", "adjusted t", "class")
 
@@ -16,16 +16,17 @@ _HEADS = ("stream", "from", "to", "measured t", "booked t", "adjusted t", "class
 def blocks_named(output: Output) -> list[tuple[Block, str, bool]]:
     """Return the blocks of an output, how each is called, and whether it is its period's last."""
     blocks = output.blocks_in_order
-    last = {block.period: block.number for block in blocks}
+    last = {block.number for block in last_blocks(blocks).values()}
     count: dict[str, int] = {}
     found = []
     for block in blocks:
-        count[block.period] = number = count.get(block.period, 0) + 1
-        many = sum(each.period == block.period for each in blocks)
-        name = f"period {block.period}, block {number} of {many}"
+        count[block.subject] = number = count.get(block.subject, 0) + 1
+        many = sum(each.subject == block.subject for each in blocks)
+        what = "period " if block.is_report else ""
+        name = f"{what}{block.subject}, block {number} of {many}"
         if block.round:
             name += f" (round {block.round})"
-        found.append((block, name, last[block.period] == block.number))
+        found.append((block, name, block.number in last))
     return found
 
 
@@ -103,10 +104,11 @@ def summary_text(manifest: Manifest, ledger: Ledger, output: Output) -> str:
     lines += _refused(ledger)
     named = blocks_named(output)
     for block, name, last in named:
-        book = "the last report of the period" if last else "a later report of the period follows"
+        of = "the period" if block.is_report else "it"
+        book = f"the last report of {of}" if last else f"a later report of {of} follows"
         lines.append(f"{name}: {said_of(block)}; {book}.")
     for block, name, last in named:
-        if last and block.period == manifest.period:
+        if last and not block.window and block.period == manifest.period:
             lines += ["", f"The flows of {name}:", ""]
             lines += table([_HEADS, *map(_columns, block.streams)])
     return "\n".join(lines) + "\n"

@@ -7,7 +7,7 @@ from dataclasses import dataclass
 from pathlib import Path
 from typing import Any
 
-from plantbal.cells import GRAMS, VOLUMES
+from plantbal.cells import GRADES, GRAMS, VOLUMES
 from plantbal.conversion_tables import SHEETS
 from plantbal.faults import Fault, ToolMissing
 from plantbal.files import replacing
@@ -37,10 +37,20 @@ KINDS: dict[str, tuple[str, ...]] = {
         "dips",
         "tickets",
         "estimates",
+        "assays",
         "critical",
         "periods",
     ),
-    "concentrator": ("units", "streams", "readings", "estimates", "tickets", "critical", "periods"),
+    "concentrator": (
+        "units",
+        "streams",
+        "readings",
+        "estimates",
+        "tickets",
+        "assays",
+        "critical",
+        "periods",
+    ),
     "utility": ("units", "streams", "readings", "estimates", "critical", "periods"),
 }
 # What each sheet is for, and what each column holds.
@@ -54,6 +64,7 @@ ABOUT = {
     "dips": "the levels of the tanks at the end of a day, that of the day before a period too",
     "tickets": "the batches of ships, trains and trucks",
     "estimates": "a figure with a wide error for a day without a reading",
+    "assays": "the grades of components, each of a period, entered before it is closed",
     "critical": "critical values of the tests; plantbal-desk critical gives them",
     "periods": "the periods; without a row each calendar month with a reading is one",
 }
@@ -81,6 +92,9 @@ _HEADS = {
     "test": "global, nodal or measure",
     "value": "the critical value, such as 3.841",
     "dof": "the degrees of freedom, of the global test",
+    "component": "such as cu",
+    "period": "the name of a period: of a calendar month such as 2024-04",
+    "grade": "with its unit: 0.9 %, 12.4 g/t, 9000 ppm; or alone, with the unit beside it",
 }
 
 
@@ -115,6 +129,8 @@ def choices(kind: str) -> dict[tuple[str, str], Choice]:
     }
     tanks = Choice(f"tanks!$A$2:$A${_LAST}")
     found |= {(sheet, "tank"): tanks for sheet in ("straps", "dips")}
+    found["assays", "stream"] = streams
+    found["assays", "unit"] = Choice(f'"{",".join(GRADES)}"')
     return {key: choice for key, choice in found.items() if key[0] in KINDS[kind]}
 
 

@@ -115,7 +115,7 @@ class _Rounds:
     last: Block
 
 
-def trend_of(output: Output, session: bytes = b"") -> Trend:
+def trend_of(output: Output, session: bytes = b"", component: str = "") -> Trend:
     """Return the periods of an output in order of time.
 
     Parameters
@@ -125,6 +125,8 @@ def trend_of(output: Output, session: bytes = b"") -> Trend:
     session : bytes
         The session, which has the days of the periods. Without it they are taken from their names,
         if all are called by their days.
+    component : str
+        The component of whose balances it is; without it, it is of the reports of mass.
 
     Raises
     ------
@@ -133,7 +135,7 @@ def trend_of(output: Output, session: bytes = b"") -> Trend:
     """
     import numpy
 
-    rounds = _rounds_of(output)
+    rounds = _rounds_of(output, component)
     days = _days_of(list(rounds), session)
     if days:
         rounds = {name: rounds[name] for name in sorted(rounds, key=lambda name: days[name])}
@@ -160,10 +162,12 @@ def trend_of(output: Output, session: bytes = b"") -> Trend:
 _EPOCH = datetime.date(1970, 1, 1)
 
 
-def _rounds_of(output: Output) -> dict[str, _Rounds]:
+def _rounds_of(output: Output, component: str = "") -> dict[str, _Rounds]:
     """Return the rounds of each period's last report; what is cut off is left out."""
     found: dict[str, _Rounds] = {}
     for block in output.blocks_in_order:
+        if block.window or block.component != component:
+            continue
         if not block.ended or not block.solved:
             continue
         if block.round == 0:
@@ -171,7 +175,8 @@ def _rounds_of(output: Output) -> dict[str, _Rounds]:
         elif block.period in found:
             found[block.period].last = block
     if not found:
-        raise Fault("there is no report in what was read")
+        what = f"balance of {component}" if component else "report"
+        raise Fault(f"there is no {what} in what was read")
     return found
 
 

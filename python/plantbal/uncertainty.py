@@ -8,13 +8,13 @@ from __future__ import annotations
 
 import argparse
 import sys
-from collections.abc import Iterable
+from collections.abc import Collection, Iterable
 from typing import TYPE_CHECKING, Any
 
 from plantbal.amounts import tonnes_text
 from plantbal.faults import InputFault, ToolMissing
 from plantbal.output import Output, read_whole
-from plantbal.report import Block, Values
+from plantbal.report import Block, Values, last_blocks
 from plantbal.solver import Labels, Plant, plant_of
 
 if TYPE_CHECKING:
@@ -23,7 +23,8 @@ if TYPE_CHECKING:
 HELP = """
 OUTPUT is what plantbal wrote, as CSV or as JSON lines; without it standard input is read. Of each
 period's last report the last round is taken. There is a row for each stream that is measured or
-observable; an unobservable one has no flow to book, and no uncertainty.
+observable; an unobservable one has no flow to book, and no uncertainty. Windows and balances of
+components stand under names of their own, such as may to june and cu in may.
 
   text   tonnes, as a table to be read: flow, its standard deviation, that of the meter alone, by
          how much it is smaller (the gain), and the three meters that contribute most to it
@@ -53,6 +54,8 @@ _STRONG = 1e6
 # A standard deviation below this part of the meters' own is what rounding leaves of 0.
 _NOTHING = 1e-9
 _NAN = float("nan")
+# The columns of the table to be read that hold words.
+_WORDS = ("period", "stream", "class", "rests on")
 _CHECK = "plantbal-desk check says more"
 
 
@@ -105,16 +108,46 @@ def uncertainty_of(found: Output | Block | Iterable[Block]) -> pandas.DataFrame:
 
 def last_of_each_period(output: Output) -> pandas.DataFrame:
     """Return the rows of the last round of each period's last report."""
-    last = {block.period: block.number for block in output.blocks_in_order}
+    last = [block.number for block in last_blocks(output.blocks_in_order).values()]
     table = output.uncertainty
-    return table[table["block"].isin(list(last.values()))].reset_index(drop=True)
+    return table[table["block"].isin(last)].reset_index(drop=True)
+
+
+def answers_of(block: Block) -> tuple[dict[str, int], Any, Any]:
+    """Return how the flows of a block answer to one more gram of each of its measurements.
+
+    Parameters
+    ----------
+    block : Block
+        The block.
+
+    Returns
+    -------
+    tuple of dict, array and array
+        The column of each stream that has a flow to book; the answers, a row for each measured
+        stream and a column for each of these; and the variances of the measured streams.
+    """
+    import numpy
+
+    asked = _known(block)
+    plant = _plant_of(block)
+    variance = numpy.array([float(plant.variance[j]) for j in plant.measured])
+    columns = {stream["name"]: column for column, stream in enumerate(asked)}
+    if not asked:
+        return columns, numpy.zeros((len(variance), 0)), variance
+    return columns, _answers(plant, variance, _weights(plant, asked)), variance
+
+
+def _known(block: Block) -> list[Values]:
+    """Return the streams that have a flow to book."""
+    return [stream for stream in block.streams if stream["class"] != "unobservable"]
 
 
 def _rows_of(block: Block) -> list[tuple[Any, ...]]:
     """Return the rows of a block."""
     import numpy
 
-    asked = [stream for stream in block.streams if stream["class"] != "unobservable"]
+    asked = _known(block)
     if not asked:
         return []
     plant = _plant_of(block)
@@ -137,7 +170,7 @@ def _rows_of(block: Block) -> list[tuple[Any, ...]]:
             share = float(parts[row, place] / total[place]) if sd else 0.0
             shares += [names[row], share] if share > _LEAST_SHARE else ["", _NAN]
         shares += ["", _NAN] * (MOST_METERS - len(leading))
-        head = (block.number, block.period, block.round, stream["name"], stream["class"])
+        head = (block.number, block.subject, block.round, stream["name"], stream["class"])
         rows.append((*head, sd, meter_sd, gain, *shares))
     return rows
 
@@ -317,12 +350,17 @@ def in_tonnes(output: Output, table: pandas.DataFrame) -> pandas.DataFrame:
     flows = output.streams.set_index(["block", "name"])["flow"]
     lines = []
     for row in table.to_dict("records"):
+        shown = output.blocks_in_order[row["block"]].shown
         measured = row["meter_sd"] == row["meter_sd"]
-        rests = [f"{row[r]} {row[f'{r}_share']:.0%}" for r in _RANKS if row[f"{r}_share"] >= 0.005]
+        rests = [
+            f"{shown(row[rank])} {row[f'{rank}_share']:.0%}"
+            for rank in _RANKS
+            if row[f"{rank}_share"] >= 0.005
+        ]
         lines.append(
             {
                 "period": row["period"],
-                "stream": row["name"],
+                "stream": shown(row["name"]),
                 "class": row["class"],
                 "flow t": tonnes_text(flows[row["block"], row["name"]]),
                 "± t": f"{row['sd'] / 1e6:,.3f}",
@@ -334,9 +372,8 @@ def in_tonnes(output: Output, table: pandas.DataFrame) -> pandas.DataFrame:
     return pandas.DataFrame(lines)
 
 
-def text_of(table: pandas.DataFrame) -> str:
-    """Return a table as lines of text, numbers to the right, words to the left."""
-    left = {"period", "stream", "class", "rests on"}
+def text_of(table: pandas.DataFrame, left: Collection[str] = _WORDS) -> str:
+    """Return a table as lines of text, numbers to the right, columns of words to the left."""
     columns = []
     for name in table.columns:
         texts = [str(name), *map(str, table[name])]

@@ -100,7 +100,11 @@ CASES = [
         "9 facts are there, and no report is asked for: add `report,d1`",
     ),
     ("nothing-asked", "", "there is no row"),
-    ("nothing-asked", "unit,U\n", "no report, design, advice or history is asked for"),
+    (
+        "nothing-asked",
+        "unit,U\n",
+        "no report, window, balance, design, advice or history is asked for",
+    ),
     (
         "missing-reading",
         changed("reading,u1,", "reading,u1,FEED,x\n#"),
@@ -282,6 +286,31 @@ CASES = [
             "report,d1", "reading,f3,FEED,2024-03-03,1200000000,100000000000000\nreport,d1"
         ),
         "d3 has 1 fact, and no report is asked for",
+    ),
+    (
+        "no-balance",
+        changed("report,d1", "assay,cu,FEED,d1,9000,100\nassay,cu,MEAL,d1,9900,100\nreport,d1"),
+        "2 assays of cu in d1, and no balance is asked for: add `component,cu,d1`",
+    ),
+    (
+        "after-balance",
+        GOOD + "assay,cu,FEED,d1,9000,100\ncomponent,cu,d1\nassay,cu,MEAL,d1,9900,100\n",
+        "MEAL comes after the last balance of cu in d1: put `component,cu,d1` after",
+    ),
+    (
+        "unchecked-grade",
+        GOOD + "assay,cu,FEED,d1,9000,100\ncomponent,cu,d1\n",
+        "FEED alone has an assay of cu in d1: nothing checks it",
+    ),
+    (
+        "grade",
+        GOOD
+        + "".join(
+            f"period,e{day},2024-04-0{day},2024-04-0{day}\n"
+            f"assay,cu,FEED,e{day},{9000 if day > 1 else 9},1\n"
+            for day in (1, 2, 3, 4)
+        ),
+        "FEED has 9 ppm of cu in e1, and 9,000 ppm in the middle of its periods",
     ),
 ]
 

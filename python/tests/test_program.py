@@ -26,6 +26,9 @@ NAMES = {
     "stream": ["S", "R", "B", "P", "T", "Q", "Z", "N", "C"],
     "tank": ["T", "T", "U", "S", "K", "Y", "Y"],
     "period": ["p", "p", "o", "q"],
+    "first": ["p", "p", "o", "q"],
+    "last": ["o", "o", "p", "q"],
+    "component": ["cu", "cu", "au"],
     "id": ["a", "b", "c", "d"],
 }
 DAYS = ["2024-01-30", "2024-01-31", "2024-01-31", "2024-02-01", "2024-05-31", "2025-02-28"]
@@ -85,6 +88,7 @@ def fields_of(row: Row) -> st.SearchStrategy[list[str]]:
 def record() -> st.SearchStrategy[list[str]]:
     """Records of any kind, those that declare and book more often."""
     often = {"reading": 4, "transfer": 3, "dip": 4, "late": 2, "amend": 3, "strike": 3, "close": 1}
+    often |= {"assay": 5, "component": 2, "window": 2}
     rows = [row for row in schema().session for _ in range(often.get(row.kind, 1))]
     other = st.sampled_from(
         [["unti", "U"], ["UNIT", "U"], [""], ["", "", ""], ["stream", "S"], ["late"]]

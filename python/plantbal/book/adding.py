@@ -16,11 +16,12 @@ from plantbal.book.said import FIRST, added, changed, counted, doubts, lacking
 from plantbal.book.store import METERS, PLANT, Action, Book
 from plantbal.book.years import Years
 from plantbal.conversion_facts import Converter
-from plantbal.faults import Fault, Refusal
+from plantbal.faults import Fault, InputFault, Refusal
 from plantbal.records import text_of
 from plantbal.session import Period
 
-_SEALED = 10  # the code of what would change a closed period
+# The codes of what would change a closed period, and of what is of one.
+_SEALED, _CLOSED = 10, 11
 
 
 def add_arguments(parser: argparse.ArgumentParser) -> None:
@@ -53,6 +54,7 @@ def run(options: argparse.Namespace) -> int:
         check_reasons(options, changes)
         reasons = Reasons(options.why or "")
         changes.put(reasons, options.strike)
+        put_assays(years, work)
 
         action = Action(f"add {name}", reasons.said(), options.who)
         for ledger in years.used:
@@ -162,6 +164,42 @@ def check_reasons(options: argparse.Namespace, changes: Changes) -> None:
     are = "is" if len(lines) == 1 else "are"
     what = f"{counted(len(lines), 'fact')} {are} booked otherwise"
     raise Fault(what, remedy='say why: --why "typed a digit short"; nothing is booked')
+
+
+# ---- assays
+
+
+def put_assays(years: Years, work: Converter) -> None:
+    """Put the assays of a workbook that aren't booked yet.
+
+    Raises
+    ------
+    Fault
+        If one is booked with another grade, its period is closed, or there is no such period.
+    """
+    for row, cells in work.assays:
+        component, stream, period = row[1:4]
+        place = cells["period"].place()
+        try:
+            ledger = years.of_period(period)
+        except Fault as fault:
+            raise InputFault(fault.what, place=place, remedy=fault.remedy) from fault
+        there = ledger.assays.get((component, stream, period))
+        if there is None:
+            try:
+                ledger.put(*row)
+            except Refusal as refusal:
+                refusal.place = place
+                if refusal.code == _CLOSED:
+                    refusal.remedy = "enter assays before plantbal-desk book close: take it out"
+                raise
+        elif there != (int(row[4]), int(row[5])):
+            raise InputFault(
+                f"{stream} has {there[0]:,} ppm of {component} in {period} in the book, and "
+                f"{int(row[4]):,} ppm in the workbook, or another error",
+                place=cells["ppm"].place(),
+                remedy="an assay can't be amended: mend the workbook",
+            )
 
 
 # ---- the plant and the periods

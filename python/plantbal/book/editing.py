@@ -10,7 +10,14 @@ from types import SimpleNamespace
 from plantbal.book.ledger import Fact, Ledger
 from plantbal.book.meters import Meter, read_meters, taken
 from plantbal.book.naming import Names, cell_of, day_of
-from plantbal.book.reporting import file_of, keep, report_of, state_of, suspects_of
+from plantbal.book.reporting import (
+    balances_said,
+    file_of,
+    keep,
+    report_of,
+    state_of,
+    suspects_of,
+)
 from plantbal.book.store import METERS, Action, Book
 from plantbal.book.years import Years
 from plantbal.cells import Reader, check_locale
@@ -191,8 +198,9 @@ def _close(options: argparse.Namespace) -> int:
             return 0
         ledger.put("close", name)
         text = book.text(f"{ledger.name}.csv") + ledger.added_text()
-        report, output = report_of(options, text, name)
-        for line in [state_of(output, name), *suspects_of(output)]:
+        report, output = report_of(options, text, name, ledger.components_of(name))
+        said = [state_of(output, name), *suspects_of(output), *balances_said(output)]
+        for line in said:
             print(line)
         if not output.ok and not options.anyway:
             raise Fault(

@@ -135,6 +135,8 @@ class Ledger:
         The facts that aren't struck, by their ids, with their last values.
     struck : dict of str to Fact
         Those that are.
+    assays : dict of (str, str, str) to (int, int)
+        The grade and its variance, by component, stream and period.
     edits : dict of str to list of (int, Fact)
         Of each fact that was amended or struck the numbers of these rows, and what it was before.
     added : list of tuple of str
@@ -157,6 +159,8 @@ class Ledger:
         self._declared: list[tuple[Service, int]] = []
         self._latest: defaultdict[datetime.date, int] = defaultdict(int)
         self._latest_dip: defaultdict[datetime.date, int] = defaultdict(int)
+        self.assays: dict[tuple[str, str, str], tuple[int, int]] = {}
+        self._latest_assay: defaultdict[str, int] = defaultdict(int)
 
     @classmethod
     def read(
@@ -240,6 +244,10 @@ class Ledger:
                 self._declared.append((service_of(fields), self.count))
         elif kind in FACT_KINDS:
             self._keep(Fact.of(fields))
+        elif kind == "assay":
+            component, stream, period, ppm, variance = fields[1:]
+            self.assays[component, stream, period] = int(ppm), int(variance)
+            self._latest_assay[period] = self.count
         elif kind == "amend":
             fact = self.facts[fields[1]]
             self.edits.setdefault(fact.id, []).append((self.count, fact))
@@ -366,5 +374,9 @@ class Ledger:
         while day <= last:
             numbers.append(self._latest.get(day, 0))
             day += _DAY
-        return max(numbers)
+        return max([*numbers, self._latest_assay.get(period.name, 0)])
+
+    def components_of(self, period: str) -> list[str]:
+        """Return the components that have an assay in a period, in the order of their rows."""
+        return list(dict.fromkeys(each[0] for each in self.assays if each[2] == period))
 

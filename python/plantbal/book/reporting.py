@@ -3,6 +3,7 @@
 from __future__ import annotations
 
 import argparse
+from collections.abc import Sequence
 from decimal import Decimal
 
 from plantbal.book.ledger import Ledger, plain
@@ -15,6 +16,7 @@ from plantbal.files import write_text
 from plantbal.options import add_run
 from plantbal.output import Output, parse_report
 from plantbal.program import call
+from plantbal.report import Block, last_blocks
 
 _MOST = 5  # suspects that are named
 
@@ -30,7 +32,9 @@ def add_arguments(parser: argparse.ArgumentParser) -> None:
     add_run(parser)
 
 
-def report_of(options: argparse.Namespace, text: str, period: str) -> tuple[str, Output]:
+def report_of(
+    options: argparse.Namespace, text: str, period: str, components: Sequence[str] = ()
+) -> tuple[str, Output]:
     """Return the report of a period with its history, as the program writes it, and as tables.
 
     Parameters
@@ -41,28 +45,45 @@ def report_of(options: argparse.Namespace, text: str, period: str) -> tuple[str,
         The session.
     period : str
         The period.
+    components : sequence of str
+        The components whose balances are asked for too.
     """
     words = ["run", "--gap", str(options.gap), "--sweeps", str(options.sweeps)]
     if options.eliminate:
         words += ["--eliminate", str(options.eliminate)]
     if not options.no_tests:
         words.append("--tests")
-    asked = text + rows_asking(period)
+    asked = text + rows_asking(period, components)
     status, output = call(words, asked.encode("ascii"), program=options.program)
     written = output.decode("ascii")
     return written, parse_report(written, f"the report of {period}", status)
 
 
-def rows_asking(period: str) -> str:
-    """Return the rows that ask for the report of a period and its history."""
-    return f"report,{period}\nhistory,{period}\n"
+def rows_asking(period: str, components: Sequence[str] = ()) -> str:
+    """Return the rows that ask for the report of a period, balances and its history."""
+    balances = "".join(f"component,{name},{period}\n" for name in components)
+    return f"report,{period}\n{balances}history,{period}\n"
 
 
 def state_of(output: Output, period: str) -> str:
     """Return what a report says as a whole, in a line."""
-    block = output.blocks_in_order[-1] if output.blocks_in_order else None
+    block = output.reports[-1] if output.reports else None
     if block is None or block.solved is None:
         return f"{period}: no report: {'; '.join(output.why)}"
+    return _state_of(block)
+
+
+def balances_said(output: Output) -> list[str]:
+    """Return what the balances of components say as a whole, a line each."""
+    last = last_blocks(output.blocks_in_order).values()
+    return [_state_of(block) for block in last if block.component]
+
+
+def _state_of(block: Block) -> str:
+    """Return what a round says as a whole, after what it is of."""
+    period = block.subject
+    if block.solved is None:
+        return f"{period}: it is cut off"
     said = block.solved["state"]
     if block.taken:
         said += f" after {', '.join(block.taken)} was taken out"
@@ -84,7 +105,7 @@ def state_of(output: Output, period: str) -> str:
 
 def suspects_of(output: Output) -> list[str]:
     """Return the suspects of a report that is rejected, in a line."""
-    block = output.blocks_in_order[-1] if output.blocks_in_order else None
+    block = output.reports[-1] if output.reports else None
     if block is None or block.whole is None or block.whole["verdict"] != "reject":
         return []
     low = {row["stream"]: Decimal(row["low"]) / 1000 for row in block.measure}
@@ -134,13 +155,15 @@ def run(options: argparse.Namespace) -> int:
             raise Fault("no period is open", remedy="name the periods whose reports are wanted")
         for name in periods:
             ledger = years.of_period(name)
-            text, output = report_of(options, book.text(f"{ledger.name}.csv"), name)
+            components = ledger.components_of(name)
+            text, output = report_of(options, book.text(f"{ledger.name}.csv"), name, components)
             action = Action(f"report {name}", who=options.who)
             new = keep(book, action, ledger, name, text, ledger.periods[name].closed)
             if new:
                 book.do(action)
             print(state_of(output, name))
-            for line in [*suspects_of(output), *lacks(ledger, ledger.periods[name], meters)]:
+            missing = lacks(ledger, ledger.periods[name], meters)
+            for line in [*suspects_of(output), *balances_said(output), *missing]:
                 print(line)
             edits = len([row for row in output.rows if row["row"] == "edit"])
             history = f", with {counted(edits, 'edit')}" if edits else ""
@@ -148,8 +171,10 @@ def run(options: argparse.Namespace) -> int:
             status = status if output.ok else 1
         if options.session:
             texts = {years.of_period(name).name: "" for name in periods}
+            ledger = years.of_period(periods[0])
             if len(texts) > 1:
                 raise Fault("these periods are of several years", remedy="name those of one year")
             text = book.text(f"{next(iter(texts))}.csv")
-            write_text(options.session, text + "".join(map(rows_asking, periods)))
+            asked = [rows_asking(name, ledger.components_of(name)) for name in periods]
+            write_text(options.session, text + "".join(asked))
     return status

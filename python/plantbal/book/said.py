@@ -15,7 +15,13 @@ from plantbal.lintrules import RULES
 from plantbal.session import Period, in_service, period_days
 
 FIRST = 12  # things of which each is shown; the others are counted
-_NEW = {"period": "period", "reading": "reading", "transfer": "ticket", "dip": "dip"}
+_NEW = {
+    "period": "period",
+    "reading": "reading",
+    "transfer": "ticket",
+    "dip": "dip",
+    "assay": "assay",
+}
 _ODD = {"magnitude", "small-deviation", "large-deviation", "density", "near-names"}
 _EDITED = {"amend": "amended", "strike": "struck", "close": "closed"}
 

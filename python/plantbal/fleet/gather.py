@@ -15,7 +15,7 @@ from plantbal.fleet.night import Kept, Night, Run
 from plantbal.fleet.rows import Plant, Row
 from plantbal.fleet.sites import Site
 from plantbal.program import STATUSES
-from plantbal.report import Block, Values, blocks_of, parse_rows
+from plantbal.report import Block, Values, blocks_of, last_blocks, parse_rows
 from plantbal.schema import schema
 
 # What the words of `Ended.why` mean.
@@ -141,7 +141,7 @@ def _of_rows(told: Told) -> Plant:
     """Return what an output says of a plant."""
     site, rows = told.site, told.rows
     plant = Plant(site.name)
-    blocks = {block.period: block for block in blocks_of(rows)}
+    blocks = last_blocks(blocks_of(rows))
     over = {row["period"]: row["stream"] for row in rows if row["row"] == "over"}
     periods = dict.fromkeys([*blocks, *over])
     days = told.days(periods)
@@ -166,7 +166,7 @@ def _of_block(told: Told, block: Block) -> tuple[Row, list[str]]:
     """
     site = told.site
     if block.solved is None or not block.ended:
-        return Row(site.name, block.period, state="unreadable"), ["its report is cut off"]
+        return Row(site.name, block.subject, state="unreadable"), ["its report is cut off"]
     solved, said, verdict = block.solved, list[str](), ""
     suspects = list(block.taken)
     critical = ""
@@ -187,7 +187,7 @@ def _of_block(told: Told, block: Block) -> tuple[Row, list[str]]:
             )
     row = Row(
         site.name,
-        block.period,
+        block.subject,
         state=solved["state"],
         dof=solved["dof"],
         statistic=_thousandths(solved["low"]),

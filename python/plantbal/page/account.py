@@ -20,12 +20,14 @@ from plantbal.page.statement import (
     Worth,
 )
 from plantbal.page.verdict import Lost, Verdict, names_of, verdict_of
-from plantbal.report import Block, Values, advice_of, blocks_of, designs_of
+from plantbal.report import Block, Values, Window, advice_of, blocks_of, designs_of
 
 if TYPE_CHECKING:
     from plantbal.lintrules import Finding
 
 
+# A space that stands within a name.
+NO_BREAK = "\u00a0"
 # What lint finds that a verdict tells: a meter or a tank without a value, and facts too late.
 LATE = "after-report"
 TOLD = ("missing-reading", "missing-dip", LATE)
@@ -33,6 +35,22 @@ TOLD = ("missing-reading", "missing-dip", LATE)
 
 def _pair(row: Values, low: str, high: str) -> tuple[int, int] | None:
     return (int(row[low]), int(row[high])) if row.get(low) and row.get(high) else None
+
+
+def declared(row: Values, window: Window | None) -> Values:
+    """Return a stream row of a window with declared names and periods in place of its codes."""
+    if window is None:
+        return row
+    name_of = window.shown
+
+    def shown(code: str) -> str:
+        """Return what stands in place of a code; no part of it may stand on another line."""
+        return name_of(code).replace(" ", NO_BREAK)
+
+    side = " ".join(map(shown, row["side"].split(" "))) if row["side"] else ""
+    parts = " ".join(part[:1] + shown(part[1:]) for part in row["parts"].split(" ") if part)
+    names = {column: shown(row[column]) for column in ("name", "from", "to")}
+    return {**row, **names, "side": side, "parts": parts}
 
 
 def line_of(row: Values, statistic: str = "", mark: str = "", worth: Worth | None = None) -> Line:
@@ -108,7 +126,10 @@ def round_of(
     marks = {name: "suspect" for name in suspects} | {name: "taken" for name in block.taken}
     lines = [
         line_of(
-            row, statistics.get(row["name"], ""), marks.get(row["name"], ""), worth.get(row["name"])
+            declared(row, block.window),
+            statistics.get(row["name"], ""),
+            marks.get(row["name"], ""),
+            worth.get(row["name"]),
         )
         for row in block.streams
     ]
@@ -119,9 +140,9 @@ def round_of(
 
 @dataclass
 class _Gathered:
-    """Reports as they come, with how many rows were refused before each."""
+    """Reports, windows and balances as they come, with how many rows were refused before each."""
 
-    period: str
+    subject: str
     blocks: list[Block]
     over: str
     lost: Lost
@@ -141,7 +162,7 @@ def _gather(rows: list[Values]) -> list[_Gathered]:
         elif row["row"] == "report":
             block = next(blocks)
             if row["round"] == "0" or not found:
-                found.append(_Gathered(row["period"], [], "", lost))
+                found.append(_Gathered(block.subject, [], "", lost))
             found[-1].blocks.append(block)
         elif row["row"] == "stop" and found:
             found[-1].stop = row["reason"]
@@ -209,13 +230,14 @@ def account_of(
     by_period: dict[str, list[Report]] = {}
     for number, some in enumerate(_gather(rows)):
         asked = ledger.reports[number] if ledger is not None else None
+        subject = asked.subject if asked is not None else some.subject
         rounds = []
         for block in some.blocks:
             stop = some.stop if block is some.blocks[-1] else ""
             good = by_block.get(block.number, {})
             rounds.append(round_of(block, asked, good, some.lost, stop))
-        report = Report(some.period, rounds, some.over, asked)
-        by_period.setdefault(some.period, []).append(report)
+        report = Report(subject, rounds, some.over, asked)
+        by_period.setdefault(subject, []).append(report)
     edits, states = _edits_of(rows), _states_of(rows)
     for period in states:
         by_period.setdefault(period, [Report(period, [])])
@@ -261,7 +283,10 @@ def _statement(
 ) -> Statement:
     """Return the statement of a period."""
     days, state, changes = None, states.get(period, ""), edits.get(period, [])
-    if ledger is not None:
+    asked = reports[-1].asked
+    if ledger is not None and asked is not None and not asked.is_report:
+        days = ledger.days_of(asked)
+    elif ledger is not None:
         days = ledger.days(period)
         state = "closed" if ledger.is_closed(period) else "open"
         changes = _with_changes(ledger, period)

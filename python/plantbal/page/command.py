@@ -16,7 +16,7 @@ from plantbal.page.ledger import Ledger
 from plantbal.page.reading import check_rows
 from plantbal.page.render import render
 from plantbal.page.statement import Prepared, Refused, Worth
-from plantbal.report import Values, blocks_of, read_rows
+from plantbal.report import Values, blocks_of, last_blocks, read_rows
 from plantbal.schema import schema
 
 if TYPE_CHECKING:
@@ -77,18 +77,21 @@ def worth_of(rows: list[Values]) -> tuple[dict[tuple[int, str], Worth], str]:
     """
     from plantbal.uncertainty import uncertainty_of
 
-    last = {block.period: block for block in blocks_of(rows)}
+    last = last_blocks(blocks_of(rows))
     try:
         table = uncertainty_of(last.values())
     except Fault as fault:
         return {}, str(fault)
     found = {}
+    shown = {block.number: block.shown for block in last.values()}
     for row in table.itertuples():
         gain = None if row.gain != row.gain else float(row.gain)
         meters = [(row.first, row.first_share), (row.second, row.second_share)]
         meters.append((row.third, row.third_share))
         named = ", ".join(
-            f"{name} {100 * share:.0f} %" for name, share in meters if name and share >= LEAST_SHARE
+            f"{shown[row.block](name)} {100 * share:.0f} %"
+            for name, share in meters
+            if name and share >= LEAST_SHARE
         )
         found[row.block, row.name] = Worth(float(row.sd), gain, named)
     return found, ""

@@ -54,21 +54,39 @@ class Change:
 
 @dataclass(frozen=True, slots=True)
 class Asked:
-    """A `report` row that was accepted, and what it saw.
+    """A `report`, `window` or `component` row that was accepted, and what it saw.
 
     Attributes
     ----------
     record : int
         Its number as a record.
     period : str
-        The period.
+        The period; of a window the first one.
     dips : dict of str to Dips
-        What each tank held by its dips.
+        What each tank held by its dips, of a report.
+    component : str
+        The component, if its balance is asked for.
+    last : str
+        The last period, if a window is asked for.
     """
 
     record: int
     period: str
     dips: dict[str, Dips]
+    component: str = ""
+    last: str = ""
+
+    @property
+    def is_report(self) -> bool:
+        """Whether a period's report is asked for."""
+        return not (self.component or self.last)
+
+    @property
+    def subject(self) -> str:
+        """What is asked for, as `plantbal.report.Block.subject` says it."""
+        if self.component:
+            return f"{self.component} in {self.period}"
+        return f"{self.period} to {self.last}" if self.last else self.period
 
 
 @dataclass
@@ -78,7 +96,7 @@ class Ledger(Book):
     Attributes
     ----------
     reports : list of Asked
-        The accepted `report` rows in order.
+        The accepted `report`, `window` and `component` rows in order.
     changes : list of Change
         The edits in order.
     """
@@ -96,6 +114,11 @@ class Ledger(Book):
         """Return the first and the last day of a period, or None."""
         found = self.periods.get(period)
         return None if found is None else (day_text(found.first), day_text(found.last))
+
+    def days_of(self, asked: Asked) -> tuple[str, str]:
+        """Return the first and the last day of what is asked for."""
+        first, last = self.periods[asked.period], self.periods[asked.last or asked.period]
+        return day_text(first.first), day_text(last.last)
 
     def is_closed(self, period: str) -> bool:
         """Say whether a period is closed in the end."""
@@ -195,6 +218,14 @@ class Ledger(Book):
         tanks = [each.arc.name for each in self.served(period) if each.kind == "tank"]
         dips = {tank: self._dips_of(tank, period) for tank in tanks}
         self.reports.append(Asked(self.rows, name, dips))
+
+    def _take_window(self, first: str, last: str, line: int) -> None:
+        super()._take_window(first, last, line)
+        self.reports.append(Asked(self.rows, first, {}, last=last))
+
+    def _take_component(self, component: str, period: str, line: int) -> None:
+        super()._take_component(component, period, line)
+        self.reports.append(Asked(self.rows, period, {}, component=component))
 
     def _dips_of(self, tank: str, period: Period) -> Dips:
         """Return what a tank held at the beginning and the end of a period, by its dips."""

@@ -71,7 +71,7 @@ def soft(name: str) -> Any:
 
     if len(name) <= LONGEST:
         return escape(name)
-    pieces = re.findall(rf"[^-_.]{{1,{LONGEST}}}[-_.]*|[-_.]+", name)
+    pieces = re.findall(rf"[^-_.\u00a0]{{1,{LONGEST}}}[-_.\u00a0]*|[-_.\u00a0]+", name)
     return Markup("<wbr>").join(escape(piece) for piece in pieces)
 
 

@@ -1,0 +1,262 @@
+"""Balances of components: assays in a session, outputs, recovery, charts, audits, workbooks."""
+
+from __future__ import annotations
+
+import json
+from decimal import Decimal
+from pathlib import Path
+
+import pytest
+from conftest import Desk, example, text_of
+
+from plantbal import Session, run, solve
+from plantbal.cells import Reader
+from plantbal.faults import Fault, Refusal
+from plantbal.output import read_report
+from plantbal.recovery import Balance, balances_of, products_of, together
+from plantbal.report import parse_rows
+from plantbal.workbook import Cell, Sheet
+
+COPPER = example("flotation_copper.csv")
+OUT = example("flotation_copper.out.csv")
+PLANT = "unit,U\ntank,K,1\nstream,A,env,U,metered,1\nstream,B,U,K,plain,0\n"
+PLANT += "period,d1,2024-03-01,2024-03-01\nperiod,d2,2024-03-02,2024-03-02\n"
+PLANT += "assay,cu,A,d1,20000,0\nclose,d2\n"
+REFUSED = [
+    ("assay,cu,A,d1,1", 2, "it has 5 fields"),
+    ("assay,c u,A,d1,1,x", 3, "COMPONENT is 'c u'"),
+    ("assay,cu,A,d1,0.9,1", 4, "PPM is '0.9'"),
+    ("assay,cu,B,d1,1000001,0", 4, "PPM is '1000001'"),
+    ("assay,cu,B,d1,1,100000001", 4, "GRADEVAR is '100000001'"),
+    ("assay,cu,U,d1,1,0", 6, "U is a unit, not a stream or tank"),
+    ("assay,cu,env,d1,1,0", 6, "there is no stream or tank env"),
+    ("assay,cu,B,d9,1,0", 6, "there is no period d9"),
+    ("assay,cu,A,d1,1,0", 7, "A has an assay of cu in d1 already"),
+    ("assay,cu,A,d2,1,0", 11, "period d2 is closed"),
+    ("late,assay,cu,A,d1,1,0", 1, "is 'assay'"),
+    ("component,cu", 2, "it has 2 fields"),
+    ("component,cu,d9", 6, "there is no period d9"),
+    ("component,cu,d2", 6, "there is no assay of cu in d2"),
+    ("component,CU,d1", 6, "did you mean cu?"),
+]
+
+
+def session_of(text: str) -> Session:
+    """The session of rows, of which none is to be refused."""
+    session = Session()
+    for line in text.splitlines():
+        session.row(*line.split(","))
+    return session
+
+
+@pytest.mark.parametrize("row, code, said", REFUSED, ids=[row for row, *_ in REFUSED])
+def test_what_is_refused(row: str, code: int, said: str) -> None:
+    with pytest.raises(Refusal) as refused:
+        session_of(PLANT).row(*row.split(","))
+    assert (refused.value.code, said in str(refused.value)) == (code, True), refused.value
+
+
+def test_out_of_service() -> None:
+    session = Session(version=2)
+    session.unit("U")
+    session.stream("A", "env", "U", "plain", since="2024-05-02")
+    session.period("d1", "2024-05-01", "2024-05-01")
+    with pytest.raises(Refusal, match="A is in service on no day of d1") as refused:
+        session.assay("cu", "A", "d1", ppm=1, variance=0)
+    assert refused.value.code == 12
+
+
+def test_grades() -> None:
+    session = session_of(PLANT)
+    session.assay("au", "A", "d1", percent="0.9", deviation_percent="0.018")
+    session.assay("au", "K", "d1", ppm=12, deviation_ppm=Decimal("0.5"))
+    assert [row[4:] for row in session if row[:2] == ("assay", "au")] == [
+        ("9000", "32400"),
+        ("12", "1"),
+    ]
+    assert session.assays[-1] == ("au", "K", "d1")
+    for words, said in (
+        ({"ppm": 1}, "needs variance, deviation_ppm or deviation_percent"),
+        ({"percent": "0.00001", "variance": 0}, "at most four decimals"),
+        ({"variance": 0}, "needs ppm, or percent"),
+    ):
+        with pytest.raises(Fault, match=said):
+            session.assay("ag", "A", "d1", **words)  # type: ignore[arg-type]
+
+
+def test_tables_of_an_output() -> None:
+    output = read_report(OUT)
+    assert output.ok
+    assert len(output.reports) == 6 and len(output.blocks_in_order) == 12
+    cu = output.components.query("component == 'cu' and name == 'CONCENTRATE'")
+    assert list(cu["period"]) == [f"jun0{day}" for day in range(3, 9)]
+    assert cu["flow"].iloc[0] == 96340887
+    assert set(output.streams["period"]) == {
+        *(f"jun0{day}" for day in range(3, 9)),
+        *(f"cu in jun0{day}" for day in range(3, 9)),
+    }
+    assert list(output.blocks["component"])[:2] == ["", "cu"]
+
+
+def test_recovery() -> None:
+    balances = [Balance(block) for block in balances_of(read_report(OUT))]
+    feed, tailings, concentrate = balances[0].shares()
+    assert (feed.stream, feed.way, feed.share, feed.grams) == ("FEED", "in", 1.0, 108950180)
+    assert (tailings.stream, concentrate.stream) == ("TAILINGS", "CONCENTRATE")
+    assert tailings.share + concentrate.share == pytest.approx(1)
+    assert concentrate.share == pytest.approx(96340887 / 108950180)
+    assert concentrate.raw == pytest.approx(96371876 / 108323753)
+    # what one product gains the other loses, so both shares are known equally well
+    assert concentrate.share_sd == pytest.approx(tailings.share_sd)
+    assert feed.share_sd == pytest.approx(0, abs=1e-12)
+    every = together(balances)
+    assert [each.stream for each in every] == ["FEED", "TAILINGS", "CONCENTRATE"]
+    total = sum(balance.fed for balance in balances)
+    assert every[2].share == pytest.approx(sum(b.grams("CONCENTRATE") or 0 for b in balances) / total)
+    assert every[2].share_sd < concentrate.share_sd
+
+
+def test_share_that_is_not_known() -> None:
+    session = session_of("unit,U\nstream,A,env,U,metered,1\nstream,B,env,U,metered,1\n"
+                         "stream,C,U,env,metered,1\nperiod,d,2024-05-01,2024-05-01")
+    for name, grams in (("A", 100), ("B", 50), ("C", 150)):
+        session.reading(name, name, "2024-05-01", grams=grams * 10**6, variance=10**10)
+    session.assay("cu", "A", "d", ppm=9000, variance=100)
+    session.component("cu", "d")
+    shares = Balance(run(session).blocks_in_order[-1]).shares()
+    assert {each.stream: each.grams for each in shares} == {"A": 900000, "B": None, "C": None}
+    assert all(each.share != each.share for each in shares)
+    assert products_of(shares, []) == ["C"]
+
+
+def test_recovery_command(say: Desk, tmp_path: Path) -> None:
+    text = say("recovery", OUT).out
+    assert "cu         jun03   CONCENTRATE  out   96.341  0.471   88.43%  0.31%" in text
+    assert text.splitlines()[-1].startswith("cu         all     CONCENTRATE  out  570.025")
+    rows = json.loads(say("recovery", OUT, "--form", "json").out)
+    assert rows[0]["grams"] == 108950180 and rows[-1]["period"] == "all"
+    assert say("recovery", OUT, "--form", "csv").out.startswith("component,period,stream,way,")
+    chart = tmp_path / "recovery.svg"
+    assert say("recovery", OUT, "--session", COPPER, "--chart", chart).status == 0
+    drawn = text_of(chart)
+    assert 'id="recovery-CONCENTRATE"' in drawn and 'id="carried-TAILINGS-jun08"' in drawn
+    for words, said in (
+        (("--component", "au"), "there are balances of cu"),
+        (("--product", "FEED"), "FEED doesn't leave the plant"),
+        (("--chart", tmp_path / "x.gif"), "say .svg, .png or .pdf"),
+    ):
+        found = say("recovery", OUT, *words)
+        assert (found.status, said in found.err) == (1, True), found.err
+    none = say("recovery", example("two_meters.out.csv"))
+    assert (none.status, "there is no component in it" in none.err) == (1, True)
+
+
+def test_tables(say: Desk) -> None:
+    flows = say("tables", "flows", OUT, "--component", "cu").out
+    assert flows.startswith("stream,jun03,jun03 ±,jun04") and "FEED,108.95018," in flows
+    assert say("tables", "classes", OUT).out.startswith("stream,jun03,jun04")
+    none = say("tables", "flows", OUT, "--component", "au")
+    assert (none.status, "there is no balance of au" in none.err) == (1, True)
+
+
+def test_drawing_and_chart(say: Desk, tmp_path: Path) -> None:
+    assert "cu in jun08" in say("draw", OUT, "--component", "cu", "--dot").out
+    chart = tmp_path / "cu.svg"
+    assert say("chart", OUT, "--component", "cu", "--out", chart).status == 0
+    assert 'id="meter-FEED"' in text_of(chart)
+
+
+def test_page(say: Desk) -> None:
+    page = say("page", OUT, "--session", COPPER, "--seconds", "0").out
+    assert page.count("cu in jun03") > 1 and "96.341" in page
+
+
+def test_audit(say: Desk, program: Path, tmp_path: Path) -> None:
+    good = say("audit", OUT, COPPER, "--program", program)
+    assert good.status == 0, good.out
+    assert "cu in jun03, block 1 of 1: flows balance" in good.out
+    assert "are those of the assays and of the period's flows" in good.out
+    changed = tmp_path / "changed.csv"
+    session = text_of(COPPER).replace("assay,cu,FEED,jun03,9000,", "assay,cu,FEED,jun03,9001,")
+    changed.write_text(session, encoding="utf-8")
+    found = say("audit", OUT, changed, "--no-program")
+    assert (found.status, "the value of FEED is 108,323,753 g" in found.out) == (1, True)
+
+
+def test_audit_without_the_report(say: Desk, program: Path, tmp_path: Path) -> None:
+    session, output = tmp_path / "s.csv", tmp_path / "o.csv"
+    session.write_text(text_of(COPPER).replace("report,jun03\n", ""), encoding="utf-8")
+    output.write_text(run(session, program=program).to_csv(), encoding="utf-8")
+    found = say("audit", output, session, "--no-program")
+    assert found.status == 0, found.out
+    assert "so its values aren't held against the assays" in found.out
+
+
+def test_lint(say: Desk) -> None:
+    text = text_of(COPPER)
+    assert "[no-balance]" in say("lint", "-", text=text.replace("component,cu,jun03\n", "")).out
+    late = text + "assay,cu,ROUGHER_CONC,jun03,150000,90000\n"
+    assert "ROUGHER_CONC comes after the last balance" in say("lint", "-", text=late).out
+    unit = text.replace("assay,cu,FEED,jun05,9300,", "assay,cu,FEED,jun05,9,")
+    assert "a percent is 10,000 ppm" in say("lint", "-", text=unit).out
+    alone = "\n".join(
+        line
+        for line in text.splitlines()
+        if not line.startswith(("assay,cu,CONCENTRATE,jun03", "assay,cu,TAILINGS,jun03"))
+    )
+    assert "FEED alone has an assay of cu in jun03" in say("lint", "-", text=alone).out
+
+
+def test_solve_refuses(program: Path) -> None:
+    with pytest.raises(Fault, match="rests on the flows of the program's own sweeps"):
+        solve(text_of(COPPER).encode(), program=program)
+
+
+@pytest.mark.parametrize(
+    "grade, unit, error, ppm, deviation",
+    [
+        ("0.9 %", None, "2 %", 9000, 180),
+        ("12.4 g/t", None, "0.5 g/t", Decimal("12.4"), Decimal("0.5")),
+        ("9000", "ppm", "2 % or 200 ppm", 9000, 200),
+        ("3", "kg/t", "1 ppm", 3000, 1),
+    ],
+)
+def test_cells(grade: str, unit: str | None, error: str, ppm: object, deviation: object) -> None:
+    sheet, reader = Sheet("a.csv", "assays", []), Reader()
+    cell, beside = Cell(sheet, 1, 1, grade), Cell(sheet, 1, 2, unit)
+    found = reader.grade(cell, beside)
+    assert float(found) == pytest.approx(float(str(ppm)))
+    deviated = reader.grade_error(Cell(sheet, 1, 3, error), found)
+    assert float(deviated) == pytest.approx(float(str(deviation)))
+
+
+def test_workbook(say: Desk, tmp_path: Path, program: Path) -> None:
+    book = tmp_path / "mill"
+    book.mkdir()
+    for name, text in {
+        "streams": "tag,stream,from,to,error\nF1,FEED,env,MILL,1 %\nP1,FINES,MILL,env,1 %\n"
+        "P2,COARSE,MILL,env,1 %\n",
+        "readings": "day,F1,P1,P2\n2024-04-01,100,60,41\n",
+        "periods": "name,first,last\napr1,2024-04-01,2024-04-01\n",
+        "assays": "component,stream,period,grade,error\ncu,F1,apr1,0.9 %,2 %\n"
+        "cu,FINES,apr1,1.2 %,2 %\ncu,COARSE,apr1,0.45 %,3 %\n",
+    }.items():
+        (book / f"{name}.csv").write_text(text, encoding="utf-8")
+    out = tmp_path / "mill.csv"
+    assert say("convert", book, "--out", out).status == 0
+    rows = text_of(out).splitlines()
+    assert "assay,cu,FEED,apr1,9000,32400" in rows
+    assert rows[-2:] == ["report,apr1", "component,cu,apr1"]
+    assert run(out, program=program).ok
+    wrong = "component,stream,period,grade,error\ncu,F1,apr1,0.9,2 %\ncu,F9,apr1,1 %,2 %\n"
+    (book / "assays.csv").write_text(wrong, encoding="utf-8")
+    said = say("convert", book).err
+    assert "the grade 0.9 has no unit" in said and "F9" in said
+
+
+def test_the_program_agrees() -> None:
+    for name in ("component", "component_json", "every_kind"):
+        session = Session.read(example(f"conformance/{name}.in"))
+        rows = parse_rows("out", text_of(example(f"conformance/{name}.out")))
+        refused = [(row["at"], row["code"]) for row in rows if row["row"] == "refused"]
+        assert refused == [(str(each.place.record), str(each.code)) for each in session.refused]
