@@ -7,7 +7,7 @@ use crate::common::{
 };
 use pb_gap::Solver;
 use pb_graph::{Bounds, Graph, Member, Solved};
-use std::alloc::{AllocError, Global};
+use std::alloc::AllocError;
 use std::process::Abort;
 
 /// What a solver is to answer at a gap with at most so many sweeps.
