@@ -1,5 +1,5 @@
 -- The assays of a book: the sets that tell which there are, and the grades that they give.
-use Rattle.std.specs.Prelude.{◌&&◌, ◌||◌, All, AllPairs, IfSome, find, if◌then◌else◌, option_or, take}
+use Rattle.std.specs.Prelude.{◌&&◌, ◌||◌, All, AllPairs, IfSome, find, if◌then◌else◌, option_or, position, take}
 use Rattle.std.specs.Cmp.Lexicographic.{bytes_decides}
 use Rattle.std.specs.HashSet.{HashSet, contains}
 use Rattle.std.specs.List.{list_any}
@@ -8,7 +8,7 @@ use Rattle.std.proofs.Common.{◌≡◌, ◌∙◌, ◌+◌, ◌<◌, ◌≤◌,
 use Rattle.std.proofs.lemmas.Bool.{and_parts, cases_Bool}
 use Rattle.std.proofs.lemmas.List.{get_or-take, get_or_default, length-take-le}
 use Rattle.std.proofs.lemmas.List.Elements.{All-head, All-push, All-tail}
-use Rattle.std.proofs.lemmas.List.Folds.{find-append, list_any-append, list_any_none}
+use Rattle.std.proofs.lemmas.List.Folds.{find-append, list_any-append, list_any_at, list_any_none}
 use Rattle.std.proofs.lemmas.List.Quantifiers.{all_pairs_push}
 use Rattle.std.proofs.lemmas.Option.{get_or_from_slice_get, slice_get_within}
 use Rattle.std.proofs.Math.Seq.{take-suc}
@@ -17,9 +17,11 @@ use Rattle.pb_assay.specs.declared.grade.Grade.{Grade}
 use Rattle.pb_rows.specs.Name.{same_name}
 use Rattle.pb_kinds.specs.Ranges.{most_assays}
 use Rattle.pb_kinds.specs.declared.rows.Assay.{Assay}
+use Rattle.pb_book.specs.declared.rows.Period.{Period}
+use Rattle.pb_book.specs.Apart.{AreApart, is_named}
 use Rattle.pb_book.specs.Assays.{grade_among, is_assay_of, is_assay_over}
 use Rattle.pb_book.specs.Kept.{AreAssays, is_like, same_three, same_two}
-use Rattle.pb_book.proofs.PeriodLemmas.{fails_at}
+use Rattle.pb_book.proofs.PeriodLemmas.{fails_at, only_named, position_at_first}
 
 -- ---- the sets, with one assay more
 
@@ -145,3 +147,30 @@ found_of {X} P test (x ∷ xs) all = by (test x) refl
     by : (b : Bool) → test x ≡ b → IfSome (find test (x ∷ xs)) P
     by true is = rw is (All-head P x xs all)
     by false is = rw is (found_of P test xs (All-tail P x xs all))
+
+-- ---- the period of an assay
+
+-- whether the period of a name passes a test, by the first of that name
+pub passes_by_name : (q : Period → Bool) (name : List ℕ) (periods : List Period) (i : ℕ) (d : Period) → AreApart periods → Some i ≡ position (is_named name) periods
+    → q (get_or periods i d) ≡ list_any (λ (period : Period). is_named name period && q period) periods
+passes_by_name q name periods i d apart is =
+    let found = position_at_first (is_named name) periods i d is in
+    elim (cases_Bool (q (get_or periods i d))) [
+      | inl passes ↦ passes ∙ sym (list_any_at both periods i d found.0 (rw (found.1, passes) refl))
+      | inr fails ↦ fails ∙ sym (list_any_none both periods (λ k e lt. elim (cases_Bool (both (get_or periods k e))) [
+        | inl passes ↦
+            let parts = and_parts (is_named name (get_or periods k e)) (q (get_or periods k e)) passes in
+            let named_at : is_named name (get_or periods i e) ≡ true = rw (get_or_default periods i d e found.0) at found.1 in
+            let same = only_named name periods i k e apart found.0 named_at lt parts.0 in
+            let own : q (get_or periods i e) ≡ true = rw same at parts.1 in
+            cc (sym fails ∙ ap q (get_or_default periods i d e found.0) ∙ own)
+        | inr other ↦ other
+      ]))
+    ]
+  where
+    both : Period → Bool
+    both period = is_named name period && q period
+
+pub fails_by_name : (q : Period → Bool) (name : List ℕ) (periods : List Period) → list_any (is_named name) periods ≡ false
+    → list_any (λ (period : Period). is_named name period && q period) periods ≡ false
+fails_by_name q name periods none = list_any_none (λ (period : Period). is_named name period && q period) periods (λ k e lt. rw (fails_at (is_named name) periods k e none lt) refl)
