@@ -1,16 +1,18 @@
-use Rattle.std.proofs.Common.{◌≡◌, ◌≢◌, ◌∙◌, ◌<◌, ◌∷◌, [], ℕ, List, length, Some, IfErr, Result, Ok, Err, All, slice_get, sym, ap, ap₂, subst}
+use Rattle.std.proofs.Common.{◌≡◌, ◌≢◌, ◌∙◌, ◌<◌, ◌≤◌, ◌∷◌, [], ℕ, List, length, Some, IfErr, Result, Ok, Err, All, slice_get, sym, ap, ap₂, subst}
 use Rattle.std.proofs.lemmas.List.{length-map}
 use Rattle.std.proofs.lemmas.Option.{slice_get_within}
 use Rattle.pb_rows.specs.declared.name.Names.{Names}
 use Rattle.pb_graph.specs.ProcessGraph.{ProcessGraph}
 use Rattle.pb_window.specs.declared.window.Window.{Window}
-use Rattle.pb_window.specs.Codes.{stream_code, window_names}
+use Rattle.pb_window.specs.Codes.{AreWindowNames, stream_code, window_names}
 use Rattle.pb_window.specs.Places.{HasStreamNames}
 use Rattle.pb_site.specs.Site.{names_of}
 use Rattle.pb_book.specs.declared.rows.Period.{Period}
 use Rattle.pb_book.specs.declared.rows.StoredRow.{StoredRow}
 use Rattle.pb_book.specs.Rows.{declared_of, periods_of}
-use Rattle.pb_book.specs.Windows.{IsWindowAsked, names_of_periods, periods_between, window_between}
+use Rattle.pb_limits.specs.Limits.{most_periods_of_window}
+use Rattle.pb_window.specs.Window.{IsWindow}
+use Rattle.pb_book.specs.Windows.{ArePlacesBetween, HavePlaceNames, IsWindowAsked, IsWindowBetween, names_of_periods, periods_between, window_between}
 use Rattle.pb_period.specs.declared.graph.Assembly.{Assembly}
 use Rattle.pb_period.specs.declared.graph.Assembly.TheVariants.{Over, NoMemory}
 use Rattle.pb_period.specs.WindowGraph.{IsStreamOfWindow, periods_at, window_assembly}
@@ -48,20 +50,29 @@ window-requires c =
     let rows_is : c.self.inside.book ≡ c.args.self.now.state.rows = ap (λ (h : Held). h.state.rows) c.self.view_is in
     subst (λ (rows : List StoredRow). IsWindowAsked rows c.args.first c.args.last) (sym rows_is) c.requires
 
+-- what the book says of the window, by the session's rows
+made : (rows own : List StoredRow) (first last : ℕ) (places : List ℕ) (window : Window) → own ≡ rows → IsWindowAsked rows first last → ArePlacesBetween own first last places
+    → length places ≤ most_periods_of_window → IsWindowBetween own first last window → IsWindow window → AreWindowNames window → HavePlaceNames own first last window
+    → IsWindowAt rows first last places window
+made rows own first last places window same asked between few is form codes there =
+    window_at rows first last places window asked (subst (λ (rs : List StoredRow). ArePlacesBetween rs first last places) same between) few
+    (subst (λ (rs : List StoredRow). IsWindowBetween rs first last window) same is) form codes (subst (λ (rs : List StoredRow). HavePlaceNames rs first last window) same there)
+
 pub assemble_window-requires-clause-places : goal.assemble_window-requires-clause-places
-assemble_window-requires-clause-places c = ?
+assemble_window-requires-clause-places c =
+    let rows_is : c.self.inside.book ≡ c.args.self.now.state.rows = ap (λ (h : Held). h.state.rows) c.self.view_is in
+    ?
 
 pub assemble_window-requires-clause-streams : goal.assemble_window-requires-clause-streams
 assemble_window-requires-clause-streams c = ?
 
 pub report_window-requires-clause-window : goal.report_window-requires-clause-window
-report_window-requires-clause-window c = ?
+report_window-requires-clause-window c =
+    let rows_is : c.self.inside.book ≡ c.args.self.now.state.rows = ap (λ (h : Held). h.state.rows) c.self.view_is in
+    ?
 
 pub report_window-requires-clause-names : goal.report_window-requires-clause-names
 report_window-requires-clause-names c = ?
-
-pub period-requires : goal.period-requires
-period-requires c = ?
 
 pub at-requires : goal.at-requires
 at-requires c = ?
