@@ -152,7 +152,7 @@ pub record AreOf (rows : List StoredRow) (declared : List Declared) (kept : List
   pub site : declared ≡ declared_of rows
   pub facts : kept ≡ facts_of rows
   pub spans : periods ≡ periods_of rows
-  pub assays : assays ≡ assays_of rows
+  pub assayed : assays ≡ assays_of rows
 
 -- each place has a row, the rows were accepted, the declarations, facts, periods, assays and edits are theirs, and there is no
 -- fact at a place behind those of the kept ones

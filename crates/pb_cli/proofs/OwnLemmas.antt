@@ -32,11 +32,11 @@ use Rattle.pb_book.specs.declared.rows.Period.{Period}
 use Rattle.pb_book.specs.Accepted.{AreAccepted}
 use Rattle.pb_book.specs.Answer.{Answer, Refused, Says, Stored, answer_of, code_of}
 use Rattle.pb_book.specs.Edits.{history_of}
-use Rattle.pb_book.specs.Laws.{AcceptedLaw}
+use Rattle.pb_book.specs.Laws.{AcceptedLaw, AskedWindowLaw}
 use Rattle.pb_book.specs.Named.{AreNamed, HaveNames, NamedLaw}
 use Rattle.pb_book.specs.declared.rows.StoredRow.{StoredRow}
 use Rattle.pb_book.specs.Rows.{declared_of, periods_of}
-use Rattle.pb_book.specs.Windows.{AskedWindowLaw, BookWindowsLaw, IsWindowAsked, names_of_periods, periods_between, window_between}
+use Rattle.pb_book.specs.Windows.{BookWindowsLaw, IsWindowAsked, names_of_periods, periods_between, window_between}
 use Rattle.pb_period.specs.declared.days.Days.{Days}
 use Rattle.pb_period.specs.Days.{days_of}
 use Rattle.pb_period.specs.declared.graph.Assembly.{Assembly}

@@ -17,7 +17,7 @@ answer_is c =
     let nodes = c.in_ok-nodes.nodes.items in
     let window = made c.from_vec.result c.from_vec-2.result in
     let flows =
-    c.in_ok-push_flows.ensures
+    c.in_ok-push_flows.ensures.value
     ∙ ap (λ (l : List WindowStream). l ++ window_flows c.as_slice.result.now c.deref.result.now spans) c.new-streams.ensures.items
     ∙ ap (λ (l : List PlantArc). window_flows l c.deref.result.now spans) c.as_slice.ensures
     ∙ ap (λ (l : List WindowNode). window_flows plant.arcs l spans) c.deref.ensures.value in
