@@ -17,5 +17,6 @@ pub mod History
 pub mod Summary
 -- Inside
 pub mod Given
+pub mod Kept
 pub mod Output
 pub mod Pieces

@@ -15,7 +15,7 @@ ghost use Rattle.pb_report.specs.Output.{AddsRows};
 ghost use Rattle.pb_report.specs.Row.{value_or_none};
 ghost use Rattle.pb_report.specs.Rows.{rows_with};
 
-use crate::certificate::Certificate;
+use crate::certificate::{Certificate, Certificates};
 use crate::output::Output;
 use crate::values::optional_number;
 use crate::verdicts::write_tests;
@@ -115,32 +115,47 @@ fn write_results(
     ensures { OnOk result (AddsRows output.old output.new
         (rows_with (result_row names.now) 0 graph.now.streams results.now)) }
 {
+    let mut certificates = Certificates::new(output.allocator(), names)?;
     for (id, stream) in graph.streams().iter().enumerate() {
-        write_result(names, graph, id, stream, results.at(id), output)?;
+        write_result(
+            names,
+            graph,
+            id,
+            stream,
+            results.at(id),
+            &mut certificates,
+            output,
+        )?;
     }
     Ok(())
 }
 
 // Writes the row of one stream.
-fn write_result(
+fn write_result<'a>(
     names: &Names,
     graph: &Graph,
     id: usize,
     stream: &Stream,
-    result_of: &StreamResult,
+    result_of: &'a StreamResult,
+    certificates: &mut Certificates<'a>,
     output: &mut Output,
 ) -> Result<(), AllocError>
+    requires certificates { certificates.old ≡ names.now }
     requires named { IsNamed names.now graph.now }
     requires place { id < length graph.now.streams }
     requires ends { IsStream graph.now.nodes stream.now }
     requires within { IsWitnessWithin graph.now result_of.now.classified.witness }
-    ensures { OnOk result (AddsRows output.old output.new
+    ensures adds { OnOk result (AddsRows output.old output.new
         (result_row names.now id stream.now result_of.now ∷ [])) }
+    ensures names { certificates.new ≡ certificates.old }
 {
     let witness = &result_of.classified.witness;
-    let certificate = Certificate::of(output.allocator(), names, graph, witness)?;
+    let node = stream.from as usize;
+    let certificate = certificates.take(output.allocator(), graph, node, witness)?;
     let values = result_values(names, id, stream, result_of, &certificate);
-    output.push(OutputKind::Stream, &values)
+    output.push(OutputKind::Stream, &values)?;
+    certificates.keep(node, witness, certificate);
+    Ok(())
 }
 
 fn result_values<'a>(

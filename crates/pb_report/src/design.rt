@@ -12,7 +12,7 @@ ghost use Rattle.pb_report.specs.Names.{IsNamed};
 ghost use Rattle.pb_report.specs.Output.{AddsRows};
 ghost use Rattle.pb_report.specs.Rows.{rows_with};
 
-use crate::certificate::Certificate;
+use crate::certificate::{Certificate, Certificates};
 use crate::form::Form;
 use crate::output::Output;
 use pb_choices::{class_place, shape_place, truth_place};
@@ -69,31 +69,47 @@ fn write_classes(
     ensures { OnOk result (AddsRows output.old output.new
         (rows_with (class_row names.now) 0 graph.now.streams classes.now)) }
 {
+    let mut certificates = Certificates::new(output.allocator(), names)?;
     for (id, stream) in graph.streams().iter().enumerate() {
-        write_class(names, graph, id, stream, classes.at(id), output)?;
+        write_class(
+            names,
+            graph,
+            id,
+            stream,
+            classes.at(id),
+            &mut certificates,
+            output,
+        )?;
     }
     Ok(())
 }
 
 // Writes the row of one stream.
-fn write_class(
+fn write_class<'a>(
     names: &Names,
     graph: &Graph,
     id: usize,
     stream: &Stream,
-    classified: &Classified,
+    classified: &'a Classified,
+    certificates: &mut Certificates<'a>,
     output: &mut Output,
 ) -> Result<(), AllocError>
+    requires certificates { certificates.old ≡ names.now }
     requires named { IsNamed names.now graph.now }
     requires place { id < length graph.now.streams }
     requires ends { IsStream graph.now.nodes stream.now }
     requires within { IsWitnessWithin graph.now classified.now.witness }
-    ensures { OnOk result (AddsRows output.old output.new
+    ensures adds { OnOk result (AddsRows output.old output.new
         (class_row names.now id stream.now classified.now ∷ [])) }
+    ensures names { certificates.new ≡ certificates.old }
 {
-    let certificate = Certificate::of(output.allocator(), names, graph, &classified.witness)?;
+    let witness = &classified.witness;
+    let node = stream.from as usize;
+    let certificate = certificates.take(output.allocator(), graph, node, witness)?;
     let values = class_values(names, id, stream, classified, &certificate);
-    output.push(OutputKind::Class, &values)
+    output.push(OutputKind::Class, &values)?;
+    certificates.keep(node, witness, certificate);
+    Ok(())
 }
 
 fn class_values<'a>(

@@ -1,5 +1,5 @@
-use Rattle.pb_report.proofs.OutputLemmas.{one_pushed}
+use Rattle.pb_report.proofs.OutputLemmas.{adds_row}
 use Rattle.pb_report.proofs.block.write_result.Goals as goal
 
-pub returns : goal.returns
-returns c = one_pushed c.push.result _ _ _ _ c.result_values-values.ensures c.push.ensures
+pub returns-clause-adds : goal.returns-clause-adds
+returns-clause-adds c = adds_row c.args.output.now c.push.new.self _ _ c.result_values-values.ensures c.in_ok-push.ensures

@@ -6,6 +6,7 @@ use Rattle.pb_report.proofs.block.write_results.Given as goal
 
 abbrev pub invariant-loop-id : goal.invariant-loop-id
 invariant-loop-id l = record {
+  certificates : l.certificates ≡ l.names;
   streams : l.stream-items ≡ l.graph.streams;
   way : IsUnderWay l.fn.output l.output (rows_with (result_row l.names) 0 l.graph.streams l.results) (rows_with (result_row l.names) l.id (drop l.id l.graph.streams) (drop l.id l.results));
 }
