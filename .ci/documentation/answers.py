@@ -11,7 +11,7 @@ answer is looked for by these signs:
 - a program of cases makes the call and has an arm that turns the answer into a word, with which an
   expected answer of it begins;
 - a row of an expected output has the word of the answer;
-- an expected output has a row that the program writes only after the call's success.
+- an expected output has a row that the program writes only after that answer of the call.
 """
 
 from __future__ import annotations
@@ -21,6 +21,7 @@ from collections.abc import Iterator
 from dataclasses import dataclass, field
 from functools import cache, cached_property
 
+from . import worked
 from .expressions import Values
 from .rust import Function, Texts, Types, of_libraries, split
 from .sources import Sources
@@ -33,16 +34,26 @@ WRITTEN = {
     "Test": ("no", "test_words", 4),
     "RowFault": ("unreadable", "unread_words", 3),
 }
-# Calls that the program makes before it writes a row of a kind: without what they return there is
-# no such row. A check says yes to a block that is read.
+# Answers after which alone the program writes a row of some form: by the call and the name of the
+# answer. A check says yes to a block that is read; a stream of a window has a name of its own.
 WRITTEN_AFTER = {
-    "pb_blocks::Known::add": "yes",
-    "pb_blocks::Known::list": "yes",
-    "pb_blocks::result_of": "yes",
-    "pb_blocks::said_stream": "yes",
-    "pb_book::Book::costs": "advise",
-    "pb_report::write_row": "report",
-    "pb_window::window_places": "place",
+    ("pb_blocks::Known::add", "Ok"): r"yes,",
+    ("pb_blocks::Known::list", "Ok"): r"yes,",
+    ("pb_blocks::result_of", "Ok"): r"yes,",
+    ("pb_blocks::said_stream", "Ok"): r"yes,",
+    ("pb_book::Book::accept", "Component"): r"component,",
+    ("pb_book::Book::accept", "Window"): r"window,",
+    ("pb_book::Book::costs", "Ok"): r"advise,",
+    ("pb_book::Book::grades", "Ok"): r"component,",
+    ("pb_book::Book::periods_between", "Ok"): r"window,",
+    ("pb_book::Book::window", "Ok"): r"window,",
+    ("pb_period::assemble_window", "Ok"): r"window,",
+    ("pb_period::assemble_window", "Over"): r"over,[^,]*,s\d+\.\d+$",
+    ("pb_period::names_of_periods", "Ok"): r"place,",
+    ("pb_report::write_component", "Ok"): r"component,",
+    ("pb_report::write_row", "Ok"): r"report,",
+    ("pb_report::write_window", "Ok"): r"window,",
+    ("pb_window::window_places", "Ok"): r"place,",
 }
 # How a test names an answer that isn't a variant of an enum of the libraries.
 SIGNS = {
@@ -203,19 +214,25 @@ def by_cases(texts: Texts, call: Call, expected: str) -> None:
             reached.append(texts.crate)
 
 
+def outputs(sources: Sources) -> Iterator[tuple[str, str]]:
+    """Return each expected row of the program, with the file in which it stands."""
+    for path in sources.files(r"examples/.*\.out(?:\.csv)?|crates/[^/]+/stdout"):
+        for line in sources.text(path).splitlines():
+            yield path, line
+    for path in sources.files(rf"{worked.FOLDER}/.*\.cases"):
+        for case in worked.cases(sources.text(path)):
+            for line in case.wanted.splitlines():
+                yield path, line
+
+
 def by_outputs(sources: Sources, types: Types, calls: list[Call]) -> None:
     """Note which answers stand as a word in an expected output of the program, or before a row."""
-    rows = [
-        (path, line.split(","))
-        for path in sources.files(r"examples/.*\.out(?:\.csv)?|crates/[^/]+/stdout")
-        for line in sources.text(path).splitlines()
-    ]
-    first = {row[0]: path for path, row in reversed(rows)}
+    given = list(outputs(sources))
     for call in calls:
-        path = first.get(WRITTEN_AFTER.get(call.shown, ""))
         for answer, reached in call.answers.items():
-            if path and not answer.enum:
-                reached.append(path)
+            if form := WRITTEN_AFTER.get((call.shown, answer.name)):
+                reached += [path for path, line in given if re.match(form, line)][:1]
+    rows = [(path, line.split(",")) for path, line in given]
     for enum, (kind, words, place) in WRITTEN.items():
         listed = Values(sources).of(sources.spec("pb_form.specs.Words"), words)
         for name, word in zip(types.enums.get(enum, {}), listed):
