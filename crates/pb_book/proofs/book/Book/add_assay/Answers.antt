@@ -1,5 +1,4 @@
 use Rattle.pb_book.specs.Kept.{told_at}
-use Rattle.pb_book.proofs.AssayLemmas.{assay_fine}
 use Rattle.pb_book.proofs.KeptLemmas.{kept_assay}
 use Rattle.pb_book.proofs.book.Book.add_assay.Goals as goal
 

@@ -9,6 +9,15 @@ use Rattle.pb_book.proofs.NameLemmas.{position_map}
 use Rattle.pb_book.proofs.PeriodLemmas.{none_at_first, position_at_first}
 use Rattle.pb_book.proofs.periods.Periods.is_unserved.Goals as goal
 
+pub returns-in-Some : goal.returns-in-Some
+returns-in-Some c =
+    let periods = c.self.inside.periods.items in
+    let is : Some c.in-Some.i ≡ position (is_named c.args.name.now) periods =
+    c.in-Some.ensures.index ∙ ap (position (same_name c.args.name.now)) c.self.invariant.named ∙ position_map (same_name c.args.name.now) (λ (p : Period). p.name) periods in
+    let passes =
+    passes_by_name (λ (p : Period). not (is_in_service_within c.args.service p.first p.last)) c.args.name.now periods c.in-Some.i c.index-period.result.now c.self.invariant.apart is in
+    rw (← c.self.view_is) (ap not c.is_in_service_within.ensures ∙ rw c.index-period.ensures passes)
+
 pub returns-in-None : goal.returns-in-None
 returns-in-None c =
     let periods = c.self.inside.periods.items in
