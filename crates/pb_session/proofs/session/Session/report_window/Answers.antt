@@ -1,4 +1,4 @@
-use Rattle.std.proofs.Common.{◌≡◌, ◌∙◌, ◌<◌, ◌++◌, List, ℕ, length, slice_get, Some, All, Result, Ok, Err, OnErr, OnOk, sym, ap, ap₂, subst, arith, take}
+use Rattle.std.proofs.Common.{◌≡◌, ◌∙◌, ◌<◌, ◌++◌, List, ℕ, length, slice_get, Some, All, Result, Ok, Err, OnErr, OnOk, sym, ap, ap₂, subst, arith, rules, take}
 use Rattle.std.proofs.lemmas.List.{take-append-le}
 use Rattle.std.proofs.lemmas.Option.{slice_get_within}
 use Rattle.pb_window.specs.Places.{HaveNames, window_places}
@@ -47,4 +47,5 @@ returns-clause-ok c =
 
 pub returns-clause-err : goal.returns-clause-err
 returns-clause-err c =
-    after_err c.report_after.result _ _ _ _ c.len-before.result c.len-before.ensures c.in_ok-write_window.ensures.ok c.report_after.ensures.err
+    let before_is : c.len-before.result ≡ length c.args.out.now.items = first_of (search rules, omega (arith, c.len-before.ensures, c.args.out.now.ok.0)) in
+    after_err c.report_after.result c.args.out.now.items _ _ _ c.len-before.result before_is c.in_ok-write_window.ensures.ok c.report_after.ensures.err
