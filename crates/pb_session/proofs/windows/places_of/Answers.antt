@@ -8,7 +8,7 @@ use Rattle.pb_session.proofs.windows.places_of.Goals as goal
 
 pub returns : goal.returns
 returns c =
-    let window = c.args.window.now in
     let plant_is : c.in_ok-plant.plant ≡ names_of (declared_of c.args.book.now) = c.in_ok-plant.ensures.ok ∙ ap names_of c.site.ensures.value in
-    subst (λ (plant : Names). IfOk c.window_places.result (λ (places : List WindowPlace). places ≡ window_places plant _ window)) plant_is
-    (subst (λ (periods : List (List ℕ)). IfOk c.window_places.result (λ (places : List WindowPlace). places ≡ window_places c.in_ok-plant.plant periods window)) c.in_ok-periods.ensures c.window_places.ensures)
+    let places : Names → List (List ℕ) → Type 0 =
+    λ plant periods. IfOk c.window_places.result (λ (places : List WindowPlace). places ≡ window_places plant periods c.args.window.now) in
+    subst (places (names_of (declared_of c.args.book.now))) c.in_ok-periods.ensures (subst (λ (plant : Names). places plant c.in_ok-periods.periods) plant_is c.window_places.ensures)

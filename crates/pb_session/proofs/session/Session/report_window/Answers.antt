@@ -12,7 +12,7 @@ use Rattle.pb_report.specs.Form.{text_in}
 use Rattle.pb_report.specs.Window.{window_rows}
 use Rattle.pb_session.specs.Kept.{Held}
 use Rattle.pb_session.specs.Windowed.{IsWindowAt}
-use Rattle.pb_session.proofs.WindowedLemmas.{after_err, head_is, head_ok}
+use Rattle.pb_session.proofs.WindowedLemmas.{head_is, head_ok}
 use Rattle.pb_session.proofs.session.Session.report_window.Goals as goal
 
 -- what is known of the session's rows is known of the book's
@@ -44,8 +44,3 @@ returns-clause-ok c =
     head_ok c.report_after.result state first last c.period-name.result c.args.names.now c.args.graph.now rows _ _ _ a_is
     (λ one other first_is last_is. head_is state.rows first last periods window c.period-name.result c.period.result one other c.as_slice.result.now c.requires.window a_is b_is first_is last_is stand_is)
     (c.in_ok-write_window.ensures.ok ∙ ap (λ (form : Form). c.args.out.now.items ++ text_in form rows) form_is) c.report_after.ensures.ok
-
-pub returns-clause-err : goal.returns-clause-err
-returns-clause-err c =
-    let before_is : c.len-before.result ≡ length c.args.out.now.items = first_of (search rules, omega (arith, c.len-before.ensures, c.args.out.now.ok.0)) in
-    after_err c.report_after.result c.args.out.now.items _ _ _ c.len-before.result before_is c.in_ok-write_window.ensures.ok c.report_after.ensures.err
