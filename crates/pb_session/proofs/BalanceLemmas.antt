@@ -1,6 +1,6 @@
 -- The component graph of a period: how many nodes and streams it has, and the last stage of a study.
 use Rattle.std.specs.Prelude.{◌+◌, IfErr, IfOk, IfSome, position}
-use Rattle.std.proofs.Common.{◌≡◌, ◌≢◌, ◌∙◌, ◌<◌, ℕ, zero, suc, Bool, List, [], ◌∷◌, length, map, All, Option, Some, None, Result, Ok, Err, slice_get, get_or, refl, sym, ap, cc, subst, arith}
+use Rattle.std.proofs.Common.{◌≡◌, ◌≢◌, ◌∙◌, ◌<◌, ℕ, zero, suc, Bool, List, [], ◌∷◌, length, map, All, Option, Some, None, Result, Ok, Err, slice_get, get_or, refl, sym, ap, subst, arith}
 use Rattle.std.proofs.lemmas.List.{length-map}
 use Rattle.std.proofs.lemmas.Option.{get_or_from_slice_get, slice_get_within}
 use Rattle.pb_rows.specs.declared.name.Names.{Names}
@@ -9,7 +9,7 @@ use Rattle.pb_graph.specs.declared.results.Stage.{Stage}
 use Rattle.pb_graph.specs.declared.results.StreamResult.{StreamResult}
 use Rattle.pb_graph.specs.declared.results.Study.{Study}
 use Rattle.pb_graph.specs.ProcessGraph.{ProcessGraph, IsProcessGraph}
-use Rattle.pb_graph.specs.WellFormed.{IsWellFormed, IsWellFormedStudy}
+use Rattle.pb_graph.specs.WellFormed.{HasShapeOf, IsWellFormed, IsWellFormedStudy}
 use Rattle.pb_assay.specs.declared.component.ComponentFault.{ComponentFault}
 use Rattle.pb_assay.specs.declared.grade.Grade.{Grade}
 use Rattle.pb_assay.specs.Component.{component_of, component_overs, component_streams, component_unless_over}
@@ -24,7 +24,7 @@ use Rattle.pb_period.specs.declared.graph.Assembly.{Assembly}
 use Rattle.pb_period.specs.declared.graph.Assembly.TheVariants.{NoMemory}
 use Rattle.pb_period.specs.PeriodGraph.{IsStreamOfGraph, NamesAStream, assembly_of, period_graph, period_names}
 use Rattle.pb_session.specs.Criticals.{critical_of}
-use Rattle.pb_session.specs.Keeping.{HasCountsOf, IsBalanceAt}
+use Rattle.pb_session.specs.Keeping.{HasCountsOf, IsBalanceAt, IsStudied}
 use Rattle.pb_session.specs.Kept.{IsKeptAt}
 use Rattle.pb_session.specs.Session.{AreNamesOf, Balances, BalancesBy, BalancesIn, IsBalanceOf, SessionState, last_stage}
 use Rattle.pb_session.proofs.KeepingLemmas.{first_classes, has_graph}
@@ -49,7 +49,7 @@ last_there study between = there study.stages (length study.taken) (omega (arith
 pub each_result : (graph : ProcessGraph) (study : Study) (last : Stage) → IsWellFormedStudy graph study → last_stage study ≡ Some last → length last.streams ≡ length graph.streams
 each_result graph study last formed is =
     (at_place IsWellFormed study.stages (length study.taken) last is formed.stages).each_stream
-    ∙ (at_place _ study.stages (length study.taken) last is formed.shapes).streams
+    ∙ (at_place (HasShapeOf graph) study.stages (length study.taken) last is formed.shapes).streams
 
 -- ---- the component graph
 
@@ -198,3 +198,36 @@ fails_at state found component period why there is over =
       counts = subst (λ (o : Option Period). IfSome o (λ (p : Period). IfOk answer (HasCountsOf (period_graph state.rows (days_of p))))) (sym there) tt;
       over = subst (λ (o : Option Period). IfSome o (λ (p : Period). IfErr answer (NamesAStream state.rows (days_of p)))) (sym there) over;
     }
+
+-- what is known of the book's rows is known of the session's
+moved : (P : List StoredRow → Period → Type 0) (rows : List StoredRow) (state : SessionState) (i : ℕ) (period : Period) → rows ≡ state.rows → slice_get (periods_of state.rows) i ≡ Some period
+    → IfSome (slice_get (periods_of rows) i) (P rows) → P state.rows period
+moved P rows state i period is at holds =
+    at_found (slice_get (periods_of state.rows) i) period (P state.rows) at (subst (λ (rs : List StoredRow). IfSome (slice_get (periods_of rs) i) (P rs)) is holds)
+
+-- the graph of a period that was assembled, and its study
+pub studied_at : (state : SessionState) (rows : List StoredRow) (i : ℕ) (graph : ProcessGraph) (study : Study) (r : Result ProcessGraph Assembly) → rows ≡ state.rows
+    → i < length (periods_of state.rows) → r ≡ Ok graph → (r ≢ Err NoMemory → IfSome (slice_get (periods_of rows) i) (λ (p : Period). r ≡ assembly_of rows (days_of p))) → IsStudied state graph study
+    → IsStudiedAt state (slice_get (periods_of state.rows) i) graph study
+studied_at state rows i graph study r rows_is within is answer studied =
+    let sure : r ≢ Err NoMemory = λ none. cc (is, none) in
+    let (period, at) = there (periods_of state.rows) i within in
+    record {
+      period = period;
+      there = at;
+      is = sym is ∙ moved (λ (rs : List StoredRow) (p : Period). r ≡ assembly_of rs (days_of p)) rows state i period rows_is at (answer sure);
+      limits = studied.limits;
+      is_study = studied.is_study;
+      formed = studied.formed;
+    }
+
+-- and a period that has none
+pub none_at : (state : SessionState) (rows : List StoredRow) (i : ℕ) (component : List ℕ) (why : Assembly) (r : Result ProcessGraph Assembly) → rows ≡ state.rows
+    → i < length (periods_of state.rows) → r ≡ Err why → (r ≢ Err NoMemory → IfSome (slice_get (periods_of rows) i) (λ (p : Period). r ≡ assembly_of rows (days_of p)))
+    → IfSome (slice_get (periods_of rows) i) (λ (p : Period). IfErr r (NamesAStream rows (days_of p))) → AnswersAt state (slice_get (periods_of state.rows) i) component (Err why)
+none_at state rows i component why r rows_is within is answer over =
+    let (period, at) = there (periods_of state.rows) i within in
+    let names_it = moved (λ (rs : List StoredRow) (p : Period). IfErr r (NamesAStream rs (days_of p))) rows state i period rows_is at over in
+    fails_at state (slice_get (periods_of state.rows) i) component period why at
+    (λ sure. sym is ∙ moved (λ (rs : List StoredRow) (p : Period). r ≡ assembly_of rs (days_of p)) rows state i period rows_is at (answer (λ none. sure (cc (is, none)))))
+    (subst (λ (a : Result ProcessGraph Assembly). IfErr a (NamesAStream state.rows (days_of period))) is names_it)

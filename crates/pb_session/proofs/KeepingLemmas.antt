@@ -27,7 +27,7 @@ use Rattle.pb_form.specs.declared.fault.FormFault.{FormFault}
 use Rattle.pb_kinds.specs.declared.rows.Request.{Request}
 use Rattle.pb_kinds.specs.declared.rows.Request.TheVariants as asked
 use Rattle.pb_kinds.specs.declared.rows.Effect.{Effect}
-use Rattle.pb_kinds.specs.declared.rows.Effect.TheVariants.{Declares, Opens, Books, Edits, Closes}
+use Rattle.pb_kinds.specs.declared.rows.Effect.TheVariants.{Declares, Opens, Books, Edits, Closes, Assays}
 use Rattle.pb_book.specs.declared.rows.Period.{Period}
 use Rattle.pb_kinds.specs.declared.costs.NamedCost.{NamedCost}
 use Rattle.pb_kinds.specs.Costs.{named_costs}
@@ -151,6 +151,7 @@ stays periods (Closes name) i period at = record {
 stays periods (Declares declared) i period at = record { period = period; there = at; days = refl }
 stays periods (Books fact late) i period at = record { period = period; there = at; days = refl }
 stays periods (Edits id how reason) i period at = record { period = period; there = at; days = refl }
+stays periods (Assays assay) i period at = record { period = period; there = at; days = refl }
 
 -- what is kept of a graph stays kept, where neither what is asked nor the critical values change
 kept_still : (state other : SessionState) (graph : ProcessGraph) (study : Study) → other.options ≡ state.options → critical_of other.rows ≡ critical_of state.rows

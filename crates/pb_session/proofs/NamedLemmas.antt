@@ -1,6 +1,7 @@
 -- The names of the declared plant are those of its graphs.
 use Rattle.std.proofs.Common.{◌≡◌, ◌∙◌, ◌<◌, ℕ, List, length, sym, refl, subst, Option, Some, None, Ok}
 use Rattle.std.proofs.lemmas.List.{length-map}
+use Rattle.pb_rows.specs.declared.name.Names.{Names}
 use Rattle.pb_graph.specs.ProcessGraph.{ProcessGraph}
 use Rattle.pb_graph.specs.declared.records.Meas.{Meas}
 use Rattle.std.specs.Prelude.{All}

@@ -562,11 +562,13 @@ impl Session {
             .grades(self.alloc, component, i, streams.as_slice())?;
         match self.kept(i) {
             Some(study) => self.balance_by(&study.stages.at(0).graph, study, &grades),
-            None => {
-                let graph = assemble(self.alloc, &self.book, i)?;
-                let study = self.study_of(&graph)?;
-                self.balance_by(&graph, &study, &grades)
-            }
+            None => match assemble(self.alloc, &self.book, i) {
+                Ok(graph) => {
+                    let study = self.study_of(&graph)?;
+                    self.balance_by(&graph, &study, &grades)
+                }
+                Err(why) => Err(why),
+            },
         }
     }
 

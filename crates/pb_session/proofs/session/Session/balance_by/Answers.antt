@@ -1,4 +1,4 @@
-use Rattle.std.proofs.Common.{◌≡◌, ◌≢◌, ◌∙◌, List, Option, Result, Ok, Err, length, sym, ap, subst, arith}
+use Rattle.std.proofs.Common.{◌≡◌, ◌≢◌, ◌∙◌, ◌<◌, ℕ, List, Option, Some, Result, Ok, Err, length, slice_get, sym, ap, subst, arith}
 use Rattle.std.specs.Prelude.{IfErr}
 use Rattle.pb_graph.specs.declared.results.StreamResult.{StreamResult}
 use Rattle.pb_graph.specs.ProcessGraph.{ProcessGraph}
@@ -26,7 +26,8 @@ at-last-requires c = omega (arith, c.requires.formed.between)
 
 pub component_graph-requires-clause-printed : goal.component_graph-requires-clause-printed
 component_graph-requires-clause-printed c =
-    ap (λ (rs : List StreamResult). length rs) c.as_slice.ensures ∙ each_result c.args.graph.now c.args.study.now c.at-last.result.now c.requires.formed c.at-last.ensures
+    let is_last = ap (slice_get c.args.study.now.stages) (sym c.len.ensures) ∙ c.at-last.ensures in
+    ap (λ (rs : List StreamResult). length rs) c.as_slice.ensures ∙ each_result c.args.graph.now c.args.study.now c.at-last.result.now c.requires.formed is_last
 
 pub returns-in-Ok : goal.returns-in-Ok
 returns-in-Ok c =
@@ -36,14 +37,15 @@ returns-in-Ok c =
     let r = c.component_graph.result in
     let answer = c.component_graph.ensures.answer (ok_sure c.in-Ok.component r c.in-Ok.is) in
     let is : Ok c.in-Ok.component ≡ component_of graph last.streams grades = sym c.in-Ok.is ∙ answer ∙ ap (λ (rs : List StreamResult). component_of graph rs grades) c.as_slice.ensures in
-    let results = each_result graph c.args.study.now last c.requires.formed c.at-last.ensures in
+    let is_last = ap (slice_get c.args.study.now.stages) (sym c.len.ensures) ∙ c.at-last.ensures in
+    let results = each_result graph c.args.study.now last c.requires.formed is_last in
     record {
       answer = λ sure. record {
         limits = c.requires.limits;
         study = c.args.study.now;
         is_study = c.requires.study;
         last = last;
-        is_last = c.at-last.ensures;
+        is_last = is_last;
         is = ap component_assembly is;
       };
       counts = counts_of graph c.in-Ok.component last.streams grades results c.requires.each (sym is);
@@ -59,6 +61,7 @@ returns-in-Err-Over c =
     let j = c.in-Err-Over.j in
     let over = is_over j c.in-Err-Over.field-0 r c.in-Err-Over.is c.in-Err-Over.field-0-is in
     let answer = c.component_graph.ensures.answer (over_sure j r over) in
+    let is_last = ap (slice_get c.args.study.now.stages) (sym c.len.ensures) ∙ c.at-last.ensures in
     let is = sym over ∙ answer ∙ ap (λ (rs : List StreamResult). component_of graph rs grades) c.as_slice.ensures in
     record {
       answer = λ sure. record {
@@ -66,7 +69,7 @@ returns-in-Err-Over c =
         study = c.args.study.now;
         is_study = c.requires.study;
         last = last;
-        is_last = c.at-last.ensures;
+        is_last = is_last;
         is = ap component_assembly is;
       };
       counts = tt;

@@ -55,25 +55,20 @@ named_period state rows i period names rows_is there names_are own =
       own = subst (λ (rs : List StoredRow). AreGraphNames (period_names rs (days_of period)) (period_graph rs (days_of period))) rows_is own_here;
     }
 
-known : (c : goal.After-period) → IsNamedPeriod c.args.self.now.state c.args.i c.period.result c.in_ok-names.names
-known c =
-    named_period c.args.self.now.state c.self.inside.book c.args.i c.period.result c.in_ok-names.names (ap (λ (h : Held). h.state.rows) c.self.view_is) c.period.ensures.value
-    c.in_ok-names.ensures.ok c.in_ok-names.ensures.named
-
 pub balance-requires-clause-streams : goal.balance-requires-clause-streams
 balance-requires-clause-streams c =
     let state = c.args.self.now.state in
     let names = c.in_ok-names.names in
-    let k = known c in
-    some_so (slice_get (periods_of state.rows) c.args.i) c.period.result (λ (p : Period). names.streams ≡ (period_names state.rows (days_of p)).streams) k.there
+    let k = named_period state c.self.inside.book c.args.i c.period-period.result c.in_ok-names.names (ap (λ (h : Held). h.state.rows) c.self.view_is) c.period-period.ensures.value c.in_ok-names.ensures.ok c.in_ok-names.ensures.named in
+    some_so (slice_get (periods_of state.rows) c.args.i) c.period-period.result (λ (p : Period). names.streams ≡ (period_names state.rows (days_of p)).streams) k.there
     (ap (λ (n : Names). n.streams) k.names_are)
 
 pub balance-requires-clause-each : goal.balance-requires-clause-each
 balance-requires-clause-each c =
     let state = c.args.self.now.state in
     let names = c.in_ok-names.names in
-    let k = known c in
-    some_so (slice_get (periods_of state.rows) c.args.i) c.period.result (λ (p : Period). length names.streams ≡ length (period_graph state.rows (days_of p)).streams) k.there
+    let k = named_period state c.self.inside.book c.args.i c.period-period.result c.in_ok-names.names (ap (λ (h : Held). h.state.rows) c.self.view_is) c.period-period.ensures.value c.in_ok-names.ensures.ok c.in_ok-names.ensures.named in
+    some_so (slice_get (periods_of state.rows) c.args.i) c.period-period.result (λ (p : Period). length names.streams ≡ length (period_graph state.rows (days_of p)).streams) k.there
     (ap (λ (n : Names). length n.streams) k.names_are ∙ k.own.each_stream)
 
 counts_now : (graph other : ProcessGraph) (r : Result ProcessGraph Assembly) → r ≡ Ok other → IfOk r (HasCountsOf graph) → HasCountsOf graph other
@@ -82,9 +77,9 @@ counts_now graph other r is counts = subst (λ (r : Result ProcessGraph Assembly
 pub write_component-requires-clause-names : goal.write_component-requires-clause-names
 write_component-requires-clause-names c =
     let state = c.args.self.now.state in
-    let period = c.period.result in
+    let period = c.period-period.result in
     let own = period_graph state.rows (days_of period) in
-    let k = known c in
+    let k = named_period state c.self.inside.book c.args.i c.period-period.result c.in_ok-names.names (ap (λ (h : Held). h.state.rows) c.self.view_is) c.period-period.ensures.value c.in_ok-names.ensures.ok c.in_ok-names.ensures.named in
     let counts = at_found (slice_get (periods_of state.rows) c.args.i) period (λ (p : Period). IfOk c.balance.result (HasCountsOf (period_graph state.rows (days_of p)))) k.there c.balance.ensures.counts in
     subst (λ (n : Names). AreNamesOf n c.in-Ok.graph) (sym k.names_are)
     (names_as (period_names state.rows (days_of period)) own c.in-Ok.graph (graph_names_are (period_names state.rows (days_of period)) own k.own) (counts_now own c.in-Ok.graph c.balance.result c.in-Ok.is counts))
@@ -96,9 +91,9 @@ over_within rows period j r is named = subst (λ (r : Result ProcessGraph Assemb
 pub at-requires : goal.at-requires
 at-requires c =
     let state = c.args.self.now.state in
-    let period = c.period.result in
+    let period = c.period-period.result in
     let j = c.in-Err-Over.j in
-    let k = known c in
+    let k = named_period state c.self.inside.book c.args.i c.period-period.result c.in_ok-names.names (ap (λ (h : Held). h.state.rows) c.self.view_is) c.period-period.ensures.value c.in_ok-names.ensures.ok c.in_ok-names.ensures.named in
     let is = is_over j c.in-Err-Over.field-0 c.balance.result c.in-Err-Over.is c.in-Err-Over.field-0-is in
     let named = at_found (slice_get (periods_of state.rows) c.args.i) period (λ (p : Period). IfErr c.balance.result (NamesAStream state.rows (days_of p))) k.there c.balance.ensures.over in
     let there = stream_named state.rows (days_of period) j k.own (over_within state.rows period j c.balance.result is named) in
@@ -108,11 +103,11 @@ pub returns-in-Ok-clause-ok : goal.returns-in-Ok-clause-ok
 returns-in-Ok-clause-ok c =
     let state = c.args.self.now.state in
     let component = c.args.component.now in
-    let period = c.period.result in
+    let period = c.period-period.result in
     let found = slice_get (periods_of state.rows) c.args.i in
     let graph = c.in-Ok.graph in
     let rows = component_row component period.name ∷ [] in
-    let k = known c in
+    let k = named_period state c.self.inside.book c.args.i c.period-period.result c.in_ok-names.names (ap (λ (h : Held). h.state.rows) c.self.view_is) c.period-period.ensures.value c.in_ok-names.ensures.ok c.in_ok-names.ensures.named in
     let at : IsBalanceAt state component found (Ok graph) =
     subst (λ (r : Result ProcessGraph Assembly). IsBalanceAt state component found r) c.in-Ok.is (c.balance.ensures.answer (ok_sure graph c.balance.result c.in-Ok.is)) in
     appends_so c.write_component.result (IsReportAfter state rows c.in_ok-names.names period.name graph) (Balances state component found) _ _
@@ -123,10 +118,10 @@ pub returns-in-Err-Over-clause-ok : goal.returns-in-Err-Over-clause-ok
 returns-in-Err-Over-clause-ok c =
     let state = c.args.self.now.state in
     let component = c.args.component.now in
-    let period = c.period.result in
+    let period = c.period-period.result in
     let found = slice_get (periods_of state.rows) c.args.i in
     let j = c.in-Err-Over.j in
-    let k = known c in
+    let k = named_period state c.self.inside.book c.args.i c.period-period.result c.in_ok-names.names (ap (λ (h : Held). h.state.rows) c.self.view_is) c.period-period.ensures.value c.in_ok-names.ensures.ok c.in_ok-names.ensures.named in
     let over = is_over j c.in-Err-Over.field-0 c.balance.result c.in-Err-Over.is c.in-Err-Over.field-0-is in
     let at : IsBalanceAt state component found (Err (Over j)) =
     subst (λ (r : Result ProcessGraph Assembly). IsBalanceAt state component found r) over (c.balance.ensures.answer (over_sure j c.balance.result over)) in
