@@ -156,22 +156,22 @@ none_has periods i d apart rise within none = list_any_none (shares_a_day ((get_
         let day : ℤ = (get_or periods i d).last +ℤ pos 1 in
         let before_day : day ≡ (get_or periods i d).last +ℤ pos 1 = refl in
         elim (cases_Bool (shares_a_day day day (get_or periods k e))) [
-      | inr other ↦ other
-      | inl has ↦
-          let default : get_or periods k e ≡ get_or periods k d = get_or_default periods k e d lt in
-          let there : shares_a_day day day (get_or periods k d) ≡ true = subst (λ (p : Period). shares_a_day day day p ≡ true) default has in
-          let parts = and_parts (int_le day (get_or periods k d).last) (int_le (get_or periods k d).first day) there in
-          elim (cases_Bool (int_eq day (get_or periods k d).first)) [
-            | inl begins ↦ absurd (true≢false (sym (list_any_at (begins_on day) periods k d lt begins) ∙ none))
-            | inr later ↦
-                let other : day ≢ (get_or periods k d).first = λ is. absurd (true≢false (sym ((Decides-int_eq day (get_or periods k d).first).1 is) ∙ later)) in
-                let before : (get_or periods k d).first ≤ℤ (get_or periods i d).last = omega (arith, ints, parts.1, other) in
-                let up = (rise i d within).rises in
-                let same = same_place periods i k d (get_or periods i d).last apart within lt up (omega (arith, ints)) before (omega (arith, ints, parts.0)) in
-                let own : (get_or periods i d).last ≡ (get_or periods k d).last = ap (λ (n : ℕ). (get_or periods n d).last) same in
-                absurd (omega (arith, ints, own, parts.0))
-          ]
-    ]
+          | inr other ↦ other
+          | inl has ↦
+              let default : get_or periods k e ≡ get_or periods k d = get_or_default periods k e d lt in
+              let there : shares_a_day day day (get_or periods k d) ≡ true = subst (λ (p : Period). shares_a_day day day p ≡ true) default has in
+              let parts = and_parts (int_le day (get_or periods k d).last) (int_le (get_or periods k d).first day) there in
+              elim (cases_Bool (int_eq day (get_or periods k d).first)) [
+                | inl begins ↦ absurd (true≢false (sym (list_any_at (begins_on day) periods k d lt begins) ∙ none))
+                | inr later ↦
+                    let other : day ≢ (get_or periods k d).first = λ is. absurd (true≢false (sym ((Decides-int_eq day (get_or periods k d).first).1 is) ∙ later)) in
+                    let before : (get_or periods k d).first ≤ℤ (get_or periods i d).last = omega (arith, ints, parts.1, other) in
+                    let up = (rise i d within).rises in
+                    let same = same_place periods i k d (get_or periods i d).last apart within lt up (omega (arith, ints)) before (omega (arith, ints, parts.0)) in
+                    let own : (get_or periods i d).last ≡ (get_or periods k d).last = ap (λ (n : ℕ). (get_or periods n d).last) same in
+                    absurd (omega (arith, ints, own, parts.0))
+              ]
+        ]
 
 -- ---- from period to period
 
@@ -230,7 +230,6 @@ stopped periods first last day places within none way =
     let alone = way.next (no_place (begins_on day) periods none) in
     sym way.left ∙ ap (list_any (is_in_none periods)) (days_next day (last.last +ℤ pos 1) (omega (arith, ints, within)))
     ∙ ap (λ (b : Bool). not b || list_any (is_in_none periods) (days_until (day +ℤ pos 1) (last.last +ℤ pos 1))) alone
-
 
 -- the period at a place that begins on a day is the one found
 found : (periods : List Period) (day : ℤ) (place : ℕ) (period : Period) → position (begins_on day) periods ≡ Some place → slice_get periods place ≡ Some period

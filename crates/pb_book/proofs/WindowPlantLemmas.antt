@@ -15,6 +15,7 @@ use Rattle.pb_window.specs.declared.window.Window.{Window}
 use Rattle.pb_window.specs.declared.window.WindowFault.{WindowFault}
 use Rattle.pb_window.specs.declared.window.WindowFault.TheVariants.{TooGreat}
 use Rattle.pb_window.specs.Laws.{WindowFormLaw, WindowNamesLaw, WindowPlacesLaw}
+use Rattle.pb_window.specs.Places.{IsNamedBy}
 use Rattle.pb_window.specs.Plant.{IsPlant, IsPlantArc, IsSpan}
 use Rattle.pb_window.specs.Window.{is_too_great, unless_too_great, window_of}
 use Rattle.pb_site.specs.declared.declared.Arc.{Arc}
@@ -38,7 +39,7 @@ use Rattle.pb_book.specs.Assays.{assays_of}
 use Rattle.pb_book.specs.Kept.{AreOf}
 use Rattle.pb_book.specs.Ranges.{IsPeriod}
 use Rattle.pb_book.specs.Rows.{declared_of, facts_of, periods_of}
-use Rattle.pb_book.specs.Windows.{BookWindowsLaw, IsBookWindow, begins_on, days_between, has_gap, is_inventory, keeps_idle_nodes, names_of_periods, periods_between, plant_of, refusal_between, refusal_over, span_of_period, window_arc, window_between, window_over, window_plant}
+use Rattle.pb_book.specs.Windows.{ArePlacesBetween, BookWindowsLaw, HavePlaceNames, IsBookWindow, IsWindowAsked, IsWindowBetween, begins_on, days_between, has_gap, is_inventory, keeps_idle_nodes, names_of_periods, periods_between, plant_of, refusal_between, refusal_over, span_of_period, window_arc, window_between, window_over, window_plant}
 use Rattle.pb_book.proofs.ConsistentLemmas.{consistent}
 use Rattle.pb_book.proofs.FactLemmas.{no_site_fault_of}
 use Rattle.pb_book.proofs.KeptLemmas.{declared_more, declared_same}
@@ -327,3 +328,82 @@ book_windows law form_law names_law places_law rows first last accepted none = r
 
     each_period : length (names_of_periods periods) ≡ length spans
     each_period = length-map periods (λ (period : Period). period.name) ∙ sym (length-map periods span_of_period)
+
+-- ---- what a book says of a window
+
+same_period : (periods : List Period) (place : ℕ) (one other : Period) → slice_get periods place ≡ Some one → slice_get periods place ≡ Some other → one ≡ other
+same_period periods place one other is also = cc (sym is ∙ also)
+
+-- a period at a place is one of the list
+pub contains_at : (periods : List Period) (place : ℕ) (period : Period) → slice_get periods place ≡ Some period → Contains periods period
+contains_at periods place period is = (place, slice_get_within periods place period is, get_or_from_slice_get periods place period period is)
+
+-- these are the places between two periods
+pub between_ends : (rows : List StoredRow) (first last : ℕ) (one other : Period) (places : List ℕ) → slice_get (periods_of rows) first ≡ Some one → slice_get (periods_of rows) last ≡ Some other
+    → map (slice_get (periods_of rows)) places ≡ map Some (periods_between (periods_of rows) one other) → ArePlacesBetween rows first last places
+between_ends rows first last one other places begins ends are = λ a b a_is b_is.
+    let one_is = same_period (periods_of rows) first one a begins a_is in
+    let other_is = same_period (periods_of rows) last other b ends b_is in
+    rw (← one_is, ← other_is) are
+
+-- there are no more of them than a window may have
+pub few_between : (rows : List StoredRow) (first last : ℕ) (asked : IsWindowAsked rows first last) (places : List ℕ)
+    → map (slice_get (periods_of rows)) places ≡ map Some (periods_between (periods_of rows) asked.one asked.other) → length places ≤ most_periods_of_window
+few_between rows first last asked places are =
+    let within = within_of (periods_of rows) places (periods_between (periods_of rows) asked.one asked.other) are in
+    let these = periods_at (periods_of rows) places (periods_between (periods_of rows) asked.one asked.other) are in
+    let few = (fine_window (declared_of rows) (periods_of rows) asked.one asked.other asked.no_cause).few in
+    omega (arith, as_many (periods_of rows) places within, ap length these, few)
+
+-- there is no gap between them
+pub asked_no_gap : (rows : List StoredRow) (first last : ℕ) (asked : IsWindowAsked rows first last) → has_gap (periods_of rows) asked.one asked.other ≡ false
+asked_no_gap rows first last asked = (fine_window (declared_of rows) (periods_of rows) asked.one asked.other asked.no_cause).no_gap
+
+-- a window over these places is the one between the two periods, and has their names
+pub asked_window_is : (rows : List StoredRow) (first last : ℕ) (asked : IsWindowAsked rows first last) (places : List ℕ) (window : Window) → ArePlacesBetween rows first last places
+    → Ok window ≡ unless_too_great (window_over (declared_of rows) (filter_map (slice_get (periods_of rows)) places)) → IsWindowBetween rows first last window
+unfolding window_between
+asked_window_is rows first last asked places window are made = λ one other first_is last_is.
+    let these = periods_at (periods_of rows) places (periods_between (periods_of rows) one other) (are one other first_is last_is) in
+    let whole : Ok window ≡ unless_too_great (window_over (declared_of rows) (periods_between (periods_of rows) one other)) =
+    made ∙ ap (λ (periods : List Period). unless_too_great (window_over (declared_of rows) periods)) these in
+    ok_is (window_over (declared_of rows) (periods_between (periods_of rows) one other)) window whole
+  where
+    ok_is : (shape made : Window) → Ok made ≡ unless_too_great shape → made ≡ shape
+    ok_is shape made is = elim (cases_Bool (is_too_great shape)) [
+      | inl great ↦ absurd (let fault : Ok made ≡ choice shape true = is ∙ ap (choice shape) great in cc fault)
+      | inr fits ↦ let same : Ok made ≡ choice shape false = is ∙ ap (choice shape) fits in cc same
+    ]
+
+pub asked_names : (rows : List StoredRow) (first last : ℕ) (places : List ℕ) (window : Window) → ArePlacesBetween rows first last places
+    → IsNamedBy (window_plant (declared_of rows)) (map span_of_period (filter_map (slice_get (periods_of rows)) places)) window → HavePlaceNames rows first last window
+unfolding window_plant
+asked_names rows first last places window are named = λ one other first_is last_is.
+    let periods : List Period = periods_between (periods_of rows) one other in
+    let these : filter_map (slice_get (periods_of rows)) places ≡ periods = periods_at (periods_of rows) places periods (are one other first_is last_is) in
+    let arcs = length-map (arcs_of (declared_of rows)) (λ (arc : Arc). arc.name) ∙ sym (length-map (arcs_of (declared_of rows)) (window_arc (version_of (declared_of rows)))) in
+    named (names_of (declared_of rows)) (names_of_periods periods) (omega arith) arcs
+    (length-map periods (λ (period : Period). period.name) ∙ ap length (sym these) ∙ sym (length-map (filter_map (slice_get (periods_of rows)) places) span_of_period))
+
+-- ---- the same by the parts that a book keeps
+
+pub ends_kept : (rows : List StoredRow) (periods : List Period) (first last : ℕ) (one other : Period) (places : List ℕ) → periods ≡ periods_of rows → slice_get periods first ≡ Some one
+    → slice_get periods last ≡ Some other → map (slice_get periods) places ≡ map Some (periods_between periods one other) → ArePlacesBetween rows first last places
+ends_kept rows periods first last one other places is begins ends are = between_ends rows first last one other places (rw is at begins) (rw is at ends) (rw is at are)
+
+pub no_gap_kept : (rows : List StoredRow) (periods : List Period) (first last : ℕ) (one other : Period) → IsWindowAsked rows first last → periods ≡ periods_of rows
+    → slice_get periods first ≡ Some one → slice_get periods last ≡ Some other → has_gap periods one other ≡ true → ⊥
+no_gap_kept rows periods first last one other asked is begins ends gap =
+    let one_is = same_period (periods_of rows) first one asked.one (rw is at begins) asked.first_is in
+    let other_is = same_period (periods_of rows) last other asked.other (rw is at ends) asked.last_is in
+    let closed : has_gap periods one other ≡ false = rw (is, one_is, other_is) (asked_no_gap rows first last asked) in
+    cc (sym gap ∙ closed)
+
+pub made_kept : (rows : List StoredRow) (site : List Declared) (periods : List Period) (kept places : List ℕ) (window : Window) → site ≡ declared_of rows → periods ≡ periods_of rows → kept ≡ places
+    → Ok window ≡ unless_too_great (window_over site (filter_map (slice_get periods) kept)) → Ok window ≡ unless_too_great (window_over (declared_of rows) (filter_map (slice_get (periods_of rows)) places))
+made_kept rows site periods kept places window site_is is same made = rw (site_is, is, same) at made
+
+pub named_kept : (rows : List StoredRow) (site : List Declared) (periods : List Period) (kept places : List ℕ) (window : Window) → site ≡ declared_of rows → periods ≡ periods_of rows → kept ≡ places
+    → IsNamedBy (window_plant site) (map span_of_period (filter_map (slice_get periods) kept)) window
+    → IsNamedBy (window_plant (declared_of rows)) (map span_of_period (filter_map (slice_get (periods_of rows)) places)) window
+named_kept rows site periods kept places window site_is is same named = rw (site_is, is, same) at named

@@ -1,0 +1,13 @@
+use Rattle.std.proofs.Common.{refl, arith}
+use Rattle.pb_book.proofs.AcceptedLemmas.{none_accepted}
+use Rattle.pb_book.proofs.book.Book.new.Goals as goal
+
+pub invariant_of-result : goal.invariant_of-result
+invariant_of-result c = record {
+  placed = λ i d lt. absurd (omega (arith, lt));
+  parts = record { site = refl; facts = refl; spans = refl; assayed = refl };
+  accepted = none_accepted;
+  told = λ place past. refl;
+  edited = λ i d lt. absurd (omega (arith, lt));
+  edit_rows = refl;
+}
