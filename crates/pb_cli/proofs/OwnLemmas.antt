@@ -11,6 +11,8 @@ use Rattle.pb_rows.specs.declared.name.Names.{Names}
 use Rattle.pb_rows.specs.Name.{is_name}
 use Rattle.pb_rows.specs.Records.{records_of}
 use Rattle.pb_rows.specs.Written.{begins_with_word}
+use Rattle.pb_window.specs.Codes.{window_names}
+use Rattle.pb_window.specs.Places.{window_places}
 use Rattle.pb_graph.specs.declared.results.Options.{Options}
 use Rattle.pb_graph.specs.declared.results.Bounds.{Bounds}
 use Rattle.pb_graph.specs.declared.results.StreamResult.{StreamResult}
@@ -24,16 +26,17 @@ use Rattle.pb_elim.specs.Options.{AreOptions}
 use Rattle.pb_check.specs.Laws.{OwnLaw}
 use Rattle.pb_check.specs.Verdict.{IsPassed}
 use Rattle.pb_book.specs.declared.answer.Accepted.{Accepted}
-use Rattle.pb_book.specs.declared.answer.Accepted.TheVariants.{Blank, Stored as StoredAccepted, Design, Report, History, Advise}
+use Rattle.pb_book.specs.declared.answer.Accepted.TheVariants.{Blank, Stored as StoredAccepted, Design, Report, History, Advise, Component, Window}
 use Rattle.pb_kinds.specs.Costs.{named_costs}
 use Rattle.pb_book.specs.declared.rows.Period.{Period}
 use Rattle.pb_book.specs.Accepted.{AreAccepted}
 use Rattle.pb_book.specs.Answer.{Answer, Refused, Says, Stored, answer_of, code_of}
 use Rattle.pb_book.specs.Edits.{history_of}
-use Rattle.pb_book.specs.Laws.{AcceptedLaw}
+use Rattle.pb_book.specs.Laws.{AcceptedLaw, AskedWindowLaw}
 use Rattle.pb_book.specs.Named.{AreNamed, HaveNames, NamedLaw}
 use Rattle.pb_book.specs.declared.rows.StoredRow.{StoredRow}
 use Rattle.pb_book.specs.Rows.{declared_of, periods_of}
+use Rattle.pb_book.specs.Windows.{BookWindowsLaw, IsWindowAsked, names_of_periods, periods_between, window_between}
 use Rattle.pb_period.specs.declared.days.Days.{Days}
 use Rattle.pb_period.specs.Days.{days_of}
 use Rattle.pb_period.specs.declared.graph.Assembly.{Assembly}
@@ -50,13 +53,14 @@ use Rattle.pb_readback.specs.Next.{AreBlocks}
 use Rattle.pb_readback.specs.Written.{BeginWithWords, HasBoundsForLeast, IsReportable, PassedRowsLaw, RowTextLaw, RowWordsLaw, StudyRowsLaw, block_with, blocks_from, records_in}
 use Rattle.pb_session.specs.Criticals.{critical_of}
 use Rattle.pb_report.specs.Advice.{advice_rows}
+use Rattle.pb_report.specs.Component.{component_row}
 use Rattle.pb_report.specs.Design.{design_rows}
 use Rattle.pb_report.specs.Names.{name_at}
 use Rattle.pb_report.specs.Over.{over_row}
 use Rattle.pb_report.specs.Refusal.{refused_row}
 use Rattle.pb_site.specs.Site.{names_of, version_of}
 use Rattle.pb_session.specs.History.{told, told_history, told_period}
-use Rattle.pb_session.specs.Session.{Adds, AddsAccepted, AddsBy, AreNamesOf, IsReport, IsSessionText, Reports, ReportsBy, SessionState, Tells, state_after}
+use Rattle.pb_session.specs.Session.{Adds, AddsAccepted, AddsBy, AreNamesOf, Balances, BalancesBy, IsReport, IsReportAfter, IsSessionText, IsTextOf, Reports, ReportsBy, SessionState, Tells, Windows, WindowsBy, assembly_between, state_after, window_head}
 use Rattle.pb_audit.specs.Judgement.{AreFindings, Finding, IsJudgement, IsPassedBlock, finds_wrong, passed}
 use Rattle.pb_audit.specs.Laws.{OneFindingsLaw, PassedLaw}
 use Rattle.pb_cli.proofs.ServedLemmas.{days_named}
@@ -153,15 +157,21 @@ bounds_for_least stage through = λ k d lt.
     let result = get_or stage.streams k d in
     λ none. none_there result.least (through k result (slice_get-get_or stage.streams k d lt) ∙ ap is_some none)
 
--- the names of the graph of some days are names
-served_named : (rows : List StoredRow) (days : Days) → AreNamed rows
-    → (list_all is_name (period_names rows days).nodes ≡ true) × (list_all is_name (period_names rows days).streams ≡ true)
-served_named rows days named = days_named (version_of (declared_of rows)) (declared_of rows) days.first days.last named.nodes named.streams
+-- names of nodes and streams are names
+record HaveForms (names : Names) : Type 0 where
+  nodes : list_all is_name names.nodes ≡ true
+  streams : list_all is_name names.streams ≡ true
+
+-- such are those of the graph of some days
+served_named : (rows : List StoredRow) (days : Days) → AreNamed rows → HaveForms (period_names rows days)
+served_named rows days named =
+    let (nodes, streams) = days_named (version_of (declared_of rows)) (declared_of rows) days.first days.last named.nodes named.streams in
+    record { nodes = nodes; streams = streams }
 
 -- a report can be read back
-reportable : AreKnown → (state : SessionState) (days : Days) (period : List ℕ) (graph : ProcessGraph) (text : List ℕ) → IsSound state → AreNamed state.rows → is_name period ≡ true
-    → (report : IsReport state (period_names state.rows days) period graph text) → IsReportable (period_names state.rows days) period state.options report.study
-reportable known state days period graph text sound named name report = record {
+reportable : AreKnown → (state : SessionState) (names : Names) (period : List ℕ) (graph : ProcessGraph) (text : List ℕ) → IsSound state → HaveForms names → is_name period ≡ true
+    → (report : IsReport state names period graph text) → IsReportable names period state.options report.study
+reportable known state names period graph text sound forms name report = record {
   named = record {
     graph = graph;
     named = report.named.each;
@@ -172,22 +182,21 @@ reportable known state days period graph text sound named name report = record {
       report.certified;
   least = All-weaker HasLeastThroughout (λ (stage : Stage). All HasBoundsForLeast stage.streams) bounds_for_least report.study.stages report.least;
   all_names = record {
-    node_forms = (served_named state.rows days named).0;
-    stream_forms = (served_named state.rows days named).1;
+    node_forms = forms.nodes;
+    stream_forms = forms.streams;
     nodes_differ = report.named.nodes;
     streams_differ = report.named.streams;
-    env = first_is (period_names state.rows days).nodes (codes "env") report.named.environment;
+    env = first_is names.nodes (codes "env") report.named.environment;
   };
   name = name;
   asked = record { some_gap = sound.options.some_gap; greatest_gap = sound.options.greatest_gap; greatest_sweeps = sound.options.greatest_sweeps };
   greatest_round = omega (arith, report.is_study.rounds.between, report.is_study.rounds.rounds, sound.options.greatest_rounds);
 }
 
-report_read : AreKnown → (state : SessionState) (days : Days) (period : List ℕ) (graph : ProcessGraph) (text : List ℕ) → IsSound state → AreNamed state.rows → is_name period ≡ true
-    → IsReport state (period_names state.rows days) period graph text → ReadsBack text
-report_read known state days period graph text sound named name report =
-    let names = period_names state.rows days in
-    let able = reportable known state days period graph text sound named name report in
+report_read : AreKnown → (state : SessionState) (names : Names) (period : List ℕ) (graph : ProcessGraph) (text : List ℕ) → IsSound state → HaveForms names → is_name period ≡ true
+    → IsReport state names period graph text → ReadsBack text
+report_read known state names period graph text sound forms name report =
+    let able = reportable known state names period graph text sound forms name report in
     record {
       rows = study_rows names period state.options report.study;
       blocks = blocks_from names period state.options 0 report.study.stages;
@@ -199,6 +208,25 @@ report_read known state days period graph text sound named name report =
           (known.own graph state.options (critical_of state.rows) report.study report.limits report.is_study);
     }
 
+-- a report after other rows
+report_after_read : AreKnown → (state : SessionState) (rows : List OutputRow) (names : Names) (period : List ℕ) (graph : ProcessGraph) (text : List ℕ) → IsSound state → HaveForms names
+    → is_name period ≡ true → BeginWithWords rows → AreBlocks (records_in rows) [] → IsReportAfter state rows names period graph text → ReadsBack text
+report_after_read known state rows names period graph text sound forms name words others after =
+    subst (λ (t : List ℕ). ReadsBack t) (sym after.whole)
+    (both_read known.join after.front after.rest (passed_over rows after.front (in_csv state rows after.front sound.form after.before) words others)
+    (report_read known state names period graph after.rest sound forms name after.report))
+
+-- a period's name is one
+period_named : NamedLaw → (state : SessionState) (i : ℕ) (period : Period) → IsSound state → slice_get (periods_of state.rows) i ≡ Some period → is_name period.name ≡ true
+period_named law state i period sound at =
+    at_place (λ (p : Period). is_name p.name ≡ true) (periods_of state.rows) i period at (law.named state.rows sound.named).periods
+
+-- the row of a stream beyond the limits
+over_read : AreKnown → (state : SessionState) (period stream text : List ℕ) → IsSound state → IsTextOf state (over_row period stream ∷ []) text → ReadsBack text
+over_read known state period stream text sound is =
+    let rows : List OutputRow = over_row period stream ∷ [] in
+    passed_over rows text (in_csv state rows text sound.form is) (known.words.over period stream) (known.others.over period stream)
+
 reports_read : AreKnown → NamedLaw → (state : SessionState) (i : ℕ) (text : List ℕ) → IsSound state → (found : Option Period) → slice_get (periods_of state.rows) i ≡ found
     → Reports state found text → ReadsBack text
 reports_read known law state i text sound None at reports = absurd reports
@@ -209,18 +237,68 @@ reports_read known law state i text sound (Some period) at reports = by (assembl
 
     by : (a : Result ProcessGraph Assembly) → ReportsBy state period a text → ReadsBack text
     by (Ok graph) report =
-        report_read known state (days_of period) period.name graph text sound named
-        (at_place (λ (p : Period). is_name p.name ≡ true) (periods_of state.rows) i period at named.periods) report
-    by (Err (Over j)) is =
-        let stream = name_at (period_names state.rows (days_of period)).streams j in
-        let rows : List OutputRow = over_row period.name stream ∷ [] in
-        passed_over rows text (in_csv state rows text sound.form is) (known.words.over period.name stream) (known.others.over period.name stream)
+        report_read known state (period_names state.rows (days_of period)) period.name graph text sound (served_named state.rows (days_of period) named)
+        (period_named law state i period sound at) report
+    by (Err (Over j)) is = over_read known state period.name (name_at (period_names state.rows (days_of period)).streams j) text sound is
+    by (Err NoMemory) is = absurd is
+
+-- ---- the balance of a component
+
+-- the report of its graph after the row of the component
+balances_read : AreKnown → NamedLaw → (state : SessionState) (component : List ℕ) (i : ℕ) (text : List ℕ) → IsSound state → (found : Option Period) → slice_get (periods_of state.rows) i ≡ found
+    → Balances state component found text → ReadsBack text
+balances_read known law state component i text sound None at balance = absurd balance
+balances_read known law state component i text sound (Some period) at (answer, of, by) = read answer by
+  where
+    read : (a : Result ProcessGraph Assembly) → BalancesBy state component period a text → ReadsBack text
+    read (Ok graph) after =
+        report_after_read known state (component_row component period.name ∷ []) (period_names state.rows (days_of period)) period.name graph text sound
+        (served_named state.rows (days_of period) (law.named state.rows sound.named)) (period_named law state i period sound at) (known.words.components component period.name)
+        (known.others.components component period.name) after
+    read (Err (Over j)) is = over_read known state period.name (name_at (period_names state.rows (days_of period)).streams j) text sound is
+    read (Err NoMemory) is = absurd is
+
+-- ---- a window of several periods
+
+-- what is known of windows that are asked for
+pub record AreKnownWindows : Type 0 where
+  pub books : BookWindowsLaw
+  pub asked : AskedWindowLaw
+
+windows_read : AreKnown → AreKnownWindows → NamedLaw → (state : SessionState) (i k : ℕ) (text : List ℕ) → IsSound state → IsWindowAsked state.rows i k
+    → Windows state (slice_get (periods_of state.rows) i) (slice_get (periods_of state.rows) k) text → ReadsBack text
+windows_read known windows law state i k text sound asked adds = by (assembly_between state.rows first last) here
+  where
+    first : Period
+    first = asked.one
+
+    last : Period
+    last = asked.other
+
+    here : WindowsBy state first last (assembly_between state.rows first last) text
+    here =
+        subst (λ (o : Option Period). Windows state (Some first) o text) asked.last_is
+        (subst (λ (o : Option Period). Windows state o (slice_get (periods_of state.rows) k) text) asked.first_is adds)
+
+    name : is_name first.name ≡ true
+    name = period_named law state i first sound asked.first_is
+
+    by : (a : Result ProcessGraph Assembly) → WindowsBy state first last a text → ReadsBack text
+    by (Ok graph) after =
+        let window = window_between state.rows first last in
+        let periods = periods_between (periods_of state.rows) first last in
+        let places = window_places (names_of (declared_of state.rows)) (names_of_periods periods) window in
+        let codes = (windows.books state.rows first last sound.accepted asked.no_cause).names in
+        report_after_read known state (window_head state.rows first last) (window_names window) first.name graph text sound
+        (record { nodes = codes.nodes.forms; streams = codes.streams.forms }) name (known.words.windows first.name last.name (length periods) places)
+        (known.others.windows first.name last.name (length periods) places) after
+    by (Err (Over j)) is = over_read known state first.name (name_at (window_names (window_between state.rows first last)).streams j) text sound is
     by (Err NoMemory) is = absurd is
 
 -- ---- one record, and all of them
 
-record_read : AreKnown → NamedLaw → (state : SessionState) (at : ℕ) (fields : List (List ℕ)) (text : List ℕ) → IsSound state → Adds state at fields text → ReadsBack text
-record_read known law state at fields text sound adds = by (answer_of state.rows fields) adds
+record_read : AreKnown → AreKnownWindows → NamedLaw → (state : SessionState) (at : ℕ) (fields : List (List ℕ)) (text : List ℕ) → IsSound state → Adds state at fields text → ReadsBack text
+record_read known windows law state at fields text sound adds = by (answer_of state.rows fields) refl adds
   where
     tells : (found : Option Period) → Tells state found text → ReadsBack text
     tells None is = absurd is
@@ -232,33 +310,35 @@ record_read known law state at fields text sound adds = by (answer_of state.rows
     nothing : text ≡ [] → ReadsBack text
     nothing is = subst (λ (t : List ℕ). ReadsBack t) (sym is) none_read
 
-    said : (accepted : Accepted) → AddsAccepted state (named_costs fields) accepted text → ReadsBack text
-    said Blank is = nothing is
-    said StoredAccepted is = nothing is
-    said Design design =
+    said : (accepted : Accepted) → answer_of state.rows fields ≡ Says accepted → AddsAccepted state (named_costs fields) accepted text → ReadsBack text
+    said Blank asks is = nothing is
+    said StoredAccepted asks is = nothing is
+    said Design asks design =
         let names = names_of (declared_of state.rows) in
         let graph = design_graph state.rows in
         let rows : List OutputRow = design_rows names graph design.classes in
         passed_over rows text (in_csv state rows text sound.form design.rows) (known.words.designs names graph design.classes) (known.others.designs names graph design.classes)
-    said (Report i) reports = reports_read known law state i text sound (slice_get (periods_of state.rows) i) refl reports
-    said (History i) is = tells (slice_get (periods_of state.rows) i) is
-    said Advise advised =
+    said (Report i) asks reports = reports_read known law state i text sound (slice_get (periods_of state.rows) i) refl reports
+    said (History i) asks is = tells (slice_get (periods_of state.rows) i) is
+    said (Component component i) asks balance = balances_read known law state component i text sound (slice_get (periods_of state.rows) i) refl balance
+    said (Window i k) asks adds = windows_read known windows law state i k text sound (windows.asked state.rows fields i k asks) adds
+    said Advise asks advised =
         let names = names_of (declared_of state.rows) in
         let rows : List OutputRow = advice_rows names advised.advice in
         passed_over rows text (in_csv state rows text sound.form advised.rows) (known.words.advices names advised.advice) (known.others.advices names advised.advice)
 
-    by : (answer : Answer) → AddsBy state at (named_costs fields) answer text → ReadsBack text
-    by (Refused cause) is =
+    by : (answer : Answer) → answer_of state.rows fields ≡ answer → AddsBy state at (named_costs fields) answer text → ReadsBack text
+    by (Refused cause) asks is =
         let rows : List OutputRow = refused_row at (code_of cause) ∷ [] in
         passed_over rows text (in_csv state rows text sound.form is) (known.words.refused at (code_of cause)) (known.others.refused at (code_of cause))
-    by (Stored effect) is = nothing is
-    by (Says accepted) is = said accepted is
+    by (Stored effect) asks is = nothing is
+    by (Says accepted) asks is = said accepted asks is
 
-pub session_read : AreKnown → NamedLaw → AcceptedLaw → (state : SessionState) (at : ℕ) (records : List (List (List ℕ))) (text : List ℕ) → IsSound state → IsSessionText state at records text → ReadsBack text
-session_read known law accepted state at [] text sound is = subst (λ (t : List ℕ). ReadsBack t) (sym is) none_read
-session_read known law accepted state at (fields ∷ records) text sound (first, rest, adds, texts, whole) =
-    let here = record_read known law state at fields first sound adds in
-    let behind = session_read known law accepted (state_after state at fields) (at + 1) records rest (sound_after accepted law state at fields sound) texts in
+pub session_read : AreKnown → AreKnownWindows → NamedLaw → AcceptedLaw → (state : SessionState) (at : ℕ) (records : List (List (List ℕ))) (text : List ℕ) → IsSound state → IsSessionText state at records text → ReadsBack text
+session_read known windows law accepted state at [] text sound is = subst (λ (t : List ℕ). ReadsBack t) (sym is) none_read
+session_read known windows law accepted state at (fields ∷ records) text sound (first, rest, adds, texts, whole) =
+    let here = record_read known windows law state at fields first sound adds in
+    let behind = session_read known windows law accepted (state_after state at fields) (at + 1) records rest (sound_after accepted law state at fields sound) texts in
     subst (λ (t : List ℕ). ReadsBack t) (sym whole) (both_read known.join first rest here behind)
 
 -- ---- the check of such a text

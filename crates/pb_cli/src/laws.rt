@@ -3,7 +3,7 @@
 ghost use Rattle.pb_cli.specs.Laws.{OneCheckTextLaw, OneRunTextLaw, OwnReportsLaw, SomeCheckTextLaw, SomeRunTextLaw};
 
 use pb_audit::{certified_law, findings_law, passed_law};
-use pb_book::{accepted_law, named_law};
+use pb_book::{accepted_law, asked_window_law, book_windows_law, named_law};
 use pb_check::own_law;
 use pb_elim::formed_law;
 use pb_readback::{join_law, passed_rows_law, row_text_law, row_words_law, study_rows_law};
@@ -43,6 +43,8 @@ pub fn own_reports_law()
     criticals_law();
     named_law();
     accepted_law();
+    book_windows_law();
+    asked_window_law();
     findings_law();
     passed_law();
 }

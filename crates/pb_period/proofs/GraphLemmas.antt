@@ -84,7 +84,7 @@ below a b lt = elim (cases_Bool (nat_lt a b)) [ inl passes ↦ passes | inr fail
 not_below : (a b : ℕ) → b ≤ a → nat_lt a b ≡ false
 not_below a b le = elim (cases_Bool (nat_lt a b)) [ inl passes ↦ absurd (omega (arith, ltb-true a b passes, le)) | inr fails ↦ fails ]
 
-position_at : {X : Type 0} (p : X → Bool) (xs : List X) (i : ℕ) (d : X) → i < length xs → ((k : ℕ) → k < i → p (get_or xs k d) ≡ false) → p (get_or xs i d) ≡ true
+pub position_at : {X : Type 0} (p : X → Bool) (xs : List X) (i : ℕ) (d : X) → i < length xs → ((k : ℕ) → k < i → p (get_or xs k d) ≡ false) → p (get_or xs i d) ≡ true
     → position p xs ≡ Some i
 position_at p xs i d within before here = rw (position_or_len_is p xs i d (omega arith) before (λ _. here), below i (length xs) within) refl
 

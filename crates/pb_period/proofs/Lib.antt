@@ -7,3 +7,4 @@ mod TransferLemmas
 mod VarianceLemmas
 mod UntouchedLemmas
 mod ClosedLemmas
+mod WindowLemmas

@@ -65,7 +65,7 @@ live_have P (k ∷ kept) all =
     ]
 
 -- what is found has what all have
-find_has : {A : Type 0} (P : A → Type 0) (test : A → Bool) (xs : List A) → All P xs → IfSome (find test xs) P
+pub find_has : {A : Type 0} (P : A → Type 0) (test : A → Bool) (xs : List A) → All P xs → IfSome (find test xs) P
 find_has P test [] all = tt
 find_has P test (x ∷ xs) all = elim (cases_Bool (test x)) [
   | inl here ↦ rw here (head P x xs all)
@@ -74,7 +74,7 @@ find_has P test (x ∷ xs) all = elim (cases_Bool (test x)) [
 
 -- ---- amounts whose variance isn't negative
 
-abbrev IsFair : Amount → Type 0
+abbrev pub IsFair : Amount → Type 0
 IsFair amount = pos 0 ≤ℤ amount.variance
 
 total_fair : {A : Type 0} (f : A → Option Amount) (xs : List A) → ((x : A) → IfSome (f x) IsFair) → IsFair (total_of (filter_map f xs))
@@ -143,7 +143,7 @@ transferred_fair days stream (Transfer id own first last grams variance) range =
   | inr other ↦ rw other tt
 ]
 
-content_fair : (points : List Point) (fact : Fact) → IsInRange fact → IsFair (content_of points fact)
+pub content_fair : (points : List Point) (fact : Fact) → IsInRange fact → IsFair (content_of points fact)
 content_fair points (Reading id own day grams variance) range = omega (arith, ints)
 content_fair points (Transfer id own first last grams variance) range = omega (arith, ints)
 content_fair points (Dip id tank day mm density variance) range = range.3.0
@@ -166,11 +166,11 @@ amount_fair declared facts days service Tank name all =
 -- ---- streams
 
 -- the variance of a stream that is measured is at least 1
-abbrev HasLeast : Stream → Type 0
+abbrev pub HasLeast : Stream → Type 0
 HasLeast s = IfSome s.meas (λ meas. pos 1 ≤ℤ meas.variance)
 
 -- what is measured has a variance of at least 1
-measured_least : (declared : List Declared) (facts : List Fact) (days : Days) (service : Option Service) (arc : Arc) → All IsInRange facts → IsArcBase arc.kind arc.base
+pub measured_least : (declared : List Declared) (facts : List Fact) (days : Days) (service : Option Service) (arc : Arc) → All IsInRange facts → IsArcBase arc.kind arc.base
     → IfSome (measured declared facts days service arc) (λ meas. pos 1 ≤ℤ meas.variance)
 measured_least declared facts days service arc all limits = by arc.kind limits (amount_fair declared facts days service arc.kind arc.name all)
   where
@@ -193,7 +193,7 @@ base_within Tank base limits = record { value = omega arith; least = limits.0; g
 
 -- ---- graphs
 
-all_map : {A B : Type 0} (P : A → Type 0) (Q : B → Type 0) (f : A → B) (xs : List A) → ((x : A) → P x → Q (f x)) → All P xs → All Q (map f xs)
+pub all_map : {A B : Type 0} (P : A → Type 0) (Q : B → Type 0) (f : A → B) (xs : List A) → ((x : A) → P x → Q (f x)) → All P xs → All Q (map f xs)
 all_map P Q f [] each all = All-nil Q
 all_map P Q f (x ∷ xs) each all = All-cons Q (f x) (map f xs) (each x (head P x xs all)) (all_map P Q f xs each (tail P x xs all))
 
@@ -272,7 +272,7 @@ served_of declared facts days plant part limits =
     }
 
 -- a graph within the limits, if its variances are large enough
-within_right : (graph : ProcessGraph) → (All IsWithinLimits graph.streams → IsProcessGraph graph) → All HasLeast graph.streams → IfOk (within_limits graph) IsProcessGraph
+pub within_right : (graph : ProcessGraph) → (All IsWithinLimits graph.streams → IsProcessGraph graph) → All HasLeast graph.streams → IfOk (within_limits graph) IsProcessGraph
 within_right graph right least = by (position is_over graph.streams) refl
   where
     by : (o : Option ℕ) → position is_over graph.streams ≡ o → IfOk (unless_over graph o) IsProcessGraph

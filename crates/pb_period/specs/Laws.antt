@@ -2,6 +2,8 @@
 use Rattle.std.specs.Prelude.{◌≡◌, ℕ, true, false, List, [], ◌∷◌, ◌++◌, length, slice_get, All, IfOk, Some, codes}
 use Rattle.pb_rows.specs.declared.name.Names.{Names}
 use Rattle.pb_graph.specs.ProcessGraph.{IsProcessGraph, ProcessGraph}
+use Rattle.pb_window.specs.declared.window.Window.{Window}
+use Rattle.pb_window.specs.Window.{IsWindow}
 use Rattle.pb_site.specs.declared.declared.Declared.{Declared}
 use Rattle.pb_site.specs.declared.declared.Version.TheVariants.{Two}
 use Rattle.pb_site.specs.Site.{AreDistinct, HasDistinctNames, version_of}
@@ -16,6 +18,7 @@ use Rattle.pb_book.specs.Rows.{declared_of, facts_of, periods_of, with_row}
 use Rattle.pb_period.specs.Days.{days_of}
 use Rattle.pb_period.specs.declared.days.Days.{Days}
 use Rattle.pb_period.specs.PeriodGraph.{assembly_of, design_graph, period_graph, period_names}
+use Rattle.pb_period.specs.WindowGraph.{window_assembly}
 
 -- names of a graph: one for each node, the environment's first, and one for each stream; no two nodes share one, and no two streams
 pub record AreGraphNames (names : Names) (graph : ProcessGraph) : Type 0 where
@@ -36,6 +39,12 @@ pub record HaveGraphs (rows : List StoredRow) : Type 0 where
 -- so it is of accepted rows
 abbrev pub GraphsLaw : Type 0
 GraphsLaw = (rows : List StoredRow) → AreAccepted rows → HaveGraphs rows
+
+-- the graph of a window, if it has one, is within the limits
+abbrev pub WindowGraphsLaw : Type 0
+WindowGraphsLaw =
+    (rows : List StoredRow) (periods : List Period) (window : Window) → AreAccepted rows → IsWindow window
+    → IfOk (window_assembly rows periods window) IsProcessGraph
 
 -- rows with the same graphs, of the design and of all days, and with the same names
 pub record HaveSameGraphs (rows other : List StoredRow) : Type 0 where

@@ -204,8 +204,14 @@ fn served_stream(book: &Book, part: &OnDays, days: Days, j: u32, arc: &Arc) -> S
     }
 }
 
-// What some days measured of an arc with these days of service.
-fn measured(book: &Book, days: Days, service: Option<Service>, j: u32, arc: &Arc) -> Option<Meas>
+/// What some days measured of an arc with these days of service.
+pub fn measured(
+    book: &Book,
+    days: Days,
+    service: Option<Service>,
+    j: u32,
+    arc: &Arc,
+) -> Option<Meas>
     requires days { AreDays days }
     requires place { slice_get (arcs_of (declared_of book.now)) j ≡ Some arc.now }
     requires base { IsArcBase arc.now.kind arc.now.base }

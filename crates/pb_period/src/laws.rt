@@ -1,6 +1,6 @@
 // The laws of the graphs.
 
-ghost use Rattle.pb_period.specs.Laws.{ClosedGraphsLaw, GraphsLaw, PlainGraphsLaw, UntouchedLaw};
+ghost use Rattle.pb_period.specs.Laws.{ClosedGraphsLaw, GraphsLaw, PlainGraphsLaw, UntouchedLaw, WindowGraphsLaw};
 
 use pb_book::{accepted_law, plain_law};
 use pb_site::{days_law, plant_law, same_part_law};
@@ -13,6 +13,14 @@ pub fn graphs_law()
 {
     plant_law();
     days_law();
+    accepted_law();
+}
+
+/// The law that the graph of a window of accepted rows, if it has one, is within the limits.
+pub fn window_graphs_law()
+    ensures { WindowGraphsLaw }
+{
+    plant_law();
     accepted_law();
 }
 

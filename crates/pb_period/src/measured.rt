@@ -9,6 +9,7 @@ ghost use Rattle.pb_period.specs.Amounts.{IsAmount};
 ghost use Rattle.pb_period.specs.Days.{AreDays, each_of};
 ghost use Rattle.pb_period.specs.Facts.{content_of, read_amount, read_on};
 ghost use Rattle.pb_period.specs.Measurement.{change_of, difference_of, read_total, served_days};
+ghost use Rattle.pb_period.specs.WindowGraph.{held_at};
 
 use crate::amount::Amount;
 use crate::days::Days;
@@ -100,6 +101,15 @@ fn content_of(strap: &Strap, dip: &Fact) -> Amount
         },
         _ => Amount::zero(),
     }
+}
+
+/// What a tank holds at the end of a day; `None` iff it has no dip of the day.
+pub fn held_at(facts: &Facts, strap: &Strap, tank: &Name, day: i32) -> Option<Amount>
+    ensures value { result ≡ held_at (live_facts facts.now) tank.now day strap.now }
+    ensures within { IfSome result (IsAmount 1) }
+{
+    let dip = dip_on(facts, tank, day)?;
+    Some(content_of(strap, &dip))
 }
 
 /// The change of a tank's content over those of some days on which it is in service; `None` iff it has no dip of the last of these

@@ -5,6 +5,8 @@ pub mod Names
 pub mod Rows
 pub mod Refusal
 pub mod Over
+pub mod Window
+pub mod Component
 pub mod Certificate
 pub mod Design
 pub mod Advice

@@ -1,10 +1,12 @@
 mod AppendingLemmas
+mod BalanceLemmas
 mod FirstStageLemmas
 mod ClosedLemmas
 mod CriticalLemmas
 mod EditedLemmas
 mod HistoryLemmas
 mod NamedLemmas
+mod WindowedLemmas
 mod ReportLemmas
 mod RowLemmas
 mod SomeTextLemmas

@@ -8,7 +8,7 @@ use Rattle.pb_graph.specs.Alike.{AreAlike}
 use Rattle.pb_graph.specs.ProcessGraph.{ProcessGraph, IsProcessGraph}
 use Rattle.pb_graph.specs.WellFormed.{IsWellFormedStudy}
 use Rattle.pb_classify.specs.Classification.{IsClassification}
-use Rattle.pb_elim.specs.Certified.{IsCertifiedStage}
+use Rattle.pb_elim.specs.Certified.{IsCertifiedStage, HasLeastThroughout, TestsEachRedundant}
 use Rattle.pb_elim.specs.Options.{AreOptions}
 use Rattle.pb_elim.specs.Study.{IsStudyOf}
 use Rattle.pb_book.specs.declared.answer.Accepted.{Accepted}
@@ -25,7 +25,7 @@ use Rattle.pb_session.specs.declared.kept.KeptStudy.{KeptStudy}
 use Rattle.pb_session.specs.declared.session.Reported.{Reported}
 use Rattle.pb_session.specs.Criticals.{critical_of}
 use Rattle.pb_session.specs.Kept.{Held, IsKeptAt, most_kept}
-use Rattle.pb_session.specs.Session.{SessionState}
+use Rattle.pb_session.specs.Session.{BalancesIn, SessionState}
 
 -- ---- the kept studies
 
@@ -88,7 +88,17 @@ abbrev pub IsRenewal : Option ProcessGraph → ProcessGraph → Option (List Cla
 IsRenewal reported graph (Some list) = IsClassification graph list
 IsRenewal reported graph None = KeepsAlike reported graph
 
--- ---- what a report leaves to be kept
+-- ---- a study and what a report leaves to be kept
+
+-- A study is that of a graph, by what the session asks and the critical values of the stored rows, with all that a report promises of its
+-- stages; and it is well formed.
+pub record IsStudied (state : SessionState) (graph : ProcessGraph) (study : Study) : Type 0 where
+  pub limits : IsProcessGraph graph
+  pub is_study : IsStudyOf graph state.options (critical_of state.rows) study
+  pub certified : All IsCertifiedStage study.stages
+  pub least : All HasLeastThroughout study.stages
+  pub tested : All TestsEachRedundant study.stages
+  pub formed : IsWellFormedStudy graph study
 
 -- the study is that of the graph, and it isn't kept; or none was made, since one is kept
 abbrev pub IsMade : Held → ℕ → ProcessGraph → Option Study → Type 0
@@ -112,6 +122,18 @@ IsReportedBy held i (Err why) (Some reported) = ⊥
 abbrev pub IsReportedAt : Held → ℕ → Option Period → Option Reported → Type 0
 IsReportedAt held i (Some period) reported = IsReportedBy held i (assembly_of held.state.rows (days_of period)) reported
 IsReportedAt held i None reported = ⊥
+
+-- ---- the component graph of a period
+
+-- a graph has as many nodes and streams as another one
+pub record HasCountsOf (graph other : ProcessGraph) : Type 0 where
+  pub nodes : other.nodes ≡ graph.nodes
+  pub streams : length other.streams ≡ length graph.streams
+
+-- an answer is the component graph of the period at a place, or the first stream beyond the limits
+abbrev pub IsBalanceAt : SessionState → List ℕ → Option Period → Result ProcessGraph Assembly → Type 0
+IsBalanceAt state component (Some period) answer = BalancesIn state component period (assembly_of state.rows (days_of period)) answer
+IsBalanceAt state component None answer = ⊥
 
 -- ---- the invariant
 

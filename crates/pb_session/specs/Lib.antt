@@ -12,3 +12,4 @@ pub mod Closed
 -- Inside
 pub mod Accepted
 pub mod Keeping
+pub mod Windowed

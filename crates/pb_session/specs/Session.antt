@@ -1,10 +1,17 @@
 -- Statement. The output of a session.
-use Rattle.std.specs.Prelude.{◌≡◌, ℕ, ℤ, ◌+◌, Bool, ◌||◌, false, List, [], ◌∷◌, ◌++◌, Option, Some, None, slice_get, All, Result, Ok, Err, codes}
+use Rattle.std.specs.Prelude.{◌≡◌, ℕ, ℤ, ◌+◌, Bool, ◌||◌, false, List, [], ◌∷◌, ◌++◌, Option, Some, None, slice_get, length, All, Result, Ok, Err, codes}
 use Rattle.pb_rows.specs.declared.name.Names.{Names}
+use Rattle.pb_window.specs.Codes.{window_names}
+use Rattle.pb_window.specs.Places.{window_places}
 use Rattle.pb_graph.specs.declared.records.Classified.{Classified}
 use Rattle.pb_graph.specs.declared.results.Options.{Options}
+use Rattle.pb_graph.specs.declared.results.Stage.{Stage}
 use Rattle.pb_graph.specs.declared.results.Study.{Study}
 use Rattle.pb_graph.specs.ProcessGraph.{ProcessGraph, IsProcessGraph}
+use Rattle.pb_assay.specs.declared.component.ComponentFault.{ComponentFault}
+use Rattle.pb_assay.specs.declared.component.ComponentFault.TheVariants as fault
+use Rattle.pb_assay.specs.declared.grade.Grade.{Grade}
+use Rattle.pb_assay.specs.Component.{component_of}
 use Rattle.pb_classify.specs.Classification.{IsClassification}
 use Rattle.pb_advise.specs.declared.advice.Advice.{Advice}
 use Rattle.pb_advise.specs.Choice.{AreCosts}
@@ -20,11 +27,14 @@ use Rattle.pb_book.specs.declared.rows.Period.{Period}
 use Rattle.pb_book.specs.declared.rows.StoredRow.{StoredRow}
 use Rattle.pb_book.specs.Rows.{declared_of, periods_of}
 use Rattle.pb_book.specs.Costs.{meter_costs}
+use Rattle.pb_book.specs.Windows.{names_of_periods, periods_between, window_between}
 use Rattle.pb_book.specs.Answer.{Answer, Refused, Says, Stored, after, answer_of, code_of, is_refused}
 use Rattle.pb_period.specs.Days.{days_of}
+use Rattle.pb_period.specs.Grades.{grades_of}
 use Rattle.pb_period.specs.declared.graph.Assembly.{Assembly}
 use Rattle.pb_period.specs.declared.graph.Assembly.TheVariants.{Over, NoMemory}
 use Rattle.pb_period.specs.PeriodGraph.{assembly_of, design_graph, period_names}
+use Rattle.pb_period.specs.WindowGraph.{window_assembly}
 use Rattle.pb_session.specs.Criticals.{critical_of}
 use Rattle.pb_session.specs.History.{told_history}
 use Rattle.pb_report.specs.declared.form.Form.{Form}
@@ -33,9 +43,11 @@ use Rattle.pb_report.specs.Row.{OutputRow}
 use Rattle.pb_report.specs.Names.{IsNamed, name_at}
 use Rattle.pb_report.specs.Refusal.{refused_row}
 use Rattle.pb_report.specs.Advice.{advice_rows}
+use Rattle.pb_report.specs.Component.{component_row}
 use Rattle.pb_report.specs.Design.{design_rows}
 use Rattle.pb_report.specs.Over.{over_row}
 use Rattle.pb_report.specs.Study.{study_rows}
+use Rattle.pb_report.specs.Window.{window_rows}
 
 -- What a session holds: what is asked of its studies, the form of its output, and the rows stored so far.
 pub record SessionState : Type 0 where
@@ -99,6 +111,87 @@ abbrev pub Reports : SessionState → Option Period → List ℕ → Type 0
 Reports state (Some period) text = ReportsBy state period (assembly_of state.rows (days_of period)) text
 Reports state None text = ⊥
 
+-- A text is these rows, and after them the report of a graph.
+pub record IsReportAfter (state : SessionState) (rows : List OutputRow) (names : Names) (period : List ℕ) (graph : ProcessGraph) (text : List ℕ) : Type 0 where
+  pub front : List ℕ
+  pub rest : List ℕ
+  pub before : IsTextOf state rows front
+  pub report : IsReport state names period graph rest
+  pub whole : text ≡ front ++ rest
+
+-- ---- the balance of a component
+
+-- the last stage of a study
+abbrev pub last_stage : Study → Option Stage
+last_stage study = slice_get study.stages (length study.taken)
+
+-- a component graph, or its first stream beyond the limits
+abbrev pub component_assembly : Result ProcessGraph ComponentFault → Result ProcessGraph Assembly
+component_assembly (Ok component) = Ok component
+component_assembly (Err (fault.Over j)) = Err (Over j)
+component_assembly (Err fault.NoMemory) = Err NoMemory
+
+-- An answer is the component graph of a graph, by what the last stage of its study prints of each stream and by these grades; or its first
+-- stream beyond the limits. The study is by the critical values of the stored rows.
+pub record IsBalanceOf (state : SessionState) (graph : ProcessGraph) (grades : List (Option Grade)) (answer : Result ProcessGraph Assembly) : Type 0 where
+  pub limits : IsProcessGraph graph
+  pub study : Study
+  pub is_study : IsStudyOf graph state.options (critical_of state.rows) study
+  pub last : Stage
+  pub is_last : last_stage study ≡ Some last
+  pub is : answer ≡ component_assembly (component_of graph last.streams grades)
+
+-- that of the graph of a period, or the first stream of the period beyond the limits
+abbrev pub BalancesIn : SessionState → List ℕ → Period → Result ProcessGraph Assembly → Result ProcessGraph Assembly → Type 0
+BalancesIn state component period (Ok graph) answer = IsBalanceOf state graph (grades_of state.rows component period) answer
+BalancesIn state component period (Err why) answer = answer ≡ Err why
+
+-- the text of the balance of a component in a period by its graph: the row of the component, and the report of the graph by the names of the
+-- period's nodes and streams; or the row that names the first stream beyond the limits
+abbrev pub BalancesBy : SessionState → List ℕ → Period → Result ProcessGraph Assembly → List ℕ → Type 0
+BalancesBy state component period (Ok graph) text =
+    IsReportAfter state (component_row component period.name ∷ []) (period_names state.rows (days_of period)) period.name graph text
+BalancesBy state component period (Err (Over j)) text =
+    IsTextOf state (over_row period.name (name_at (period_names state.rows (days_of period)).streams j) ∷ []) text
+BalancesBy state component period (Err NoMemory) text = ⊥
+
+-- the text of the balance of a component in the period at a place
+abbrev pub Balances : SessionState → List ℕ → Option Period → List ℕ → Type 0
+Balances state component (Some period) text =
+    (answer : Result ProcessGraph Assembly)
+    × BalancesIn state component period (assembly_of state.rows (days_of period)) answer
+    × BalancesBy state component period answer text
+Balances state component None text = ⊥
+
+-- ---- a window of several periods
+
+-- the rows before the report of the window from one period to another: of which periods it is, and what its names stand for
+abbrev pub window_head : List StoredRow → Period → Period → List OutputRow
+window_head rows first last =
+    let periods = periods_between (periods_of rows) first last in
+    window_rows first.name last.name (length periods)
+    (window_places (names_of (declared_of rows)) (names_of_periods periods) (window_between rows first last))
+
+-- the graph of the window from one period to another, or its first stream beyond the limits
+abbrev pub assembly_between : List StoredRow → Period → Period → Result ProcessGraph Assembly
+assembly_between rows first last = window_assembly rows (periods_between (periods_of rows) first last) (window_between rows first last)
+
+-- the text of a window under the name of its first period: the rows before its report, and the report of its graph by the names of its
+-- nodes and streams; or the row that names the first stream beyond the limits
+abbrev pub WindowsBy : SessionState → Period → Period → Result ProcessGraph Assembly → List ℕ → Type 0
+WindowsBy state first last (Ok graph) text =
+    IsReportAfter state (window_head state.rows first last) (window_names (window_between state.rows first last)) first.name graph text
+WindowsBy state first last (Err (Over j)) text =
+    IsTextOf state (over_row first.name (name_at (window_names (window_between state.rows first last)).streams j) ∷ []) text
+WindowsBy state first last (Err NoMemory) text = ⊥
+
+-- the text of the window from the period at one place to the period at another
+abbrev pub Windows : SessionState → Option Period → Option Period → List ℕ → Type 0
+Windows state (Some first) (Some last) text = WindowsBy state first last (assembly_between state.rows first last) text
+Windows state first last text = ⊥
+
+-- ---- what a record adds
+
 -- the text of the history of the period at a place
 abbrev pub Tells : SessionState → Option Period → List ℕ → Type 0
 Tells state (Some period) text = IsTextOf state (told_history state.rows period) text
@@ -111,6 +204,9 @@ AddsAccepted state costs answered.Stored text = text ≡ []
 AddsAccepted state costs answered.Design text = IsDesign state (names_of (declared_of state.rows)) (design_graph state.rows) text
 AddsAccepted state costs (answered.Report i) text = Reports state (slice_get (periods_of state.rows) i) text
 AddsAccepted state costs (answered.History i) text = Tells state (slice_get (periods_of state.rows) i) text
+AddsAccepted state costs (answered.Component component i) text = Balances state component (slice_get (periods_of state.rows) i) text
+AddsAccepted state costs (answered.Window first last) text =
+    Windows state (slice_get (periods_of state.rows) first) (slice_get (periods_of state.rows) last) text
 AddsAccepted state costs answered.Advise text =
     IsAdviceText state (names_of (declared_of state.rows)) (design_graph state.rows) (meter_costs (declared_of state.rows) costs) text
 
@@ -121,7 +217,8 @@ AddsBy state at costs (Stored row) text = text ≡ []
 AddsBy state at costs (Says accepted) text = AddsAccepted state costs accepted text
 
 -- The text that a record adds to the output: a refused one its row, `design` the rows of the design, `report` those of the report,
--- `history` those of the history, `advise` those of the advice.
+-- `history` those of the history, `advise` those of the advice, `component` its row and the report of the component's graph,
+-- `window` its rows and the report of its graph.
 abbrev pub Adds : SessionState → ℕ → List (List ℕ) → List ℕ → Type 0
 Adds state at fields text = AddsBy state at (named_costs fields) (answer_of state.rows fields) text
 

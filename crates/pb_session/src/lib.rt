@@ -1,8 +1,9 @@
 //! A session: records in, one at a time, and the rows that each of them adds to the output.
 //!
 //! The book takes or refuses each record. A `design` row writes the class of each stream of the declared plant, an `advise` row its
-//! cheapest metering, a `report` row the report of a period as it stands, a `history` row the edits that touch a period, and a refused
-//! record its cause; the session goes on behind it.
+//! cheapest metering, a `report` row the report of a period as it stands, a `window` row that of several periods at once, a `component`
+//! row the balance of a component in a period, a `history` row the edits that touch a period, and a refused record its cause; the session
+//! goes on after it.
 #![tactic(auto)]
 
 mod classes;
@@ -11,6 +12,7 @@ mod history;
 mod kept;
 mod laws;
 mod session;
+mod windows;
 
 pub use classes::Classes;
 pub use laws::{criticals_law, edited_file_law, kept_law, one_text_law, some_text_law};

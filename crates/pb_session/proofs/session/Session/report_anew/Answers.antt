@@ -35,8 +35,8 @@ over_within : (rows : List StoredRow) (days : Days) (j : ℕ) (r : Result Proces
     → j < length (period_graph rows days).streams
 over_within rows days j r is named = subst (λ (r : Result ProcessGraph Assembly). IfErr r (NamesAStream rows days)) is named
 
-pub write_graph-requires-clause-names : goal.write_graph-requires-clause-names
-write_graph-requires-clause-names c =
+pub report_graph-requires-clause-names : goal.report_graph-requires-clause-names
+report_graph-requires-clause-names c =
     let rows = c.self.inside.book in
     let period = c.period.result in
     let found = slice_get (periods_of rows) c.args.i in
@@ -76,7 +76,7 @@ returns-in-Ok-clause-ok c =
     let at_now : slice_get (periods_of state.rows) i ≡ Some period = subst (λ (rs : List StoredRow). slice_get (periods_of rs) i ≡ Some period) rows_is c.period.ensures.value in
     let names_now : names ≡ period_names state.rows (days_of period) = subst (λ (rs : List StoredRow). names ≡ period_names rs (days_of period)) rows_is names_is in
     let answer_now : c.assemble.result ≡ assembly_of state.rows (days_of period) = subst (λ (rs : List StoredRow). c.assemble.result ≡ assembly_of rs (days_of period)) rows_is answer_is in
-    let (text, written, is) = c.in_ok-write_graph-in-Ok.ensures.ok in
+    let (text, written, is) = c.in_ok-report_graph-in-Ok.ensures.ok in
     (text, written, reports_at state i period (Ok graph) text at_now (sym c.in-Ok.is ∙ answer_now) (subst (λ (n : Names). IsReport state n period.name graph text) names_now is))
 
 pub returns-in-Ok-clause-leaves : goal.returns-in-Ok-clause-leaves
@@ -92,7 +92,7 @@ returns-in-Ok-clause-leaves c =
     let answer_is = at_found found period (λ (p : Period). c.assemble.result ≡ assembly_of rows (days_of p)) c.period.ensures.value (c.assemble.ensures.answer sure) in
     let at_now : slice_get (periods_of held.state.rows) i ≡ Some period = subst (λ (rs : List StoredRow). slice_get (periods_of rs) i ≡ Some period) rows_is c.period.ensures.value in
     let answer_now : c.assemble.result ≡ assembly_of held.state.rows (days_of period) = subst (λ (rs : List StoredRow). c.assemble.result ≡ assembly_of rs (days_of period)) rows_is answer_is in
-    reported_at held i (slice_get (periods_of held.state.rows) i) period graph _ at_now (sym c.in-Ok.is ∙ answer_now) c.in_ok-write_graph-in-Ok.ensures.leaves
+    reported_at held i (slice_get (periods_of held.state.rows) i) period graph _ at_now (sym c.in-Ok.is ∙ answer_now) c.in_ok-report_graph-in-Ok.ensures.leaves
 
 pub returns-in-Err-Over-clause-ok : goal.returns-in-Err-Over-clause-ok
 returns-in-Err-Over-clause-ok c =
