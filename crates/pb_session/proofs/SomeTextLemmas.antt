@@ -1,5 +1,5 @@
 -- Each record adds a text, and each session has one.
-use Rattle.std.proofs.Common.{◌≡◌, ◌≢◌, ℕ, ◌+◌, ◌<◌, List, [], ◌∷◌, ◌++◌, length, map, Option, Some, None, IfOk, Result, Ok, Err, slice_get, get_or, refl, sym, subst}
+use Rattle.std.proofs.Common.{◌≡◌, ◌≢◌, ◌∙◌, ℕ, ◌+◌, ◌<◌, List, [], ◌∷◌, ◌++◌, length, map, Option, Some, None, IfOk, Result, Ok, Err, slice_get, get_or, refl, sym, ap, subst}
 use Rattle.std.specs.Prelude.{All, IfSome}
 use Rattle.std.proofs.lemmas.List.{length-map}
 use Rattle.std.proofs.lemmas.List.Elements.{All-map}
@@ -38,7 +38,7 @@ use Rattle.pb_period.specs.Days.{days_of}
 use Rattle.pb_period.specs.Grades.{grades_of}
 use Rattle.pb_period.specs.declared.graph.Assembly.{Assembly}
 use Rattle.pb_period.specs.declared.graph.Assembly.TheVariants.{Over, NoMemory}
-use Rattle.pb_period.specs.PeriodGraph.{assembly_of, base_of, design_graph, period_graph, unless_over}
+use Rattle.pb_period.specs.PeriodGraph.{assembly_of, base_of, design_graph, period_graph, period_names, unless_over}
 use Rattle.pb_report.specs.Component.{component_row}
 use Rattle.pb_report.specs.Form.{text_in}
 use Rattle.pb_session.specs.Criticals.{critical_of}
@@ -177,7 +177,8 @@ some_balances state known component i asked graphs there =
     let period = get_or (periods_of state.rows) i some_period in
     let graph = period_graph state.rows (days_of period) in
     let within = graphs.periods i some_period there in
-    let (text, balance) = some_balance state known component period (assembly_of state.rows (days_of period)) asked graphs within refl (never_memory graph _) in
+    let (text, answer, of, by) = some_balance state known component period (assembly_of state.rows (days_of period)) asked graphs within refl (never_memory graph _) in
+    let balance : Balances state component (Some period) text = (answer, of, by) in
     (text, subst (λ (found : Option Period). Balances state component found text) (sym (slice_get-get_or (periods_of state.rows) i some_period there)) balance)
 
 -- ---- a window of several periods

@@ -76,7 +76,7 @@ window_at rows first last places window asked between few is form codes named =
           (named asked.one asked.other asked.first_is asked.last_is);
     }
 
-same_found : {A : Type 0} (a b : A) (found : Option A) → found ≡ Some a → found ≡ Some b → a ≡ b
+pub same_found : {A : Type 0} (a b : A) (found : Option A) → found ≡ Some a → found ≡ Some b → a ≡ b
 same_found a b found one other = cc (one, other)
 
 -- the rows before the report of a window, as they are written
@@ -119,10 +119,13 @@ window_names_are rows periods window graph codes is =
       streams = codes.streams.differ;
     })
 
--- what is assembled of a window that was made is what the two periods have
-pub assembled_at : (rows : List StoredRow) (first last : ℕ) (places : List ℕ) (window : Window) (r : Result ProcessGraph Assembly) (at : IsWindowAt rows first last places window)
-    → r ≡ window_assembly rows (periods_at rows places) window → r ≡ assembly_between rows at.one at.other
-assembled_at rows first last places window r at is = is ∙ ap₂ (window_assembly rows) at.periods at.window_is
+-- what is assembled of the window between two periods
+pub between_is : (rows : List StoredRow) (first last : ℕ) (one other : Period) (places : List ℕ) (window : Window) (r : Result ProcessGraph Assembly)
+    → slice_get (periods_of rows) first ≡ Some one → slice_get (periods_of rows) last ≡ Some other → ArePlacesBetween rows first last places → IsWindowBetween rows first last window
+    → r ≡ window_assembly rows (periods_at rows places) window → r ≡ assembly_between rows one other
+between_is rows first last one other places window r first_is last_is between is answer =
+    let found = places_found (periods_of rows) places (periods_between (periods_of rows) one other) (between one other first_is last_is) in
+    answer ∙ ap₂ (window_assembly rows) found.items_are (is one other first_is last_is)
 
 -- ---- the text
 

@@ -161,7 +161,7 @@ impl Session {
             Ok(accepted) => {
                 untouched_law();
                 closed_graphs_law();
-                drop_touched(&mut self.kept, &self.book, accepted);
+                drop_touched(&mut self.kept, &self.book, &accepted);
                 self.write(accepted, row, out)?;
                 Ok(false)
             }

@@ -1,4 +1,4 @@
-use Rattle.std.proofs.Common.{◌≡◌, ◌∙◌, ◌<◌, ◌++◌, List, ℕ, length, slice_get, Some, All, Result, Ok, Err, OnErr, OnOk, sym, ap, ap₂, subst, arith, take}
+use Rattle.std.proofs.Common.{◌≡◌, ◌∙◌, ◌<◌, ◌++◌, List, ℕ, length, slice_get, Some, All, Result, Ok, Err, OnErr, OnOk, sym, ap, ap₂, subst, arith, rules, take}
 use Rattle.std.proofs.lemmas.List.{take-append-le}
 use Rattle.std.proofs.lemmas.Option.{slice_get_within}
 use Rattle.pb_window.specs.Places.{HaveNames, window_places}
@@ -12,7 +12,7 @@ use Rattle.pb_report.specs.Form.{text_in}
 use Rattle.pb_report.specs.Window.{window_rows}
 use Rattle.pb_session.specs.Kept.{Held}
 use Rattle.pb_session.specs.Windowed.{IsWindowAt}
-use Rattle.pb_session.proofs.WindowedLemmas.{after_err, head_is, head_ok}
+use Rattle.pb_session.proofs.WindowedLemmas.{head_is, head_ok}
 use Rattle.pb_session.proofs.session.Session.report_window.Goals as goal
 
 -- what is known of the session's rows is known of the book's
@@ -44,7 +44,3 @@ returns-clause-ok c =
     head_ok c.report_after.result state first last c.period-name.result c.args.names.now c.args.graph.now rows _ _ _ a_is
     (λ one other first_is last_is. head_is state.rows first last periods window c.period-name.result c.period.result one other c.as_slice.result.now c.requires.window a_is b_is first_is last_is stand_is)
     (c.in_ok-write_window.ensures.ok ∙ ap (λ (form : Form). c.args.out.now.items ++ text_in form rows) form_is) c.report_after.ensures.ok
-
-pub returns-clause-err : goal.returns-clause-err
-returns-clause-err c =
-    after_err c.report_after.result _ _ _ _ c.len-before.result c.len-before.ensures c.in_ok-write_window.ensures.ok c.report_after.ensures.err
