@@ -109,3 +109,72 @@ fn books_rows_and_says_what_they_are(rt: HostRuntime) -> Result<(), Fail> {
     assert_eq!(rt; counts, (1, 1, 4), "arcs, facts and plain rows");
     Ok(())
 }
+
+/// A plant of two streams, and assays of two components over two periods.
+const ASSAYS: &[u8] =
+    b"unit,U\nstream,A,env,U,metered,1\nstream,B,U,env,metered,1\nperiod,p,1970-01-03,1970-01-05\nperiod,q,1970-01-06,1970-01-06\nassay,au,A,p,7,1\nassay,cu,A,q,30000,0\nassay,cu,B,p,20000,100\n";
+
+// The parts per million of the last assay, if there is one.
+fn last_ppm(book: &Book) -> Option<i64> {
+    match book.assays() {
+        0 => None,
+        n => Some(book.assay(n - 1).grade.ppm),
+    }
+}
+
+// The parts per million of a component over the first period in the first two of these streams.
+fn ppm_over(
+    alloc: Global,
+    book: &Book,
+    component: &Name,
+    streams: &[Name],
+) -> Result<(Option<i64>, Option<i64>), Fail> {
+    if book.periods() == 0 {
+        return Ok((None, None));
+    }
+    let grades = book.grades(alloc, component, 0, streams)?;
+    let first = match grades.get(0) {
+        Some(Some(grade)) => Some(grade.ppm),
+        _ => None,
+    };
+    let second = match grades.get(1) {
+        Some(Some(grade)) => Some(grade.ppm),
+        _ => None,
+    };
+    Ok((first, second))
+}
+
+// The first assay row refused, the number of assays, the last one's parts per million, and those of copper over the first period.
+type Assayed = (Option<usize>, u32, Option<i64>, (Option<i64>, Option<i64>));
+
+fn ask_assays(
+    alloc: Global,
+    book: &mut Book,
+    component: &Name,
+    streams: &[Name],
+) -> Result<Assayed, Fail> {
+    let rows = Rows::of(alloc, ASSAYS)?;
+    let refused = first_refused(book, 1, &rows);
+    let ppm = ppm_over(alloc, book, component, streams)?;
+    Ok((refused, book.assays(), last_ppm(book), ppm))
+}
+
+fn assayed(alloc: Global, component: &Name, streams: &[Name]) -> Result<Assayed, Fail> {
+    let mut book = Book::new(alloc);
+    ask_assays(alloc, &mut book, component, streams)
+}
+
+#[test]
+fn says_which_assays_there_are(rt: HostRuntime) -> Result<(), Fail> {
+    let copper = Name::read(b"cu").ok_or("a name")?;
+    let streams = [
+        Name::read(b"A").ok_or("a name")?,
+        Name::read(b"B").ok_or("a name")?,
+    ];
+    assert_eq!(rt;
+        assayed(rt.alloc(), &copper, &streams)?,
+        (None, 3, Some(20000), (None, Some(20000))),
+        "assays"
+    );
+    Ok(())
+}

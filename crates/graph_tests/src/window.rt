@@ -179,7 +179,12 @@ fn window_over(
 {
     assert!(rt; is_plant(plant), "a plant");
     assert!(rt; spans.len() <= 31, "periods");
-    assert!(rt; spans.iter().all(|span| span.first >= 0), "periods");
+    assert!(rt;
+        spans
+            .iter()
+            .all(|span| span.first >= -25_567 && span.first <= 84_005),
+        "days"
+    );
     window_of(alloc, plant, spans)
 }
 

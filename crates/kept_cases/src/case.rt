@@ -182,10 +182,15 @@ fn take_record(alloc: Global, session: &mut Session, row: &Row) -> Result<Answer
     let mut added = Vec::new(alloc);
     let refused = session.row(1, row, &mut added)?;
     Ok(Answer {
-        is_report: is(field(row, 0), b"report") && !refused,
+        is_report: asks_for_report(field(row, 0)) && !refused,
         added,
         refused,
     })
+}
+
+// Whether a record of this kind asks for a report, or for the balance of a component, which has one.
+fn asks_for_report(kind: &[u8]) -> bool {
+    is(kind, b"report") || is(kind, b"component")
 }
 
 // A session takes records.

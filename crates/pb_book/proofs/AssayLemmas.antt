@@ -1,14 +1,14 @@
 -- The assays of a book: the sets that tell which there are, and the grades that they give.
-use Rattle.std.specs.Prelude.{◌&&◌, ◌||◌, All, AllPairs, IfSome, find, if◌then◌else◌, option_or, take}
+use Rattle.std.specs.Prelude.{◌&&◌, ◌||◌, All, IfSome, find, if◌then◌else◌, map, position, take}
 use Rattle.std.specs.Cmp.Lexicographic.{bytes_decides}
 use Rattle.std.specs.HashSet.{HashSet, contains}
 use Rattle.std.specs.List.{list_any}
-use Rattle.std.specs.Option.{option_map}
+use Rattle.std.specs.Option.{option_map, option_or}
 use Rattle.std.proofs.Common.{◌≡◌, ◌∙◌, ◌+◌, ◌<◌, ◌≤◌, ℕ, suc, List, [], ◌∷◌, ◌++◌, get_or, length, slice_get, Bool, true, false, Option, Some, None, refl, sym, ap, subst, arith, inl, inr, length-append}
-use Rattle.std.proofs.lemmas.Bool.{and_parts, cases_Bool}
-use Rattle.std.proofs.lemmas.List.{get_or-take, get_or_default, length-take-le}
+use Rattle.std.proofs.lemmas.Bool.{and_parts, cases_Bool, or_parts}
+use Rattle.std.proofs.lemmas.List.{get_or-take, get_or_default, length-take-le, map-append}
 use Rattle.std.proofs.lemmas.List.Elements.{All-head, All-push, All-tail}
-use Rattle.std.proofs.lemmas.List.Folds.{find-append, list_any-append, list_any_none}
+use Rattle.std.proofs.lemmas.List.Folds.{find-append, list_any-append, list_any_at, list_any_none}
 use Rattle.std.proofs.lemmas.List.Quantifiers.{all_pairs_push}
 use Rattle.std.proofs.lemmas.Option.{get_or_from_slice_get, slice_get_within}
 use Rattle.std.proofs.Math.Seq.{take-suc}
@@ -17,9 +17,11 @@ use Rattle.pb_assay.specs.declared.grade.Grade.{Grade}
 use Rattle.pb_rows.specs.Name.{same_name}
 use Rattle.pb_kinds.specs.Ranges.{most_assays}
 use Rattle.pb_kinds.specs.declared.rows.Assay.{Assay}
+use Rattle.pb_book.specs.declared.rows.Period.{Period}
+use Rattle.pb_book.specs.Apart.{AreApart, is_named}
 use Rattle.pb_book.specs.Assays.{grade_among, is_assay_of, is_assay_over}
-use Rattle.pb_book.specs.Kept.{AreAssays, is_like, same_three, same_two}
-use Rattle.pb_book.proofs.PeriodLemmas.{fails_at}
+use Rattle.pb_book.specs.Kept.{AreAssays, AreUnlike, is_like, same_three, same_two}
+use Rattle.pb_book.proofs.PeriodLemmas.{fails_at, only_named, position_at_first}
 
 -- ---- the sets, with one assay more
 
@@ -77,14 +79,12 @@ like_of component period stream a b is =
 
 found_none : (test : Assay → Bool) (assays : List Assay) → list_any test assays ≡ false → find test assays ≡ None
 found_none test [] none = refl
-found_none test (a ∷ assays) none = by (test a) refl
-  where
-    by : (b : Bool) → test a ≡ b → find test (a ∷ assays) ≡ None
-    by true is = cc (rw is at none)
-    by false is = rw is (found_none test assays (rw is at none))
+found_none test (a ∷ assays) none =
+    let parts = or_parts (test a) (list_any test assays) none in
+    rw parts.0 (found_none test assays parts.1)
 
 -- no assay before one is of its component, period and stream
-none_before : (component period stream : List ℕ) (assays : List Assay) (i : ℕ) (one : Assay) → AllPairs (λ (a b : Assay). is_like b a ≡ false) assays → i < length assays
+none_before : (component period stream : List ℕ) (assays : List Assay) (i : ℕ) (one : Assay) → AreUnlike assays → i < length assays
     → get_or assays i one ≡ one → is_assay_of component period stream one ≡ true → find (is_assay_of component period stream) (take i assays) ≡ None
 none_before component period stream assays i one apart lt here is =
     found_none (is_assay_of component period stream) (take i assays) (list_any_none (is_assay_of component period stream) (take i assays) each)
@@ -101,7 +101,7 @@ option_or_none None = refl
 option_or_none (Some x) = refl
 
 -- the grade among the assays up to one more
-grade_more : (assays : List Assay) (i : ℕ) (one : Assay) (component period stream : List ℕ) → AllPairs (λ (a b : Assay). is_like b a ≡ false) assays → slice_get assays i ≡ Some one
+grade_more : (assays : List Assay) (i : ℕ) (one : Assay) (component period stream : List ℕ) → AreUnlike assays → slice_get assays i ≡ Some one
     → grade_among (take (suc i) assays) component period stream
     ≡ (if is_assay_of component period stream one then Some one.grade else grade_among (take i assays) component period stream)
 grade_more assays i one component period stream apart at =
@@ -121,13 +121,13 @@ grade_more assays i one component period stream apart at =
     grade assay = assay.grade
 
 -- with one more assay of the component over the period, of which the map takes the grade, and with another one
-pub grade_put : (assays : List Assay) (i : ℕ) (one : Assay) (component period stream : List ℕ) (old new : Option Grade) → AllPairs (λ (a b : Assay). is_like b a ≡ false) assays
+pub grade_put : (assays : List Assay) (i : ℕ) (one : Assay) (component period stream : List ℕ) (old new : Option Grade) → AreUnlike assays
     → slice_get assays i ≡ Some one → is_assay_over component period one ≡ true → new ≡ (if same_name one.stream stream then Some one.grade else old)
     → old ≡ grade_among (take i assays) component period stream → new ≡ grade_among (take (suc i) assays) component period stream
 grade_put assays i one component period stream old new apart at over put so_far =
     put ∙ ap (λ (o : Option Grade). if same_name one.stream stream then Some one.grade else o) so_far ∙ sym (grade_more assays i one component period stream apart at ∙ rw over refl)
 
-pub grade_passed : (assays : List Assay) (i : ℕ) (one : Assay) (component period stream : List ℕ) (old : Option Grade) → AllPairs (λ (a b : Assay). is_like b a ≡ false) assays
+pub grade_passed : (assays : List Assay) (i : ℕ) (one : Assay) (component period stream : List ℕ) (old : Option Grade) → AreUnlike assays
     → slice_get assays i ≡ Some one → is_assay_over component period one ≡ false
     → old ≡ grade_among (take i assays) component period stream → old ≡ grade_among (take (suc i) assays) component period stream
 grade_passed assays i one component period stream old apart at other so_far = so_far ∙ sym (grade_more assays i one component period stream apart at ∙ rw other refl)
@@ -140,8 +140,41 @@ grade_within false grade old is before = before
 -- what holds of each item holds of the one that is found
 pub found_of : {X : Type 0} (P : X → Type 0) (test : X → Bool) (xs : List X) → All P xs → IfSome (find test xs) P
 found_of {X} P test [] all = tt
-found_of {X} P test (x ∷ xs) all = by (test x) refl
+found_of {X} P test (x ∷ xs) all = elim (cases_Bool (test x)) [
+  | inl is ↦ rw is (All-head P x xs all)
+  | inr other ↦ rw other (found_of P test xs (All-tail P x xs all))
+]
+
+-- ---- the period of an assay
+
+-- whether the period of a name passes a test, by the first of that name
+pub passes_by_name : (q : Period → Bool) (name : List ℕ) (periods : List Period) (i : ℕ) (d : Period) → AreApart periods → Some i ≡ position (is_named name) periods
+    → q (get_or periods i d) ≡ list_any (λ (period : Period). is_named name period && q period) periods
+passes_by_name q name periods i d apart is =
+    let found = position_at_first (is_named name) periods i d is in
+    elim (cases_Bool (q (get_or periods i d))) [
+      | inl passes ↦ passes ∙ sym (list_any_at both periods i d found.0 (rw (found.1, passes) refl))
+      | inr fails ↦ fails ∙ sym (list_any_none both periods (λ k e lt. elim (cases_Bool (both (get_or periods k e))) [
+        | inl passes ↦
+            let parts = and_parts (is_named name (get_or periods k e)) (q (get_or periods k e)) passes in
+            let named_at : is_named name (get_or periods i e) ≡ true = rw (get_or_default periods i d e found.0) at found.1 in
+            let same = only_named name periods i k e apart found.0 named_at lt parts.0 in
+            let own : q (get_or periods i e) ≡ true = rw same at parts.1 in
+            cc (sym fails ∙ ap q (get_or_default periods i d e found.0) ∙ own)
+        | inr other ↦ other
+      ]))
+    ]
   where
-    by : (b : Bool) → test x ≡ b → IfSome (find test (x ∷ xs)) P
-    by true is = rw is (All-head P x xs all)
-    by false is = rw is (found_of P test xs (All-tail P x xs all))
+    both : Period → Bool
+    both period = is_named name period && q period
+
+pub fails_by_name : (q : Period → Bool) (name : List ℕ) (periods : List Period) → list_any (is_named name) periods ≡ false
+    → list_any (λ (period : Period). is_named name period && q period) periods ≡ false
+fails_by_name q name periods none = list_any_none (λ (period : Period). is_named name period && q period) periods (λ k e lt. rw (fails_at (is_named name) periods k e none lt) refl)
+
+-- ---- the grades of several streams
+
+-- the images of the items up to one more
+pub images_more : {X Y : Type 0} (f : X → Y) (xs : List X) (i : ℕ) (x : X) → i < length xs → x ≡ get_or xs i x → map f (take (suc i) xs) ≡ map f (take i xs) ++ f x ∷ []
+images_more f xs i x lt is =
+    ap (map f) (take-suc xs i x lt) ∙ map-append f (take i xs) (get_or xs i x ∷ []) ∙ ap (λ y. map f (take i xs) ++ f y ∷ []) (sym is)

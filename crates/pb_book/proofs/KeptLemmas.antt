@@ -62,7 +62,7 @@ of_declaration rows declared kept periods assays at row right =
       site = ap (λ (ds : List Declared). ds ++ row ∷ []) right.site ∙ sym (declared_more rows stored);
       facts = right.facts ∙ sym (facts_more rows stored);
       spans = right.spans ∙ sym (periods_more_of rows stored);
-      assays = right.assays ∙ sym (assays_same rows stored refl);
+      assayed = right.assayed ∙ sym (assays_same rows stored refl);
     }
 
 -- the parts behind one more assay
@@ -74,7 +74,7 @@ of_assay rows declared kept periods assays at assay right =
       site = right.site ∙ sym (declared_same rows stored refl);
       facts = right.facts ∙ sym (facts_more rows stored);
       spans = right.spans ∙ sym (periods_more_of rows stored);
-      assays = ap (λ (xs : List Assay). xs ++ assay ∷ []) right.assays ∙ sym (assays_more rows stored);
+      assayed = ap (λ (xs : List Assay). xs ++ assay ∷ []) right.assayed ∙ sym (assays_more rows stored);
     }
 
 -- the parts behind one more row that declares nothing and gives no assay
@@ -87,7 +87,7 @@ of_row rows declared kept periods assays at effect none bare right =
       site = right.site ∙ sym (declared_same rows stored none);
       facts = ap (λ (ks : List KeptFact). facts_after ks effect) right.facts ∙ sym (facts_more rows stored);
       spans = ap (λ (ps : List Period). periods_after ps effect) right.spans ∙ sym (periods_more_of rows stored);
-      assays = right.assays ∙ sym (assays_same rows stored bare);
+      assayed = right.assayed ∙ sym (assays_same rows stored bare);
     }
 
 -- ---- the places of the rows, with one row more

@@ -525,7 +525,7 @@ closed_names name [] = refl
 closed_names name (period ∷ periods) = rw (closed_name name period, closed_names name periods) refl
 
 -- no other period has the name of the one at a place
-only_named : (name : List ℕ) (periods : List Period) (i k : ℕ) (d : Period) → AreApart periods → i < length periods → is_named name (get_or periods i d) ≡ true → k < length periods
+pub only_named : (name : List ℕ) (periods : List Period) (i k : ℕ) (d : Period) → AreApart periods → i < length periods → is_named name (get_or periods i d) ≡ true → k < length periods
     → is_named name (get_or periods k d) ≡ true → k ≡ i
 only_named name periods i k d apart within is lt also =
     let a = get_or periods i d in

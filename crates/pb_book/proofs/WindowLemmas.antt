@@ -2,19 +2,20 @@
 use Rattle.std.specs.Prelude.{◌&&◌, ◌||◌, Contains, filter_map, find, int_le, map, nat_lt, not, position, slice_get}
 use Rattle.std.specs.Int.{int_gap}
 use Rattle.std.specs.List.{cons_option, list_any, position_or_len}
-use Rattle.std.specs.Ordering.{int_eq}
+use Rattle.std.specs.BTreeMap.{BTreeMap, get}
+use Rattle.std.specs.Ordering.{int_cmp, int_eq}
 use Rattle.std.proofs.Common.{◌≡◌, ◌≢◌, ◌∙◌, ℕ, zero, suc, ◌+◌, ◌<◌, ◌≤◌, ℤ, pos, negsuc, ◌≤ℤ◌, ◌<ℤ◌, ◌+ℤ◌, ◌-ℤ◌, Bool, true, false, true≢false, List, [], ◌∷◌, ◌++◌, length, get_or, All, Option, Some, None, refl, sym, ap, subst, arith, append_assoc, append-nil, inl, inr}
-use Rattle.std.proofs.lemmas.Bool.{and_parts, cases_Bool, cases_eq, cases_lt, ltb-false}
+use Rattle.std.proofs.lemmas.Bool.{and_parts, cases_Bool, cases_eq, cases_lt, ltb-false, ltb-true}
 use Rattle.std.proofs.lemmas.Bool.Decides.{Decides-int_eq}
 use Rattle.std.proofs.lemmas.Int.{ints}
 use Rattle.std.proofs.lemmas.List.{get_or_default, map-append}
 use Rattle.std.proofs.lemmas.List.Folds.{find_at, list_any_at, list_any_none}
-use Rattle.std.proofs.lemmas.List.Sums.{fails_before_first}
+use Rattle.std.proofs.lemmas.List.Sums.{fails_before_first, position_or_len_is}
 use Rattle.std.proofs.lemmas.List.Quantifiers.{position-Some}
 use Rattle.std.proofs.lemmas.Option.{cond_some, get_or_from_slice_get}
 use Rattle.pb_book.specs.declared.rows.Period.{Period}
 use Rattle.pb_book.specs.Apart.{AreApart, shares_a_day}
-use Rattle.pb_book.specs.Kept.{ArePlacesOf}
+use Rattle.pb_book.specs.Kept.{AreBegun, ArePlacesOf}
 use Rattle.pb_book.specs.Ranges.{IsPeriod}
 use Rattle.pb_book.specs.Windows.{begins_on, days_between, days_in_row, has_gap, is_in_none, periods_between}
 
@@ -155,22 +156,22 @@ none_has periods i d apart rise within none = list_any_none (shares_a_day ((get_
         let day : ℤ = (get_or periods i d).last +ℤ pos 1 in
         let before_day : day ≡ (get_or periods i d).last +ℤ pos 1 = refl in
         elim (cases_Bool (shares_a_day day day (get_or periods k e))) [
-      | inr other ↦ other
-      | inl has ↦
-          let default : get_or periods k e ≡ get_or periods k d = get_or_default periods k e d lt in
-          let there : shares_a_day day day (get_or periods k d) ≡ true = subst (λ (p : Period). shares_a_day day day p ≡ true) default has in
-          let parts = and_parts (int_le day (get_or periods k d).last) (int_le (get_or periods k d).first day) there in
-          elim (cases_Bool (int_eq day (get_or periods k d).first)) [
-            | inl begins ↦ absurd (true≢false (sym (list_any_at (begins_on day) periods k d lt begins) ∙ none))
-            | inr later ↦
-                let other : day ≢ (get_or periods k d).first = λ is. absurd (true≢false (sym ((Decides-int_eq day (get_or periods k d).first).1 is) ∙ later)) in
-                let before : (get_or periods k d).first ≤ℤ (get_or periods i d).last = omega (arith, ints, parts.1, other) in
-                let up = (rise i d within).rises in
-                let same = same_place periods i k d (get_or periods i d).last apart within lt up (omega (arith, ints)) before (omega (arith, ints, parts.0)) in
-                let own : (get_or periods i d).last ≡ (get_or periods k d).last = ap (λ (n : ℕ). (get_or periods n d).last) same in
-                absurd (omega (arith, ints, own, parts.0))
-          ]
-    ]
+          | inr other ↦ other
+          | inl has ↦
+              let default : get_or periods k e ≡ get_or periods k d = get_or_default periods k e d lt in
+              let there : shares_a_day day day (get_or periods k d) ≡ true = subst (λ (p : Period). shares_a_day day day p ≡ true) default has in
+              let parts = and_parts (int_le day (get_or periods k d).last) (int_le (get_or periods k d).first day) there in
+              elim (cases_Bool (int_eq day (get_or periods k d).first)) [
+                | inl begins ↦ absurd (true≢false (sym (list_any_at (begins_on day) periods k d lt begins) ∙ none))
+                | inr later ↦
+                    let other : day ≢ (get_or periods k d).first = λ is. absurd (true≢false (sym ((Decides-int_eq day (get_or periods k d).first).1 is) ∙ later)) in
+                    let before : (get_or periods k d).first ≤ℤ (get_or periods i d).last = omega (arith, ints, parts.1, other) in
+                    let up = (rise i d within).rises in
+                    let same = same_place periods i k d (get_or periods i d).last apart within lt up (omega (arith, ints)) before (omega (arith, ints, parts.0)) in
+                    let own : (get_or periods i d).last ≡ (get_or periods k d).last = ap (λ (n : ℕ). (get_or periods n d).last) same in
+                    absurd (omega (arith, ints, own, parts.0))
+              ]
+        ]
 
 -- ---- from period to period
 
@@ -229,7 +230,6 @@ stopped periods first last day places within none way =
     let alone = way.next (no_place (begins_on day) periods none) in
     sym way.left ∙ ap (list_any (is_in_none periods)) (days_next day (last.last +ℤ pos 1) (omega (arith, ints, within)))
     ∙ ap (λ (b : Bool). not b || list_any (is_in_none periods) (days_until (day +ℤ pos 1) (last.last +ℤ pos 1))) alone
-
 
 -- the period at a place that begins on a day is the one found
 found : (periods : List Period) (day : ℤ) (place : ℕ) (period : Period) → position (begins_on day) periods ≡ Some place → slice_get periods place ≡ Some period
@@ -315,3 +315,58 @@ later periods day place period days is there =
     let here = get_or_from_slice_get periods place period period there in
     let begins : day ≡ period.first = (Decides-int_eq day period.first).0 (rw here at at.1) in
     omega (arith, ints, begins, days.rises)
+
+-- ---- the place of the first item that passes a test
+
+position_is : (p : Period → Bool) (xs : List Period) (place : ℕ) → position_or_len p xs ≡ place → place < length xs → position p xs ≡ Some place
+position_is p xs place is lt = elim (cases_Bool (nat_lt (position_or_len p xs) (length xs))) [
+  | inl within ↦ rw within (ap Some is)
+  | inr past ↦ absurd (omega (arith, ltb-false (position_or_len p xs) (length xs) past, is, lt))
+]
+
+position_none : (p : Period → Bool) (xs : List Period) → position_or_len p xs ≡ length xs → position p xs ≡ None
+position_none p xs is = elim (cases_Bool (nat_lt (position_or_len p xs) (length xs))) [
+  | inl within ↦ absurd (omega (arith, ltb-true (position_or_len p xs) (length xs) within, is))
+  | inr past ↦ rw past refl
+]
+
+no_period : Period
+no_period = record { name = []; first = pos 0; last = pos 0; closed = false }
+
+-- ---- the period that begins on a day, as the map of first days has it
+
+pub begun_place : (periods : List Period) (begins : BTreeMap ℤ ℕ) (day : ℤ) → AreBegun (λ (period : Period). true) periods begins → get int_cmp begins day ≡ position (begins_on day) periods
+begun_place periods begins day right = by (get int_cmp begins day) refl
+  where
+    chosen : Period → Bool
+    chosen period = true
+
+    found_at : (place : ℕ) → place ≤ length periods → ((k : ℕ) (d : Period) → k < place → begins_on day (get_or periods k d) ≡ false)
+        → (place < length periods → (d : Period) → begins_on day (get_or periods place d) ≡ true) → position_or_len (begins_on day) periods ≡ place
+    found_at place le before at = position_or_len_is (begins_on day) periods place no_period le (λ k lt. before k no_period lt) (λ lt. at lt no_period)
+
+    same : (k place : ℕ) (d : Period) → get int_cmp begins day ≡ Some place → k < length periods → begins_on day (get_or periods k d) ≡ true → k ≡ place
+    same k place d is lt begins_here =
+        let first : day ≡ (get_or periods k d).first = (Decides-int_eq day (get_or periods k d).first).0 begins_here in
+        let there : get int_cmp begins day ≡ Some k = ap (get int_cmp begins) first ∙ right.there k d lt refl in
+        cc (sym there ∙ is)
+
+    by : (found : Option ℕ) → get int_cmp begins day ≡ found → get int_cmp begins day ≡ position (begins_on day) periods
+    by (Some place) is =
+        let at = right.back day place no_period is in
+        let begins_here : begins_on day (get_or periods place no_period) ≡ true = (Decides-int_eq day (get_or periods place no_period).first).1 (sym at.1) in
+        let place_is = found_at place (omega (arith, at.0))
+        (λ k d lt. elim (cases_Bool (begins_on day (get_or periods k d))) [
+          | inl begins_too ↦ absurd (omega (arith, lt, same k place d is (omega (arith, lt, at.0)) begins_too))
+          | inr other ↦ other
+        ])
+        (λ lt d. rw (get_or_default periods place d no_period at.0) begins_here) in
+        is ∙ sym (position_is (begins_on day) periods place place_is at.0)
+    by None is =
+        let none : (k : ℕ) (d : Period) → k < length periods → begins_on day (get_or periods k d) ≡ false = λ k d lt. elim (cases_Bool (begins_on day (get_or periods k d))) [
+          | inl begins_here ↦
+              let first : day ≡ (get_or periods k d).first = (Decides-int_eq day (get_or periods k d).first).0 begins_here in
+              cc (sym is ∙ ap (get int_cmp begins) first ∙ right.there k d lt refl)
+          | inr other ↦ other
+        ] in
+        is ∙ sym (position_none (begins_on day) periods (found_at (length periods) (omega arith) none (λ lt d. absurd (omega (arith, lt)))))

@@ -93,12 +93,16 @@ same_three a b = same_two a.0 b.0 && same_name a.1 b.1
 abbrev pub is_like : Assay → Assay → Bool
 is_like assay = is_assay_of assay.component assay.period assay.stream
 
+-- no two of these assays are of one component, period and stream
+abbrev pub AreUnlike : List Assay → Type 0
+AreUnlike assays = AllPairs (λ earlier later. is_like later earlier ≡ false) assays
+
 -- these are the components, periods and streams of the assays, and their components and periods; no two have all three in common, each
 -- grade is within its limits, and there are as many as there may be
 pub record AreAssays {S T : Type 0} (assays : List Assay) (all : HashSet ((List ℕ × List ℕ) × List ℕ) S) (overs : HashSet (List ℕ × List ℕ) T) : Type 0 where
   pub each : (component period stream : List ℕ) → contains same_three all ((component, period), stream) ≡ list_any (is_assay_of component period stream) assays
   pub over : (component period : List ℕ) → contains same_two overs (component, period) ≡ list_any (is_assay_over component period) assays
-  pub apart : AllPairs (λ earlier later. is_like later earlier ≡ false) assays
+  pub apart : AreUnlike assays
   pub grades : All (λ assay. IsGrade assay.grade) assays
   pub few : length assays ≤ most_assays
 
@@ -152,7 +156,7 @@ pub record AreOf (rows : List StoredRow) (declared : List Declared) (kept : List
   pub site : declared ≡ declared_of rows
   pub facts : kept ≡ facts_of rows
   pub spans : periods ≡ periods_of rows
-  pub assays : assays ≡ assays_of rows
+  pub assayed : assays ≡ assays_of rows
 
 -- each place has a row, the rows were accepted, the declarations, facts, periods, assays and edits are theirs, and there is no
 -- fact at a place behind those of the kept ones

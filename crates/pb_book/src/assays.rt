@@ -8,7 +8,7 @@ ghost use Rattle.pb_assay.specs.Grade.{IsGrade};
 ghost use Rattle.pb_rows.specs.Name.{same_name};
 ghost use Rattle.pb_kinds.specs.Ranges.{most_assays};
 ghost use Rattle.pb_book.specs.Assays.{grade_among, is_assay_over};
-ghost use Rattle.pb_book.specs.Kept.{is_like};
+ghost use Rattle.pb_book.specs.Kept.{AreUnlike, is_like};
 
 use pb_assay::Grade;
 use pb_kinds::Assay;
@@ -51,10 +51,11 @@ impl Assays {
         }
     }
 
-    /// The number of assays.
+    /// The number of assays, of which no two are of one component, period and stream.
     pub fn len(&self) -> u32
         ensures value { result ≡ length self.now }
         ensures within { length self.now ≤ most_assays }
+        ensures apart { AreUnlike self.now }
     {
         self.assays.len() as u32
     }
@@ -119,7 +120,7 @@ impl Assays {
         let by_name = self.grades_by_name(alloc, component, period)?;
         let mut grades = Vec::new(alloc);
         for i in 0..streams.len() {
-            grades.push(by_name.get(&streams[i]).copied())?;
+            grades.push(grade_at(&by_name, &streams[i]))?;
         }
         Ok(grades)
     }
@@ -152,6 +153,13 @@ fn is_over(assay: &Assay, component: &Name, period: &Name) -> bool
     ensures { result ≡ is_assay_over component.now period.now assay.now }
 {
     assay.component == *component && assay.period == *period
+}
+
+// The grade at the name of a stream or tank.
+fn grade_at(by_name: &HashMap<Name, Grade>, stream: &Name) -> Option<Grade>
+    ensures { result ≡ get same_name by_name.now stream.now }
+{
+    by_name.get(stream).copied()
 }
 
 // Puts a key for which there is room, so that it can't fail.

@@ -394,7 +394,7 @@ impl Book {
         let alloc = *self.places.allocator();
         let (one, other) = (self.periods.at(first), self.periods.at(last));
         match judge_window(alloc, &self.site, &self.periods, &one, &other)? {
-            Some(cause) => Err(NotAccepted::from(cause)),
+            Some(refused) => Err(NotAccepted::from(refused)),
             None => Ok(Accepted::Window { first, last }),
         }
     }

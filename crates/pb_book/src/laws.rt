@@ -9,6 +9,7 @@ ghost use Rattle.pb_book.specs.VersionOne.{VersionOneLaw};
 ghost use Rattle.pb_book.specs.Windows.{BookWindowsLaw};
 
 use pb_kinds::{named_costs_law, stored_law};
+use pb_site::plant_law;
 use pb_window::{window_form_law, window_names_law, window_places_law};
 
 /// The law that the rows of a session were accepted one after the other, whatever its records; and that then no
@@ -78,6 +79,7 @@ pub fn asked_window_law()
 pub fn book_windows_law()
     ensures { BookWindowsLaw }
 {
+    plant_law();
     window_form_law();
     window_names_law();
     window_places_law();

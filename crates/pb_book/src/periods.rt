@@ -138,7 +138,8 @@ impl Periods {
     {
         match self.names.get_index_of(name) {
             Some(i) => {
-                !is_in_service_within(service, self.periods[i].first, self.periods[i].last)
+                let period = self.periods[i];
+                !is_in_service_within(service, period.first, period.last)
             }
             None => false,
         }

@@ -5,6 +5,7 @@ ghost use Rattle.pb_limits.specs.Limits.{most_periods_of_window};
 ghost use Rattle.pb_site.specs.Site.{arcs_of, version_of};
 ghost use Rattle.pb_window.specs.declared.window.WindowFault.TheVariants.{NoMemory};
 ghost use Rattle.pb_window.specs.Codes.{AreWindowNames};
+ghost use Rattle.pb_window.specs.Places.{IsNamedBy};
 ghost use Rattle.pb_window.specs.Plant.{IsPlant, IsSpan};
 ghost use Rattle.pb_window.specs.Window.{IsWindow, unless_too_great};
 ghost use Rattle.pb_book.specs.Windows.{arc_service, has_gap, is_inventory, refusal_between, refusal_over, span_of_period, window_arc, window_over, window_plant};
@@ -144,6 +145,8 @@ pub(crate) fn window_over(
         (window_over site.now (filter_map (slice_get periods.now) places.now)) }
     ensures form { IfOk result IsWindow }
     ensures names { IfOk result AreWindowNames }
+    ensures places { IfOk result (IsNamedBy (window_plant site.now)
+        (map span_of_period (filter_map (slice_get periods.now) places.now))) }
 {
     let plant = window_plant(alloc, site)?;
     let spans = spans_at(alloc, periods, places)?;

@@ -26,17 +26,17 @@ use Rattle.pb_elim.specs.Options.{AreOptions}
 use Rattle.pb_check.specs.Laws.{OwnLaw}
 use Rattle.pb_check.specs.Verdict.{IsPassed}
 use Rattle.pb_book.specs.declared.answer.Accepted.{Accepted}
-use Rattle.pb_book.specs.declared.answer.Accepted.TheVariants.{Blank, Stored as StoredAccepted, Design, Report, History, Advise, Window}
+use Rattle.pb_book.specs.declared.answer.Accepted.TheVariants.{Blank, Stored as StoredAccepted, Design, Report, History, Advise, Component, Window}
 use Rattle.pb_kinds.specs.Costs.{named_costs}
 use Rattle.pb_book.specs.declared.rows.Period.{Period}
 use Rattle.pb_book.specs.Accepted.{AreAccepted}
 use Rattle.pb_book.specs.Answer.{Answer, Refused, Says, Stored, answer_of, code_of}
 use Rattle.pb_book.specs.Edits.{history_of}
-use Rattle.pb_book.specs.Laws.{AcceptedLaw}
+use Rattle.pb_book.specs.Laws.{AcceptedLaw, AskedWindowLaw}
 use Rattle.pb_book.specs.Named.{AreNamed, HaveNames, NamedLaw}
 use Rattle.pb_book.specs.declared.rows.StoredRow.{StoredRow}
 use Rattle.pb_book.specs.Rows.{declared_of, periods_of}
-use Rattle.pb_book.specs.Windows.{AskedWindowLaw, BookWindowsLaw, IsWindowAsked, names_of_periods, periods_between, window_between}
+use Rattle.pb_book.specs.Windows.{BookWindowsLaw, IsWindowAsked, names_of_periods, periods_between, window_between}
 use Rattle.pb_period.specs.declared.days.Days.{Days}
 use Rattle.pb_period.specs.Days.{days_of}
 use Rattle.pb_period.specs.declared.graph.Assembly.{Assembly}
@@ -53,13 +53,14 @@ use Rattle.pb_readback.specs.Next.{AreBlocks}
 use Rattle.pb_readback.specs.Written.{BeginWithWords, HasBoundsForLeast, IsReportable, PassedRowsLaw, RowTextLaw, RowWordsLaw, StudyRowsLaw, block_with, blocks_from, records_in}
 use Rattle.pb_session.specs.Criticals.{critical_of}
 use Rattle.pb_report.specs.Advice.{advice_rows}
+use Rattle.pb_report.specs.Component.{component_row}
 use Rattle.pb_report.specs.Design.{design_rows}
 use Rattle.pb_report.specs.Names.{name_at}
 use Rattle.pb_report.specs.Over.{over_row}
 use Rattle.pb_report.specs.Refusal.{refused_row}
 use Rattle.pb_site.specs.Site.{names_of, version_of}
 use Rattle.pb_session.specs.History.{told, told_history, told_period}
-use Rattle.pb_session.specs.Session.{Adds, AddsAccepted, AddsBy, AreNamesOf, IsReport, IsReportAfter, IsSessionText, Reports, ReportsBy, SessionState, Tells, Windows, WindowsBy, assembly_between, state_after, window_head}
+use Rattle.pb_session.specs.Session.{Adds, AddsAccepted, AddsBy, AreNamesOf, Balances, BalancesBy, IsReport, IsReportAfter, IsSessionText, IsTextOf, Reports, ReportsBy, SessionState, Tells, Windows, WindowsBy, assembly_between, state_after, window_head}
 use Rattle.pb_audit.specs.Judgement.{AreFindings, Finding, IsJudgement, IsPassedBlock, finds_wrong, passed}
 use Rattle.pb_audit.specs.Laws.{OneFindingsLaw, PassedLaw}
 use Rattle.pb_cli.proofs.ServedLemmas.{days_named}
@@ -212,8 +213,19 @@ report_after_read : AreKnown → (state : SessionState) (rows : List OutputRow) 
     → is_name period ≡ true → BeginWithWords rows → AreBlocks (records_in rows) [] → IsReportAfter state rows names period graph text → ReadsBack text
 report_after_read known state rows names period graph text sound forms name words others after =
     subst (λ (t : List ℕ). ReadsBack t) (sym after.whole)
-    (both_read known.join after.front after.rest (passed_over rows after.front (in_csv state rows after.front sound.form after.head) words others)
+    (both_read known.join after.front after.rest (passed_over rows after.front (in_csv state rows after.front sound.form after.before) words others)
     (report_read known state names period graph after.rest sound forms name after.report))
+
+-- a period's name is one
+period_named : NamedLaw → (state : SessionState) (i : ℕ) (period : Period) → IsSound state → slice_get (periods_of state.rows) i ≡ Some period → is_name period.name ≡ true
+period_named law state i period sound at =
+    at_place (λ (p : Period). is_name p.name ≡ true) (periods_of state.rows) i period at (law.named state.rows sound.named).periods
+
+-- the row of a stream beyond the limits
+over_read : AreKnown → (state : SessionState) (period stream text : List ℕ) → IsSound state → IsTextOf state (over_row period stream ∷ []) text → ReadsBack text
+over_read known state period stream text sound is =
+    let rows : List OutputRow = over_row period stream ∷ [] in
+    passed_over rows text (in_csv state rows text sound.form is) (known.words.over period stream) (known.others.over period stream)
 
 reports_read : AreKnown → NamedLaw → (state : SessionState) (i : ℕ) (text : List ℕ) → IsSound state → (found : Option Period) → slice_get (periods_of state.rows) i ≡ found
     → Reports state found text → ReadsBack text
@@ -226,12 +238,27 @@ reports_read known law state i text sound (Some period) at reports = by (assembl
     by : (a : Result ProcessGraph Assembly) → ReportsBy state period a text → ReadsBack text
     by (Ok graph) report =
         report_read known state (period_names state.rows (days_of period)) period.name graph text sound (served_named state.rows (days_of period) named)
-        (at_place (λ (p : Period). is_name p.name ≡ true) (periods_of state.rows) i period at named.periods) report
-    by (Err (Over j)) is =
-        let stream = name_at (period_names state.rows (days_of period)).streams j in
-        let rows : List OutputRow = over_row period.name stream ∷ [] in
-        passed_over rows text (in_csv state rows text sound.form is) (known.words.over period.name stream) (known.others.over period.name stream)
+        (period_named law state i period sound at) report
+    by (Err (Over j)) is = over_read known state period.name (name_at (period_names state.rows (days_of period)).streams j) text sound is
     by (Err NoMemory) is = absurd is
+
+-- ---- the balance of a component
+
+-- the report of its graph after the row of the component
+balances_read : AreKnown → NamedLaw → (state : SessionState) (component : List ℕ) (i : ℕ) (text : List ℕ) → IsSound state → (found : Option Period) → slice_get (periods_of state.rows) i ≡ found
+    → Balances state component found text → ReadsBack text
+balances_read known law state component i text sound None at balance = absurd balance
+balances_read known law state component i text sound (Some period) at (answer, of, by) = read answer by
+  where
+    read : (a : Result ProcessGraph Assembly) → BalancesBy state component period a text → ReadsBack text
+    read (Ok graph) after =
+        report_after_read known state (component_row component period.name ∷ []) (period_names state.rows (days_of period)) period.name graph text sound
+        (served_named state.rows (days_of period) (law.named state.rows sound.named)) (period_named law state i period sound at) (known.words.components component period.name)
+        (known.others.components component period.name) after
+    read (Err (Over j)) is = over_read known state period.name (name_at (period_names state.rows (days_of period)).streams j) text sound is
+    read (Err NoMemory) is = absurd is
+
+-- ---- a window of several periods
 
 -- what is known of windows that are asked for
 pub record AreKnownWindows : Type 0 where
@@ -254,7 +281,7 @@ windows_read known windows law state i k text sound asked adds = by (assembly_be
         (subst (λ (o : Option Period). Windows state o (slice_get (periods_of state.rows) k) text) asked.first_is adds)
 
     name : is_name first.name ≡ true
-    name = at_place (λ (p : Period). is_name p.name ≡ true) (periods_of state.rows) i first asked.first_is (law.named state.rows sound.named).periods
+    name = period_named law state i first sound asked.first_is
 
     by : (a : Result ProcessGraph Assembly) → WindowsBy state first last a text → ReadsBack text
     by (Ok graph) after =
@@ -265,10 +292,7 @@ windows_read known windows law state i k text sound asked adds = by (assembly_be
         report_after_read known state (window_head state.rows first last) (window_names window) first.name graph text sound
         (record { nodes = codes.nodes.forms; streams = codes.streams.forms }) name (known.words.windows first.name last.name (length periods) places)
         (known.others.windows first.name last.name (length periods) places) after
-    by (Err (Over j)) is =
-        let stream = name_at (window_names (window_between state.rows first last)).streams j in
-        let rows : List OutputRow = over_row first.name stream ∷ [] in
-        passed_over rows text (in_csv state rows text sound.form is) (known.words.over first.name stream) (known.others.over first.name stream)
+    by (Err (Over j)) is = over_read known state first.name (name_at (window_names (window_between state.rows first last)).streams j) text sound is
     by (Err NoMemory) is = absurd is
 
 -- ---- one record, and all of them
@@ -296,6 +320,7 @@ record_read known windows law state at fields text sound adds = by (answer_of st
         passed_over rows text (in_csv state rows text sound.form design.rows) (known.words.designs names graph design.classes) (known.others.designs names graph design.classes)
     said (Report i) asks reports = reports_read known law state i text sound (slice_get (periods_of state.rows) i) refl reports
     said (History i) asks is = tells (slice_get (periods_of state.rows) i) is
+    said (Component component i) asks balance = balances_read known law state component i text sound (slice_get (periods_of state.rows) i) refl balance
     said (Window i k) asks adds = windows_read known windows law state i k text sound (windows.asked state.rows fields i k asks) adds
     said Advise asks advised =
         let names = names_of (declared_of state.rows) in

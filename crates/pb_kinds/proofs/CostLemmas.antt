@@ -61,10 +61,13 @@ is_advise kind.AmendAmount values is = cc is
 is_advise kind.AmendLevel values is = cc is
 is_advise kind.Strike values is = cc is
 is_advise kind.Close values is = cc is
+is_advise kind.Assay values is = cc is
 is_advise kind.Design values is = cc is
 is_advise kind.Report values is = cc is
 is_advise kind.History values is = cc is
 is_advise kind.Advise values is = refl
+is_advise kind.Window values is = cc is
+is_advise kind.Component values is = cc is
 
 -- the fields of a tail say something where those of the row do
 tail_says : (schema : Schema) (values : List Value) (fields : List (List ℕ)) → row_read schema fields ≡ Ok values → (others : List Value) × (tail_read schema fields ≡ Ok others)

@@ -32,13 +32,14 @@ use Rattle.pb_facts.specs.Facts.{live_facts}
 use Rattle.pb_book.specs.declared.rows.Period.{Period}
 use Rattle.pb_book.specs.declared.rows.StoredRow.{StoredRow}
 use Rattle.pb_book.specs.Rows.{declared_of, facts_of, periods_of}
+use Rattle.pb_book.specs.Windows.{names_of_periods}
 use Rattle.pb_period.specs.declared.amount.Amount.{Amount}
 use Rattle.pb_period.specs.declared.graph.Assembly.TheVariants.{Over}
 use Rattle.pb_period.specs.Days.{days_of}
 use Rattle.pb_period.specs.Facts.{content_of}
 use Rattle.pb_period.specs.Measurement.{measurement}
 use Rattle.pb_period.specs.PeriodGraph.{is_over, unless_over, within_limits}
-use Rattle.pb_period.specs.WindowGraph.{flow_measured, held_at, measured_in, measured_window, names_of_periods, periods_at, source_measured, stream_measured, window_assembly}
+use Rattle.pb_period.specs.WindowGraph.{flow_measured, held_at, measured_in, measured_window, periods_at, source_measured, stream_measured, window_assembly}
 use Rattle.pb_period.proofs.GraphLemmas.{not_over, position_at, within}
 use Rattle.pb_period.proofs.VarianceLemmas.{HasLeast, IsFair, all_map, content_fair, find_has, live_have, measured_least, within_right}
 
@@ -56,28 +57,30 @@ missing (x ∷ xs) zero lt none = cc none
 missing (x ∷ xs) (suc i) lt none = missing xs i (omega (arith, lt)) none
 
 -- there are as many as places
+one_more_found : {A : Type 0} (xs : List A) (i : ℕ) (places : List ℕ) (o : Option A) → slice_get xs i ≡ o → i < length xs
+    → length (filter_map (slice_get xs) places) ≡ length places → length (cons_option o (filter_map (slice_get xs) places)) ≡ length (i ∷ places)
+one_more_found xs i places None none lt rest = absurd (missing xs i lt none)
+one_more_found xs i places (Some x) at lt rest = omega (arith, rest)
+
 pub as_many : {A : Type 0} (xs : List A) (places : List ℕ) → All (λ (i : ℕ). i < length xs) places → length (filter_map (slice_get xs) places) ≡ length places
 as_many xs [] all = refl
-as_many {A = A} xs (i ∷ places) all = by (slice_get xs i) refl
-  where
-    rest : length (filter_map (slice_get xs) places) ≡ length places
-    rest = as_many xs places (tail (λ (k : ℕ). k < length xs) i places all)
-
-    by : (o : Option A) → slice_get xs i ≡ o → length (cons_option o (filter_map (slice_get xs) places)) ≡ length (i ∷ places)
-    by None none = absurd (missing xs i (head (λ (k : ℕ). k < length xs) i places all) none)
-    by (Some x) at = omega (arith, rest)
+as_many xs (i ∷ places) all =
+    one_more_found xs i places (slice_get xs i) refl (head (λ (k : ℕ). k < length xs) i places all) (as_many xs places (tail (λ (k : ℕ). k < length xs) i places all))
 
 -- the item at the place at a place
+one_more_placed : {A : Type 0} (xs : List A) (i : ℕ) (places : List ℕ) (k : ℕ) (o : Option A) → slice_get xs i ≡ o → i < length xs → k < length (i ∷ places)
+    → ((j : ℕ) → j < length places → slice_get (filter_map (slice_get xs) places) j ≡ slice_get xs (get_or places j 0))
+    → slice_get (cons_option o (filter_map (slice_get xs) places)) k ≡ slice_get xs (get_or (i ∷ places) k 0)
+one_more_placed xs i places k None none lt less rest = absurd (missing xs i lt none)
+one_more_placed xs i places zero (Some x) at lt less rest = sym at
+one_more_placed xs i places (suc k) (Some x) at lt less rest = rest k (omega (arith, less))
+
 pub placed : {A : Type 0} (xs : List A) (places : List ℕ) (k : ℕ) → All (λ (i : ℕ). i < length xs) places → k < length places
     → slice_get (filter_map (slice_get xs) places) k ≡ slice_get xs (get_or places k 0)
 placed xs [] k all lt = absurd (omega (arith, lt))
-placed {A = A} xs (i ∷ places) k all lt = by k lt (slice_get xs i) refl
-  where
-    by : (k : ℕ) → k < length (i ∷ places) → (o : Option A) → slice_get xs i ≡ o
-        → slice_get (cons_option o (filter_map (slice_get xs) places)) k ≡ slice_get xs (get_or (i ∷ places) k 0)
-    by k less None none = absurd (missing xs i (head (λ (n : ℕ). n < length xs) i places all) none)
-    by zero less (Some x) at = sym at
-    by (suc k) less (Some x) at = placed xs places k (tail (λ (n : ℕ). n < length xs) i places all) (omega (arith, less))
+placed xs (i ∷ places) k all lt =
+    one_more_placed xs i places k (slice_get xs i) refl (head (λ (n : ℕ). n < length xs) i places all) lt
+    (λ j less. placed xs places j (tail (λ (n : ℕ). n < length xs) i places all) less)
 
 -- as many names as places
 pub as_many_names : (rows : List StoredRow) (places : List ℕ) → All (λ (i : ℕ). i < length (periods_of rows)) places
@@ -173,7 +176,7 @@ outside_over graph j least outside =
     let lt = slice_get_within streams j d outside.there in
     let is : get_or streams j d ≡ d = get_or_from_slice_get streams j d d outside.there in
     let own : HasLeast d = subst HasLeast is (least j d lt) in
-    let over : is_over d ≡ true = elim (cases_Bool (is_over d)) [ inl yes ↦ yes | inr no ↦ absurd (outside.outside (within d no own)) ] in
+    let over : is_over d ≡ true = elim (cases_Bool (is_over d)) [ inl above ↦ above | inr below ↦ absurd (outside.outside (within d below own)) ] in
     let before : (k : ℕ) → k < j → is_over (get_or streams k d) ≡ false =
     λ k less. not_over (get_or streams k d) (outside.before k (get_or streams k d) less (slice_get-get_or streams k d (omega (arith, less, lt)))) in
     sym (ap (unless_over graph) (position_at is_over streams j d lt before (ap is_over is ∙ over)))

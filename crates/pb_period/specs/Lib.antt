@@ -4,6 +4,7 @@ pub mod Facts
 pub mod Measurement
 pub mod PeriodGraph
 pub mod WindowGraph
+pub mod Grades
 pub mod Laws
 -- Inside
 pub mod Amounts

@@ -34,10 +34,6 @@ use Rattle.pb_period.specs.PeriodGraph.{measured_served, within_limits}
 abbrev pub periods_at : List StoredRow → List ℕ → List Period
 periods_at rows places = filter_map (slice_get (periods_of rows)) places
 
--- their names
-abbrev pub names_of_periods : List Period → List (List ℕ)
-names_of_periods periods = map (λ (period : Period). period.name) periods
-
 -- ---- what is measured of a stream
 
 -- what some days measured of an arc, in a session of a version

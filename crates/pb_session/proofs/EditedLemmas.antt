@@ -1,20 +1,24 @@
 -- An edited file stands for the edits.
 use Rattle.std.proofs.Common.{◌≡◌, ◌∙◌, ◌+◌, ◌<◌, ℕ, suc, Bool, false, List, [], ◌∷◌, ◌++◌, length, map, Option, Some, None, Result, Ok, Err, slice_get, position, refl, sym, ap, ap₂, subst, arith}
-use Rattle.std.specs.Prelude.{◌||◌, option_map}
-use Rattle.std.specs.List.{position_or_len}
+use Rattle.std.specs.Prelude.{◌||◌, ◌↔◌, find, option_map}
+use Rattle.std.specs.List.{list_any, position_or_len}
 use Rattle.std.proofs.lemmas.List.{append-nil, append_assoc, length-map}
 use Rattle.std.proofs.lemmas.Option.{slice_get-get_or, slice_get-map}
 use Rattle.std.proofs.Math.Seq.{get_or-append_seam, take-append_seam}
 use Rattle.std.proofs.Common.{length-append}
 use Rattle.pb_graph.specs.ProcessGraph.{ProcessGraph}
 use Rattle.pb_rows.specs.declared.name.Names.{Names}
+use Rattle.pb_assay.specs.declared.grade.Grade.{Grade}
+use Rattle.pb_assay.specs.Component.{component_of}
 use Rattle.pb_elim.specs.Study.{IsStudyOf}
 use Rattle.pb_site.specs.declared.declared.Declared.{Declared}
 use Rattle.pb_site.specs.declared.declared.Version.{Version}
 use Rattle.pb_site.specs.Site.{version_of}
-use Rattle.pb_book.specs.declared.answer.Accepted.TheVariants.{Report}
+use Rattle.pb_book.specs.declared.answer.Accepted.{Accepted}
+use Rattle.pb_book.specs.declared.answer.Accepted.TheVariants.{Report, Component, Window}
 use Rattle.pb_book.specs.declared.answer.Refused.{Refused as Refusal}
 use Rattle.pb_form.specs.declared.fault.FormFault.{FormFault}
+use Rattle.pb_kinds.specs.declared.rows.Assay.{Assay}
 use Rattle.pb_kinds.specs.declared.rows.Request.{Request}
 use Rattle.pb_kinds.specs.declared.rows.Request.TheVariants as asked
 use Rattle.pb_kinds.specs.declared.rows.Effect.{Effect}
@@ -23,26 +27,30 @@ use Rattle.pb_book.specs.Accepted.{AreAccepted, IsAcceptable}
 use Rattle.pb_kinds.specs.declared.costs.NamedCost.{NamedCost}
 use Rattle.pb_kinds.specs.Costs.{named_costs}
 use Rattle.pb_book.specs.Costs.{refusal_of_costs}
-use Rattle.pb_book.specs.Answer.{Answer, Says, Stored, advise_or_refused, after_answer, answer_if, answer_of, history_or_refused, is_refused, report_or_refused, stored_or_refused}
+use Rattle.pb_book.specs.Answer.{Answer, Says, Stored, advise_or_refused, after_answer, answer_if, answer_of, component_or_refused, history_or_refused, is_refused, report_or_refused, stored_or_refused, window_or_refused, window_unless}
 use Rattle.pb_book.specs.Apart.{is_named}
+use Rattle.pb_book.specs.Assays.{assays_of, is_assay_of, is_assay_over}
 use Rattle.pb_book.specs.Plain.{ArePlain, PlainLaw, numbered, opened, plain_rows, plain_stored}
 use Rattle.pb_book.specs.Refusals.{refusal_of}
+use Rattle.pb_book.specs.Windows.{refusal_of_window}
 use Rattle.pb_kinds.specs.Requests.{request_in}
 use Rattle.pb_book.specs.declared.rows.StoredRow.{StoredRow}
 use Rattle.pb_book.specs.Rows.{declared_of, period_place, periods_of, version_at}
 use Rattle.pb_book.specs.Written.{WriteRows, WritesRow}
 use Rattle.pb_period.specs.Days.{days_of}
+use Rattle.pb_period.specs.Grades.{grades_of}
 use Rattle.pb_period.specs.Laws.{HaveSameGraphs, PlainGraphsLaw}
 use Rattle.pb_period.specs.PeriodGraph.{assembly_of, period_names}
 use Rattle.pb_period.specs.declared.graph.Assembly.{Assembly}
 use Rattle.pb_period.specs.declared.graph.Assembly.TheVariants.{Over, NoMemory}
+use Rattle.pb_report.specs.Component.{component_row}
 use Rattle.pb_report.specs.Form.{text_in}
 use Rattle.pb_report.specs.Names.{name_at}
 use Rattle.pb_report.specs.Over.{over_row}
 use Rattle.pb_session.proofs.RowLemmas.{AnswersOf, answers}
 use Rattle.pb_session.specs.Criticals.{declared_critical}
 use Rattle.pb_session.specs.Edited.{EditedFileLaw, begun}
-use Rattle.pb_session.specs.Session.{Adds, AddsBy, IsReport, IsSessionText, Reports, ReportsBy, SessionState, refuses_some, state_after}
+use Rattle.pb_session.specs.Session.{Adds, AddsAccepted, AddsBy, Balances, BalancesBy, BalancesIn, component_assembly, IsReport, IsSessionText, Reports, ReportsBy, SessionState, refuses_some, state_after}
 
 -- a session with these rows in place of its own
 abbrev with_rows : SessionState → List StoredRow → SessionState
@@ -131,43 +139,53 @@ position_map p f xs = rw (first_map p f xs, length-map xs f) refl
 same_place : (rows plain : List StoredRow) (name : List ℕ) → periods_of plain ≡ map opened (periods_of rows) → period_place plain name ≡ period_place rows name
 same_place rows plain name same = ap (position (is_named name)) same ∙ position_map (is_named name) opened (periods_of rows)
 
--- a row is never answered with a report
-not_said : (effect : Effect) (cause : Option Refusal) (i : ℕ) → stored_or_refused effect cause ≡ Says (Report i) → ⊥
-not_said effect (Some cause) i is = cc is
-not_said effect None i is = cc is
+-- a row that is stored is never answered by what the book says
+not_said : (effect : Effect) (cause : Option Refusal) (accepted : Accepted) → stored_or_refused effect cause ≡ Says accepted → ⊥
+not_said effect (Some cause) accepted is = cc is
+not_said effect None accepted is = cc is
 
-not_told : (place : Option ℕ) (i : ℕ) → history_or_refused place ≡ Says (Report i) → ⊥
-not_told (Some place) i is = cc is
-not_told None i is = cc is
+-- what is asked of one period
+abbrev IsOfOne : Accepted → Type 0
+IsOfOne (Window first last) = ⊥
+IsOfOne accepted = Unit {0}
 
-not_advised : (cause : Option Refusal) (i : ℕ) → advise_or_refused cause ≡ Says (Report i) → ⊥
-not_advised (Some cause) i is = cc is
-not_advised None i is = cc is
+not_window : (rows : List StoredRow) (first last : Option ℕ) (accepted : Accepted) → IsOfOne accepted → window_or_refused rows first last ≡ Says accepted → ⊥
+not_window rows (Some first) (Some last) accepted one is = by (refusal_of_window rows first last) is
+  where
+    by : (cause : Option Refusal) → window_unless first last cause ≡ Says accepted → ⊥
+    by (Some cause) same = cc same
+    by None same = let said : Window first last ≡ accepted = cc same in subst IsOfOne (sym said) one
+not_window rows (Some first) None accepted one is = cc is
+not_window rows None last accepted one is = cc is
 
-report_answer : (rows plain : List StoredRow) (i : ℕ) (costs : List NamedCost) (request : Result Request FormFault) → periods_of plain ≡ map opened (periods_of rows)
-    → answer_if rows costs request ≡ Says (Report i) → answer_if plain costs request ≡ Says (Report i)
-report_answer rows plain i costs (Ok asked.Blank) same is = cc is
-report_answer rows plain i costs (Ok (asked.Store effect)) same is = absurd (not_said effect (refusal_of rows effect) i is)
-report_answer rows plain i costs (Ok asked.Design) same is = cc is
-report_answer rows plain i costs (Ok (asked.Report name)) same is = ap report_or_refused (same_place rows plain name same) ∙ is
-report_answer rows plain i costs (Ok (asked.History name)) same is = absurd (not_told (period_place rows name) i is)
-report_answer rows plain i costs (Ok asked.Advise) same is = absurd (not_advised (refusal_of_costs (declared_of rows) costs) i is)
-report_answer rows plain i costs (Err fault) same is = cc is
+-- what the book says of a request of one period it says of it after the plain rows
+same_said : (rows plain : List StoredRow) (accepted : Accepted) → IsOfOne accepted → (costs : List NamedCost) (request : Result Request FormFault) → ArePlain rows plain
+    → answer_if rows costs request ≡ Says accepted → answer_if plain costs request ≡ Says accepted
+same_said rows plain accepted one costs (Ok asked.Blank) are is = is
+same_said rows plain accepted one costs (Ok (asked.Store effect)) are is = absurd (not_said effect (refusal_of rows effect) accepted is)
+same_said rows plain accepted one costs (Ok asked.Design) are is = is
+same_said rows plain accepted one costs (Ok (asked.Report name)) are is = ap report_or_refused (same_place rows plain name are.periods) ∙ is
+same_said rows plain accepted one costs (Ok (asked.History name)) are is = ap history_or_refused (same_place rows plain name are.periods) ∙ is
+same_said rows plain accepted one costs (Ok (asked.Component component name)) are is =
+    ap₂ (component_or_refused component) (ap (list_any (is_assay_over component name)) are.assays) (same_place rows plain name are.periods) ∙ is
+same_said rows plain accepted one costs (Ok (asked.Window first last)) are is = absurd (not_window rows (period_place rows first) (period_place rows last) accepted one is)
+same_said rows plain accepted one costs (Ok asked.Advise) are is = ap (λ (ds : List Declared). advise_or_refused (refusal_of_costs ds costs)) are.declared ∙ is
+same_said rows plain accepted one costs (Err fault) are is = is
 
 -- the version, where there is a period
 version_some : (rows : List StoredRow) (i : ℕ) → i < length (periods_of rows) → version_at rows ≡ Some (version_of (declared_of rows))
 version_some [] i within = absurd (omega (arith, within))
 version_some (stored ∷ rows) i within = refl
 
--- a record that asks for a report of a period asks for it after the plain rows
-plain_answer : (rows plain : List StoredRow) (i : ℕ) (report : List (List ℕ)) → ArePlain rows plain → answer_of rows report ≡ Says (Report i) → answer_of plain report ≡ Says (Report i)
-plain_answer rows plain i report are is =
-    let within : i < length (periods_of rows) = subst (AnswersOf rows) is (answers rows report) in
+-- a record of which the book says something asks for the same after the plain rows, if there is a period
+plain_answer : (rows plain : List StoredRow) (i : ℕ) (accepted : Accepted) → IsOfOne accepted → (fields : List (List ℕ)) → ArePlain rows plain → i < length (periods_of rows)
+    → answer_of rows fields ≡ Says accepted → answer_of plain fields ≡ Says accepted
+plain_answer rows plain i accepted one fields are within is =
     let long = ap (λ (ps : List Period). length ps) are.periods ∙ length-map (periods_of rows) opened in
     let version : version_at plain ≡ version_at rows =
     version_some plain i (omega (arith, long, within)) ∙ ap (λ (ds : List Declared). Some (version_of ds)) are.declared ∙ sym (version_some rows i within) in
-    ap (λ (v : Option Version). answer_if plain (named_costs report) (request_in v report)) version
-    ∙ report_answer rows plain i (named_costs report) (request_in (version_at rows) report) are.periods is
+    ap (λ (v : Option Version). answer_if plain (named_costs fields) (request_in v fields)) version
+    ∙ same_said rows plain accepted one (named_costs fields) (request_in (version_at rows) fields) are is
 
 -- the study of a graph asks the declarations alone
 report_as : (state : SessionState) (rows other : List StoredRow) (names : Names) (period : List ℕ) (graph : ProcessGraph) (text : List ℕ) → declared_of rows ≡ declared_of other
@@ -183,6 +201,20 @@ report_as state rows other names period graph text same report = record {
   rows = report.rows;
 }
 
+-- so does the component graph, and the assays
+balances_in_as : (state : SessionState) (rows other : List StoredRow) (component : List ℕ) (period same_days : Period) (assembly answer : Result ProcessGraph Assembly) → declared_of rows ≡ declared_of other
+    → grades_of rows component period ≡ grades_of other component same_days → BalancesIn (with_rows state rows) component period assembly answer
+    → BalancesIn (with_rows state other) component same_days assembly answer
+balances_in_as state rows other component period same_days (Ok graph) answer same grades of = record {
+  limits = of.limits;
+  study = of.study;
+  is_study = subst (λ (ds : List Declared). IsStudyOf graph state.options (declared_critical ds) of.study) same of.is_study;
+  last = of.last;
+  is_last = of.is_last;
+  is = of.is ∙ ap (λ (gs : List (Option Grade)). component_assembly (component_of graph of.last.streams gs)) grades;
+}
+balances_in_as state rows other component period same_days (Err why) answer same grades of = of
+
 -- a report of a period says the same where the declarations and the names do, be the period open or closed
 reports_by_as : (state : SessionState) (rows other : List StoredRow) (period same_days : Period) (assembly : Result ProcessGraph Assembly) (text : List ℕ) → declared_of rows ≡ declared_of other
     → same_days.name ≡ period.name → period_names rows (days_of period) ≡ period_names other (days_of same_days) → ReportsBy (with_rows state rows) period assembly text → ReportsBy (with_rows state other) same_days assembly text
@@ -192,6 +224,28 @@ reports_by_as state rows other period same_days (Ok graph) text declared name na
 reports_by_as state rows other period same_days (Err (Over j)) text declared name names report =
     report ∙ ap₂ (λ (n : List ℕ) (ns : Names). text_in state.form (over_row n (name_at ns.streams j) ∷ [])) (sym name) names
 reports_by_as state rows other period same_days (Err NoMemory) text declared name names report = absurd report
+
+-- and so does the balance of a component
+balances_by_as : (state : SessionState) (rows other : List StoredRow) (component : List ℕ) (period same_days : Period) (answer : Result ProcessGraph Assembly) (text : List ℕ) → declared_of rows ≡ declared_of other
+    → same_days.name ≡ period.name → period_names rows (days_of period) ≡ period_names other (days_of same_days) → BalancesBy (with_rows state rows) component period answer text
+    → BalancesBy (with_rows state other) component same_days answer text
+balances_by_as state rows other component period same_days (Ok graph) text declared name names balance = record {
+  front = balance.front;
+  rest = balance.rest;
+  before = balance.before ∙ ap (λ (n : List ℕ). text_in state.form (component_row component n ∷ [])) (sym name);
+  report = reports_by_as state rows other period same_days (Ok graph) balance.rest declared name names balance.report;
+  whole = balance.whole;
+}
+balances_by_as state rows other component period same_days (Err why) text declared name names over = reports_by_as state rows other period same_days (Err why) text declared name names over
+
+-- the grades of a component in a period follow from the assays and the names of the period's streams
+same_grades : (rows other : List StoredRow) (component : List ℕ) (period same_days : Period) → assays_of rows ≡ assays_of other → same_days.name ≡ period.name
+    → period_names rows (days_of period) ≡ period_names other (days_of same_days) → grades_of rows component period ≡ grades_of other component same_days
+same_grades rows other component period same_days assays name names =
+    let grades : List Assay → List ℕ → Names → List (Option Grade) =
+    λ given named ns. map (λ (stream : List ℕ). option_map (λ (a : Assay). a.grade) (find (is_assay_of component named stream) given)) ns.streams in
+    ap (λ (given : List Assay). grades given period.name (period_names rows (days_of period))) assays
+    ∙ ap₂ (grades (assays_of other)) (sym name) names
 
 reports_to : (state : SessionState) (plain : List StoredRow) (found : Option Period) (text : List ℕ) → ArePlain state.rows plain → HaveSameGraphs state.rows plain
     → Reports state found text → Reports (with_rows state plain) (option_map opened found) text
@@ -207,40 +261,91 @@ reports_back state plain (Some period) text are graphs report =
     reports_by_as state plain state.rows (opened period) period (assembly_of state.rows (days_of period)) text are.declared refl (graphs.names (days_of period))
     (subst (λ (a : Result ProcessGraph Assembly). ReportsBy (with_rows state plain) (opened period) a text) (graphs.days (days_of period)) report)
 
+balances_to : (state : SessionState) (plain : List StoredRow) (component : List ℕ) (found : Option Period) (text : List ℕ) → ArePlain state.rows plain → HaveSameGraphs state.rows plain
+    → Balances state component found text → Balances (with_rows state plain) component (option_map opened found) text
+balances_to state plain component None text are graphs balance = absurd balance
+balances_to state plain component (Some period) text are graphs (answer, of, by) =
+    let names = sym (graphs.names (days_of period)) in
+    let grades = same_grades state.rows plain component period (opened period) (sym are.assays) refl names in
+    let of_now = balances_in_as state state.rows plain component period (opened period) (assembly_of state.rows (days_of period)) answer (sym are.declared) grades of in (
+      answer,
+      subst (λ (a : Result ProcessGraph Assembly). BalancesIn (with_rows state plain) component (opened period) a answer) (sym (graphs.days (days_of period))) of_now,
+      balances_by_as state state.rows plain component period (opened period) answer text (sym are.declared) refl names by,
+    )
+
+balances_back : (state : SessionState) (plain : List StoredRow) (component : List ℕ) (found : Option Period) (text : List ℕ) → ArePlain state.rows plain → HaveSameGraphs state.rows plain
+    → Balances (with_rows state plain) component (option_map opened found) text → Balances state component found text
+balances_back state plain component None text are graphs balance = absurd balance
+balances_back state plain component (Some period) text are graphs (answer, of, by) =
+    let names = graphs.names (days_of period) in
+    let grades = same_grades plain state.rows component (opened period) period are.assays refl names in
+    let of_here = subst (λ (a : Result ProcessGraph Assembly). BalancesIn (with_rows state plain) component (opened period) a answer) (graphs.days (days_of period)) of in (
+      answer,
+      balances_in_as state plain state.rows component (opened period) period (assembly_of state.rows (days_of period)) answer are.declared grades of_here,
+      balances_by_as state plain state.rows component (opened period) period answer text are.declared refl names by,
+    )
+
 found_plain : (rows plain : List StoredRow) (i : ℕ) → ArePlain rows plain → slice_get (periods_of plain) i ≡ option_map opened (slice_get (periods_of rows) i)
 found_plain rows plain i are = ap (λ (ps : List Period). slice_get ps i) are.periods ∙ slice_get-map opened (periods_of rows) i
 
--- a report adds the same text after the rows and after the plain rows
-adds_to : (state : SessionState) (plain : List StoredRow) (at after i : ℕ) (report : List (List ℕ)) (text : List ℕ) → ArePlain state.rows plain → HaveSameGraphs state.rows plain
-    → answer_of state.rows report ≡ Says (Report i) → Adds state at report text → Adds (with_rows state plain) after report text
-adds_to state plain at after i report text are graphs is adds =
-    let here = subst (λ (a : Answer). AddsBy state at (named_costs report) a text) is adds in
-    let there = reports_to state plain (slice_get (periods_of state.rows) i) text are graphs here in
-    let other = plain_answer state.rows plain i report are is in
-    subst (λ (a : Answer). AddsBy (with_rows state plain) after (named_costs report) a text) (sym other)
-    (subst (λ (found : Option Period). Reports (with_rows state plain) found text) (sym (found_plain state.rows plain i are)) there)
+-- what the book says of a record adds the same text in both, if it does so for what is asked
+moved : (state other : SessionState) (at after : ℕ) (accepted : Accepted) (fields : List (List ℕ)) (text : List ℕ) → answer_of state.rows fields ≡ Says accepted
+    → answer_of other.rows fields ≡ Says accepted → (AddsAccepted state (named_costs fields) accepted text → AddsAccepted other (named_costs fields) accepted text)
+    → Adds state at fields text → Adds other after fields text
+moved state other at after accepted fields text here there so adds =
+    subst (λ (a : Answer). AddsBy other after (named_costs fields) a text) (sym there) (so (subst (λ (a : Answer). AddsBy state at (named_costs fields) a text) here adds))
 
-adds_back : (state : SessionState) (plain : List StoredRow) (at after i : ℕ) (report : List (List ℕ)) (text : List ℕ) → ArePlain state.rows plain → HaveSameGraphs state.rows plain
-    → answer_of state.rows report ≡ Says (Report i) → Adds (with_rows state plain) after report text → Adds state at report text
-adds_back state plain at after i report text are graphs is adds =
-    let other = plain_answer state.rows plain i report are is in
-    let there = subst (λ (a : Answer). AddsBy (with_rows state plain) after (named_costs report) a text) other adds in
-    let here = subst (λ (found : Option Period). Reports (with_rows state plain) found text) (found_plain state.rows plain i are) there in
-    subst (λ (a : Answer). AddsBy state at (named_costs report) a text) (sym is) (reports_back state plain (slice_get (periods_of state.rows) i) text are graphs here)
+-- what a record adds after the rows and after the plain rows
+record AddsAlike (state : SessionState) (plain : List StoredRow) (accepted : Accepted) (costs : List NamedCost) : Type 0 where
+  to : (text : List ℕ) → AddsAccepted state costs accepted text → AddsAccepted (with_rows state plain) costs accepted text
+  back : (text : List ℕ) → AddsAccepted (with_rows state plain) costs accepted text → AddsAccepted state costs accepted text
+
+reports_alike : (state : SessionState) (plain : List StoredRow) (i : ℕ) (costs : List NamedCost) → ArePlain state.rows plain → HaveSameGraphs state.rows plain → AddsAlike state plain (Report i) costs
+reports_alike state plain i costs are graphs = record {
+  to = λ text here.
+      subst (λ (found : Option Period). Reports (with_rows state plain) found text) (sym (found_plain state.rows plain i are))
+      (reports_to state plain (slice_get (periods_of state.rows) i) text are graphs here);
+  back = λ text there.
+      reports_back state plain (slice_get (periods_of state.rows) i) text are graphs
+      (subst (λ (found : Option Period). Reports (with_rows state plain) found text) (found_plain state.rows plain i are) there);
+}
+
+balances_alike : (state : SessionState) (plain : List StoredRow) (component : List ℕ) (i : ℕ) (costs : List NamedCost) → ArePlain state.rows plain → HaveSameGraphs state.rows plain
+    → AddsAlike state plain (Component component i) costs
+balances_alike state plain component i costs are graphs = record {
+  to = λ text here.
+      subst (λ (found : Option Period). Balances (with_rows state plain) component found text) (sym (found_plain state.rows plain i are))
+      (balances_to state plain component (slice_get (periods_of state.rows) i) text are graphs here);
+  back = λ text there.
+      balances_back state plain component (slice_get (periods_of state.rows) i) text are graphs
+      (subst (λ (found : Option Period). Balances (with_rows state plain) component found text) (found_plain state.rows plain i are) there);
+}
 
 -- ---- the edited file
+
+-- what is asked has the same text after the edited file as after the rows
+same_text : (state : SessionState) (plain : List StoredRow) (records : List (List (List ℕ))) (at i : ℕ) (accepted : Accepted) → IsOfOne accepted → (fields : List (List ℕ)) (text : List ℕ) → ArePlain state.rows plain
+    → StoreAll (begun state) 1 records (with_rows state plain) → i < length (periods_of state.rows) → AddsAlike state plain accepted (named_costs fields) → answer_of state.rows fields ≡ Says accepted
+    → Adds state at fields text ↔ IsSessionText (begun state) 1 (records ++ fields ∷ []) text
+same_text state plain records at i accepted one fields text are all within alike is =
+    let end = with_rows state plain in
+    let after = 1 + length records in
+    let other = plain_answer state.rows plain i accepted one fields are within is in (
+      λ adds. all.back (fields ∷ []) text (one_back end after fields text (moved state end at after accepted fields text is other (alike.to text) adds)),
+      λ texts. moved end state after at accepted fields text other is (alike.back text) (one_to end after fields text (all.to (fields ∷ []) text texts)),
+    )
 
 pub edited_stands : PlainLaw → PlainGraphsLaw → EditedFileLaw
 edited_stands plain_law graphs_law state records accepted writes =
     let plain = plain_stored state.rows in
     let are = plain_law state.rows accepted in
     let graphs = graphs_law state.rows accepted in
-    let end = with_rows state plain in
-    let all : StoreAll (begun state) 1 records end = store_all (begun state) 1 records (plain_rows state.rows) are.accepted writes in
+    let all : StoreAll (begun state) 1 records (with_rows state plain) = store_all (begun state) 1 records (plain_rows state.rows) are.accepted writes in
     record {
       accepted = all.none;
-      reports = λ at i report text is. (
-        λ adds. all.back (report ∷ []) text (one_back end (1 + length records) report text (adds_to state plain at (1 + length records) i report text are graphs is adds)),
-        λ texts. adds_back state plain at (1 + length records) i report text are graphs is (one_to end (1 + length records) report text (all.to (report ∷ []) text texts)),
-      );
+      reports = λ at i report text is.
+          same_text state plain records at i (Report i) tt report text are all (subst (AnswersOf state.rows) is (answers state.rows report)) (reports_alike state plain i (named_costs report) are graphs) is;
+      balances = λ at component i row text is.
+          same_text state plain records at i (Component component i) tt row text are all (subst (AnswersOf state.rows) is (answers state.rows row))
+          (balances_alike state plain component i (named_costs row) are graphs) is;
     }

@@ -2,7 +2,7 @@
 use Rattle.std.specs.Prelude.{◌-◌, IsSome, IfOk, IfSome, find, option_map, slice_index_or}
 use Rattle.std.specs.List.{AllByRecursion}
 use Rattle.std.specs.Option.{option_map_or}
-use Rattle.std.proofs.Common.{◌≡◌, ◌≢◌, ◌∙◌, ◌≤◌, ℕ, zero, suc, false, List, [], ◌∷◌, ◌++◌, length, Option, Some, None, Result, Ok, Err, slice_get, refl, sym, ap, ap₂, subst, arith, inl, inr, length-append}
+use Rattle.std.proofs.Common.{◌≡◌, ◌≢◌, ◌∙◌, ◌≤◌, ℕ, zero, suc, Bool, true, false, List, [], ◌∷◌, ◌++◌, length, Option, Some, None, Result, Ok, Err, slice_get, refl, sym, ap, ap₂, subst, arith, inl, inr, length-append}
 use Rattle.std.proofs.lemmas.Bool.{cases_Bool}
 use Rattle.std.proofs.lemmas.List.Sums.{fold_push}
 use Rattle.std.proofs.lemmas.Option.{slice_get-get_or, slice_get-map}
@@ -20,20 +20,22 @@ use Rattle.pb_elim.specs.Printed.{printed_classes}
 use Rattle.pb_elim.specs.Study.{IsStudyOf}
 use Rattle.pb_facts.specs.Facts.{NoRepeats}
 use Rattle.pb_book.specs.declared.answer.Accepted.{Accepted}
-use Rattle.pb_book.specs.declared.answer.Accepted.TheVariants.{Blank, Stored as StoredAccepted, Design, Report, History, Advise, Window}
+use Rattle.pb_book.specs.declared.answer.Accepted.TheVariants.{Blank, Stored as StoredAccepted, Design, Report, History, Advise, Component, Window}
 use Rattle.pb_book.specs.declared.answer.NotAccepted.{NotAccepted}
 use Rattle.pb_book.specs.declared.answer.Refused.{Refused as Refusal}
 use Rattle.pb_form.specs.declared.fault.FormFault.{FormFault}
 use Rattle.pb_kinds.specs.declared.rows.Request.{Request}
 use Rattle.pb_kinds.specs.declared.rows.Request.TheVariants as asked
 use Rattle.pb_kinds.specs.declared.rows.Effect.{Effect}
-use Rattle.pb_kinds.specs.declared.rows.Effect.TheVariants.{Declares, Opens, Books, Edits, Closes}
+use Rattle.pb_kinds.specs.declared.rows.Effect.TheVariants.{Declares, Opens, Books, Edits, Closes, Assays}
 use Rattle.pb_book.specs.declared.rows.Period.{Period}
 use Rattle.pb_kinds.specs.declared.costs.NamedCost.{NamedCost}
 use Rattle.pb_kinds.specs.Costs.{named_costs}
+use Rattle.pb_book.specs.Assays.{has_assay}
 use Rattle.pb_book.specs.Costs.{refusal_of_costs}
-use Rattle.pb_book.specs.Answer.{Answer, Refused, Says, Stored, advise_or_refused, after_answer, answer_if, answer_of, answer_to, history_or_refused, report_or_refused, said_of, stored_or_refused}
+use Rattle.pb_book.specs.Answer.{Answer, Refused, Says, Stored, advise_or_refused, after_answer, answer_if, answer_of, answer_to, component_or_refused, history_or_refused, report_or_refused, said_of, stored_or_refused, window_or_refused, window_unless}
 use Rattle.pb_book.specs.Apart.{is_named}
+use Rattle.pb_book.specs.Windows.{refusal_of_window}
 use Rattle.pb_book.specs.Refusals.{refusal_of}
 use Rattle.pb_kinds.specs.Requests.{request_in}
 use Rattle.pb_book.specs.declared.rows.StoredRow.{StoredRow}
@@ -149,6 +151,7 @@ stays periods (Closes name) i period at = record {
 stays periods (Declares declared) i period at = record { period = period; there = at; days = refl }
 stays periods (Books fact late) i period at = record { period = period; there = at; days = refl }
 stays periods (Edits id how reason) i period at = record { period = period; there = at; days = refl }
+stays periods (Assays assay) i period at = record { period = period; there = at; days = refl }
 
 -- what is kept of a graph stays kept, where neither what is asked nor the critical values change
 kept_still : (state other : SessionState) (graph : ProcessGraph) (study : Study) → other.options ≡ state.options → critical_of other.rows ≡ critical_of state.rows
@@ -203,6 +206,7 @@ left_same StoredAccepted rows kept said = absurd said
 left_same Design rows kept said = refl
 left_same (Report i) rows kept said = refl
 left_same (History i) rows kept said = refl
+left_same (Component component i) rows kept said = refl
 left_same (Window first last) rows kept said = refl
 left_same Advise rows kept said = refl
 
@@ -217,6 +221,7 @@ left_other StoredAccepted rows kept other = absurd (other refl)
 left_other Design rows kept other = refl
 left_other (Report i) rows kept other = refl
 left_other (History i) rows kept other = refl
+left_other (Component component i) rows kept other = refl
 left_other (Window first last) rows kept other = refl
 left_other Advise rows kept other = refl
 
@@ -245,6 +250,7 @@ left_few Blank rows kept few = few
 left_few Design rows kept few = few
 left_few (Report i) rows kept few = few
 left_few (History i) rows kept few = few
+left_few (Component component i) rows kept few = few
 left_few (Window first last) rows kept few = few
 left_few Advise rows kept few = few
 
@@ -286,6 +292,20 @@ said_history : (found : Option ℕ) → IsSaid (history_or_refused found)
 said_history (Some i) = tt
 said_history None = tt
 
+said_component : (component : List ℕ) (assayed : Bool) (found : Option ℕ) → IsSaid (component_or_refused component assayed found)
+said_component component true (Some i) = tt
+said_component component true None = tt
+said_component component false found = tt
+
+said_window_unless : (first last : ℕ) (cause : Option Refusal) → IsSaid (window_unless first last cause)
+said_window_unless first last (Some cause) = tt
+said_window_unless first last None = tt
+
+said_window : (rows : List StoredRow) (first last : Option ℕ) → IsSaid (window_or_refused rows first last)
+said_window rows (Some first) (Some last) = said_window_unless first last (refusal_of_window rows first last)
+said_window rows (Some first) None = tt
+said_window rows None last = tt
+
 said_advise : (cause : Option Refusal) → IsSaid (advise_or_refused cause)
 said_advise (Some cause) = tt
 said_advise None = tt
@@ -296,6 +316,8 @@ said_to rows costs (asked.Store effect) = said_stored effect (refusal_of rows ef
 said_to rows costs asked.Design = tt
 said_to rows costs (asked.Report name) = said_report (period_place rows name)
 said_to rows costs (asked.History name) = said_history (period_place rows name)
+said_to rows costs (asked.Component component name) = said_component component (has_assay rows component name) (period_place rows name)
+said_to rows costs (asked.Window first last) = said_window rows (period_place rows first) (period_place rows last)
 said_to rows costs asked.Advise = said_advise (refusal_of_costs (declared_of rows) costs)
 
 said_if : (rows : List StoredRow) (costs : List NamedCost) (request : Result Request FormFault) → IsSaid (answer_if rows costs request)

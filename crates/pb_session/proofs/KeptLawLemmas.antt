@@ -8,7 +8,7 @@ use Rattle.pb_graph.specs.ProcessGraph.{ProcessGraph, IsProcessGraph}
 use Rattle.pb_elim.specs.Laws.{OneStudyLaw, SomeStudyLaw}
 use Rattle.pb_elim.specs.Options.{AreOptions}
 use Rattle.pb_book.specs.declared.answer.Accepted.{Accepted}
-use Rattle.pb_book.specs.declared.answer.Accepted.TheVariants.{Blank, Stored as StoredAccepted, Design, Report, History, Advise, Window}
+use Rattle.pb_book.specs.declared.answer.Accepted.TheVariants.{Blank, Stored as StoredAccepted, Design, Report, History, Advise, Component, Window}
 use Rattle.pb_book.specs.declared.rows.Period.{Period}
 use Rattle.pb_book.specs.Answer.{Answer, Refused, Says, Stored, answer_of}
 use Rattle.pb_book.specs.Laws.{AcceptedLaw}
@@ -53,6 +53,7 @@ one_accepted law state kept Blank one other graphs a b = a ∙ sym b
 one_accepted law state kept StoredAccepted one other graphs a b = a ∙ sym b
 one_accepted law state kept Design one other graphs a b = a ∙ sym b
 one_accepted law state kept (History i) one other graphs a b = a ∙ sym b
+one_accepted law state kept (Component component i) one other graphs a b = a ∙ sym b
 one_accepted law state kept (Window first last) one other graphs a b = a ∙ sym b
 one_accepted law state kept Advise one other graphs a b = a ∙ sym b
 
@@ -89,6 +90,7 @@ some_accepted law state kept Blank asked graphs there = (kept, refl)
 some_accepted law state kept StoredAccepted asked graphs there = (kept, refl)
 some_accepted law state kept Design asked graphs there = (kept, refl)
 some_accepted law state kept (History i) asked graphs there = (kept, refl)
+some_accepted law state kept (Component component i) asked graphs there = (kept, refl)
 some_accepted law state kept (Window first last) asked graphs there = (kept, refl)
 some_accepted law state kept Advise asked graphs there = (kept, refl)
 
@@ -127,6 +129,7 @@ few_accepted state kept Blank new few keeps = subst (λ (ks : List ℕ). length 
 few_accepted state kept StoredAccepted new few keeps = subst (λ (ks : List ℕ). length ks ≤ most_kept) (sym keeps) few
 few_accepted state kept Design new few keeps = subst (λ (ks : List ℕ). length ks ≤ most_kept) (sym keeps) few
 few_accepted state kept (History i) new few keeps = subst (λ (ks : List ℕ). length ks ≤ most_kept) (sym keeps) few
+few_accepted state kept (Component component i) new few keeps = subst (λ (ks : List ℕ). length ks ≤ most_kept) (sym keeps) few
 few_accepted state kept (Window first last) new few keeps = subst (λ (ks : List ℕ). length ks ≤ most_kept) (sym keeps) few
 few_accepted state kept Advise new few keeps = subst (λ (ks : List ℕ). length ks ≤ most_kept) (sym keeps) few
 

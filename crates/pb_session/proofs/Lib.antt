@@ -1,4 +1,5 @@
 mod AppendingLemmas
+mod BalanceLemmas
 mod FirstStageLemmas
 mod ClosedLemmas
 mod CriticalLemmas

@@ -1,6 +1,7 @@
 -- The names of the declared plant are those of its graphs.
 use Rattle.std.proofs.Common.{◌≡◌, ◌∙◌, ◌<◌, ℕ, List, length, sym, refl, subst, Option, Some, None, Ok}
 use Rattle.std.proofs.lemmas.List.{length-map}
+use Rattle.pb_rows.specs.declared.name.Names.{Names}
 use Rattle.pb_graph.specs.ProcessGraph.{ProcessGraph}
 use Rattle.pb_graph.specs.declared.records.Meas.{Meas}
 use Rattle.std.specs.Prelude.{All}
@@ -41,20 +42,25 @@ names_are measure rows distinct = record {
   streams = distinct.arcs;
 }
 
-unless_is : (made graph : ProcessGraph) (found : Option ℕ) → Ok graph ≡ unless_over made found → made ≡ graph
+pub unless_is : (made graph : ProcessGraph) (found : Option ℕ) → Ok graph ≡ unless_over made found → made ≡ graph
 unless_is made graph (Some stream) is = cc is
 unless_is made graph None is = cc is
+
+-- names of a graph are names of it here too
+pub graph_names_are : (names : Names) (graph : ProcessGraph) → AreGraphNames names graph → AreNamesOf names graph
+graph_names_are names graph named = record {
+  each = record { nodes = named.each_node; streams = named.each_stream };
+  environment = named.environment;
+  nodes = named.nodes;
+  streams = named.streams;
+}
 
 -- of the graph of a period
 pub period_names_are : (rows : List StoredRow) (days : Days) (graph : ProcessGraph) → AreGraphNames (period_names rows days) (period_graph rows days) → Ok graph ≡ assembly_of rows days
     → AreNamesOf (period_names rows days) graph
 period_names_are rows days graph named is =
-    subst (λ (g : ProcessGraph). AreNamesOf (period_names rows days) g) (unless_is (period_graph rows days) graph _ is) (record {
-      each = record { nodes = named.each_node; streams = named.each_stream };
-      environment = named.environment;
-      nodes = named.nodes;
-      streams = named.streams;
-    })
+    subst (λ (g : ProcessGraph). AreNamesOf (period_names rows days) g) (unless_is (period_graph rows days) graph _ is)
+    (graph_names_are (period_names rows days) (period_graph rows days) named)
 
 -- a stream of the graph of a period has a name
 pub stream_named : (rows : List StoredRow) (days : Days) (j : ℕ) → AreGraphNames (period_names rows days) (period_graph rows days) → j < length (period_graph rows days).streams

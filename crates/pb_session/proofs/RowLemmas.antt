@@ -1,5 +1,5 @@
 -- What the book says of a record, and what the record adds.
-use Rattle.std.proofs.Common.{◌≡◌, ◌≢◌, ℕ, ◌<◌, false, List, [], length, Option, Some, None, IfSome, Result, Ok, Err, sym, ap, refl, subst, position}
+use Rattle.std.proofs.Common.{◌≡◌, ◌≢◌, ℕ, ◌<◌, Bool, true, false, List, [], length, Option, Some, None, IfSome, Result, Ok, Err, sym, ap, refl, subst, position, slice_get}
 use Rattle.std.proofs.lemmas.List.Quantifiers.{position-Some}
 use Rattle.std.specs.Prelude.{pos}
 use Rattle.pb_kinds.specs.declared.rows.Effect.{Effect}
@@ -18,9 +18,11 @@ use Rattle.pb_book.specs.Rows.{declared_of, period_place, periods_of, version_at
 use Rattle.pb_kinds.specs.Requests.{request_in}
 use Rattle.pb_kinds.specs.declared.costs.NamedCost.{NamedCost}
 use Rattle.pb_kinds.specs.Costs.{named_costs}
+use Rattle.pb_book.specs.Assays.{has_assay}
 use Rattle.pb_book.specs.Costs.{refusal_of_costs}
 use Rattle.pb_book.specs.Refusals.{refusal_of}
-use Rattle.pb_book.specs.Answer.{Answer, Refused, Says, Stored, advise_or_refused, after_answer, answer_if, answer_of, answer_to, history_or_refused, is_refused, report_or_refused, said_of, stored_or_refused}
+use Rattle.pb_book.specs.Windows.{refusal_of_ends, window_refusal}
+use Rattle.pb_book.specs.Answer.{Answer, Refused, Says, Stored, advise_or_refused, after_answer, answer_if, answer_of, answer_to, component_or_refused, history_or_refused, is_refused, report_or_refused, said_of, stored_or_refused, window_or_refused, window_unless}
 use Rattle.pb_session.specs.Session.{AddsAccepted, AddsBy, SessionState}
 use Rattle.pb_session.specs.Accepted.{IsOfPeriods}
 
@@ -48,12 +50,12 @@ accepted_adds state new at costs (Stored effect) accepted text is new_is adds = 
 accepted_adds state new at costs (Says said) accepted text is new_is adds =
     subst (λ (s : SessionState). AddsAccepted s costs said text) new_is (subst (λ (a : Accepted). AddsAccepted new costs a text) (same_accepted accepted said is) adds)
 
--- the answer to a record asks for a report or a history of a period that there is
+-- the answer to a record asks for a report, a history or a balance of a period that there is, or for a window from one to another
 abbrev pub AnswersOf : List StoredRow → Answer → Type 0
 AnswersOf rows (Says accepted) = IsOfPeriods rows accepted
 AnswersOf rows answer = Unit {0}
 
--- a report, or a history, is of a period that there is
+-- a report, a history or a balance is of a period that there is, and a window from one to another
 pub of_periods : (rows new : List StoredRow) (at : ℕ) (answer : Answer) (accepted : Accepted) → said_ok accepted ≡ said_of answer → AnswersOf rows answer
     → new ≡ after_answer rows at answer → IsOfPeriods new accepted
 of_periods rows new at (Refused cause) accepted is of is_new = cc is
@@ -78,6 +80,28 @@ histories_of : (rows : List StoredRow) (found : Option ℕ) → IfSome found (λ
 histories_of rows (Some i) lt = lt
 histories_of rows None lt = tt
 
+components_of : (rows : List StoredRow) (component : List ℕ) (assayed : Bool) (found : Option ℕ) → IfSome found (λ i. i < length (periods_of rows))
+    → AnswersOf rows (component_or_refused component assayed found)
+components_of rows component true (Some i) lt = lt
+components_of rows component true None lt = tt
+components_of rows component false found lt = tt
+
+-- periods at two places, with no cause to refuse a window from the one to the other
+asked_of : (rows : List StoredRow) (first last : ℕ) (one other : Option Period) → slice_get (periods_of rows) first ≡ one → slice_get (periods_of rows) last ≡ other
+    → AnswersOf rows (window_unless first last (refusal_of_ends rows one other))
+asked_of rows first last None other first_is last_is = tt
+asked_of rows first last (Some one) None first_is last_is = tt
+asked_of rows first last (Some one) (Some other) first_is last_is = by (window_refusal rows one other) refl
+  where
+    by : (cause : Option Refusal) → window_refusal rows one other ≡ cause → AnswersOf rows (window_unless first last cause)
+    by (Some cause) is = tt
+    by None none = record { one = one; first_is = first_is; other = other; last_is = last_is; no_cause = none }
+
+windows_of : (rows : List StoredRow) (first last : Option ℕ) → AnswersOf rows (window_or_refused rows first last)
+windows_of rows (Some first) (Some last) = asked_of rows first last (slice_get (periods_of rows) first) (slice_get (periods_of rows) last) refl refl
+windows_of rows (Some first) None = tt
+windows_of rows None last = tt
+
 stores_of : (rows : List StoredRow) (effect : Effect) (cause : Option Refusal) → AnswersOf rows (stored_or_refused effect cause)
 stores_of rows effect (Some cause) = tt
 stores_of rows effect None = tt
@@ -92,6 +116,9 @@ answers_to rows costs (asked.Store effect) = stores_of rows effect (refusal_of r
 answers_to rows costs asked.Design = tt
 answers_to rows costs (asked.Report name) = reports_of rows (period_place rows name) (found_within name (periods_of rows) (period_place rows name) refl)
 answers_to rows costs (asked.History name) = histories_of rows (period_place rows name) (found_within name (periods_of rows) (period_place rows name) refl)
+answers_to rows costs (asked.Component component name) =
+    components_of rows component (has_assay rows component name) (period_place rows name) (found_within name (periods_of rows) (period_place rows name) refl)
+answers_to rows costs (asked.Window first last) = windows_of rows (period_place rows first) (period_place rows last)
 answers_to rows costs asked.Advise = advises_of rows (refusal_of_costs (declared_of rows) costs)
 
 answers_if : (rows : List StoredRow) (costs : List NamedCost) (request : Result Request FormFault) → AnswersOf rows (answer_if rows costs request)

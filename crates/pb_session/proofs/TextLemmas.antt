@@ -1,5 +1,5 @@
 -- What a record adds to the output is one text.
-use Rattle.std.proofs.Common.{◌≡◌, ◌∙◌, ℕ, ◌+◌, List, [], ◌∷◌, ◌++◌, Option, Some, None, Result, Ok, Err, slice_get, sym, ap, ap₂}
+use Rattle.std.proofs.Common.{◌≡◌, ◌∙◌, ℕ, ◌+◌, List, [], ◌∷◌, ◌++◌, Option, Some, None, Result, Ok, Err, slice_get, sym, ap, ap₂, subst}
 use Rattle.pb_rows.specs.declared.name.Names.{Names}
 use Rattle.pb_window.specs.Codes.{window_names}
 use Rattle.pb_graph.specs.declared.records.Classified.{Classified}
@@ -7,6 +7,9 @@ use Rattle.pb_graph.specs.ProcessGraph.{ProcessGraph}
 use Rattle.pb_classify.specs.Laws.{OneClassificationLaw}
 use Rattle.pb_advise.specs.declared.advice.Advice.{Advice}
 use Rattle.pb_advise.specs.Laws.{OneAdviceLaw}
+use Rattle.pb_assay.specs.declared.grade.Grade.{Grade}
+use Rattle.pb_assay.specs.Component.{component_of}
+use Rattle.pb_graph.specs.declared.results.Stage.{Stage}
 use Rattle.pb_graph.specs.declared.results.Study.{Study}
 use Rattle.pb_elim.specs.Laws.{OneStudyLaw}
 use Rattle.pb_site.specs.Site.{names_of}
@@ -14,29 +17,44 @@ use Rattle.pb_kinds.specs.declared.costs.NamedCost.{NamedCost}
 use Rattle.pb_kinds.specs.Costs.{named_costs}
 use Rattle.pb_book.specs.Costs.{meter_costs}
 use Rattle.pb_book.specs.declared.answer.Accepted.{Accepted}
-use Rattle.pb_book.specs.declared.answer.Accepted.TheVariants.{Blank, Stored as StoredAccepted, Design, Report, History, Advise, Window}
+use Rattle.pb_book.specs.declared.answer.Accepted.TheVariants.{Blank, Stored as StoredAccepted, Design, Report, History, Advise, Component, Window}
 use Rattle.pb_book.specs.declared.rows.Period.{Period}
 use Rattle.pb_book.specs.Rows.{declared_of, periods_of}
 use Rattle.pb_book.specs.Windows.{window_between}
 use Rattle.pb_book.specs.Answer.{Answer, Refused, Says, Stored, answer_of}
 use Rattle.pb_period.specs.Days.{days_of}
+use Rattle.pb_period.specs.Grades.{grades_of}
 use Rattle.pb_period.specs.declared.graph.Assembly.{Assembly}
 use Rattle.pb_period.specs.declared.graph.Assembly.TheVariants.{Over, NoMemory}
 use Rattle.pb_period.specs.PeriodGraph.{assembly_of, design_graph, period_names}
+use Rattle.pb_report.specs.Component.{component_row}
 use Rattle.pb_report.specs.Form.{text_in}
+use Rattle.pb_report.specs.Row.{OutputRow}
 use Rattle.pb_report.specs.Advice.{advice_rows}
 use Rattle.pb_report.specs.Design.{design_rows}
 use Rattle.pb_report.specs.Study.{study_rows}
 use Rattle.pb_session.specs.Criticals.{critical_of}
-use Rattle.pb_report.specs.Row.{OutputRow}
-use Rattle.pb_session.specs.Session.{AddsAccepted, AddsBy, IsReportAfter, SessionState, Reports, ReportsBy, Tells, Windows, WindowsBy, assembly_between, state_after, window_head}
+use Rattle.pb_session.specs.Session.{AddsAccepted, AddsBy, Balances, BalancesBy, BalancesIn, IsBalanceOf, IsReport, IsReportAfter, SessionState, Reports, ReportsBy, Tells, Windows, WindowsBy, assembly_between, component_assembly, last_stage, state_after, window_head}
 use Rattle.pb_session.specs.Laws.{OneTextLaw, OneSessionTextLaw}
+
+-- the report of a graph
+study_text : OneStudyLaw → (state : SessionState) (names : Names) (period : List ℕ) (graph : ProcessGraph) (one other : List ℕ)
+    → IsReport state names period graph one → IsReport state names period graph other → one ≡ other
+study_text law state names period graph one other a b =
+    let text : Study → List ℕ = λ study. text_in state.form (study_rows names period state.options study) in
+    a.rows ∙ ap text (law graph state.options (critical_of state.rows) a.study b.study a.limits a.is_study b.is_study) ∙ sym b.rows
+
+-- and such a report after some rows
+after_text : OneStudyLaw → (state : SessionState) (rows : List OutputRow) (names : Names) (period : List ℕ) (graph : ProcessGraph) (one other : List ℕ)
+    → IsReportAfter state rows names period graph one → IsReportAfter state rows names period graph other → one ≡ other
+after_text law state rows names period graph one other a b =
+    let front : a.front ≡ b.front = a.before ∙ sym b.before in
+    let rest : a.rest ≡ b.rest = study_text law state names period graph a.rest b.rest a.report b.report in
+    a.whole ∙ ap₂ (λ (x y : List ℕ). x ++ y) front rest ∙ sym b.whole
 
 reports_by_text : OneStudyLaw → (state : SessionState) (period : Period) (assembly : Result ProcessGraph Assembly) (one other : List ℕ)
     → ReportsBy state period assembly one → ReportsBy state period assembly other → one ≡ other
-reports_by_text law state period (Ok graph) one other a b =
-    let text : Study → List ℕ = λ study. text_in state.form (study_rows (period_names state.rows (days_of period)) period.name state.options study) in
-    a.rows ∙ ap text (law graph state.options (critical_of state.rows) a.study b.study a.limits a.is_study b.is_study) ∙ sym b.rows
+reports_by_text law state period (Ok graph) one other a b = study_text law state (period_names state.rows (days_of period)) period.name graph one other a b
 reports_by_text law state period (Err (Over j)) one other a b = a ∙ sym b
 reports_by_text law state period (Err NoMemory) one other a b = absurd a
 
@@ -44,20 +62,44 @@ report_text : OneStudyLaw → (state : SessionState) (period : Option Period) (o
 report_text law state (Some period) one other a b = reports_by_text law state period (assembly_of state.rows (days_of period)) one other a b
 report_text law state None one other a b = absurd a
 
--- rows, and a report after them
-pub report_after_text : OneStudyLaw → (state : SessionState) (rows : List OutputRow) (names : Names) (period : List ℕ) (graph : ProcessGraph) (one other : List ℕ)
-    → IsReportAfter state rows names period graph one → IsReportAfter state rows names period graph other → one ≡ other
-report_after_text law state rows names period graph one other a b =
-    let text : Study → List ℕ = λ study. text_in state.form (study_rows names period state.options study) in
-    let front : a.front ≡ b.front = a.head ∙ sym b.head in
-    let rest : a.rest ≡ b.rest =
-    a.report.rows ∙ ap text (law graph state.options (critical_of state.rows) a.report.study b.report.study a.report.limits a.report.is_study b.report.is_study) ∙ sym b.report.rows in
-    a.whole ∙ ap₂ (λ (x y : List ℕ). x ++ y) front rest ∙ sym b.whole
+-- ---- the balance of a component
+
+same_stage : (a b : Stage) (o : Option Stage) → o ≡ Some a → o ≡ Some b → a ≡ b
+same_stage a b o one other = cc (one, other)
+
+-- a graph has one component graph
+one_balance : OneStudyLaw → (state : SessionState) (graph : ProcessGraph) (grades : List (Option Grade)) (one other : Result ProcessGraph Assembly)
+    → IsBalanceOf state graph grades one → IsBalanceOf state graph grades other → one ≡ other
+one_balance law state graph grades one other a b =
+    let same : a.study ≡ b.study = law graph state.options (critical_of state.rows) a.study b.study a.limits a.is_study b.is_study in
+    let last : a.last ≡ b.last = same_stage a.last b.last (last_stage b.study) (ap last_stage (sym same) ∙ a.is_last) b.is_last in
+    a.is ∙ ap (λ (stage : Stage). component_assembly (component_of graph stage.streams grades)) last ∙ sym b.is
+
+balance_in : OneStudyLaw → (state : SessionState) (component : List ℕ) (period : Period) (assembly one other : Result ProcessGraph Assembly)
+    → BalancesIn state component period assembly one → BalancesIn state component period assembly other → one ≡ other
+balance_in law state component period (Ok graph) one other a b = one_balance law state graph (grades_of state.rows component period) one other a b
+balance_in law state component period (Err why) one other a b = a ∙ sym b
+
+balance_by_text : OneStudyLaw → (state : SessionState) (component : List ℕ) (period : Period) (answer : Result ProcessGraph Assembly) (one other : List ℕ)
+    → BalancesBy state component period answer one → BalancesBy state component period answer other → one ≡ other
+balance_by_text law state component period (Ok graph) one other a b =
+    after_text law state (component_row component period.name ∷ []) (period_names state.rows (days_of period)) period.name graph one other a b
+balance_by_text law state component period (Err (Over j)) one other a b = a ∙ sym b
+balance_by_text law state component period (Err NoMemory) one other a b = absurd a
+
+balance_text : OneStudyLaw → (state : SessionState) (component : List ℕ) (period : Option Period) (one other : List ℕ)
+    → Balances state component period one → Balances state component period other → one ≡ other
+balance_text law state component (Some period) one other (a, a_of, a_by) (b, b_of, b_by) =
+    let same : a ≡ b = balance_in law state component period (assembly_of state.rows (days_of period)) a b a_of b_of in
+    balance_by_text law state component period b one other (subst (λ (answer : Result ProcessGraph Assembly). BalancesBy state component period answer one) same a_by) b_by
+balance_text law state component None one other a b = absurd a
+
+-- ---- a window of several periods
 
 windows_by_text : OneStudyLaw → (state : SessionState) (first last : Period) (assembly : Result ProcessGraph Assembly) (one other : List ℕ) → WindowsBy state first last assembly one
     → WindowsBy state first last assembly other → one ≡ other
 windows_by_text law state first last (Ok graph) one other a b =
-    report_after_text law state (window_head state.rows first last) (window_names (window_between state.rows first last)) first.name graph one other a b
+    after_text law state (window_head state.rows first last) (window_names (window_between state.rows first last)) first.name graph one other a b
 windows_by_text law state first last (Err (Over j)) one other a b = a ∙ sym b
 windows_by_text law state first last (Err NoMemory) one other a b = absurd a
 
@@ -65,6 +107,8 @@ window_text : OneStudyLaw → (state : SessionState) (first last : Option Period
 window_text law state (Some first) (Some last) one other a b = windows_by_text law state first last (assembly_between state.rows first last) one other a b
 window_text law state (Some first) None one other a b = absurd a
 window_text law state None last one other a b = absurd a
+
+-- ---- a record
 
 history_text : (state : SessionState) (period : Option Period) (one other : List ℕ) → Tells state period one → Tells state period other → one ≡ other
 history_text state (Some period) one other a b = a ∙ sym b
@@ -79,6 +123,7 @@ accepted_text law advices studies state costs Design one other a b =
     a.rows ∙ ap text (law (design_graph state.rows) a.classes b.classes a.are b.are) ∙ sym b.rows
 accepted_text law advices studies state costs (Report i) one other a b = report_text studies state (slice_get (periods_of state.rows) i) one other a b
 accepted_text law advices studies state costs (History i) one other a b = history_text state (slice_get (periods_of state.rows) i) one other a b
+accepted_text law advices studies state costs (Component component i) one other a b = balance_text studies state component (slice_get (periods_of state.rows) i) one other a b
 accepted_text law advices studies state costs (Window first last) one other a b =
     window_text studies state (slice_get (periods_of state.rows) first) (slice_get (periods_of state.rows) last) one other a b
 accepted_text law advices studies state costs Advise one other a b =

@@ -1,7 +1,8 @@
 -- A window of a book: the places of its periods, the names of its graph, and its text.
-use Rattle.std.specs.Prelude.{filter_map, map, IfOk, OnOk}
+use Rattle.std.specs.Prelude.{filter_map, map, IfOk, OnErr, OnOk}
 use Rattle.std.specs.List.{cons_option}
-use Rattle.std.proofs.Common.{◌≡◌, ◌≢◌, ◌∙◌, ◌+◌, ◌<◌, ◌≤◌, ℕ, List, [], ◌∷◌, ◌++◌, length, slice_get, All, Option, Some, None, Result, Ok, Err, refl, sym, ap, ap₂, subst, arith, append_assoc}
+use Rattle.std.proofs.Common.{◌≡◌, ◌≢◌, ◌∙◌, ◌+◌, ◌<◌, ◌≤◌, ℕ, List, [], ◌∷◌, ◌++◌, length, slice_get, All, Option, Some, None, Result, Ok, Err, refl, sym, ap, ap₂, subst, arith, append_assoc, take}
+use Rattle.std.proofs.Math.Seq.{take-append_seam}
 use Rattle.std.proofs.lemmas.List.{length-map}
 use Rattle.std.proofs.lemmas.List.Elements.{All-cons, All-nil}
 use Rattle.std.proofs.lemmas.Option.{slice_get_within}
@@ -75,7 +76,7 @@ window_at rows first last places window asked between few is form codes named =
           (named asked.one asked.other asked.first_is asked.last_is);
     }
 
-same_found : {A : Type 0} (a b : A) (found : Option A) → found ≡ Some a → found ≡ Some b → a ≡ b
+pub same_found : {A : Type 0} (a b : A) (found : Option A) → found ≡ Some a → found ≡ Some b → a ≡ b
 same_found a b found one other = cc (one, other)
 
 -- the rows before the report of a window, as they are written
@@ -118,6 +119,14 @@ window_names_are rows periods window graph codes is =
       streams = codes.streams.differ;
     })
 
+-- what is assembled of the window between two periods
+pub between_is : (rows : List StoredRow) (first last : ℕ) (one other : Period) (places : List ℕ) (window : Window) (r : Result ProcessGraph Assembly)
+    → slice_get (periods_of rows) first ≡ Some one → slice_get (periods_of rows) last ≡ Some other → ArePlacesBetween rows first last places → IsWindowBetween rows first last window
+    → r ≡ window_assembly rows (periods_at rows places) window → r ≡ assembly_between rows one other
+between_is rows first last one other places window r first_is last_is between is answer =
+    let found = places_found (periods_of rows) places (periods_between (periods_of rows) one other) (between one other first_is last_is) in
+    answer ∙ ap₂ (window_assembly rows) found.items_are (is one other first_is last_is)
+
 -- ---- the text
 
 -- the text of a window whose ends are found
@@ -136,9 +145,28 @@ after_ok (Ok x) state rows names period graph old middle new begun (text, writte
     let head = text_in state.form rows in (
       head ++ text,
       written ∙ ap (λ (t : List ℕ). t ++ text) begun ∙ append_assoc old head text,
-      record { front = head; rest = text; head = refl; report = report; whole = refl },
+      record { front = head; rest = text; before = refl; report = report; whole = refl },
     )
 after_ok (Err e) state rows names period graph old middle new begun appended = tt
+
+-- nothing stays of rows if there is no memory for the report after them
+pub after_err : {T E : Type 0} (r : Result T E) (old head middle new : List ℕ) (before : ℕ) → before ≡ length old → middle ≡ old ++ head → OnErr r (new ≡ take before middle)
+    → OnErr r (new ≡ old)
+after_err (Ok x) old head middle new before before_is begun kept = tt
+after_err (Err e) old head middle new before before_is begun kept = kept ∙ ap₂ take before_is begun ∙ take-append_seam old head
+
+-- the rows of a window were appended, and then a report
+pub head_ok : {T E : Type 0} (r : Result T E) (state : SessionState) (first last : ℕ) (a : Period) (names : Names) (graph : ProcessGraph) (rows : List OutputRow) (old middle new : List ℕ)
+    → slice_get (periods_of state.rows) first ≡ Some a → OfEnds state.rows first last (λ (one other : Period). rows ≡ window_head state.rows one other) → middle ≡ old ++ text_in state.form rows
+    → OnOk r ((t : List ℕ) × (new ≡ middle ++ t) × IsReport state names a.name graph t)
+    → OnOk r (OfEnds state.rows first last (λ (one other : Period). (t : List ℕ) × (new ≡ old ++ t) × IsReportAfter state (window_head state.rows one other) names one.name graph t))
+head_ok (Err e) state first last a names graph rows old middle new a_is heads begun appended = tt
+head_ok {T = T} {E = E} (Ok x) state first last a names graph rows old middle new a_is heads begun (text, written, report) = λ one other first_is last_is.
+    let one_is : a ≡ one = same_found a one (slice_get (periods_of state.rows) first) a_is first_is in
+    let said : Result T E = Ok x in
+    after_ok said state (window_head state.rows one other) names one.name graph old middle new
+    (begun ∙ ap (λ (rs : List OutputRow). old ++ text_in state.form rs) (heads one other first_is last_is))
+    (text, written, subst (λ (p : Period). IsReport state names p.name graph text) one_is report)
 
 -- a report after the rows of a window was appended
 pub windows_ok : {T E : Type 0} (r : Result T E) (state : SessionState) (first last : ℕ) (one other : Period) (names : Names) (graph : ProcessGraph) (old new : List ℕ)

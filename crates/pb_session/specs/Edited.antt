@@ -1,6 +1,6 @@
--- Statement. A report after edits is that of the edited file.
+-- Statement. A report after edits is that of the edited file, and so is the balance of a component.
 use Rattle.std.specs.Prelude.{◌≡◌, ◌↔◌, ℕ, false, List, [], ◌∷◌, ◌++◌}
-use Rattle.pb_book.specs.declared.answer.Accepted.TheVariants.{Report}
+use Rattle.pb_book.specs.declared.answer.Accepted.TheVariants.{Report, Component}
 use Rattle.pb_book.specs.Accepted.{AreAccepted}
 use Rattle.pb_book.specs.Answer.{Says, answer_of}
 use Rattle.pb_book.specs.Plain.{plain_rows}
@@ -22,10 +22,17 @@ ReportsAsAfter state records =
     (at i : ℕ) (report : List (List ℕ)) (text : List ℕ) → answer_of state.rows report ≡ Says (Report i)
     → Adds state at report text ↔ IsSessionText (begun state) 1 (records ++ report ∷ []) text
 
--- no record of an edited file is refused, and each report behind it is the one after the edits
+-- a record that asks for the balance of a component after them has the text that it has after the rows of a session
+abbrev pub BalancesAsAfter : SessionState → List (List (List ℕ)) → Type 0
+BalancesAsAfter state records =
+    (at : ℕ) (component : List ℕ) (i : ℕ) (row : List (List ℕ)) (text : List ℕ) → answer_of state.rows row ≡ Says (Component component i)
+    → Adds state at row text ↔ IsSessionText (begun state) 1 (records ++ row ∷ []) text
+
+-- no record of an edited file is refused, and each report and each balance after it is the one after the edits
 pub record StandsForTheEdits (state : SessionState) (records : List (List (List ℕ))) : Type 0 where
   pub accepted : refuses_some (begun state) 1 records ≡ false
   pub reports : ReportsAsAfter state records
+  pub balances : BalancesAsAfter state records
 
 -- so it is of all accepted rows, with whatever options and in either form
 abbrev pub EditedFileLaw : Type 0

@@ -25,7 +25,7 @@ use Rattle.pb_session.specs.declared.kept.KeptStudy.{KeptStudy}
 use Rattle.pb_session.specs.declared.session.Reported.{Reported}
 use Rattle.pb_session.specs.Criticals.{critical_of}
 use Rattle.pb_session.specs.Kept.{Held, IsKeptAt, most_kept}
-use Rattle.pb_session.specs.Session.{SessionState}
+use Rattle.pb_session.specs.Session.{BalancesIn, SessionState}
 
 -- ---- the kept studies
 
@@ -122,6 +122,18 @@ IsReportedBy held i (Err why) (Some reported) = ⊥
 abbrev pub IsReportedAt : Held → ℕ → Option Period → Option Reported → Type 0
 IsReportedAt held i (Some period) reported = IsReportedBy held i (assembly_of held.state.rows (days_of period)) reported
 IsReportedAt held i None reported = ⊥
+
+-- ---- the component graph of a period
+
+-- a graph has as many nodes and streams as another one
+pub record HasCountsOf (graph other : ProcessGraph) : Type 0 where
+  pub nodes : other.nodes ≡ graph.nodes
+  pub streams : length other.streams ≡ length graph.streams
+
+-- an answer is the component graph of the period at a place, or the first stream beyond the limits
+abbrev pub IsBalanceAt : SessionState → List ℕ → Option Period → Result ProcessGraph Assembly → Type 0
+IsBalanceAt state component (Some period) answer = BalancesIn state component period (assembly_of state.rows (days_of period)) answer
+IsBalanceAt state component None answer = ⊥
 
 -- ---- the invariant
 

@@ -1,12 +1,17 @@
 -- Statement. The output of a session.
-use Rattle.std.specs.Prelude.{◌≡◌, ℕ, ℤ, ◌+◌, Bool, ◌||◌, false, List, [], ◌∷◌, ◌++◌, Option, Some, None, length, slice_get, All, Result, Ok, Err, codes}
+use Rattle.std.specs.Prelude.{◌≡◌, ℕ, ℤ, ◌+◌, Bool, ◌||◌, false, List, [], ◌∷◌, ◌++◌, Option, Some, None, slice_get, length, All, Result, Ok, Err, codes}
 use Rattle.pb_rows.specs.declared.name.Names.{Names}
 use Rattle.pb_window.specs.Codes.{window_names}
 use Rattle.pb_window.specs.Places.{window_places}
 use Rattle.pb_graph.specs.declared.records.Classified.{Classified}
 use Rattle.pb_graph.specs.declared.results.Options.{Options}
+use Rattle.pb_graph.specs.declared.results.Stage.{Stage}
 use Rattle.pb_graph.specs.declared.results.Study.{Study}
 use Rattle.pb_graph.specs.ProcessGraph.{ProcessGraph, IsProcessGraph}
+use Rattle.pb_assay.specs.declared.component.ComponentFault.{ComponentFault}
+use Rattle.pb_assay.specs.declared.component.ComponentFault.TheVariants as fault
+use Rattle.pb_assay.specs.declared.grade.Grade.{Grade}
+use Rattle.pb_assay.specs.Component.{component_of}
 use Rattle.pb_classify.specs.Classification.{IsClassification}
 use Rattle.pb_advise.specs.declared.advice.Advice.{Advice}
 use Rattle.pb_advise.specs.Choice.{AreCosts}
@@ -25,6 +30,7 @@ use Rattle.pb_book.specs.Costs.{meter_costs}
 use Rattle.pb_book.specs.Windows.{names_of_periods, periods_between, window_between}
 use Rattle.pb_book.specs.Answer.{Answer, Refused, Says, Stored, after, answer_of, code_of, is_refused}
 use Rattle.pb_period.specs.Days.{days_of}
+use Rattle.pb_period.specs.Grades.{grades_of}
 use Rattle.pb_period.specs.declared.graph.Assembly.{Assembly}
 use Rattle.pb_period.specs.declared.graph.Assembly.TheVariants.{Over, NoMemory}
 use Rattle.pb_period.specs.PeriodGraph.{assembly_of, design_graph, period_names}
@@ -37,6 +43,7 @@ use Rattle.pb_report.specs.Row.{OutputRow}
 use Rattle.pb_report.specs.Names.{IsNamed, name_at}
 use Rattle.pb_report.specs.Refusal.{refused_row}
 use Rattle.pb_report.specs.Advice.{advice_rows}
+use Rattle.pb_report.specs.Component.{component_row}
 use Rattle.pb_report.specs.Design.{design_rows}
 use Rattle.pb_report.specs.Over.{over_row}
 use Rattle.pb_report.specs.Study.{study_rows}
@@ -92,14 +99,6 @@ pub record IsReport (state : SessionState) (names : Names) (period : List ℕ) (
   pub tested : All TestsEachRedundant study.stages
   pub rows : IsTextOf state (study_rows names period state.options study) text
 
--- A text is some rows, and after them the report of a graph under this name.
-pub record IsReportAfter (state : SessionState) (rows : List OutputRow) (names : Names) (period : List ℕ) (graph : ProcessGraph) (text : List ℕ) : Type 0 where
-  pub front : List ℕ
-  pub rest : List ℕ
-  pub head : IsTextOf state rows front
-  pub report : IsReport state names period graph rest
-  pub whole : text ≡ front ++ rest
-
 -- the text of a report, or the row that names the first stream beyond the limits
 abbrev pub ReportsBy : SessionState → Period → Result ProcessGraph Assembly → List ℕ → Type 0
 ReportsBy state period (Ok graph) text = IsReport state (period_names state.rows (days_of period)) period.name graph text
@@ -112,10 +111,57 @@ abbrev pub Reports : SessionState → Option Period → List ℕ → Type 0
 Reports state (Some period) text = ReportsBy state period (assembly_of state.rows (days_of period)) text
 Reports state None text = ⊥
 
--- the text of the history of the period at a place
-abbrev pub Tells : SessionState → Option Period → List ℕ → Type 0
-Tells state (Some period) text = IsTextOf state (told_history state.rows period) text
-Tells state None text = ⊥
+-- A text is these rows, and after them the report of a graph.
+pub record IsReportAfter (state : SessionState) (rows : List OutputRow) (names : Names) (period : List ℕ) (graph : ProcessGraph) (text : List ℕ) : Type 0 where
+  pub front : List ℕ
+  pub rest : List ℕ
+  pub before : IsTextOf state rows front
+  pub report : IsReport state names period graph rest
+  pub whole : text ≡ front ++ rest
+
+-- ---- the balance of a component
+
+-- the last stage of a study
+abbrev pub last_stage : Study → Option Stage
+last_stage study = slice_get study.stages (length study.taken)
+
+-- a component graph, or its first stream beyond the limits
+abbrev pub component_assembly : Result ProcessGraph ComponentFault → Result ProcessGraph Assembly
+component_assembly (Ok component) = Ok component
+component_assembly (Err (fault.Over j)) = Err (Over j)
+component_assembly (Err fault.NoMemory) = Err NoMemory
+
+-- An answer is the component graph of a graph, by what the last stage of its study prints of each stream and by these grades; or its first
+-- stream beyond the limits. The study is by the critical values of the stored rows.
+pub record IsBalanceOf (state : SessionState) (graph : ProcessGraph) (grades : List (Option Grade)) (answer : Result ProcessGraph Assembly) : Type 0 where
+  pub limits : IsProcessGraph graph
+  pub study : Study
+  pub is_study : IsStudyOf graph state.options (critical_of state.rows) study
+  pub last : Stage
+  pub is_last : last_stage study ≡ Some last
+  pub is : answer ≡ component_assembly (component_of graph last.streams grades)
+
+-- that of the graph of a period, or the first stream of the period beyond the limits
+abbrev pub BalancesIn : SessionState → List ℕ → Period → Result ProcessGraph Assembly → Result ProcessGraph Assembly → Type 0
+BalancesIn state component period (Ok graph) answer = IsBalanceOf state graph (grades_of state.rows component period) answer
+BalancesIn state component period (Err why) answer = answer ≡ Err why
+
+-- the text of the balance of a component in a period by its graph: the row of the component, and the report of the graph by the names of the
+-- period's nodes and streams; or the row that names the first stream beyond the limits
+abbrev pub BalancesBy : SessionState → List ℕ → Period → Result ProcessGraph Assembly → List ℕ → Type 0
+BalancesBy state component period (Ok graph) text =
+    IsReportAfter state (component_row component period.name ∷ []) (period_names state.rows (days_of period)) period.name graph text
+BalancesBy state component period (Err (Over j)) text =
+    IsTextOf state (over_row period.name (name_at (period_names state.rows (days_of period)).streams j) ∷ []) text
+BalancesBy state component period (Err NoMemory) text = ⊥
+
+-- the text of the balance of a component in the period at a place
+abbrev pub Balances : SessionState → List ℕ → Option Period → List ℕ → Type 0
+Balances state component (Some period) text =
+    (answer : Result ProcessGraph Assembly)
+    × BalancesIn state component period (assembly_of state.rows (days_of period)) answer
+    × BalancesBy state component period answer text
+Balances state component None text = ⊥
 
 -- ---- a window of several periods
 
@@ -146,6 +192,11 @@ Windows state first last text = ⊥
 
 -- ---- what a record adds
 
+-- the text of the history of the period at a place
+abbrev pub Tells : SessionState → Option Period → List ℕ → Type 0
+Tells state (Some period) text = IsTextOf state (told_history state.rows period) text
+Tells state None text = ⊥
+
 -- the text that an accepted record adds, by the costs that it names
 abbrev pub AddsAccepted : SessionState → List NamedCost → Accepted → List ℕ → Type 0
 AddsAccepted state costs answered.Blank text = text ≡ []
@@ -153,6 +204,7 @@ AddsAccepted state costs answered.Stored text = text ≡ []
 AddsAccepted state costs answered.Design text = IsDesign state (names_of (declared_of state.rows)) (design_graph state.rows) text
 AddsAccepted state costs (answered.Report i) text = Reports state (slice_get (periods_of state.rows) i) text
 AddsAccepted state costs (answered.History i) text = Tells state (slice_get (periods_of state.rows) i) text
+AddsAccepted state costs (answered.Component component i) text = Balances state component (slice_get (periods_of state.rows) i) text
 AddsAccepted state costs (answered.Window first last) text =
     Windows state (slice_get (periods_of state.rows) first) (slice_get (periods_of state.rows) last) text
 AddsAccepted state costs answered.Advise text =
@@ -165,7 +217,8 @@ AddsBy state at costs (Stored row) text = text ≡ []
 AddsBy state at costs (Says accepted) text = AddsAccepted state costs accepted text
 
 -- The text that a record adds to the output: a refused one its row, `design` the rows of the design, `report` those of the report,
--- `history` those of the history, `advise` those of the advice, `window` its rows and the report of its graph.
+-- `history` those of the history, `advise` those of the advice, `component` its row and the report of the component's graph,
+-- `window` its rows and the report of its graph.
 abbrev pub Adds : SessionState → ℕ → List (List ℕ) → List ℕ → Type 0
 Adds state at fields text = AddsBy state at (named_costs fields) (answer_of state.rows fields) text
 

@@ -71,7 +71,7 @@ fn push_told(edits: &mut List<HistoryRow>, row: &StoredRow) -> Result<(), AllocE
             id: Some(*id),
             reason: Some(*reason),
         }),
-        Effect::Declares(_) | Effect::Opens { .. } => Ok(()),
+        Effect::Declares(_) | Effect::Opens { .. } | Effect::Assays(_) => Ok(()),
     }
 }
 

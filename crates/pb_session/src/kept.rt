@@ -26,8 +26,8 @@ pub fn place_of(kept: &[KeptStudy], period: u32) -> Option<usize>
 }
 
 /// Lets the studies go that a stored row touches: the last one of the book, where the record was stored.
-pub fn drop_touched(kept: &mut Vec<KeptStudy>, book: &Book, accepted: Accepted)
-    ensures { kept.new.items ≡ left_by accepted book.now kept.old.items }
+pub fn drop_touched(kept: &mut Vec<KeptStudy>, book: &Book, accepted: &Accepted)
+    ensures { kept.new.items ≡ left_by accepted.now book.now kept.old.items }
 {
     if matches!(accepted, Accepted::Stored) {
         retain_untouched(kept, book);

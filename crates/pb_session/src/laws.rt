@@ -5,9 +5,12 @@ ghost use Rattle.pb_session.specs.KeptLaws.{FewKeptLaw, KeptTextLaw, OneKeptLaw,
 ghost use Rattle.pb_session.specs.Laws.{CriticalsLaw, OneTextLaw, OneSessionTextLaw, SomeTextLaw, SomeSessionTextLaw};
 
 use pb_advise::{cheapest_law, one_advice_law, some_advice_law};
-use pb_book::{accepted_law, book_windows_law, meter_costs_law, plain_law, ranges_law};
+use pb_assay::component_form_law;
+use pb_book::{accepted_law, book_windows_law, grades_law, meter_costs_law, plain_law, ranges_law};
 use pb_classify::{one_classification_law, some_classification_law};
-use pb_elim::{certified_law, least_throughout_law, one_study_law, some_study_law, tested_law};
+use pb_elim::{
+    certified_law, formed_law, least_throughout_law, one_study_law, some_study_law, tested_law,
+};
 use pb_period::{graphs_law, plain_graphs_law, window_graphs_law};
 
 /// The law that what a record adds to the output is one text, and so is the output of a session: the classes of a design and
@@ -22,7 +25,8 @@ pub fn one_text_law()
 }
 
 /// The law that each record adds some text to the output, and that each session has some text: accepted rows make process
-/// graphs, also of windows, and each of them has classes with certificates, an advice at any costs, and a study.
+/// graphs, also of windows, and each of them has classes with certificates, an advice at any costs, a study, and the component graphs
+/// of its study.
 pub fn some_text_law()
     ensures of_a_record { SomeTextLaw }
     ensures of_a_session { SomeSessionTextLaw }
@@ -35,15 +39,20 @@ pub fn some_text_law()
     certified_law();
     least_throughout_law();
     tested_law();
+    formed_law();
+    component_form_law();
+    criticals_law();
     graphs_law();
     book_windows_law();
     window_graphs_law();
+    grades_law();
     accepted_law();
 }
 
 /// The law that a report after edits is that of the edited file. An edited file has one record for each plain row: the declarations,
-/// periods and critical values, and then the live facts with their last values. None of its records is refused, and a report behind
-/// them has the text that it has behind the rows of the session, with whatever options and in either form.
+/// periods, critical values and assays, and then the live facts with their last values. None of its records is refused, and a report
+/// or the balance of a component after them has the text that it has after the rows of the session, with whatever options and in
+/// either form.
 pub fn edited_file_law()
     ensures { EditedFileLaw }
 {

@@ -1,10 +1,11 @@
 // The state of a session.
 
-ghost use Rattle.std.specs.Prelude.{◌≡◌, ◌≢◌, ◌<◌, ◌≤◌, ◌↔◌, ◌∷◌, [], None, length, slice_get, take, option_map, OnOk, OnErr, IfErr, IfOk, IfSome, IsSome, IsTrue, Contains, Err};
+ghost use Rattle.std.specs.Prelude.{◌≡◌, ◌≢◌, ◌<◌, ◌≤◌, ◌↔◌, ◌∷◌, [], None, length, slice_get, take, option_map, All, OnOk, OnErr, IfErr, IfOk, IfSome, IsSome, IsTrue, Contains, Err};
 ghost use Rattle.pb_book.specs.declared.answer.Accepted.TheVariants.{Advise, Design, Stored};
 ghost use Rattle.pb_book.specs.Answer.{Says, code_of};
 ghost use Rattle.pb_kinds.specs.Costs.{named_costs};
 ghost use Rattle.pb_advise.specs.Choice.{AreCosts};
+ghost use Rattle.pb_report.specs.Component.{component_row};
 ghost use Rattle.pb_report.specs.Refusal.{refused_row};
 ghost use Rattle.pb_book.specs.Rows.{periods_of};
 ghost use Rattle.pb_book.specs.Windows.{IsWindowAsked, OfEnds};
@@ -15,18 +16,17 @@ use crate::history::{told_edits, told_period};
 use crate::kept::{KeptStudy, drop_study, drop_touched, place_of, settle};
 use crate::windows::places_of;
 use pb_advise::advise;
+use pb_assay::{ComponentFault, Grade, component_graph};
 use pb_book::{Accepted, Book, NotAccepted, Refused};
 use pb_classify::{alike_law, classify};
 use pb_elim::{least_throughout_law, stage, study_classed, tested_law};
 use pb_graph::{Classified, Graph, List, Options, Stage, Study};
-use pb_period::{
-    Assembly, assemble, assemble_window, closed_graphs_law, design, untouched_law,
-};
+use pb_period::{Assembly, assemble, assemble_window, closed_graphs_law, design, untouched_law};
 use pb_report::{
-    Form, write_advice, write_design, write_history, write_over, write_refused, write_study,
-    write_window,
+    Form, write_advice, write_component, write_design, write_history, write_over, write_refused,
+    write_study, write_window,
 };
-use pb_rows::{Name, Names, Row};
+use pb_rows::{Name, NameList, Names, Row};
 use pb_window::{Window, window_names};
 use std::alloc::{AllocError, Global};
 use std::marker::Model;
@@ -73,14 +73,20 @@ impl Session {
     ghost use Rattle.pb_classify.specs.Classification.{IsClassification};
     ghost use Rattle.pb_elim.specs.Options.{AreOptions};
     ghost use Rattle.pb_elim.specs.Printed.{printed_classes};
+    ghost use Rattle.pb_elim.specs.Study.{IsStudyOf};
     ghost use Rattle.pb_graph.specs.ProcessGraph.{IsProcessGraph};
+    ghost use Rattle.pb_graph.specs.WellFormed.{IsWellFormedStudy};
+    ghost use Rattle.pb_assay.specs.Grade.{IsGrade};
+    ghost use Rattle.pb_period.specs.Days.{days_of};
+    ghost use Rattle.pb_period.specs.PeriodGraph.{IsStreamOfGraph, NamesAStream, period_graph, period_names};
+    ghost use Rattle.pb_session.specs.Criticals.{critical_of};
     ghost use Rattle.pb_session.specs.Accepted.{IsOfPeriods};
     ghost use Rattle.pb_session.specs.Appending.{AppendsText, KeepsText};
     ghost use Rattle.pb_session.specs.Closed.{LeavesClosed};
     ghost use Rattle.pb_session.specs.FirstStage.{Begins, IsFirstStage, TellsAStream};
-    ghost use Rattle.pb_session.specs.Keeping.{IsRenewal, IsReportedAt, IsReportedOf, IsStudied, KeepsAlike};
+    ghost use Rattle.pb_session.specs.Keeping.{HasCountsOf, IsBalanceAt, IsRenewal, IsReportedAt, IsReportedOf, IsStudied, KeepsAlike};
     ghost use Rattle.pb_session.specs.Kept.{IsKeptAt, Keeps, KeepsAccepted, KeepsReportOf, most_kept, reported_after, reported_behind, reported_of};
-    ghost use Rattle.pb_session.specs.Session.{Adds, AddsAccepted, AreNamesOf, IsAdviceText, IsDesign, IsReport, IsReportAfter, IsTextOf, Reports, Tells, Windows, state_after, window_head};
+    ghost use Rattle.pb_session.specs.Session.{Adds, AddsAccepted, AreNamesOf, Balances, IsAdviceText, IsBalanceOf, IsDesign, IsReport, IsReportAfter, IsTextOf, Reports, Tells, Windows, state_after, window_head};
     ghost use Rattle.pb_session.specs.Windowed.{IsWindowAt};
 
     /// A session that has stored nothing.
@@ -155,7 +161,7 @@ impl Session {
             Ok(accepted) => {
                 untouched_law();
                 closed_graphs_law();
-                drop_touched(&mut self.kept, &self.book, accepted);
+                drop_touched(&mut self.kept, &self.book, &accepted);
                 self.write(accepted, row, out)?;
                 Ok(false)
             }
@@ -226,6 +232,9 @@ impl Session {
             Accepted::History(i) => self.write_history(i, out),
             Accepted::Advise => self.write_advice(row, out),
             Accepted::Window { first, last } => self.write_window(first, last, out),
+            Accepted::Component { component, period } => {
+                self.write_balance(&component, period, out)
+            }
         }
     }
 
@@ -486,6 +495,107 @@ impl Session {
         let classes = self.classes_of(graph)?;
         let study = study_classed(self.alloc, graph, classes, &self.options, &critical)?;
         Ok(study)
+    }
+
+    // Appends the balance of a component in a period, or the row that names the first stream beyond the limits. Nothing of it is kept.
+    fn write_balance(&self, component: &Name, i: u32, out: &mut Vec<u8>) -> Result<(), AllocError>
+        requires { i < length (periods_of self.now.state.rows) }
+        ensures ok { OnOk result (AppendsText (Balances self.now.state component.now
+            (slice_get (periods_of self.now.state.rows) i)) out.old out.new) }
+        ensures err { OnErr result (KeepsText out.old out.new) }
+    {
+        let names = pb_period::names(self.alloc, &self.book, i)?;
+        let period = self.book.period(i).name;
+        match self.balance(component, i, &names.streams) {
+            Ok(graph) => self.write_component(&names, component, &period, &graph, out),
+            Err(Assembly::Over(j)) => write_over(
+                self.alloc,
+                &period,
+                names.streams.at(j as usize),
+                self.form,
+                out,
+            ),
+            Err(Assembly::NoMemory) => Err(AllocError),
+        }
+    }
+
+    // Appends the row of a component in a period of this name, and the report of its graph.
+    fn write_component(
+        &self,
+        names: &Names,
+        component: &Name,
+        period: &Name,
+        graph: &Graph,
+        out: &mut Vec<u8>,
+    ) -> Result<(), AllocError>
+        requires names { AreNamesOf names.now graph.now }
+        requires limits { IsProcessGraph graph.now }
+        ensures ok { OnOk result (AppendsText (IsReportAfter self.now.state
+            (component_row component.now period.now ∷ []) names.now period.now graph.now)
+            out.old out.new) }
+        ensures err { OnErr result (KeepsText out.old out.new) }
+    {
+        let before = out.len();
+        write_component(self.alloc, component, period, self.form, out)?;
+        self.report_after(before, names, period, graph, out)
+    }
+
+    // The component graph of a period whose streams have these names, by the last stage of its study: of the one that is kept, if one is.
+    fn balance(&self, component: &Name, i: u32, streams: &NameList) -> Result<Graph, Assembly>
+        requires there { i < length (periods_of self.now.state.rows) }
+        requires streams { IfSome (slice_get (periods_of self.now.state.rows) i)
+            (λ period. streams.now
+            ≡ (period_names self.now.state.rows (days_of period)).streams) }
+        requires each { IfSome (slice_get (periods_of self.now.state.rows) i)
+            (λ period. length streams.now
+            ≡ length (period_graph self.now.state.rows (days_of period)).streams) }
+        ensures answer { result ≢ Err Assembly.NoMemory → IsBalanceAt self.now.state component.now
+            (slice_get (periods_of self.now.state.rows) i) result }
+        ensures counts { IfSome (slice_get (periods_of self.now.state.rows) i)
+            (λ period. IfOk result
+            (HasCountsOf (period_graph self.now.state.rows (days_of period)))) }
+        ensures over { IfSome (slice_get (periods_of self.now.state.rows) i)
+            (λ period. IfErr result (NamesAStream self.now.state.rows (days_of period))) }
+    {
+        let grades = self
+            .book
+            .grades(self.alloc, component, i, streams.as_slice())?;
+        match self.kept(i) {
+            Some(study) => self.balance_by(&study.stages.at(0).graph, study, &grades),
+            None => match assemble(self.alloc, &self.book, i) {
+                Ok(graph) => {
+                    let study = self.study_of(&graph)?;
+                    self.balance_by(&graph, &study, &grades)
+                }
+                Err(why) => Err(why),
+            },
+        }
+    }
+
+    // The component graph of a graph with this study, by the last stage of it and these grades.
+    fn balance_by(
+        &self,
+        graph: &Graph,
+        study: &Study,
+        grades: &[Option<Grade>],
+    ) -> Result<Graph, Assembly>
+        requires limits { IsProcessGraph graph.now }
+        requires study { IsStudyOf graph.now self.now.state.options
+            (critical_of self.now.state.rows) study.now }
+        requires formed { IsWellFormedStudy graph.now study.now }
+        requires each { length grades.now ≡ length graph.now.streams }
+        requires grades { All (λ grade. IfSome grade IsGrade) grades.now }
+        ensures answer { result ≢ Err Assembly.NoMemory
+            → IsBalanceOf self.now.state graph.now grades.now result }
+        ensures counts { IfOk result (HasCountsOf graph.now) }
+        ensures over { IfErr result (IsStreamOfGraph graph.now) }
+    {
+        let last = study.stages.at(study.taken.len());
+        match component_graph(self.alloc, graph, last.streams.as_slice(), grades) {
+            Ok(component) => Ok(component),
+            Err(ComponentFault::Over(j)) => Err(Assembly::Over(j)),
+            Err(ComponentFault::NoMemory) => Err(Assembly::NoMemory),
+        }
     }
 
     // Appends the window from the period at one place to the period at another, or the row that names its first stream beyond the limits.

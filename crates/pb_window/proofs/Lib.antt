@@ -1,6 +1,7 @@
 mod CodeLemmas
 mod GraphLemmas
 mod JoinLemmas
+mod JoinedLemmas
 mod ListLemmas
 mod MeaningLemmas
 mod NameLemmas

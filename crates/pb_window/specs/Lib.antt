@@ -6,3 +6,5 @@ pub mod Codes
 pub mod Places
 pub mod Meaning
 pub mod Laws
+-- Inside
+pub mod Joined

@@ -1,7 +1,9 @@
 -- Statement. What the names of a window stand for.
-use Rattle.std.specs.Prelude.{ℕ, ◌-◌, ◌<◌, List, [], ◌++◌, length, map, slice_index_or, All}
+use Rattle.std.specs.Prelude.{◌≡◌, ℕ, ◌+◌, ◌-◌, ◌<◌, List, [], ◌++◌, length, map, slice_index_or, All}
 use Rattle.pb_rows.specs.declared.name.Names.{Names}
 use Rattle.pb_window.specs.declared.names.WindowPlace.{WindowPlace}
+use Rattle.pb_window.specs.declared.plant.Plant.{Plant}
+use Rattle.pb_window.specs.declared.plant.Span.{Span}
 use Rattle.pb_window.specs.declared.window.Window.{Window}
 use Rattle.pb_window.specs.declared.window.WindowNode.{WindowNode}
 use Rattle.pb_window.specs.declared.window.WindowStream.{WindowStream}
@@ -45,3 +47,9 @@ pub record HasStreamNames (plant : Names) (periods : List (List ℕ)) (stream : 
 pub record HaveNames (plant : Names) (periods : List (List ℕ)) (window : Window) : Type 0 where
   pub nodes : All (HasNodeNames plant periods) window.nodes
   pub streams : All (HasStreamNames plant periods) window.streams
+
+-- so they have by any names of this plant and of these periods, one for each
+abbrev pub IsNamedBy : Plant → List Span → Window → Type 0
+IsNamedBy plant spans window =
+    (names : Names) (periods : List (List ℕ)) → length names.nodes ≡ 1 + plant.nodes
+    → length names.streams ≡ length plant.arcs → length periods ≡ length spans → HaveNames names periods window

@@ -1,8 +1,9 @@
 -- Statement. A plant with its days of service, and what of it is there in a period.
-use Rattle.std.specs.Prelude.{◌≡◌, ◌≢◌, ℕ, ◌≤◌, ◌==◌, ◌&&◌, ◌||◌, ℤ, pos, ◌-ℤ◌, ◌≤ℤ◌, int_le, Bool, true, List, length, filter, All, Option, Some, None}
+use Rattle.std.specs.Prelude.{◌≡◌, ◌≢◌, ℕ, ◌≤◌, ◌==◌, ◌&&◌, ◌||◌, ℤ, pos, ◌-ℤ◌, int_le, Bool, true, List, length, filter, All, Option, Some, None}
 use Rattle.std.specs.Int.{int_max, int_min}
 use Rattle.std.specs.List.{enumerate_from, list_any, range_with_len}
 use Rattle.pb_limits.specs.Limits.{most_streams, most_units_and_tanks}
+use Rattle.pb_rows.specs.Date.{IsDay}
 use Rattle.pb_window.specs.declared.plant.Plant.{Plant}
 use Rattle.pb_window.specs.declared.plant.PlantArc.{PlantArc}
 use Rattle.pb_window.specs.declared.plant.Service.{Service}
@@ -64,6 +65,6 @@ pub record IsPlant (plant : Plant) : Type 0 where
   pub few_arcs : length plant.arcs ≤ most_streams
   pub arcs : All (IsPlantArc plant.nodes) plant.arcs
 
--- a period since 1970-01-01
+-- a period begins on a day that a field writes
 abbrev pub IsSpan : Span → Type 0
-IsSpan span = pos 0 ≤ℤ span.first
+IsSpan span = IsDay span.first

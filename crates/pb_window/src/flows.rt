@@ -1,14 +1,16 @@
 // The flows of a window.
 
-ghost use Rattle.std.specs.Prelude.{◌≡◌, ◌<◌, ◌≤◌, ◌^◌, ◌++◌, length, IfOk, OnOk};
+ghost use Rattle.std.specs.Prelude.{◌≡◌, ◌<◌, ◌≤◌, ◌^◌, ◌++◌, Err, length, IfOk, OnOk};
 ghost use Rattle.std.specs.List.{enumerate_from, filter_map};
 ghost use Rattle.pb_limits.specs.Limits.{most_periods_of_window, most_streams};
+ghost use Rattle.pb_window.specs.declared.window.WindowFault.TheVariants as WindowFault;
 ghost use Rattle.pb_window.specs.Plant.{arcs_in};
 ghost use Rattle.pb_window.specs.Window.{flow_of, window_flows};
 
 use crate::nodes::number_of;
 use crate::plant::{PlantArc, Span, is_served};
-use crate::window::{Source, WindowNode, WindowStream};
+use crate::window::{Source, WindowFault, WindowNode, WindowStream};
+use pb_graph::MOST_STREAMS;
 use std::alloc::{AllocError, Global};
 
 // The arcs that are in service in a period, each after its number in the plant.
@@ -74,23 +76,28 @@ fn push_period(
     Ok(())
 }
 
-/// Appends the flows of a window, period after period.
+/// Appends the flows of a window, period after period; or says that they are too many.
 pub fn push_flows(
     arcs: &[PlantArc],
     nodes: &[WindowNode],
     spans: &[Span],
     streams: &mut Vec<WindowStream>,
-) -> Result<(), AllocError>
+) -> Result<(), WindowFault>
     requires nodes { length nodes.now < 2 ^ 31 }
     requires arcs { length arcs.now ≤ most_streams }
     requires spans { length spans.now ≤ most_periods_of_window }
-    ensures { OnOk result (streams.new.items
+    ensures value { OnOk result (streams.new.items
         ≡ streams.old.items ++ window_flows arcs.now nodes.now spans.now) }
+    ensures too_many { result ≡ Err WindowFault.TooGreat → most_streams
+        < length (streams.old.items ++ window_flows arcs.now nodes.now spans.now) }
 {
     let alloc = *streams.allocator();
     for (t, span) in spans.iter().enumerate() {
         let list = arcs_in(alloc, arcs, span)?;
         push_period(&list, nodes, t as u32 + 1, streams)?;
+        if streams.len() > MOST_STREAMS {
+            return Err(WindowFault::TooGreat);
+        }
     }
     Ok(())
 }

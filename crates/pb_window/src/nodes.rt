@@ -1,24 +1,61 @@
 // The nodes of a window.
 
-ghost use Rattle.std.specs.Prelude.{◌≡◌, ◌<◌, ◌≤◌, ◌*◌, ◌^◌, ◌++◌, length, map, position, IfOk, OnOk};
+ghost use Rattle.std.specs.Prelude.{◌≡◌, ◌+◌, ◌<◌, ◌≤◌, ◌^◌, ◌++◌, ◌||◌, Err, length, map, position, IfOk, OnOk};
 ghost use Rattle.std.specs.List.{enumerate_from};
 ghost use Rattle.pb_limits.specs.Limits.{most_periods_of_window, most_units_and_tanks};
+ghost use Rattle.pb_window.specs.declared.window.WindowFault.TheVariants as WindowFault;
+ghost use Rattle.pb_window.specs.Joined.{AreJoined, MarksEnds, is_marked};
 ghost use Rattle.pb_window.specs.Plant.{IsPlant, nodes_in};
 ghost use Rattle.pb_window.specs.Window.{nodes_of_period, number_of, stands_for, window_node, window_nodes};
 
-use crate::plant::{Plant, Span, is_node_in};
-use crate::window::WindowNode;
+use crate::plant::{Plant, PlantArc, Span, is_served};
+use crate::window::{WindowFault, WindowNode};
+use pb_graph::MOST_NODES;
 use std::alloc::{AllocError, Global};
+
+// Marks the ends of an arc.
+fn mark(joined: &mut [bool], arc: &PlantArc)
+    requires from { arc.now.from < length joined.old }
+    requires to { arc.now.to < length joined.old }
+    ensures { MarksEnds arc.now joined.old joined.new }
+{
+    joined[arc.from as usize] = true;
+    joined[arc.to as usize] = true;
+}
+
+// Of the environment and of each unit and tank, whether an arc in service joins it in a period.
+fn joined_in(alloc: Global, plant: &Plant, span: &Span) -> Result<Vec<bool>, AllocError>
+    requires { IsPlant plant.now }
+    ensures { IfOk result (λ joined.
+        AreJoined plant.now.arcs span.now (plant.now.nodes + 1) joined.items) }
+{
+    let mut joined = vec![in alloc; false; plant.nodes as usize + 1]?;
+    for arc in plant.arcs.as_slice() {
+        if is_served(span, arc) {
+            mark(joined.as_mut_slice(), arc);
+        }
+    }
+    Ok(joined)
+}
+
+// Whether a unit or tank is a node of the graph of a period in which arcs join the marked ones.
+fn is_kept(plant: &Plant, joined: &[bool], node: u32) -> bool
+    requires { node < length joined.now }
+    ensures { result ≡ (plant.now.keeps_idle || is_marked joined.now node) }
+{
+    plant.keeps_idle || joined[node as usize]
+}
 
 // The units and tanks that are nodes of the graph of a period.
 fn nodes_in(alloc: Global, plant: &Plant, span: &Span) -> Result<Vec<u32>, AllocError>
-    requires { plant.now.nodes ≤ most_units_and_tanks }
+    requires { IsPlant plant.now }
     ensures value { IfOk result (λ list. list.items ≡ nodes_in plant.now span.now) }
     ensures few { IfOk result (λ list. length list.items ≤ most_units_and_tanks) }
 {
+    let joined = joined_in(alloc, plant, span)?;
     let mut list = Vec::new(alloc);
     for k in 0..plant.nodes {
-        if is_node_in(plant, span, k + 1) {
+        if is_kept(plant, &joined, k + 1) {
             list.push(k + 1)?;
         }
     }
@@ -41,22 +78,26 @@ fn push_nodes(period: u32, list: &[u32], nodes: &mut Vec<WindowNode>) -> Result<
     Ok(())
 }
 
-/// The nodes of a window but the environment, period after period.
+/// The nodes of a window but the environment, period after period; or that they are too many.
 pub fn window_nodes(
     alloc: Global,
     plant: &Plant,
     spans: &[Span],
-) -> Result<Vec<WindowNode>, AllocError>
-    requires nodes { plant.now.nodes ≤ most_units_and_tanks }
+) -> Result<Vec<WindowNode>, WindowFault>
+    requires plant { IsPlant plant.now }
     requires few { length spans.now ≤ most_periods_of_window }
     ensures value { IfOk result (λ nodes. nodes.items ≡ window_nodes plant.now spans.now) }
-    ensures few { IfOk result (λ nodes.
-        length nodes.items ≤ most_units_and_tanks * most_periods_of_window) }
+    ensures few { IfOk result (λ nodes. length nodes.items ≤ most_units_and_tanks) }
+    ensures too_many { result ≡ Err WindowFault.TooGreat
+        → most_units_and_tanks < length (window_nodes plant.now spans.now) }
 {
     let mut nodes = Vec::new(alloc);
     for (t, span) in spans.iter().enumerate() {
         let list = nodes_in(alloc, plant, span)?;
         push_nodes(t as u32 + 1, &list, &mut nodes)?;
+        if nodes.len() >= MOST_NODES as usize {
+            return Err(WindowFault::TooGreat);
+        }
     }
     Ok(nodes)
 }

@@ -1,7 +1,7 @@
 // A plant with its days of service, and what of it is there in a period.
 
-ghost use Rattle.std.specs.Prelude.{◌≡◌, ◌↔◌, ◌≤ℤ◌, pos, IsTrue};
-ghost use Rattle.pb_window.specs.Plant.{IsPlant, IsPlantArc, closing_day, is_end, is_in_service, is_joined, is_node_in, is_served, opening_day};
+ghost use Rattle.std.specs.Prelude.{◌≡◌, ◌↔◌, IsTrue};
+ghost use Rattle.pb_window.specs.Plant.{IsPlant, IsPlantArc, IsSpan, closing_day, is_in_service, is_served, opening_day};
 
 use pb_graph::List;
 use pb_limits::{MOST_STREAMS, MOST_UNITS_AND_TANKS};
@@ -51,7 +51,7 @@ pub fn is_served(span: &Span, arc: &PlantArc) -> bool
 
 /// The day at whose end the content of a tank opens in a period.
 pub fn opening_day(arc: &PlantArc, span: &Span) -> i32
-    requires { pos 0 ≤ℤ span.now.first }
+    requires { IsSpan span.now }
     ensures { result ≡ opening_day arc.now.service span.now }
 {
     match arc.service {
@@ -68,28 +68,6 @@ pub fn closing_day(arc: &PlantArc, span: &Span) -> i32
         None => span.last,
         Some(service) => span.last.min(service.until),
     }
-}
-
-// Whether a node is an end of an arc.
-fn is_end(node: u32, arc: &PlantArc) -> bool
-    ensures { result ≡ is_end node arc.now }
-{
-    arc.from == node || arc.to == node
-}
-
-// Whether an arc in service joins a node in a period.
-fn is_joined(arcs: &[PlantArc], span: &Span, node: u32) -> bool
-    ensures { result ≡ is_joined arcs.now span.now node }
-{
-    arcs.iter()
-        .any(|arc| is_served(span, arc) && is_end(node, arc))
-}
-
-/// Whether a unit or tank is a node of the graph of a period.
-pub fn is_node_in(plant: &Plant, span: &Span, node: u32) -> bool
-    ensures { result ≡ is_node_in plant.now span.now node }
-{
-    plant.keeps_idle || is_joined(plant.arcs.as_slice(), span, node)
 }
 
 // Whether the ends of an arc are nodes and differ, and a tank's second end is the environment.

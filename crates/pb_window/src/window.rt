@@ -5,6 +5,7 @@ ghost use Rattle.pb_limits.specs.Limits.{most_periods_of_window};
 ghost use Rattle.pb_window.specs.declared.window.WindowFault.TheVariants.{NoMemory};
 ghost use Rattle.pb_window.specs.Plant.{IsPlant, IsSpan};
 ghost use Rattle.pb_window.specs.Codes.{AreWindowNames};
+ghost use Rattle.pb_window.specs.Places.{IsNamedBy};
 ghost use Rattle.pb_window.specs.Window.{IsWindow, is_too_great, window_of};
 
 use crate::contents::push_contents;
@@ -83,6 +84,7 @@ pub fn window_of(alloc: Global, plant: &Plant, spans: &[Span]) -> Result<Window,
     ensures answer { result ≢ Err WindowFault.NoMemory → result ≡ window_of plant.now spans.now }
     ensures form { IfOk result IsWindow }
     ensures names { IfOk result AreWindowNames }
+    ensures places { IfOk result (IsNamedBy plant.now spans.now) }
 {
     let nodes = window_nodes(alloc, plant, spans)?;
     let mut streams = Vec::new(alloc);

@@ -5,6 +5,7 @@ use Rattle.pb_window.specs.declared.window.WindowStream.{WindowStream}
 use Rattle.pb_window.specs.Window.{window_contents, window_flows, window_of}
 use Rattle.pb_window.proofs.JoinLemmas.{form_is}
 use Rattle.pb_window.proofs.NameLemmas.{names_are}
+use Rattle.pb_window.proofs.PlaceLemmas.{places_are}
 use Rattle.pb_window.proofs.ShapeLemmas.{fits_is, made, shape_is}
 use Rattle.pb_window.proofs.window.window_of.Goals.{Else-is_too_great}
 use Rattle.pb_window.proofs.window.window_of.Goals as goal
@@ -17,7 +18,7 @@ answer_is c =
     let nodes = c.in_ok-nodes.nodes.items in
     let window = made c.from_vec.result c.from_vec-2.result in
     let flows =
-    c.in_ok-push_flows.ensures
+    c.in_ok-push_flows.ensures.value
     ∙ ap (λ (l : List WindowStream). l ++ window_flows c.as_slice.result.now c.deref.result.now spans) c.new-streams.ensures.items
     ∙ ap (λ (l : List PlantArc). window_flows l c.deref.result.now spans) c.as_slice.ensures
     ∙ ap (λ (l : List WindowNode). window_flows plant.arcs l spans) c.deref.ensures.value in
@@ -36,3 +37,7 @@ returns-clause-form c = form_is c.args.plant.now c.args.spans.now (made c.from_v
 
 pub returns-clause-names : goal.returns-clause-names
 returns-clause-names c = names_are c.args.plant.now c.args.spans.now (made c.from_vec.result c.from_vec-2.result) c.requires.plant c.requires.few (answer_is c)
+
+pub returns-clause-places : goal.returns-clause-places
+returns-clause-places c = λ names periods.
+    places_are c.args.plant.now c.args.spans.now (made c.from_vec.result c.from_vec-2.result) names periods (answer_is c)

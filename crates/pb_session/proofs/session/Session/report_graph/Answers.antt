@@ -20,5 +20,5 @@ returns-clause-ok c = (
   _,
   c.in_ok-write_study.ensures.ok,
   report_of c.args.self.now.state c.self.inside.options c.self.inside.form c.args.names.now c.args.period.now c.args.graph c.in_ok-study.study
-  (ap (λ (h : Held). h.state.options) c.self.view_is) (ap (λ (h : Held). h.state.form) c.self.view_is) c.requires.names c.in_ok-study.ensures,
+      (ap (λ (h : Held). h.state.options) c.self.view_is) (ap (λ (h : Held). h.state.form) c.self.view_is) c.requires.names c.in_ok-study.ensures,
 )
