@@ -3,3 +3,4 @@ mod PieceLemmas
 mod EditLemmas
 mod StudyLemmas
 mod BlockLemmas
+mod SideLemmas

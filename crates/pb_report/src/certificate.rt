@@ -174,6 +174,7 @@ fn is_same_cut(a: &Witness, b: &Witness) -> bool
 }
 
 // Whether the certificate of a class is the cut with this side and these members.
+#[tactic(auto, using(crate::proofs::SideLemmas::same_sides))]
 fn is_cut(witness: &Witness, side: &List<bool>, members: &List<Member>) -> bool
     ensures { IsTrue result ↔ (Cut side.now members.now ≡ witness.now) }
 {
@@ -182,18 +183,11 @@ fn is_cut(witness: &Witness, side: &List<bool>, members: &List<Member>) -> bool
             side: its_side,
             members: its_members,
         } => {
-            is_same_side(side.as_slice(), its_side.as_slice())
+            side.as_slice() == its_side.as_slice()
                 && are_same(members.as_slice(), its_members.as_slice())
         }
         Witness::Cycle { .. } => false,
     }
-}
-
-// Whether two sides of cuts are the same.
-fn is_same_side(a: &[bool], b: &[bool]) -> bool
-    ensures { IsTrue result ↔ (a.now ≡ b.now) }
-{
-    a == b
 }
 
 // Whether the members of two cuts are the same.
