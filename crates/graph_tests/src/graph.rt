@@ -1,7 +1,5 @@
 // Each public call at a small graph.
 
-ghost use Rattle.pb_graph.specs.Neighbours.{IsNeighbours};
-
 use crate::graphs::{graph_of, stream};
 use pb_graph::{
     Bounds, Class, Classified, GlobalTest, Graph, List, Meas, Member, Neighbours, NodalTest, Parts,
@@ -162,28 +160,13 @@ fn copies(rt: HostRuntime) -> Result<(), AllocError> {
 }
 
 // The streams beside a node, and the nodes that B joins.
-fn assert_near(
-    rt: &impl Abort,
-    alloc: Global,
-    g: &Graph,
-    near: &Neighbours,
-) -> Result<(), AllocError>
-    requires { IsNeighbours g.now near.now }
-{
-    assert!(rt; g.len() == 3 && g.nodes() == 3, "the line");
-    assert_eq!(rt; near.at(1).as_slice(), [0, 1].as_slice(), "beside U");
-    let reached = reach(alloc, g, near, &[false, true, false], 2)?;
-    assert_eq!(rt;
-        reached.as_slice(),
-        [false, true, true].as_slice(),
-        "from V"
-    );
-    Ok(())
-}
-
 fn assert_reached(rt: &impl Abort, alloc: Global, g: &Graph) -> Result<(), AllocError> {
+    assert!(rt; g.len() == 3 && g.nodes() == 3);
     let near = Neighbours::of(alloc, g)?;
-    assert_near(rt, alloc, g, &near)
+    assert_eq!(rt; near.at(1).as_slice(), [0, 1].as_slice());
+    let reached = reach(alloc, g, &near, &[false, true, false], 2)?;
+    assert_eq!(rt; reached.as_slice(), [false, true, true].as_slice());
+    Ok(())
 }
 
 #[test]

@@ -1,10 +1,10 @@
-//! Component balances of small plants, worked by hand.
+//! What flows carry of a component, worked by hand. The component balances of small plants are data, in examples/worked.
 
 ghost use Rattle.std.specs.Prelude.{◌↔◌, IfSome, IsTrue};
 ghost use Rattle.pb_assay.specs.Grade.{IsGrade};
 
-use crate::common::{assert_at, metered, plain};
-use crate::elim::{stream_at, study_of};
+use crate::common::{metered, plain};
+use crate::elim::study_of;
 use pb_assay::{ComponentFault, Grade, carried_by, component_graph};
 use pb_graph::{Graph, Stage, Stream, Study};
 use pb_limits::{MOST_GRADE, MOST_GRADE_VARIANCE};
@@ -86,102 +86,6 @@ fn limits_of_a_grade(rt: HostRuntime) {
 /// A stream: its ends, and what was measured of it, with the variance.
 type Row = (u32, u32, Option<(i128, i128)>);
 
-/// A plant with grades of its streams, the streams of its component graph, and some of the flows that balance them.
-struct Case {
-    name: &'static str,
-    nodes: u32,
-    streams: &'static [Row],
-    grades: &'static [Option<(i64, i64)>],
-    component: &'static [Row],
-    flows: &'static [(usize, i128)],
-}
-
-/// A unit with a meter of what enters and one of what leaves, which disagree by two tonnes.
-const TWO_METERS: &[Row] = &[
-    (0, 1, Some((102_000_000, 1_000_000_000_000))),
-    (1, 0, Some((100_000_000, 1_000_000_000_000))),
-];
-
-const CASES: &[Case] = &[
-    Case {
-        name: "copper of two meters",
-        nodes: 2,
-        streams: TWO_METERS,
-        grades: &[Some((20_000, 0)), Some((20_000, 0))],
-        component: &[(0, 1, Some((2_020_000, 1))), (1, 0, Some((2_020_000, 1)))],
-        flows: &[(0, 2_020_000), (1, 2_020_000)],
-    },
-    Case {
-        name: "copper with one assay",
-        nodes: 2,
-        streams: TWO_METERS,
-        grades: &[Some((20_000, 0)), None],
-        component: &[(0, 1, Some((2_020_000, 1))), (1, 0, None)],
-        flows: &[(0, 2_020_000), (1, 2_020_000)],
-    },
-    Case {
-        name: "copper with an uncertain grade",
-        nodes: 2,
-        streams: TWO_METERS,
-        grades: &[Some((20_000, 0)), Some((20_000, 100))],
-        component: &[
-            (0, 1, Some((2_020_000, 1))),
-            (1, 0, Some((2_020_000, 1_020_101))),
-        ],
-        flows: &[(0, 2_020_000), (1, 2_020_000)],
-    },
-    Case {
-        name: "no assay",
-        nodes: 2,
-        streams: TWO_METERS,
-        grades: &[None, None],
-        component: &[(0, 1, None), (1, 0, None)],
-        flows: &[],
-    },
-    Case {
-        name: "negative flows, one of them observable",
-        nodes: 2,
-        streams: &[(0, 1, Some((-3, 1))), (1, 0, Some((4, 1))), (1, 0, None)],
-        grades: &[
-            Some((333_333, 0)),
-            Some((333_333, 9)),
-            Some((333_333, 100_000_000)),
-        ],
-        component: &[
-            (0, 1, Some((-1, 1))),
-            (1, 0, Some((1, 2))),
-            (1, 0, Some((-3, 2))),
-        ],
-        flows: &[(0, -2), (1, 1), (2, -3)],
-    },
-    Case {
-        name: "an assay of an unobservable stream",
-        nodes: 3,
-        streams: &[
-            (1, 2, None),
-            (1, 2, None),
-            (0, 1, Some((1_000, 1))),
-            (2, 0, Some((1_000, 1))),
-        ],
-        grades: &[Some((10, 0)), None, Some((20_000, 4)), None],
-        component: &[
-            (1, 2, None),
-            (1, 2, None),
-            (0, 1, Some((20, 2))),
-            (2, 0, None),
-        ],
-        flows: &[(2, 20), (3, 20)],
-    },
-    Case {
-        name: "the greatest flow at the greatest grade",
-        nodes: 2,
-        streams: &[(0, 1, Some((MOST, 1))), (1, 0, None)],
-        grades: &[Some((1_000_000, 0)), None],
-        component: &[(0, 1, Some((MOST, 1))), (1, 0, None)],
-        flows: &[(0, MOST), (1, MOST)],
-    },
-];
-
 fn stream_of(row: &Row) -> Stream {
     let &(from, to, meas) = row;
     match meas {
@@ -255,66 +159,28 @@ fn component_of(
     component_after(rt, alloc, &s, &grades)
 }
 
-fn assert_flows(rt: &impl Abort, stage: &Stage, flows: &[(usize, i128)]) {
-    for &(j, flow) in flows {
-        assert_at(rt, "flow of stream", j, stream_at(rt, stage, j).flow, flow);
-    }
-}
-
-/// The flows that balance the component graph.
-fn assert_balance(
-    rt: &impl Abort,
-    alloc: Global,
-    component: &Graph,
-    flows: &[(usize, i128)],
-) -> Result<(), AllocError> {
-    let balance = study_of(rt, alloc, component.nodes(), component.streams(), 10, 5_000)?;
-    assert!(rt; balance.stages.len() == 1, "one stage");
-    assert_flows(rt, balance.stages.at(0), flows);
-    Ok(())
-}
-
-fn assert_component(rt: &impl Abort, case: &Case, component: &Graph) {
-    assert_eq!(rt; component.nodes(), case.nodes, "{}", case.name);
-    let streams = component.streams();
-    assert_eq!(rt; streams.len(), case.component.len(), "{}", case.name);
-    for (stream, row) in streams.iter().zip(case.component) {
-        assert_eq!(rt; *stream, stream_of(row), "{}", case.name);
-    }
-}
-
-fn assert_case(rt: &impl Abort, alloc: Global, case: &Case) -> Result<(), ComponentFault> {
-    let component = component_of(rt, alloc, case.nodes, case.streams, case.grades)?;
-    assert_component(rt, case, &component);
-    assert_balance(rt, alloc, &component, case.flows)?;
-    Ok(())
-}
-
-/// Component graphs of small plants, and their balances.
-#[test]
-fn component_graphs(rt: HostRuntime) -> Result<(), ComponentFault> {
-    for case in CASES {
-        assert_case(&rt, rt.alloc(), case)?;
-    }
-    Ok(())
-}
-
 /// Two batches, the greatest one and one of a gram, and what leaves with both.
 const BATCHES: &[Row] = &[(0, 1, Some((MOST, 1))), (0, 1, Some((1, 1))), (1, 0, None)];
 
-/// Grades of these three, and the first stream that is over the limits.
-const OVERS: &[(&[Option<(i64, i64)>], u32)] = &[
-    // what leaves is a gram too much to be squared
-    (&[Some((1_000_000, 0)), None, Some((1, 0))], 2),
-    // a variance above the limit comes before it
-    (&[Some((0, 10_000)), None, Some((1, 0))], 0),
-];
-
-/// The first stream that is over the limits is named.
+/// The streams of a component graph, or the first one that is over the limits.
 #[test]
-fn over_the_limits(rt: HostRuntime) {
-    for &(grades, j) in OVERS {
+fn component_graphs(rt: HostRuntime) {
+    let cases: [(&[Option<(i64, i64)>], Result<u32, ComponentFault>); 4] = [
+        (&[None, None, None], Ok(3)),
+        (&[Some((1_000_000, 0)), None, None], Ok(3)),
+        // what leaves is a gram too much to be squared
+        (
+            &[Some((1_000_000, 0)), None, Some((1, 0))],
+            Err(ComponentFault::Over(2)),
+        ),
+        // a variance above the limit comes before it
+        (
+            &[Some((0, 10_000)), None, Some((1, 0))],
+            Err(ComponentFault::Over(0)),
+        ),
+    ];
+    for (grades, wanted) in cases {
         let found = component_of(&rt, rt.alloc(), 2, BATCHES, grades).map(|g| g.len());
-        assert_eq!(&rt; found, Err(ComponentFault::Over(j)), "stream {j}");
+        assert_eq!(&rt; found, wanted, "{grades:?}");
     }
 }
