@@ -8,7 +8,7 @@ from pathlib import Path
 import pytest
 from conftest import Desk, example, text_of
 
-from plantbal import Session, run
+from plantbal import Session, run, solve
 from plantbal.faults import Refusal
 from plantbal.output import Output, read_report
 from plantbal.report import blocks_of, last_blocks, parse_rows, reports_of
@@ -178,6 +178,13 @@ def test_a_session_made(program: Path) -> None:
     output = run(session, program=program)
     assert [block.subject for block in output.blocks_in_order] == ["p1 to p2"]
     assert isinstance(output, Output) and output.windows["declared"].tolist().count("K") == 3
+
+
+def test_solved_elsewhere(program: Path) -> None:
+    output = solve(text_of(MISSED).encode(), program=program)
+    assert [block.subject for block in output.blocks_in_order][2:] == ["may2 to may3", "may1 to may4"]
+    content = output.windows.query("window == 'may3' and name == 'c1.0'")["flow"].iloc[0]
+    assert abs(content - 5775462034) < 100_000
 
 
 def test_kinds_are_told(say: Desk) -> None:
