@@ -112,13 +112,16 @@ def test_recovery() -> None:
     every = together(balances)
     assert [each.stream for each in every] == ["FEED", "TAILINGS", "CONCENTRATE"]
     total = sum(balance.fed for balance in balances)
-    assert every[2].share == pytest.approx(sum(b.grams("CONCENTRATE") or 0 for b in balances) / total)
+    carried = sum(balance.grams("CONCENTRATE") or 0 for balance in balances)
+    assert every[2].share == pytest.approx(carried / total)
     assert every[2].share_sd < concentrate.share_sd
 
 
 def test_share_that_is_not_known() -> None:
-    session = session_of("unit,U\nstream,A,env,U,metered,1\nstream,B,env,U,metered,1\n"
-                         "stream,C,U,env,metered,1\nperiod,d,2024-05-01,2024-05-01")
+    session = session_of(
+        "unit,U\nstream,A,env,U,metered,1\nstream,B,env,U,metered,1\n"
+        "stream,C,U,env,metered,1\nperiod,d,2024-05-01,2024-05-01"
+    )
     for name, grams in (("A", 100), ("B", 50), ("C", 150)):
         session.reading(name, name, "2024-05-01", grams=grams * 10**6, variance=10**10)
     session.assay("cu", "A", "d", ppm=9000, variance=100)
