@@ -1,2 +1,2 @@
 # Flows by stream in tonnes, with the period: plantbal run --format json < SESSION | jq -nr -f flows.jq
-foreach inputs as $r (null; if $r.row == "report" then $r.period else . end; if $r.row == "stream" then [., $r.name, ($r.flow | tonumber / 1000000)] else empty end) | @tsv
+foreach inputs as $r ({}; if $r.row == "component" then .next = "\($r.component) in \($r.period)" elif $r.row == "window" then .next = "\($r.first) to \($r.last)" elif $r.row == "report" and $r.round == "0" then {of: (.next // $r.period)} else . end; if $r.row == "stream" then [.of, $r.name, ($r.flow | tonumber / 1000000)] else empty end) | @tsv

@@ -11,14 +11,14 @@ from collections.abc import Callable
 from pathlib import Path
 from types import SimpleNamespace
 
-from plantbal.faults import Fault, ProgramFault, decoded, read_bytes
+from plantbal.faults import Fault, InputFault, ProgramFault, decoded, read_bytes
 from plantbal.files import unwritten, write_text
 from plantbal.options import add_program, add_run, add_sweeps
 from plantbal.output import Output, parse_report, read_report
 from plantbal.program import STATUSES, check, run
 from plantbal.progress import Progress
 from plantbal.records import read_records
-from plantbal.report import Block, last_blocks, refuse_other, refuse_parts
+from plantbal.report import Block, blocks_of, last_blocks, parse_rows, refuse_other, refuse_parts
 
 OUTPUT_HELP = """
 The report goes to standard output, or to the file of --out by its ending: .csv, .sqlite or .xlsx.
@@ -199,6 +199,18 @@ def _add_check(parser: argparse.ArgumentParser) -> None:
     add_program(parser)
 
 
+def _subjects(source: str, text: str, periods: list[str]) -> list[str]:
+    """Return what each block that was judged is of: a period, a window or a component's balance.
+
+    If some row is none of the program's, the blocks are called by their periods alone.
+    """
+    try:
+        found = [block.subject for block in blocks_of(parse_rows(source, text))]
+    except InputFault:
+        return periods
+    return found[: len(periods)] if len(found) >= len(periods) else periods
+
+
 def _check(options: argparse.Namespace) -> int:
     _say_reading(options.report)
     source, data = read_bytes(options.report)
@@ -209,15 +221,17 @@ def _check(options: argparse.Namespace) -> int:
         refuse_other(source, text)
         verdicts = check(data, program=options.program, source=source)
     blocks = verdicts[verdicts["verdict"] != "unreadable"]
-    last = {row.period: row.Index for row in blocks.itertuples()}
+    subjects = dict(zip(blocks.index, _subjects(source, text, list(blocks["period"]))))
+    last = {subject: index for index, subject in subjects.items()}
     for row in verdicts.itertuples():
+        subject = subjects.get(row.Index, "")
         if row.verdict == "yes":
-            end = "" if last[row.period] == row.Index else "; a later block of this period follows"
-            print(f"yes: {row.period}, round {row.round}{end}")
+            end = "" if last[subject] == row.Index else "; a later block of this period follows"
+            print(f"yes: {subject}, round {row.round}{end}")
         elif row.verdict == "no":
             where = f" at {row.name}" if row.name else ""
             numbers = f" (stated {row.stated}, found {row.found})" if row.name else ""
-            print(f"no: {row.period}, round {row.round}: {row.word}{where}{numbers}: {row.about}")
+            print(f"no: {subject}, round {row.round}: {row.word}{where}{numbers}: {row.about}")
         else:
             print(f"unreadable: row {row.at}: {row.word}: it {row.about}")
     if (verdicts["verdict"] == "yes").all():

@@ -37,10 +37,10 @@ Columns stand in any order; titles above, a row of units, sums below and remarks
 Units are t, kt, kg, g, lb, klb, and with a density m3, L, mL, bbl; densities are in kg/m3, levels
 in mm, if no unit stands after them. An error is `1.5 %`, `0.2 t`, or both with `or` between; a
 tank's may be `3 mm`. A grade has its unit after it, %, ppm or g/t, and a percentage as its error is
-one of the grade; a balance is asked for each component of a period. What is finer than a gram is rounded, and that is said. A stream or tank is in
-service from its day `since` to its day `until`, both counted; without a day there is no such end.
-With these columns, or with boundaries, the session is of version 2. If there is a fault, no session
-is written; all faults are said at once.
+one of the grade; a balance is asked for each component of a period. What is finer than a gram is
+rounded, and that is said. A stream or tank is in service from its day `since` to its day `until`,
+both counted; without a day there is no such end. With these columns, or with boundaries, the
+session is of version 2. If there is a fault, no session is written; all faults are said at once.
 
 examples:
   plantbal-desk convert april.xlsx --out april.csv

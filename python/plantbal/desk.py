@@ -69,7 +69,7 @@ COMMANDS: tuple[Command, ...] = (
     Command("tables", "tables", "tables of flows, classes, suspects, imbalances"),
     Command("uncertainty", "uncertainty", "how good each flow is, and the meters that it rests on"),
     Command("advise", "advice", "which streams to meter so that each is observable, at least cost"),
-    Command("recovery", "recovery", "where a component goes: what streams carry, recovery, a chart"),
+    Command("recovery", "recovery", "where a component goes, its recovery, and a chart of it"),
     Command("draw", "picture", "draw a report, a design, or which streams to meter"),
     Command("chart", "chart", "chart the periods of a session"),
     Command("page", "page.command", "the month's statement: a page, a workbook, a PDF"),

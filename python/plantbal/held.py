@@ -205,7 +205,8 @@ class Ledger(Book):
                     continue
                 ends = [code[each.name, tank] if each else ENV for each in (before, after)]
                 arc = Arc(f"c{turn}.{number}", *ends)
-                day = stream.ends_of(before)[1] if before else stream.ends_of(after or periods[0])[0]
+                first = after or periods[0]
+                day = stream.ends_of(before)[1] if before else stream.ends_of(first)[0]
                 dip = dips.get((tank, day))
                 found = Measured(arc, None, None)
                 if dip is not None:

@@ -204,20 +204,22 @@ def balances_of(output: Output, component: str = "") -> list[Block]:
 
 def _lines(shares: Iterable[Share]) -> list[dict[str, str]]:
     """Return rows as a person reads them."""
-    return [
-        {
-            "component": each.component,
-            "period": each.period or "all",
-            "stream": f"gain of {each.stream}" if each.way == "gain" else each.stream,
-            "way": "in" if each.way == "in" else "out",
-            "t": "" if each.grams is None else tonnes_text(each.grams),
-            "± t": "" if each.sd != each.sd else f"{each.sd / 1e6:,.3f}",
-            "share": "" if each.share != each.share else f"{each.share:.2%}",
-            "±": "" if each.way == "in" or each.share_sd != each.share_sd
-            else f"{each.share_sd:.2%}",
-        }
-        for each in shares
-    ]
+    lines = []
+    for each in shares:
+        known = each.way != "in" and each.share_sd == each.share_sd
+        lines.append(
+            {
+                "component": each.component,
+                "period": each.period or "all",
+                "stream": f"gain of {each.stream}" if each.way == "gain" else each.stream,
+                "way": "in" if each.way == "in" else "out",
+                "t": "" if each.grams is None else tonnes_text(each.grams),
+                "± t": "" if each.sd != each.sd else f"{each.sd / 1e6:,.3f}",
+                "share": "" if each.share != each.share else f"{each.share:.2%}",
+                "±": f"{each.share_sd:.2%}" if known else "",
+            }
+        )
+    return lines
 
 
 def _data(shares: Iterable[Share]) -> list[dict[str, Any]]:

@@ -187,10 +187,11 @@ def read_rows(path: str | Path, *wanted: str) -> list[Values]:
     rows = parse_rows(source, text)
     refuse_parts(source, rows)
     if wanted and not any(row["row"] in wanted for row in rows):
+        asking = _ASKING.get(wanted[0], _REPORT)
         raise InputFault(
             f"there is no {' and no '.join(wanted)} in it",
             place=Place(file=source),
-            remedy=f"ask for one in the session, by a row such as {_ASKING.get(wanted[0], _REPORT)}",
+            remedy=f"ask for one in the session, by a row such as {asking}",
         )
     return rows
 

@@ -368,7 +368,7 @@ class Critical:
 
 
 def critical_values(data: bytes, refused: set[int]) -> list[Critical]:
-    """Return the critical values that stand before each accepted report of a session.
+    """Return the critical values that stand before each row of a session that asks for flows.
 
     Parameters
     ----------
@@ -387,7 +387,7 @@ def critical_values(data: bytes, refused: set[int]) -> list[Critical]:
             seen = Critical({**seen.whole, int(fields[2]): fields[3]}, seen.nodal)
         elif fields[:2] == ("critical", "nodal"):
             seen = Critical(seen.whole, fields[2])
-        elif fields[0] == "report":
+        elif fields[0] in ("report", "window", "component"):
             found.append(seen)
     return found
 

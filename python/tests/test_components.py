@@ -112,13 +112,16 @@ def test_recovery() -> None:
     every = together(balances)
     assert [each.stream for each in every] == ["FEED", "TAILINGS", "CONCENTRATE"]
     total = sum(balance.fed for balance in balances)
-    assert every[2].share == pytest.approx(sum(b.grams("CONCENTRATE") or 0 for b in balances) / total)
+    carried = sum(balance.grams("CONCENTRATE") or 0 for balance in balances)
+    assert every[2].share == pytest.approx(carried / total)
     assert every[2].share_sd < concentrate.share_sd
 
 
 def test_share_that_is_not_known() -> None:
-    session = session_of("unit,U\nstream,A,env,U,metered,1\nstream,B,env,U,metered,1\n"
-                         "stream,C,U,env,metered,1\nperiod,d,2024-05-01,2024-05-01")
+    session = session_of(
+        "unit,U\nstream,A,env,U,metered,1\nstream,B,env,U,metered,1\n"
+        "stream,C,U,env,metered,1\nperiod,d,2024-05-01,2024-05-01"
+    )
     for name, grams in (("A", 100), ("B", 50), ("C", 150)):
         session.reading(name, name, "2024-05-01", grams=grams * 10**6, variance=10**10)
     session.assay("cu", "A", "d", ppm=9000, variance=100)
@@ -260,3 +263,35 @@ def test_the_program_agrees() -> None:
         rows = parse_rows("out", text_of(example(f"conformance/{name}.out")))
         refused = [(row["at"], row["code"]) for row in rows if row["row"] == "refused"]
         assert refused == [(str(each.place.record), str(each.code)) for each in session.refused]
+
+
+def test_book(say: Desk, tmp_path: Path, program: Path) -> None:
+    plant, april, books = tmp_path / "plant", tmp_path / "april", tmp_path / "books"
+    for folder in (plant, april):
+        folder.mkdir()
+    streams = "tag,stream,from,to,error\nF1,FEED,env,MILL,1 %\nP1,FINES,MILL,env,1 %\n"
+    (plant / "streams.csv").write_text(streams, encoding="utf-8")
+    readings = "day,F1,P1\n2024-04-01,100,101\n"
+    (april / "readings.csv").write_text(readings, encoding="utf-8")
+    periods = "name,first,last\napr1,2024-04-01,2024-04-01\n"
+    (april / "periods.csv").write_text(periods, encoding="utf-8")
+    heads = "component,stream,period,grade,error\n"
+    assays = april / "assays.csv"
+    assays.write_text(f"{heads}cu,F1,apr1,0.9 %,2 %\ncu,FINES,apr1,0.91 %,2 %\n", encoding="utf-8")
+    assert say("book", "new", "2024", plant, "--book", books).status == 0
+    assert "2 assays" in say("book", "add", april, "--book", books).out
+    assert "nothing new" in say("book", "add", april, "--book", books).out
+    said = say("book", "report", "apr1", "--book", books).out
+    assert "cu in apr1: converged" in said
+    assert "component,cu,apr1\n" in text_of(books / "reports" / "apr1.csv")
+    other = tmp_path / "assays.csv"
+    other.write_text(f"{heads}cu,FINES,apr1,0.92 %,2 %\n", encoding="utf-8")
+    found = say("book", "add", other, "--book", books)
+    assert (found.status, "9,100 ppm of cu in apr1 in the book" in found.err) == (1, True)
+    assert say("book", "close", "apr1", "--book", books).status == 0
+    other.write_text(f"{heads}au,FINES,apr1,3 g/t,2 %\n", encoding="utf-8")
+    found = say("book", "add", other, "--book", books)
+    assert (found.status, "before plantbal-desk book close" in found.err) == (1, True)
+    other.write_text(f"{heads}au,FINES,may,3 g/t,2 %\n", encoding="utf-8")
+    found = say("book", "add", other, "--book", books)
+    assert (found.status, "there is no period may in this book" in found.err) == (1, True)

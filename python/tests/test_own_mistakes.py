@@ -76,7 +76,7 @@ OF_LINT = {
             "garbage": "refused",
             "a report": "refused",
             "a check": "refused",
-            "nothing asked": "no report, design, advice or history is asked for",
+            "nothing asked": "no report, window, balance, design, advice or history is asked for",
         }.items()
         for data in [OF_SESSIONS[name][0]]
     },
@@ -107,6 +107,8 @@ OF_REPORTS = {
     "cut off": (REPORT[: REPORT.rindex(b"end,")], "the report of may1 is cut off: run the session"),
     "cut in the design": (b"design,9,23\n", "the design is cut off: run the session again"),
     "cut in the advice": (b"design,1,0\nadvise,2,9\n", "the advice is cut off: run the session"),
+    "cut in the window": (b"window,p1,p2,2\nplace,n1.1,p1,K\n", "a window is cut off: run the"),
+    "cut in the balance": (b"component,cu,d1\n", "a balance is cut off: run the session again"),
     "refused rows alone": (b"refused,2,3,name\n", "there is no report .*: ask for one"),
 }
 
@@ -121,6 +123,9 @@ def but(mistakes: dict[str, tuple[bytes, str]], **others: str) -> dict[str, tupl
     return found
 
 
+OF_BALANCES = but(
+    OF_REPORTS, refused_rows_alone="there is no component in it: ask for one in the session, by a"
+)
 # A page shows refused rows, and a drawing needs a design alone.
 OF_PAGES = but(OF_REPORTS, refused_rows_alone="")
 # A check judges row by row whatever begins as a report does.
@@ -130,6 +135,8 @@ OF_CHECKS = but(
     cut_off="not all of it passes: plantbal-desk explain FILE shows the rows",
     cut_in_the_design="there is no block to check: ask for a report",
     cut_in_the_advice="there is no block to check: ask for a report",
+    cut_in_the_window="there is no block to check: ask for a report",
+    cut_in_the_balance="there is no block to check: ask for a report",
     refused_rows_alone="there is no block to check: ask for a report",
 )
 # What is turned into tables may be a check's rows.
@@ -205,6 +212,7 @@ INPUTS = [
     Input(("advise", "FILE"), OF_PLANTS),
     Input(("advise", str(example("crude_unit_meters.csv")), "FILE"), OF_COSTS),
     Input(("chart", "FILE"), OF_REPORTS),
+    Input(("recovery", "FILE"), OF_BALANCES),
     Input(("page", "FILE"), OF_PAGES),
     Input(("from-scipy", "FILE"), OF_REPORTS),
     Input(("explain", str(example("refinery_day.csv")), "FILE"), OF_OUTPUTS),
@@ -246,6 +254,7 @@ OUTPUTS = [
     ("convert", example("refinery_workbook"), "--out", "OUT.csv"),
     ("template", "refinery", "OUT.xlsx"),
     ("advise", example("crude_unit_meters.csv"), "--draw", "OUT.svg"),
+    ("recovery", example("flotation_copper.out.csv"), "--chart", "OUT.svg"),
 ]
 WHERE = {
     "no folder": ("nowhere/OUT", "No such file or directory: make its folder first"),
@@ -288,6 +297,7 @@ FULL = [
     ("convert", example("refinery_workbook")),
     ("from-scipy", example("refinery_day.out.csv")),
     ("advise", example("crude_unit_meters.csv")),
+    ("recovery", example("flotation_copper.out.csv")),
 ]
 
 

@@ -8,7 +8,7 @@ from pathlib import Path
 import pytest
 from conftest import Desk, example, text_of
 
-from plantbal import Session, run
+from plantbal import Session, run, solve
 from plantbal.faults import Refusal
 from plantbal.output import Output, read_report
 from plantbal.report import blocks_of, last_blocks, parse_rows, reports_of
@@ -119,7 +119,7 @@ def test_tables_of_an_output() -> None:
 
 def test_tables(say: Desk) -> None:
     flows = say("tables", "flows", OUT, "--window").out
-    assert flows.startswith("stream,may1,may1 ±,may2,may2 ±,may3,may3 ±,may4,may4 ±\nRUNDOWN,2400.")
+    assert flows.startswith("stream,may1,may1 ±,may2,may2 ±,may3,may3 ±,may4,may4 ±\nRUNDOWN,24")
     reports = say("tables", "flows", OUT).out
     assert reports.startswith("stream,may2,may2 ±,may3,may3 ±\nTK_RUN,381.52118,")
     contents = say("tables", "contents", OUT).out
@@ -178,6 +178,14 @@ def test_a_session_made(program: Path) -> None:
     output = run(session, program=program)
     assert [block.subject for block in output.blocks_in_order] == ["p1 to p2"]
     assert isinstance(output, Output) and output.windows["declared"].tolist().count("K") == 3
+
+
+def test_solved_elsewhere(program: Path) -> None:
+    output = solve(text_of(MISSED).encode(), program=program)
+    subjects = [block.subject for block in output.blocks_in_order]
+    assert subjects == ["may2", "may3", "may2 to may3", "may1 to may4"]
+    content = output.windows.query("window == 'may3' and name == 'c1.0'")["flow"].iloc[0]
+    assert abs(content - 5775462034) < 100_000
 
 
 def test_kinds_are_told(say: Desk) -> None:

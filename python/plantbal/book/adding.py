@@ -180,8 +180,10 @@ def put_assays(years: Years, work: Converter) -> None:
     for row, cells in work.assays:
         component, stream, period = row[1:4]
         place = cells["period"].place()
+        # its period may be one that the workbook declares
+        new = (each for each in years.used if period in each.periods)
         try:
-            ledger = years.of_period(period)
+            ledger = next(new, None) or years.of_period(period)
         except Fault as fault:
             raise InputFault(fault.what, place=place, remedy=fault.remedy) from fault
         there = ledger.assays.get((component, stream, period))

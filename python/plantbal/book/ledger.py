@@ -245,8 +245,8 @@ class Ledger:
         elif kind in FACT_KINDS:
             self._keep(Fact.of(fields))
         elif kind == "assay":
-            component, stream, period, ppm, variance = fields[1:]
-            self.assays[component, stream, period] = int(ppm), int(variance)
+            component, stream, period, *grade = fields[1:]
+            self.assays[component, stream, period] = int(grade[0]), int(grade[1])
             self._latest_assay[period] = self.count
         elif kind == "amend":
             fact = self.facts[fields[1]]

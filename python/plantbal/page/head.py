@@ -49,7 +49,7 @@ def days_text(days: tuple[str, str] | None) -> str:
 
 def period_text(account: Account) -> str:
     """Return which periods there are, with their days and whether they are open."""
-    some = account.statements
+    some = account.periods
     if len(some) == 1:
         parts = [some[0].period, days_text(some[0].days), some[0].state]
         return ", ".join(part for part in parts if part)
@@ -65,7 +65,7 @@ def period_text(account: Account) -> str:
 
 def size_text(account: Account) -> str:
     """Return how large the plant is."""
-    last = account.statements[-1].report.last if account.statements else None
+    last = account.periods[-1].report.last if account.statements else None
     lines = last.lines if last is not None else (account.designs[-1] if account.designs else [])
     tanks = [line for line in lines if line.is_tank]
     nodes = {end for line in lines for end in (line.from_, line.to)} - {"env"}
@@ -83,7 +83,7 @@ def head_of(account: Account, origin: Origin) -> list[tuple[str, str, str]]:
     found = [("Plant", plant, "")]
     if account.statements:
         found.append(
-            ("Period" if len(account.statements) == 1 else "Periods", period_text(account), "")
+            ("Period" if len(account.periods) == 1 else "Periods", period_text(account), "")
         )
     ledger = account.ledger
     if ledger is not None:

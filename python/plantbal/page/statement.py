@@ -216,6 +216,14 @@ class Statement:
         return self.reports[-1]
 
     @property
+    def is_of_period(self) -> bool:
+        """Whether it is of a period, and of no window and no component."""
+        report = self.report
+        if report.last is not None:
+            return report.last.block.is_report
+        return report.asked is None or report.asked.is_report
+
+    @property
     def older(self) -> list[Report]:
         """The reports before it."""
         return self.reports[:-1]
@@ -257,6 +265,11 @@ class Account:
     refused: list[Refused] = field(default_factory=list)
     findings: Sequence[Finding] = ()
     ledger: Ledger | None = None
+
+    @property
+    def periods(self) -> list[Statement]:
+        """The statements of periods; if there is none, those of windows and components."""
+        return [each for each in self.statements if each.is_of_period] or self.statements
 
     @property
     def meters(self) -> list[Line]:
