@@ -66,7 +66,7 @@ fn summary_of_half_a_gram(alloc: Global) -> Result<Vec<u8>, Fail> {
 fn writes_a_summary(rt: HostRuntime) -> Result<(), Fail> {
     assert_eq!(rt;
         summary_of_half_a_gram(rt.alloc())?.as_slice(),
-        b"before\nsummary,4294967295,5,42,0,0,2,0,1,unconverged,5000,741456,0\n".as_slice()
+        b"before\nsummary,4294967295,5,42,0,0,2,0,1,unconverged,5000,499,1000\n".as_slice()
     );
     Ok(())
 }
