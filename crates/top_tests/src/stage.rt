@@ -1,5 +1,7 @@
 // What no clause says: that the first stage of a period is there if memory is ample.
 
+ghost use Rattle.std.specs.Prelude.{◌≡◌, false};
+
 use pb_graph::Options;
 use pb_period::Assembly;
 use pb_report::Form;
@@ -28,8 +30,7 @@ fn asked() -> Options
 fn rows_of(alloc: Global, transfers: u32) -> Result<Rows, Fail> {
     let mut text = Vec::from_slice(alloc, PLANT)?;
     for i in 0..transfers {
-        let row =
-            format!(in alloc; "transfer,t{i},T,2024-01-30,2024-01-30,10000000000000,0\n")?;
+        let row = format!(in alloc; "transfer,t{i},T,2024-01-30,2024-01-30,10000000000000,0\n")?;
         text.extend_from_slice(row.as_bytes())?;
     }
     Ok(Rows::of(alloc, text.as_slice())?)
@@ -65,7 +66,11 @@ fn begins_a_study(rt: HostRuntime) -> Result<(), Fail> {
     for (transfers, want) in table {
         let rows = rows_of(rt.alloc(), transfers)?;
         let session = session_of(rt.alloc(), &rows)?;
-        assert_eq!(rt; streams_of(&session)?, want, "the first stage of {transfers} transfers");
+        assert_eq!(rt;
+            streams_of(&session)?,
+            want,
+            "the first stage of {transfers} transfers"
+        );
     }
     Ok(())
 }
