@@ -308,6 +308,11 @@ def wait_for(what: Callable[[], bool]) -> None:
         time.sleep(0.02)
 
 
+def take_interrupts() -> None:
+    """Take Ctrl-C, which a shell has its background jobs ignore, and these what they start."""
+    signal.signal(signal.SIGINT, signal.SIG_DFL)
+
+
 STOPS = [("parallel", by) for by in (signal.SIGINT, signal.SIGTERM, signal.SIGKILL)]
 
 
@@ -320,7 +325,11 @@ def test_stopped(
     words = ["--engine", engine, *words]
     command = [str(word) for word in [TOP / "examples/fleet", *words]]
     with subprocess.Popen(
-        command, stdout=subprocess.PIPE, stderr=subprocess.PIPE, start_new_session=True
+        command,
+        stdout=subprocess.PIPE,
+        stderr=subprocess.PIPE,
+        start_new_session=True,
+        preexec_fn=take_interrupts,
     ) as fleet:
         wait_for(lambda: len(list(out.glob("*/latest"))) >= 8)
         if by == signal.SIGTERM:
