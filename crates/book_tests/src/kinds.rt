@@ -1,7 +1,7 @@
 // Records of a session, read as effects and written again.
 
 use pb_kinds::{Request, read_request, write_effect};
-use pb_rows::{Name, Records, Row};
+use pb_rows::{Records, Row};
 use pb_site::Version;
 use std::alloc::{AllocError, Global};
 use std::process::Abort;
@@ -99,28 +99,6 @@ fn stores_nothing_of_the_other_version(rt: HostRuntime) -> Result<(), Fail> {
     for (version, line) in table {
         let text = written_again(rt.alloc(), version, line)?;
         assert_eq!(rt; text.len(), 0, "nothing of {line:?}");
-    }
-    Ok(())
-}
-
-// The two names that a record asks a report of: the first and the last period of a window, or a component and a period.
-fn names_asked(row: &Row) -> Option<(bool, Name, Name)> {
-    match read_request(Some(Version::One), row) {
-        Ok(Request::Window(first, last)) => Some((true, first, last)),
-        Ok(Request::Component(component, period)) => Some((false, component, period)),
-        _ => None,
-    }
-}
-
-#[test]
-fn tells_windows_from_components(rt: HostRuntime) -> Result<(), Fail> {
-    let table: [(&[u8], bool); 2] = [(b"window,a,b", true), (b"component,a,b", false)];
-    for (line, window) in table {
-        let row = record_of(rt.alloc(), line)?;
-        let (asks_window, one, other) = names_asked(&row).ok_or("two names")?;
-        assert_eq!(rt; asks_window, window, "what {line:?} asks");
-        assert_eq!(rt; one.as_str(), "a", "the first name of {line:?}");
-        assert_eq!(rt; other.as_str(), "b", "the second name of {line:?}");
     }
     Ok(())
 }
