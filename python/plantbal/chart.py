@@ -252,6 +252,35 @@ def chosen(trend: Trend, most: int, names: list[str]) -> list[Line]:
     return [trend.lines[name] for name in dict.fromkeys(names)]
 
 
+def begin_drawing(form: str) -> None:
+    """Set matplotlib to files of a form, ``svg``, ``png`` or ``pdf``, the same each time.
+
+    Raises
+    ------
+    ToolMissing
+        If there is no matplotlib.
+    """
+    try:
+        import matplotlib
+    except ImportError as error:
+        raise ToolMissing("matplotlib", "python3-matplotlib") from error
+    matplotlib.use("agg" if form == "png" else form)
+    look = {"svg.hashsalt": "plantbal", "svg.fonttype": "none", "hatch.linewidth": 0.5}
+    matplotlib.rcParams.update(look)
+
+
+def save(figure: Any, out: BinaryIO | Path, form: str) -> None:
+    """Write a figure of matplotlib, without the time of day, and close it."""
+    from matplotlib import pyplot
+
+    told: dict[str, dict[str, str | None]] = {
+        "svg": {"Date": None, "Creator": "plantbal"},
+        "pdf": {"CreationDate": None, "Creator": "plantbal"},
+    }
+    figure.savefig(out, format=form, dpi=110, metadata=told.get(form))
+    pyplot.close(figure)
+
+
 def write_chart(trend: Trend, lines: list[Line], out: BinaryIO | Path, form: str) -> None:
     """Write the chart of periods.
 
@@ -266,23 +295,10 @@ def write_chart(trend: Trend, lines: list[Line], out: BinaryIO | Path, form: str
     form : {'svg', 'png', 'pdf'}
         Its form.
     """
-    try:
-        import matplotlib
-    except ImportError as error:
-        raise ToolMissing("matplotlib", "python3-matplotlib") from error
-    matplotlib.use("agg" if form == "png" else form)
-    look = {"svg.hashsalt": "plantbal", "svg.fonttype": "none", "hatch.linewidth": 0.5}
-    matplotlib.rcParams.update(look)
-    from matplotlib import pyplot
-
+    begin_drawing(form)
     chart = Chart(trend, lines)
     chart.draw()
-    told: dict[str, dict[str, str | None]] = {
-        "svg": {"Date": None, "Creator": "plantbal"},
-        "pdf": {"CreationDate": None, "Creator": "plantbal"},
-    }
-    chart.figure.savefig(out, format=form, dpi=110, metadata=told.get(form))
-    pyplot.close(chart.figure)
+    save(chart.figure, out, form)
 
 
 def add_arguments(parser: argparse.ArgumentParser) -> None:

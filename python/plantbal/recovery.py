@@ -11,8 +11,8 @@ from pathlib import Path
 from typing import TYPE_CHECKING, Any
 
 from plantbal.amounts import tonnes_text
-from plantbal.chart import BAND, DARK, ENDINGS, HATCHED, INK, REJECTED
-from plantbal.faults import Fault, ToolMissing, read_bytes
+from plantbal.chart import BAND, DARK, ENDINGS, HATCHED, INK, REJECTED, begin_drawing, save
+from plantbal.faults import Fault, read_bytes
 from plantbal.files import replacing
 from plantbal.output import Output, read_whole
 from plantbal.report import Block, last_blocks
@@ -273,13 +273,7 @@ def write_chart(
     form : {'svg', 'png', 'pdf'}
         Its form.
     """
-    try:
-        import matplotlib
-    except ImportError as error:
-        raise ToolMissing("matplotlib", "python3-matplotlib") from error
-    matplotlib.use("agg" if form == "png" else form)
-    matplotlib.rcParams.update({"svg.hashsalt": "plantbal", "svg.fonttype": "none"})
-    matplotlib.rcParams["hatch.linewidth"] = 0.5
+    begin_drawing(form)
     from matplotlib import pyplot
 
     count = len(products)
@@ -297,12 +291,7 @@ def write_chart(
     _whither(panels[-1, 0], trend, sorted(leaving, key=lambda each: each.stream not in products))
     for axes in panels[:, 0]:
         _look(axes, trend)
-    told: dict[str, dict[str, str | None]] = {
-        "svg": {"Date": None, "Creator": "plantbal"},
-        "pdf": {"CreationDate": None, "Creator": "plantbal"},
-    }
-    figure.savefig(out, format=form, dpi=110, metadata=told.get(form))
-    pyplot.close(figure)
+    save(figure, out, form)
 
 
 def _look(axes: Any, trend: Trend) -> None:

@@ -9,8 +9,8 @@ from pathlib import Path
 
 import pytest
 
-from plantbal import desk
-from plantbal.faults import Fault
+from plantbal import Session, desk
+from plantbal.faults import Fault, Refusal
 from plantbal.program import find_program
 
 TOP = Path(__file__).resolve().parents[2]
@@ -29,6 +29,21 @@ def words_of(session: Path) -> list[str]:
     """The words that a shipped session is run with."""
     path = session.with_name(session.stem + ".words")
     return path.read_text(encoding="utf-8").split() if path.exists() else ["run"]
+
+
+def session_of(text: str) -> Session:
+    """The session of rows, of which none is to be refused."""
+    session = Session()
+    for line in text.splitlines():
+        session.row(*line.split(","))
+    return session
+
+
+def assert_refused(session: Session, row: str, code: int, said: str) -> None:
+    """Fails unless a session refuses a row with this code, and says this."""
+    with pytest.raises(Refusal) as refused:
+        session.row(*row.split(","))
+    assert (refused.value.code, said in str(refused.value)) == (code, True), refused.value
 
 
 @dataclass

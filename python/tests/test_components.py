@@ -7,7 +7,7 @@ from decimal import Decimal
 from pathlib import Path
 
 import pytest
-from conftest import Desk, example, text_of
+from conftest import Desk, assert_refused, example, session_of, text_of
 
 from plantbal import Session, run, solve
 from plantbal.cells import Reader
@@ -41,19 +41,9 @@ REFUSED = [
 ]
 
 
-def session_of(text: str) -> Session:
-    """The session of rows, of which none is to be refused."""
-    session = Session()
-    for line in text.splitlines():
-        session.row(*line.split(","))
-    return session
-
-
 @pytest.mark.parametrize("row, code, said", REFUSED, ids=[row for row, *_ in REFUSED])
 def test_what_is_refused(row: str, code: int, said: str) -> None:
-    with pytest.raises(Refusal) as refused:
-        session_of(PLANT).row(*row.split(","))
-    assert (refused.value.code, said in str(refused.value)) == (code, True), refused.value
+    assert_refused(session_of(PLANT), row, code, said)
 
 
 def test_out_of_service() -> None:

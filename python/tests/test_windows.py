@@ -6,7 +6,7 @@ import datetime
 from pathlib import Path
 
 import pytest
-from conftest import Desk, example, text_of
+from conftest import Desk, assert_refused, example, session_of, text_of
 
 from plantbal import Session, run, solve
 from plantbal.faults import Refusal
@@ -32,20 +32,9 @@ REFUSED = [
 ]
 
 
-def session_of(text: str) -> Session:
-    """The session of rows, of which none is to be refused."""
-    session = Session()
-    for line in text.splitlines():
-        session.row(*line.split(","))
-    return session
-
-
 @pytest.mark.parametrize("row, code, said", REFUSED, ids=[row for row, *_ in REFUSED])
 def test_what_is_refused(row: str, code: int, said: str) -> None:
-    session = session_of(PLANT)
-    with pytest.raises(Refusal) as refused:
-        session.row(*row.split(","))
-    assert (refused.value.code, said in str(refused.value)) == (code, True), refused.value
+    assert_refused(session_of(PLANT), row, code, said)
 
 
 def test_how_many_periods() -> None:
