@@ -35,7 +35,9 @@ WRITTEN = {
     "RowFault": ("unreadable", "unread_words", 3),
 }
 # Answers after which alone the program writes a row of some form: by the call and the name of the
-# answer. A check says yes to a block that is read; a stream of a window has a name of its own.
+# answer. A check says yes to a block that is read; a stream of a window has a name of its own; a
+# report as objects is no row of a block that is checked, and a made session begins with its units.
+REPORT = r'\{.*"row":"report"'
 WRITTEN_AFTER = {
     ("pb_blocks::Known::add", "Ok"): r"yes,",
     ("pb_blocks::Known::list", "Ok"): r"yes,",
@@ -47,12 +49,24 @@ WRITTEN_AFTER = {
     ("pb_book::Book::grades", "Ok"): r"component,",
     ("pb_book::Book::periods_between", "Ok"): r"window,",
     ("pb_book::Book::window", "Ok"): r"window,",
+    ("pb_form::output_json", "Ok"): REPORT,
+    ("pb_form::output_record", "Ok"): REPORT,
+    ("pb_form::session_record", "Ok"): r"unit,u1$",
+    ("pb_form::write", "Ok"): REPORT,
+    ("pb_form::write_json", "Ok"): REPORT,
+    ("pb_make::make", "Ok"): r"unit,u1$",
+    ("pb_period::assemble", "Ok"): REPORT,
+    ("pb_period::assemble", "Over"): r"over,d1,A$",
     ("pb_period::assemble_window", "Ok"): r"window,",
     ("pb_period::assemble_window", "Over"): r"over,[^,]*,s\d+\.\d+$",
+    ("pb_period::names", "Ok"): REPORT,
     ("pb_period::names_of_periods", "Ok"): r"place,",
     ("pb_report::write_component", "Ok"): r"component,",
     ("pb_report::write_row", "Ok"): r"report,",
     ("pb_report::write_window", "Ok"): r"window,",
+    ("pb_site::OnDays::of", "Ok"): REPORT,
+    ("pb_site::Site::names", "Ok"): r"class,",
+    ("pb_site::names_on", "Ok"): REPORT,
     ("pb_window::window_places", "Ok"): r"place,",
 }
 # How a test names an answer that isn't a variant of an enum of the libraries.

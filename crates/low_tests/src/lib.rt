@@ -6,8 +6,6 @@ mod ends;
 #[cfg(test)]
 mod fixed;
 #[cfg(test)]
-mod forms;
-#[cfg(test)]
 mod rows;
 #[cfg(test)]
 mod strap;

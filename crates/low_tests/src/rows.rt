@@ -223,11 +223,12 @@ fn assert_next(
     fields: &[&[u8]],
     filled: usize,
 ) -> Result<(), AllocError> {
-    let next = records.next()?;
-    assert_eq!(rt; next.is_some(), !fields.is_empty(), "{fields:?}");
-    if let Some(row) = next {
-        assert_fields(rt, &row, fields);
-        assert_eq!(rt; row.filled(), filled, "the filled fields of {fields:?}");
+    match records.next()? {
+        Some(row) => {
+            assert_fields(rt, &row, fields);
+            assert_eq!(rt; row.filled(), filled, "the filled fields of {fields:?}");
+        }
+        None => assert!(rt; fields.is_empty(), "no record of {fields:?}"),
     }
     Ok(())
 }
