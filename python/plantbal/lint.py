@@ -11,7 +11,7 @@ from pathlib import Path
 
 from plantbal.lintbook import Book
 from plantbal.lintrules import RULES, SEVERITIES, Finding, find
-from plantbal.program import session_bytes
+from plantbal.runs import session_bytes
 from plantbal.session import Session
 
 
