@@ -72,8 +72,9 @@ class Run:
 
     def to_json(self) -> bytes:
         """Return it as JSON, an item a line."""
-        items = {each.name: getattr(self, each.name) for each in fields(self)}
-        return (json.dumps(items, indent=1) + "\n").encode("utf-8")
+        items = ((each.name, getattr(self, each.name)) for each in fields(self))
+        lines = ",\n".join(f' "{name}": {json.dumps(value)}' for name, value in items)
+        return f"{{\n{lines}\n}}\n".encode("ascii")
 
     @property
     def asked(self) -> tuple[str, str, list[str]]:
@@ -206,17 +207,21 @@ class Night:
     def publish(self, site: Site, asked: Run) -> Kept:
         """Give the files of a plant their names, and return what is kept.
 
-        An output is kept if the program ended with 0 or 1: otherwise it may be cut off.
+        An output is kept if the program ended with 0 or 1: otherwise it may be cut off. The disk may
+        still lack some of it if the power fails now: then it isn't of its digest, and `kept` has
+        nothing of it.
         """
         part = self.part_of(site)
         status, begun, seconds = status_of(part)
         run = replace(asked, status=status, begun=begun, seconds=seconds)
         if status not in (0, 1):
             (part / self.output_name).unlink(missing_ok=True)
-        files = {name: _on_disk(part / name) for name in os.listdir(part) if name != STATUS}
+        files = {name: (part / name).read_bytes() for name in os.listdir(part) if name != STATUS}
         output, sums = files.get(self.output_name, b""), _sums(files)
         run = replace(run, output_sha256=sums.get(self.output_name, ""))
-        sums |= _sums({STATUS: _to_disk(part / STATUS, run.to_json())})
+        said = run.to_json()
+        (part / STATUS).write_bytes(said)
+        sums |= _sums({STATUS: said})
         put(part, self.folder_of(site))
         if status in (0, 1):
             newest = self.out / site.name / "latest"
@@ -228,24 +233,6 @@ class Night:
 def _sums(files: dict[str, bytes]) -> dict[str, str]:
     """Return the digests of files."""
     return {name: hashlib.sha256(data).hexdigest() for name, data in files.items()}
-
-
-def _to_disk(path: Path, data: bytes) -> bytes:
-    """Write a file, and return its bytes once the disk has them."""
-    with path.open("wb") as file:
-        file.write(data)
-        file.flush()
-        os.fsync(file.fileno())
-    return data
-
-
-def _on_disk(path: Path) -> bytes:
-    """Return the bytes of a file, once the disk has them."""
-    with path.open("rb") as file:
-        data = file.read()
-        if data:
-            os.fsync(file.fileno())
-    return data
 
 
 def status_of(part: Path) -> tuple[int | None, float, float]:
