@@ -54,7 +54,7 @@ six_read : (word id stream date grams variance : List ℕ) (day g v : ℤ) → b
 six_read word id stream date grams variance day g v worded named of dated range carried spread = record {
   values = Word 0 ∷ (Name id ∷ (Name stream ∷ (Date day ∷ (Number g ∷ (Number v ∷ [])))));
   read = rw (worded, named, of, dated, carried, spread) refl;
-  fit = ((refl, refl), (named, (of, (range, (between_ends _ _ g _ carried, (between_ends _ _ v _ spread, tt))))));
+  fit = ((refl, refl), (named, (of, (range, (between_ends (neg_ℤ (pos most_grams)) (pos most_grams) g (number grams) carried, (between_ends (pos 0) (pos most_row_variance) v (number variance) spread, tt))))));
   is = rw (named, of) refl;
 }
 

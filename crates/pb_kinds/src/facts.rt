@@ -2,6 +2,7 @@
 
 ghost use Rattle.std.specs.Prelude.{◌≡◌, ◌≤◌, drop, neg_ℤ, pos, true, IfSome};
 ghost use Rattle.pb_limits.specs.Limits.{most_grams};
+ghost use Rattle.pb_rows.specs.Date.{IsDay, day_of};
 ghost use Rattle.pb_rows.specs.Number.{number, within};
 ghost use Rattle.pb_form.specs.SessionRows.{dip_columns, reading_columns, session_schema, transfer_columns};
 ghost use Rattle.pb_form.specs.Telling.{is_of};
@@ -24,18 +25,28 @@ pub(crate) fn reading_in(fields: &Fields) -> Option<Fact>
     Some(Fact::Reading {
         id: Name::read(fields.at(1))?,
         stream: Name::read(fields.at(2))?,
-        day: read_date(fields.at(3)).ok()??,
+        day: read_day(fields.at(3))?,
         grams: read_grams(fields.at(4))?,
         variance: read_whole(fields.at(5), 0, MOST_ROW_VARIANCE)?,
     })
+}
+
+// The day that a field writes.
+fn read_day(field: &[u8]) -> Option<i32>
+    ensures value { result ≡ day_of field.now }
+    ensures within { IfSome result IsDay }
+{
+    match read_date(field) {
+        Ok(day) => day,
+        Err(_) => None,
+    }
 }
 
 // The grams that a field writes, either way.
 fn read_grams(field: &[u8]) -> Option<i64>
     ensures { result ≡ within (neg_ℤ (pos most_grams)) (pos most_grams) (number field.now) }
 {
-    let most = i128::from(MOST_GRAMS);
-    let grams = read_whole(field, -most, most)?;
+    let grams = read_whole(field, -(MOST_GRAMS as i128), MOST_GRAMS as i128)?;
     Some(grams as i64)
 }
 
