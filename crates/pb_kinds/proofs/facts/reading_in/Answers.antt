@@ -1,5 +1,5 @@
 use Rattle.std.specs.Prelude.{neg_ℤ, Some}
-use Rattle.std.proofs.Common.{◌≡◌, ◌∙◌, ◌<◌, [], FitsSigned, get_or, length, pos, sym, arith, rules}
+use Rattle.std.proofs.Common.{◌≡◌, ◌∙◌, [], FitsSigned, get_or, pos, sym, arith, rules}
 use mir.Syntax.{w32, w64, w128}
 use Rattle.std.proofs.lemmas.Int.{to_z-of_z}
 use Rattle.pb_limits.specs.Limits.{most_grams, most_row_variance}
