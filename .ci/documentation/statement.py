@@ -25,6 +25,7 @@ LAWS = (
     "check_text_law",
     "own_reports_law",
     "edited_file_law",
+    "version_one_text_law",
     "decided_law",
     "some_least_law",
     "one_least_law",
@@ -359,8 +360,9 @@ def body_of(sources: Sources, page: Page) -> list[str]:
     lines += paragraph(
         "These functions do nothing. What their contracts say is proved of the words above and"
         " below: that each input has one text, that one's own reports pass a check, that a report"
-        " after edits is that of the edited file, that the decided tests of measurements are right,"
-        " and that there are least vectors, which differ only on unobservable streams."
+        " after edits is that of the edited file, that a session of version 1 writes what it wrote"
+        " before there was a version 2, that the decided tests of measurements are right, and that"
+        " there are least vectors, which differ only on unobservable streams."
     )
     lines += shown(page, page.laws)
     for layer, files in chapters(sources, page):
