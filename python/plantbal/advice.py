@@ -3,10 +3,12 @@
 from __future__ import annotations
 
 import argparse
+import sys
 from collections.abc import Iterable, Iterator, Mapping
 from dataclasses import dataclass
 from pathlib import Path
 
+from plantbal.asks import some
 from plantbal.cells import Reader, check_locale
 from plantbal.explain import explain_bytes, is_report
 from plantbal.faults import Fault, InputFault, Place, read_bytes
@@ -210,6 +212,11 @@ def run(options: argparse.Namespace) -> int:
     source, data = read_bytes(options.session)
     plant = plant_of(source, data)
     costs = read_costs(options.costs, plant, options.locale) if options.costs else {}
+    plain = [name for name, kind in plant.streams.items() if kind == "plain"]
+    uncosted = [name for name in plain if name not in costs]
+    if costs and uncosted:
+        said = f"{options.costs} has no cost of {some(uncosted)}: a meter there counts as 1"
+        print(f"{options.prog}: {said}", file=sys.stderr)
     found = advise(plant, costs, program=options.program)
     lines: Iterable[str] = found.lines()
     if options.form == "csv":

@@ -28,7 +28,7 @@ if TYPE_CHECKING:
 
 # A space that stands within a name.
 NO_BREAK = "\u00a0"
-# What lint finds that a verdict tells: a meter or a tank without a value, and facts too late.
+# What lint finds that a verdict says: a meter or a tank without a value, and facts too late.
 LATE = "after-report"
 TOLD = ("missing-reading", "missing-dip", LATE)
 
