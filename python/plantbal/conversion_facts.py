@@ -238,9 +238,9 @@ class Converter(Readings):
         for name in [period.name for period in self.session.periods]:
             components = self.session.components_in(name)
             balances = [("component", component, name) for component in components]
-            for row in [("report", name), *balances]:
-                if row not in asked:
-                    self.session.row(*row)
+            for fields in [("report", name), *balances]:
+                if fields not in asked:
+                    self.session.row(*fields)
         for row in self.rows("windows"):
             cells = {head: row[head] for head in ("first", "last")}
             self.put(["window", row.text("first"), row.text("last")], cells)

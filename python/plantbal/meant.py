@@ -110,9 +110,9 @@ def number_meant(
             return f"if {text.strip()} is in {greater}, write {int(scaled)}, in {own}"
     if re.fullmatch(r"[0-9]{4}-[0-9]{2}-[0-9]{2}", plain):
         return "a day stands there: are the fields in their order?"
-    scaled = _with_unit(plain, units or {})
-    if scaled is not None and scaled == int(scaled) and low <= scaled <= high:
-        return f"write {int(scaled)}, without the unit"
+    counted = _with_unit(plain, units or {})
+    if counted is not None and counted == int(counted) and low <= counted <= high:
+        return f"write {int(counted)}, without the unit"
     if re.fullmatch(r"-?[0-9][0-9.,]* ?(kg|t|g|mm|cm|m3|m|l|ml)", plain):
         return "take the unit of measure out"
     return ""

@@ -685,7 +685,7 @@ class Session:
                 "" if service is None else "since",
                 "" if service is None else record[-2],
                 "give it dates of service after the closed periods: "
-                f"SINCE {day_of_number(last + 1)} or later, and UNTIL",
+                f"SINCE {day_of_number(last + 1)} or later, and UNTIL {LAST_DAY} if there is no end",
             )
 
     def _judge_room(self, record: tuple[str, ...], nodes: bool, arcs: bool) -> None:

@@ -189,6 +189,9 @@ def test_drawing_and_chart(say: Desk, tmp_path: Path) -> None:
 def test_page(say: Desk) -> None:
     page = say("page", OUT, "--session", COPPER, "--seconds", "0").out
     assert page.count("cu in jun03") > 1 and "96.341" in page
+    assert "The grades fit together: the statistic is between 0.090 and 0.091" in page
+    assert "Of the cu that came in, 88.43 % ± 0.31 % went into CONCENTRATE and 11.57 % ± 0.31 %" in page
+    assert "An assay on any stream of the cycle settles" in page
 
 
 def test_audit(say: Desk, program: Path, tmp_path: Path) -> None:

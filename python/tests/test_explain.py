@@ -413,7 +413,7 @@ FULL = [
 
 FULL_2 = [
     ("most_boundaries", 1, "boundary,K", "1 boundaries are there"),
-    ("most_streams", 6, "stream,X,env,U,plain,0", "6 streams and tanks are there"),
+    ("most_streams", 6, "tank,X,1,2024-03-05,2024-03-20", "6 streams and tanks are there"),
     ("most_assays", 2, "assay,cu,B,n,1,1", "2 assays are there"),
     ("most_nodes", 3, "window,p,n", "it would have 9 nodes, and at most 3 may be"),
     ("most_periods_of_window", 1, "window,p,n", "2 periods are from p to n"),
