@@ -130,6 +130,8 @@ def read_costs(path: str | Path, plant: Session, locale: str = "") -> dict[str, 
         kind = plant.streams.get(name)
         if kind is None:
             what = f"there is no stream {name}" if name else "there is no name of a stream"
+            if name in plant.nodes:
+                what = f"{name} is a {plant.nodes[name]}, not a stream"
             raise reader.fault(stream, what, "mend the name, or take the row out", "stream")
         if kind != "plain":
             what = f"{name} is a {kind} stream: it is measured already"
@@ -140,7 +142,7 @@ def read_costs(path: str | Path, plant: Session, locale: str = "") -> dict[str, 
         number, column = reader.number(cost, "cost"), schema().row("advise").tail[1]
         low, high = column.low or 0, column.high or 0
         if number != int(number) or not low <= number <= high:
-            remedy = f"write a whole number from {low} to {high:,}, such as of cents"
+            remedy = f"write a whole number from {low} to {high:,}, in any unit, such as cents"
             raise reader.fault(cost, f"{cost.text} is no cost", remedy, "cost")
         found[name] = int(number)
     return found
