@@ -126,6 +126,14 @@ def _watched(
         return subprocess.CompletedProcess(command, status, b"".join(pieces), said.read())
 
 
+def words_of(*, tests: bool, eliminate: int, gap: int, sweeps: int) -> list[str]:
+    """Return the words of a run."""
+    words = ["run", "--gap", str(gap), "--sweeps", str(sweeps)]
+    if eliminate:
+        words += ["--eliminate", str(eliminate)]
+    return [*words, "--tests"] if tests else words
+
+
 def session_bytes(session: Session | str | Path | bytes) -> tuple[str, bytes, int]:
     """Return how a session is called, its bytes, and how many rows were left out of it.
 
@@ -187,11 +195,7 @@ def run(
     ProgramFault
         If the program ends with 2 to 6.
     """
-    words = ["run", "--gap", str(gap), "--sweeps", str(sweeps)]
-    if eliminate:
-        words += ["--eliminate", str(eliminate)]
-    if tests:
-        words.append("--tests")
+    words = words_of(tests=tests, eliminate=eliminate, gap=gap, sweeps=sweeps)
     source, data, left_out = session_bytes(session)
     status, text = call(words, data, program=program, timeout=timeout, watch=watch)
     output = parse_report(text.decode("utf-8"), f"the output of {source}", status)
