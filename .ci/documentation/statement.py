@@ -29,6 +29,11 @@ LAWS = (
     "decided_law",
     "some_least_law",
     "one_least_law",
+    "own_bounds_law",
+    "own_least_bounds_law",
+    "nodal_order_law",
+    "closed_law",
+    "some_plain_text_law",
 )
 WORD = re.compile(r"[A-Za-z_][A-Za-z0-9_']*(?:\.[A-Za-z_][A-Za-z0-9_']*)*")
 # A function with a body in a block, with its comment.
@@ -361,8 +366,9 @@ def body_of(sources: Sources, page: Page) -> list[str]:
         "These functions do nothing. What their contracts say is proved of the words above and"
         " below: that each input has one text, that one's own reports pass a check, that a report"
         " after edits is that of the edited file, that a session of version 1 writes what it wrote"
-        " before there was a version 2, that the decided tests of measurements are right, and that"
-        " there are least vectors, which differ only on unobservable streams."
+        " before there was a version 2, that the decided tests of measurements are right, that"
+        " there are least vectors, which differ only on unobservable streams, and what follows for"
+        " printed flows, nodal tests, closed periods and plain rows."
     )
     lines += shown(page, page.laws)
     for layer, files in chapters(sources, page):

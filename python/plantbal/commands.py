@@ -19,7 +19,6 @@ from plantbal.program import STATUSES
 from plantbal.progress import Progress
 from plantbal.records import read_records
 from plantbal.report import (
-    Block,
     blocks_of,
     last_blocks,
     over_of,
@@ -160,27 +159,11 @@ def periods_of(data: bytes, output: Output) -> list[str]:
         if name in over:
             lines.append(f"{name}: {over[name]}")
         elif name in last:
-            lines.append(f"{name}: {_state(last[name])}")
+            what = "a balance" if last[name].component else "a report"
+            lines.append(f"{name}: {what}, {last[name].verdict}")
         else:
             lines.append(f"{name}: no report was asked for; the row report,{name} asks for it")
     return lines
-
-
-def _state(block: Block) -> str:
-    """Return what the last report of a period, a window or a component says as a whole."""
-    what = "a balance" if block.component else "a report"
-    said = f"{what}, {block.solved['state']}" if block.solved else f"{what} that is cut off"
-    if block.taken:
-        said += f" after {', '.join(block.taken)} was taken out"
-    if block.whole:
-        said += {
-            "accept": ", accepted by the global test",
-            "reject": ", rejected by the global test",
-            "undecided": ", the global test is undecided",
-            "nocritical": ", no global test: there is no critical value for its degrees of freedom",
-            "notest": ", no global test: there is nothing to test",
-        }[block.whole["verdict"]]
-    return said
 
 
 def _say_reading(path: str) -> None:

@@ -94,7 +94,7 @@ def add_arguments(parser: argparse.ArgumentParser) -> None:
         action="append",
         default=[],
         choices=list(RULES),
-        help="leave findings of this code out; may be said several times",
+        help="leave findings of this code out; may be given more than once",
     )
 
 

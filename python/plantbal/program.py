@@ -117,3 +117,11 @@ def _watched(
             status = process.wait()
         said.seek(0)
         return subprocess.CompletedProcess(command, status, b"".join(pieces), said.read())
+
+
+def words_of(*, tests: bool, eliminate: int, gap: int, sweeps: int) -> list[str]:
+    """Return the words of a run."""
+    words = ["run", "--gap", str(gap), "--sweeps", str(sweeps)]
+    if eliminate:
+        words += ["--eliminate", str(eliminate)]
+    return [*words, "--tests"] if tests else words

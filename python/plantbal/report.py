@@ -24,6 +24,14 @@ _AS_WRITTEN = "give the file as plantbal wrote it: this one was cut off, or edit
 _REPORT = "report,PERIOD"
 _ASKING = {"component": "component,COMPONENT,PERIOD", "design": "design"}
 _OF_CHECKS = ("yes", "no", "unreadable")
+# What the verdict of a global test says.
+_GLOBAL = {
+    "accept": "accepted by the global test",
+    "reject": "rejected by the global test",
+    "undecided": "the global test is undecided",
+    "nocritical": "no global test: no critical value for its degrees of freedom",
+    "notest": "no global test: nothing tests it",
+}
 
 
 def _names_of(source: str, line: int, fields: list[str]) -> tuple[str, ...]:
@@ -440,6 +448,16 @@ class Block:
     def title(self) -> str:
         """What it is of, and the round if it isn't the first."""
         return f"{self.subject}, round {self.round}" if self.round else self.subject
+
+    @property
+    def verdict(self) -> str:
+        """What it says as a whole: its state, what was taken out before it, and the global test."""
+        if self.solved is None:
+            return "cut off"
+        said = self.solved["state"]
+        if self.taken:
+            said += f" after {', '.join(self.taken)} was taken out"
+        return said if self.whole is None else f"{said}, {_GLOBAL[self.whole['verdict']]}"
 
     def suspects(self) -> list[str]:
         """Return the streams whose measurement test rejects, the greatest statistic first."""

@@ -8,7 +8,7 @@ from typing import TYPE_CHECKING
 
 from plantbal.faults import InputFault, Place, read_bytes
 from plantbal.output import Output, parse_report, verdict_frame
-from plantbal.program import call
+from plantbal.program import call, words_of
 from plantbal.report import parse_rows
 from plantbal.session import Session
 
@@ -77,11 +77,7 @@ def run(
     ProgramFault
         If the program ends with 2 to 6.
     """
-    words = ["run", "--gap", str(gap), "--sweeps", str(sweeps)]
-    if eliminate:
-        words += ["--eliminate", str(eliminate)]
-    if tests:
-        words.append("--tests")
+    words = words_of(tests=tests, eliminate=eliminate, gap=gap, sweeps=sweeps)
     source, data, left_out = session_bytes(session)
     status, text = call(words, data, program=program, timeout=timeout, watch=watch)
     output = parse_report(text.decode("utf-8"), f"the output of {source}", status)
