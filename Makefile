@@ -1,4 +1,4 @@
-# Installs plantbal and makes its Debian packages. The program itself is proved and built by ./plantbal.
+# Installs plantbal and makes its Debian packages. The program itself is proved and built by ./build.
 #
 #   make install DESTDIR= PREFIX=/usr/local   the program, the package plantbal of Python, manual pages, completions, documents
 #   make deb                                  packaging/out/plantbal_*.deb and packaging/out/python3-plantbal_*.deb
@@ -22,14 +22,14 @@ LIBRARY = lib/$(PYTHON_FOLDER)/dist-packages
 
 PROGRAM_DOCUMENTS = README.md CHANGELOG.md docs/GUIDE.md docs/FORMAT.md docs/DEFINITIONS.md docs/STATEMENT.md docs/ASSURANCE.md docs/DECISIONS.md
 DESK_DOCUMENTS = docs/MONTH_END.md docs/PYTHON.md docs/OPERATIONS.md
-WORKBOOKS = examples/month_end examples/refinery_workbook examples/terminal_workbook
+WORKBOOKS = examples/month_end examples/refinery_workbook examples/terminal_workbook examples/tank_farm_workbook
 
 .PHONY: install install-program install-desk deb check-packages clean
 
 install: install-program install-desk
 
 $(PROGRAM):
-	@echo "make: there is no $(PROGRAM): ./plantbal run </dev/null proves and builds it" >&2; exit 1
+	@echo "make: there is no $(PROGRAM): ./build proves and builds it" >&2; exit 1
 
 install-program: $(PROGRAM)
 	install -D -m 755 $(PROGRAM) $(BIN)/plantbal

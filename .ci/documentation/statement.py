@@ -20,7 +20,21 @@ MADE_OF_ARGUMENTS = ("Words",)
 # The clauses of the contract of the call in words, which stand in front.
 IN_WORDS = ".ci/documentation/clauses.md"
 # What README.md promises beside the contract of the call: laws over the same words.
-LAWS = ("run_text_law", "check_text_law", "own_reports_law", "edited_file_law", "decided_law")
+LAWS = (
+    "run_text_law",
+    "check_text_law",
+    "own_reports_law",
+    "edited_file_law",
+    "version_one_text_law",
+    "decided_law",
+    "some_least_law",
+    "one_least_law",
+    "own_bounds_law",
+    "own_least_bounds_law",
+    "nodal_order_law",
+    "closed_law",
+    "some_plain_text_law",
+)
 WORD = re.compile(r"[A-Za-z_][A-Za-z0-9_']*(?:\.[A-Za-z_][A-Za-z0-9_']*)*")
 # A function with a body in a block, with its comment.
 BODY = re.compile(r"\n(?:    //[^\n]*\n)*    (?:pub )?fn [^\n]*\{\n.*?\n    \}", re.S)
@@ -351,8 +365,10 @@ def body_of(sources: Sources, page: Page) -> list[str]:
     lines += paragraph(
         "These functions do nothing. What their contracts say is proved of the words above and"
         " below: that each input has one text, that one's own reports pass a check, that a report"
-        " after edits is that of the edited file, and that the decided tests of measurements are"
-        " right."
+        " after edits is that of the edited file, that a session of version 1 writes what it wrote"
+        " before there was a version 2, that the decided tests of measurements are right, that"
+        " there are least vectors, which differ only on unobservable streams, and what follows for"
+        " printed flows, nodal tests, closed periods and plain rows."
     )
     lines += shown(page, page.laws)
     for layer, files in chapters(sources, page):

@@ -35,7 +35,7 @@ _plantbal_desk() {
         run:--gap) :; return ;;
         run:--sweeps) :; return ;;
         run:--eliminate) :; return ;;
-        lint:--ignore) _plantbal_words 'refused nothing-asked missing-reading missing-dip no-period after-report one-sided never-served near-names magnitude small-deviation large-deviation density worse-class no-critical no-balance after-balance unchecked-grade grade nearly-full untested no-elimination no-transfer unused-dip not-reported'; return ;;
+        lint:--ignore) _plantbal_words 'refused nothing-asked missing-reading missing-dip no-period after-report one-sided never-served near-names magnitude small-deviation large-deviation density worse-class no-critical no-balance after-balance unchecked-grade unused-assay grade no-cost nearly-full untested no-elimination no-transfer unused-dip not-reported'; return ;;
         explain:--program) _plantbal_files -f; return ;;
         check:--program) _plantbal_files -f; return ;;
         archive:--period) :; return ;;
@@ -179,7 +179,7 @@ _plantbal_desk() {
     book)
         if [[ $here != -* ]]; then
             _plantbal_files -f
-            _plantbal_more 'new add show amend strike report close status next'
+            _plantbal_more 'new add show amend strike report window close status next'
             return
         fi
         _plantbal_words '-h --help --program --locale --missing --skip --limits --book --who --why --strike --anyway --year --dry-run --density --error --session --gap --sweeps --no-tests --eliminate --all --plant --first' ;;

@@ -23,7 +23,8 @@ if TYPE_CHECKING:
     from plantbal.lint import lint_session
     from plantbal.lintrules import Finding
     from plantbal.output import Output, read_report
-    from plantbal.program import check, find_program, run
+    from plantbal.program import find_program
+    from plantbal.runs import check, run
     from plantbal.session import Session
     from plantbal.solver import solve
     from plantbal.uncertainty import uncertainty_of
@@ -59,12 +60,12 @@ _HOMES = {
     "Session": "session",
     "ToolMissing": "faults",
     "advise": "advice",
-    "check": "program",
+    "check": "runs",
     "convert": "conversion",
     "find_program": "program",
     "lint_session": "lint",
     "read_report": "output",
-    "run": "program",
+    "run": "runs",
     "solve": "solver",
     "uncertainty_of": "uncertainty",
 }

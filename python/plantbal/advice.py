@@ -3,10 +3,12 @@
 from __future__ import annotations
 
 import argparse
+import sys
 from collections.abc import Iterable, Iterator, Mapping
 from dataclasses import dataclass
 from pathlib import Path
 
+from plantbal.asks import some
 from plantbal.cells import Reader, check_locale
 from plantbal.explain import explain_bytes, is_report
 from plantbal.faults import Fault, InputFault, Place, read_bytes
@@ -128,6 +130,8 @@ def read_costs(path: str | Path, plant: Session, locale: str = "") -> dict[str, 
         kind = plant.streams.get(name)
         if kind is None:
             what = f"there is no stream {name}" if name else "there is no name of a stream"
+            if name in plant.nodes:
+                what = f"{name} is a {plant.nodes[name]}, not a stream"
             raise reader.fault(stream, what, "mend the name, or take the row out", "stream")
         if kind != "plain":
             what = f"{name} is a {kind} stream: it is measured already"
@@ -138,7 +142,7 @@ def read_costs(path: str | Path, plant: Session, locale: str = "") -> dict[str, 
         number, column = reader.number(cost, "cost"), schema().row("advise").tail[1]
         low, high = column.low or 0, column.high or 0
         if number != int(number) or not low <= number <= high:
-            remedy = f"write a whole number from {low} to {high:,}, such as of cents"
+            remedy = f"write a whole number from {low} to {high:,}, in any unit, such as cents"
             raise reader.fault(cost, f"{cost.text} is no cost", remedy, "cost")
         found[name] = int(number)
     return found
@@ -210,6 +214,11 @@ def run(options: argparse.Namespace) -> int:
     source, data = read_bytes(options.session)
     plant = plant_of(source, data)
     costs = read_costs(options.costs, plant, options.locale) if options.costs else {}
+    plain = [name for name, kind in plant.streams.items() if kind == "plain"]
+    uncosted = [name for name in plain if name not in costs]
+    if costs and uncosted:
+        said = f"{options.costs} has no cost of {some(uncosted)}: a meter there counts as 1"
+        print(f"{options.prog}: {said}", file=sys.stderr)
     found = advise(plant, costs, program=options.program)
     lines: Iterable[str] = found.lines()
     if options.form == "csv":

@@ -29,9 +29,8 @@ from plantbal.held import Ledger
 from plantbal.lintbook import day_text
 from plantbal.options import add_run
 from plantbal.output import Output, parse_report
-from plantbal.program import STATUSES, call, find_program
+from plantbal.program import STATUSES, call, find_program, words_of
 from plantbal.progress import Progress
-from plantbal.runwords import words_of
 from plantbal.summary import summary_text
 
 HELP = """

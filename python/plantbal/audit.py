@@ -27,10 +27,10 @@ from plantbal.faults import Fault, InputFault, Place, ProgramFault, ToolMissing,
 from plantbal.held import Ledger, Pair, answers_of, pairs_of, refused_differ
 from plantbal.options import add_program
 from plantbal.output import Output, parse_report
-from plantbal.program import call, find_program
+from plantbal.program import call, find_program, words_of
 from plantbal.progress import Progress
 from plantbal.report import Block
-from plantbal.runwords import words_of, words_read, words_shown
+from plantbal.runwords import words_read, words_shown
 from plantbal.summary import blocks_named, said_of
 from plantbal.verdicts import explain_check
 

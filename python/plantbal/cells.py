@@ -382,7 +382,7 @@ class Reader:
         number = self.number(cell, head)
         own = self.unit(unit, GRADES, "")
         if not own:
-            remedy = "write its unit after it, such as 0.9 %, 12.4 g/t or 9000 ppm"
+            remedy = "write its unit after it, such as 0.9 %, 120 g/t or 9000 ppm"
             raise self.fault(cell, f"the grade {cell.text} has no unit", remedy, head)
         return Fraction(number) * GRADES[own]
 

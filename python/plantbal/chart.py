@@ -10,8 +10,8 @@ from typing import Any, BinaryIO
 
 from plantbal.faults import Fault, ToolMissing, read_bytes
 from plantbal.files import replacing
-from plantbal.trend import Trend, Line, trend_of
 from plantbal.output import read_whole
+from plantbal.trend import Line, Trend, trend_of
 
 HELP = """
 OUTPUT is what plantbal wrote, as CSV or as JSON lines; without it standard input is read. The

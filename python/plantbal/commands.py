@@ -15,10 +15,19 @@ from plantbal.faults import Fault, InputFault, ProgramFault, decoded, read_bytes
 from plantbal.files import unwritten, write_text
 from plantbal.options import add_program, add_run, add_sweeps
 from plantbal.output import Output, parse_report, read_report
-from plantbal.program import STATUSES, check, run
+from plantbal.program import STATUSES
 from plantbal.progress import Progress
 from plantbal.records import read_records
-from plantbal.report import Block, blocks_of, last_blocks, parse_rows, refuse_other, refuse_parts
+from plantbal.report import (
+    blocks_of,
+    last_blocks,
+    over_of,
+    parse_rows,
+    refuse_other,
+    refuse_parts,
+    subjects_of,
+)
+from plantbal.runs import check, run
 
 OUTPUT_HELP = """
 The report goes to standard output, or to the file of --out by its ending: .csv, .sqlite or .xlsx.
@@ -135,39 +144,26 @@ def periods_of(data: bytes, output: Output) -> list[str]:
         Its output.
     """
     last = last_blocks(output.blocks_in_order)
-    over = {row["period"]: row["stream"] for row in output.rows if row["row"] == "over"}
-    refused = {row["at"] for row in output.rows if row["row"] == "refused"}
+    refused = {int(row["at"]) for row in output.rows if row["row"] == "refused"}
+    over = {
+        str(subject): f"no {subject.what}: the total of {stream} is beyond the limits"
+        for subject, stream in over_of(output.rows, subjects_of(data, refused)).items()
+    }
     accepted = [
         record.fields[1]
         for record in read_records(data)
-        if record.fields[0] == "period" and str(record.number) not in refused
+        if record.fields[0] == "period" and record.number not in refused
     ]
     lines = []
-    for name in dict.fromkeys([*accepted, *last]):
-        if name in last:
-            lines.append(f"{name}: {_state(last[name])}")
-        elif name in over:
-            lines.append(f"{name}: no report: the total of {over[name]} is beyond the limits")
+    for name in dict.fromkeys([*accepted, *last, *over]):
+        if name in over:
+            lines.append(f"{name}: {over[name]}")
+        elif name in last:
+            what = "a balance" if last[name].component else "a report"
+            lines.append(f"{name}: {what}, {last[name].verdict}")
         else:
             lines.append(f"{name}: no report was asked for; the row report,{name} asks for it")
     return lines
-
-
-def _state(block: Block) -> str:
-    """Return what the last report of a period, a window or a component says as a whole."""
-    what = "a balance" if block.component else "a report"
-    said = f"{what}, {block.solved['state']}" if block.solved else f"{what} that is cut off"
-    if block.taken:
-        said += f" after {', '.join(block.taken)} was taken out"
-    if block.whole:
-        said += {
-            "accept": ", accepted by the global test",
-            "reject": ", rejected by the global test",
-            "undecided": ", the global test is undecided",
-            "nocritical": ", no global test: there is no critical value for its degrees of freedom",
-            "notest": ", no global test: there is nothing to test",
-        }[block.whole["verdict"]]
-    return said
 
 
 def _say_reading(path: str) -> None:

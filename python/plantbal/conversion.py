@@ -14,6 +14,7 @@ from plantbal.conversion_facts import Converter
 from plantbal.faults import Fault, InputFault, Place
 from plantbal.lint import say_brief
 from plantbal.memory import uncollected
+from plantbal.options import add_reading
 from plantbal.session import Session
 from plantbal.workbook import read_workbook
 
@@ -31,6 +32,7 @@ WORKBOOK is an xlsx file, or a folder of CSV files, of which each is a sheet by 
   assays     component, stream, period, grade, error, unit
   critical   test, dof, value
   periods    name, first, last (without it, each calendar month with a reading is a period)
+  windows    first, last: periods from the first to the last that are reconciled at once too
   rows       rows of a session as they are, such as amend, strike and close
 
 Columns stand in any order; titles above, a row of units, sums below and remarks are passed over.
@@ -132,19 +134,11 @@ def convert(
         work.read_facts()
         work.put_assays()
         work.read_rows()
+        work.ask()
         work.check_days()
         work.check_whole()
         work.say_rounded()
     work.faults += work.session.refused
-    reported = {row[1] for row in work.session if row[0] == "report"}
-    balanced = {row[1:3] for row in work.session if row[0] == "component"}
-    assayed = list(dict.fromkeys((each[0], each[2]) for each in work.session.assays))
-    for period in work.session.periods:
-        if period.name not in reported:
-            work.session.report(period.name)
-        for component, name in assayed:
-            if name == period.name and (component, name) not in balanced:
-                work.session.component(component, name)
     return Conversion(work.session, work.faults, work.notes)
 
 
@@ -152,27 +146,7 @@ def add_arguments(parser: argparse.ArgumentParser) -> None:
     """Add the words of the command."""
     parser.add_argument("workbook", metavar="WORKBOOK")
     parser.add_argument("--out", metavar="FILE", default="-", help="the session")
-    form = "how numbers and days are written: de, en_GB, fr"
-    parser.add_argument("--locale", metavar="NAME", default="", help=form)
-    parser.add_argument(
-        "--missing",
-        metavar="TEXT",
-        action="append",
-        default=[],
-        help="a further text that stands for a missing figure",
-    )
-    parser.add_argument(
-        "--skip",
-        metavar="HEAD",
-        action="append",
-        default=[],
-        help="a column of the readings to leave out",
-    )
-    parser.add_argument(
-        "--limits",
-        action="store_true",
-        help="errors are limits that hold 95 times in 100: half of each is taken",
-    )
+    add_reading(parser)
     parser.add_argument(
         "--design", action="store_true", help="ask for the design before the reports"
     )

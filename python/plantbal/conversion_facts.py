@@ -8,8 +8,9 @@ import difflib
 import math
 from collections.abc import Iterable
 from decimal import Decimal
+from fractions import Fraction
 
-from plantbal.cells import GRAMS, VOLUMES, Reader, rounded_down
+from plantbal.cells import GRADES, GRAMS, VOLUMES, Reader, rounded_down
 from plantbal.conversion_readings import Readings
 from plantbal.conversion_tables import Row
 from plantbal.faults import InputFault, Place
@@ -133,6 +134,8 @@ class Converter(Readings):
         """Read the grades of components: rows of a session, with the cells of their columns."""
         for row in self.rows("assays", facts=True):
             name = row.text("stream")
+            if name in self.bad:
+                continue
             if name not in self.tanks:
                 stream = self.named(row["stream"], "stream")
                 if stream is None:
@@ -141,12 +144,32 @@ class Converter(Readings):
             with self.kept():
                 exact = self.reader.grade(row["grade"], row["unit"])
                 deviation = self.reader.grade_error(row["error"], exact)
-                ppm = self.reader.whole(row["grade"], exact)
-                variance = math.ceil(deviation * deviation)
+                ppm, variance = self._assay(row, exact, deviation)
                 fields = [row.text("component"), name, row.text("period"), str(ppm), str(variance)]
                 cells = {"ppm": row["grade"], "variance": row["error"]}
                 cells |= {head: row[head] for head in ("component", "stream", "period")}
                 self.assays.append((("assay", *fields), cells))
+
+    def _assay(self, row: Row, exact: Fraction, deviation: Fraction) -> tuple[int, int]:
+        """Return a grade in whole parts per million, and its variance in squares of them.
+
+        Raises
+        ------
+        InputFault
+            If it is below 0 or above 100 %, or if much of what the laboratory found is lost.
+        """
+        grade, component = row.text("grade"), row.text("component")
+        if not 0 <= exact <= GRADES["%"] * 100:
+            remedy = "write a grade from 0 to 100 %, or look at its unit"
+            raise self.reader.fault(row["grade"], f"{grade} is no grade", remedy, "grade")
+        ppm, variance = round(exact), math.ceil(deviation * deviation)
+        if 4 * abs(exact - ppm) > deviation or variance > 2 * deviation * deviation:
+            what = f"{grade} with the error {row.text('error')} would become {ppm:,} ppm with an "
+            what += f"error of {math.isqrt(variance):,} ppm, since both are whole"
+            remedy = f"book a thousand times the grade, as of a component {component}_mg: what its "
+            remedy += "balance calls grams are milligrams then; or write both in whole ppm"
+            raise self.reader.fault(row["grade"], what, remedy, "grade")
+        return self.reader.whole(row["grade"], exact), variance
 
     def put_assays(self) -> None:
         """Give the assays to the session, whose periods are there by then."""
@@ -209,6 +232,19 @@ class Converter(Readings):
                     return columns
         return ()
 
+    def ask(self) -> None:
+        """Ask for what the rows don't ask for: each report, each balance, and the windows."""
+        asked = set(self.session)
+        for name in [period.name for period in self.session.periods]:
+            components = self.session.components_in(name)
+            balances = [("component", component, name) for component in components]
+            for fields in [("report", name), *balances]:
+                if fields not in asked:
+                    self.session.row(*fields)
+        for row in self.rows("windows"):
+            cells = {head: row[head] for head in ("first", "last")}
+            self.put(["window", row.text("first"), row.text("last")], cells)
+
     def _field(self, cell: Cell, column: Column | None) -> str:
         """Return a field of a session's row."""
         if column is not None and cell.value is not None:
@@ -227,7 +263,7 @@ class Converter(Readings):
         inside = {day for first, last in periods.values() for day in days_of(first, last)}
         for name, (first, last) in periods.items():
             self._missing_readings(name, days_of(first, last))
-            self._missing_dips(name, first, last)
+            self._missing_dips(name, periods)
         outside = [c for days in self.days.values() for d, c in days.items() if d not in inside]
         outside += [
             cell for a, b, cell in self.tickets if not any(x in inside for x in days_of(a, b))
@@ -272,13 +308,22 @@ class Converter(Readings):
                     "readings are left aside; an estimate with a wide error keeps them"
                 )
 
-    def _missing_dips(self, period: str, first: datetime.date, last: datetime.date) -> None:
+    def _missing_dips(
+        self, period: str, periods: dict[str, tuple[datetime.date, datetime.date]]
+    ) -> None:
+        first, last = periods[period]
+        after = last + datetime.timedelta(1)
+        next_ = next((name for name, (begin, _) in periods.items() if begin == after), "")
         for name in self.tanks:
-            dips = self.dips.get(name, {})
-            ends = tank_days(self.session.service(name), first, last)
-            lacks = [day for day in ends if day not in dips]
+            service, dips = self.session.service(name), self.dips.get(name, {})
+            lacks = [day for day in tank_days(service, first, last) if day not in dips]
             if lacks:
-                self.notes.append(f"{period}: no dip of {name} on {spans(lacks)}")
+                note = f"{period}: no dip of {name} on {spans(lacks)}"
+                stays = next_ and tank_days(service, *periods[next_])
+                if stays and last in lacks and not self.sheets["windows"]:
+                    note += f"; if nobody took it, a sheet windows with {period}, {next_} has what "
+                    note += "it held then"
+                self.notes.append(note)
 
 
 def tank_days(

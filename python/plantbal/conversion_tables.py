@@ -32,6 +32,7 @@ SHEETS: dict[str, tuple[tuple[str, ...], tuple[str, ...]]] = {
     "assays": (("component", "stream", "period", "grade", "error"), ("unit",)),
     "critical": (("test", "value"), ("dof",)),
     "periods": (("name", "first", "last"), ()),
+    "windows": (("first", "last"), ()),
     "rows": ((), ()),
 }
 _PASSED = ("about", "lists")

@@ -1,4 +1,4 @@
-"""The command `plantbal-desk`: what stands around the program, as subcommands."""
+"""Sessions, statements, pictures, audits and fleets around plantbal, each by a subcommand."""
 
 from __future__ import annotations
 

@@ -17,7 +17,16 @@ from plantbal.meant import number_meant
 from plantbal.records import Record, read_records, without_empty_end
 from plantbal.report import Values, read_rows
 from plantbal.schema import Column, Row, schema
-from plantbal.session import ASKS, Session, field_fits, kind_near, rows_of_kind, rows_of_word
+from plantbal.session import (
+    ASKS,
+    FIRST_DAY,
+    LAST_DAY,
+    Session,
+    field_fits,
+    kind_near,
+    rows_of_kind,
+    rows_of_word,
+)
 
 HELP = """
 SESSION is a file as plantbal reads it; `-` is standard input. Each refused row is shown with its
@@ -44,7 +53,7 @@ _NAMED = {
     "period": "period",
 }
 _FACTS = ("reading", "transfer", "dip")
-# A column that names something, and what it names.
+# A column that names something, and what it names; a component has assays of a period.
 _USES = {
     "from": ("node",),
     "to": ("node",),
@@ -389,6 +398,9 @@ def _too_few(row: Row, fields: tuple[str, ...], lacks: int) -> _Count:
     if found:
         names = _labels(found)
         which = "" if len(found) == 1 else " (which one isn't clear)"
+        if [column.name for column in found] == ["since", "until"]:
+            which = f": dates of service are two, {FIRST_DAY} if it was always in service, "
+            which += f"{LAST_DAY} if there is no end"
         return _Count(f"{names} is missing{which}; write {row.pattern}", names)
     few = "a field is missing" if lacks == 1 else f"{lacks} fields are missing"
     return _Count(f"{few}, and which isn't clear; write {row.pattern}")
@@ -408,8 +420,9 @@ def count_of_fields(record: tuple[str, ...]) -> _Count:
         patterns = " or ".join(each.pattern for each in rows if each.version == 1)
         return _Count(f"it has no other field; write {patterns}", words[0])
     if row.tail:
-        lacks = row.tail[extra % len(row.tail)].label
-        return _Count(f"{lacks} is missing at its end; write {row.pattern}", lacks)
+        labels = [column.label for column in row.tail]
+        lacks, such = labels[extra % len(labels)], ",".join([row.kind, *labels, *labels])
+        return _Count(f"{lacks} is missing at its end; write {such} and so on", lacks)
     if not extra:  # in a session of version 1
         said = "SINCE and UNTIL are of sessions of version 2; write version,2 as the first row"
         return _Count(said, "SINCE", len(fields) - 1, len(fields))
@@ -632,14 +645,27 @@ def _declares(row: tuple[str, ...]) -> list[tuple[str, str]]:
         return []
     kind = kind_near(row[0])
     if kind == "late":
-        return [("fact", row[2])] if len(row) > 2 else []
+        return _declares(row[1:])
     if kind == "assay":
-        return [("component", row[1])]
+        return [("component", _of_period(row[1], row[3]))] if len(row) > 3 else []
     if kind in _NAMED:
         return [(_NAMED[kind], row[1])]
     if kind in _FACTS:
         return [("fact", row[1])]
     return []
+
+
+def _of_period(component: str, period: str) -> str:
+    """Return what an assay declares: a component of a period."""
+    return f"{component} in {period}"
+
+
+def _wanted(refusal: Refusal) -> list[tuple[str, str]]:
+    """Return the name that a refused row uses and that isn't there, with what it may name."""
+    name, row = refusal.text, refusal.row
+    if row[0] == "component" and refusal.column == "component":
+        name = _of_period(name, row[2])
+    return [(what, name) for what in _USES.get(refusal.column, ())]
 
 
 class _Roots:
@@ -659,8 +685,8 @@ class _Roots:
             return None
         if refusal.code == 3 and (refusal.column == "id" and row[0] not in ("amend", "strike")):
             return None
-        for what in _USES.get(refusal.column, ()):
-            found = self._by_name.get((what, _plain(refusal.text)))
+        for what, name in _wanted(refusal):
+            found = self._by_name.get((what, _plain(name)))
             if found is not None:
                 return found
         return None
@@ -712,8 +738,8 @@ class _Names:
                 if key in self._here and is_day and is_assay:
                     return f"the first is in line {self._here[key]}: {refusal.remedy}"
         if refusal.code == 6 and "was struck" not in refusal.said:
-            for what in _USES.get(refusal.column, ()):
-                later = [n for n in self._all.get((what, refusal.text), []) if n > record.line]
+            for wanted in _wanted(refusal):
+                later = [line for line in self._all.get(wanted, []) if line > record.line]
                 if later:
                     return f"it is declared in line {later[0]}, after this one: move that row up"
         return ""

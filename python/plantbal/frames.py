@@ -9,7 +9,7 @@ from typing import TYPE_CHECKING, Any
 from plantbal.amounts import day_text, decimal_of, grams_of, variance_of, whole_of
 from plantbal.faults import Fault, InputFault, Place
 from plantbal.memory import uncollected
-from plantbal.session import ENV, dates_of_service, most_streams
+from plantbal.session import ENV, dates_of_service, grade_of, grade_variance, most_streams
 
 if TYPE_CHECKING:
     import pandas
@@ -167,6 +167,18 @@ class Table:
         head = self.need("variance", "deviation_grams", "deviation_tonnes")
         return self.texts(head, lambda value: variance_of(**{head: value}), head == "variance")
 
+    def grades(self) -> list[str]:
+        """Return the grades, in parts per million."""
+        head = self.need("ppm", "percent")
+        if head == "ppm":
+            return self.wholes(head)
+        return self.texts(head, lambda value: grade_of(percent=value))
+
+    def grade_variances(self) -> list[str]:
+        """Return the variances of grades, in squares of parts per million."""
+        head = self.need("variance", "deviation_ppm", "deviation_percent")
+        return self.texts(head, lambda value: grade_variance(**{head: value}), head == "variance")
+
     def ids(self, places: list[str], days: list[str]) -> list[str]:
         """Return the ids: those of the column, or made of the stream or tank and the day."""
         if self.has("id"):
@@ -242,6 +254,7 @@ def fill(
     readings: pandas.DataFrame | None,
     transfers: pandas.DataFrame | None,
     dips: pandas.DataFrame | None,
+    assays: pandas.DataFrame | None,
 ) -> None:
     """Take the rows of tables into a session, in the order in which they may stand.
 
@@ -249,7 +262,7 @@ def fill(
     ----------
     session : Session
         The session.
-    boundaries, units, tanks, straps, streams, periods, critical, readings, transfers, dips
+    boundaries, units, tanks, straps, streams, periods, critical, readings, transfers, dips, assays
         As in `plantbal.Session.from_frames`.
     """
     tank_table = None if tanks is None else Table("tanks", tanks)
@@ -303,3 +316,7 @@ def fill(
         of, on = table.names("tank"), table.days("day", "date")
         level = table.wholes("mm"), table.wholes("density")
         _take(session, table, "dip", table.ids(of, on), of, on, *level, table.variances())
+    if assays is not None:
+        table = Table("assays", assays)
+        what = [table.names(head) for head in ("component", "stream", "period")]
+        _take(session, table, "assay", *what, table.grades(), table.grade_variances())

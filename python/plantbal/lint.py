@@ -11,7 +11,7 @@ from pathlib import Path
 
 from plantbal.lintbook import Book
 from plantbal.lintrules import RULES, SEVERITIES, Finding, find
-from plantbal.program import session_bytes
+from plantbal.runs import session_bytes
 from plantbal.session import Session
 
 
@@ -94,7 +94,7 @@ def add_arguments(parser: argparse.ArgumentParser) -> None:
         action="append",
         default=[],
         choices=list(RULES),
-        help="leave findings of this code out; may be said several times",
+        help="leave findings of this code out; may be given more than once",
     )
 
 

@@ -86,14 +86,14 @@ class Fact:
 
 @dataclass(frozen=True, slots=True)
 class Reported:
-    """What the last report row of a period saw.
+    """What the last report row of a period saw, or the last component row of one.
 
     Attributes
     ----------
     period : Period
         The period.
     line : int
-        The line of the report row.
+        The line of the row.
     refused : int
         How many rows were refused before it.
     missing : dict of str to list of int
@@ -107,6 +107,11 @@ class Reported:
     refused: int
     missing: dict[str, list[int]]
     undipped: dict[str, list[int]]
+
+    @property
+    def lacking(self) -> set[str]:
+        """The meters and tanks without a value."""
+        return self.missing.keys() | self.undipped.keys()
 
 
 @dataclass(frozen=True, slots=True)
@@ -133,10 +138,12 @@ class Book:
     ----------
     assays : dict of (str, str, str) to Assay
         The assays by component, stream or tank, and period.
-    balanced : dict of (str, str) to int
-        The lines of the last `component` rows by component and period.
+    balanced : dict of (str, str) to Reported
+        What the last `component` rows saw, by component and period.
     windows : dict of (str, str) to int
         The lines of the last `window` rows by their two periods.
+    uncosted : dict of int to list of str
+        The plain streams that an `advise` row with costs leaves out, by its line.
     """
 
     source: str
@@ -151,8 +158,9 @@ class Book:
     facts: dict[str, Fact] = field(default_factory=dict)
     reported: dict[str, Reported] = field(default_factory=dict)
     assays: dict[tuple[str, str, str], Assay] = field(default_factory=dict)
-    balanced: dict[tuple[str, str], int] = field(default_factory=dict)
+    balanced: dict[tuple[str, str], Reported] = field(default_factory=dict)
     windows: dict[tuple[str, str], int] = field(default_factory=dict)
+    uncosted: dict[int, list[str]] = field(default_factory=dict)
     asked: set[str] = field(default_factory=set)
     _read: dict[int, set[str]] = field(default_factory=dict)
     _dipped: dict[int, set[str]] = field(default_factory=dict)
@@ -200,14 +208,20 @@ class Book:
             self.assays[row[1], row[2], row[3]] = Assay(int(row[4]), int(row[5]), line)
         elif kind == "component":
             self._take_component(row[1], row[2], line)
+        elif kind == "advise" and len(row) > 1:
+            plain = [name for name, what in self.session.streams.items() if what == "plain"]
+            self.uncosted[line] = [name for name in plain if name not in row[1::2]]
         if kind in ASKS:
             self.asked.add(kind)
+
+    def _take_report(self, name: str, line: int) -> None:
+        self.reported[name] = self._seen(name, line)
 
     def _take_window(self, first: str, last: str, line: int) -> None:
         self.windows[first, last] = line
 
     def _take_component(self, component: str, period: str, line: int) -> None:
-        self.balanced[component, period] = line
+        self.balanced[component, period] = self._seen(period, line)
 
     def _take_fact(self, row: list[str], line: int) -> None:
         kind, identity, of = row[:3]
@@ -246,7 +260,8 @@ class Book:
         found = [each for each in self.periods.values() if begin <= each.first <= end]
         return sorted(found, key=lambda period: period.first)
 
-    def _take_report(self, name: str, line: int) -> None:
+    def _seen(self, name: str, line: int) -> Reported:
+        """Return what a row that asks for the report of a period sees."""
         period = self.periods[name]
         missing: dict[str, list[int]] = {}
         undipped: dict[str, list[int]] = {}
@@ -259,8 +274,7 @@ class Book:
                 ends = stream.ends_of(period)
                 days = [day for day in ends if of not in self._dipped.get(day, ())]
                 undipped.update({of: days} if days else {})
-        refused = len(self.session.refused)
-        self.reported[name] = Reported(period, line, refused, missing, undipped)
+        return Reported(period, line, len(self.session.refused), missing, undipped)
 
     # ---- what follows
 
@@ -297,9 +311,7 @@ class Book:
     def measured(self, reported: Reported | None = None) -> set[str]:
         """Return what is measured by design, or in a period as its report saw it."""
         found = {name for name, stream in self.streams.items() if stream.kind != "plain"}
-        if reported is not None:
-            found -= reported.missing.keys() | reported.undipped.keys()
-        return found
+        return found - reported.lacking if reported else found
 
     def live(self) -> Iterator[Fact]:
         """Give the facts that aren't struck."""

@@ -74,7 +74,9 @@ RULES: dict[str, Rule] = {
         Rule("no-balance", "warning", "assays are there of which no balance is asked for"),
         Rule("after-balance", "warning", "an assay comes after the last balance it would be in"),
         Rule("unchecked-grade", "warning", "no other assay checks that of a component's balance"),
+        Rule("unused-assay", "warning", "an assay is of a stream whose flow nothing determines"),
         Rule("grade", "warning", "a grade is 50 times that of the same stream in other periods"),
+        Rule("no-cost", "warning", "a plain stream has no cost in an advise row that names costs"),
         Rule("nearly-full", "warning", "a session is at 80 % of a limit or above"),
         Rule("untested", "note", "a report is asked for, and no critical value is there"),
         Rule("no-elimination", "note", "critical values that an elimination needs aren't there"),
@@ -242,7 +244,9 @@ def _nothing_asked(book: Book) -> Iterator[Finding]:
     if not book.rows:
         text = "there is no row"
     elif book.facts:
-        text = f"{len(book.facts)} facts are there, and no report is asked for"
+        count = len(book.facts)
+        facts = "1 fact is" if count == 1 else f"{count:,} facts are"
+        text = f"{facts} there, and no report is asked for"
     else:
         text = "no report, window, balance, design, advice or history is asked for"
     periods = list(book.periods)
@@ -476,8 +480,8 @@ def one_letter_apart(one: str, other: str) -> bool:
     """Say whether two names are likely to be one of which a letter was mistyped.
 
     They differ in one letter of a word of four or more, in two that are exchanged, or in capitals
-    and signs alone. Names that are told apart by a digit or by a letter at the end in the order of
-    the alphabet, such as `PUMP_A` and `PUMP_B`, aren't meant.
+    and signs alone. Names that are distinguished by a digit, or by a letter at the end in the order
+    of the alphabet, such as `PUMP_A` and `PUMP_B`, aren't meant.
     """
     if _plain(one) == _plain(other):
         return one != other
@@ -537,12 +541,19 @@ def near_pairs(names: Sequence[str]) -> list[tuple[str, str]]:
 def _near_names(book: Book) -> Iterator[Finding]:
     streams = [name for name, stream in book.streams.items() if stream.kind != "tank"]
     nodes = [*book.session.nodes, *book.session.boundaries]
-    for what, names in (("nodes", nodes), ("streams", streams)):
+    graded: dict[str, int] = {}
+    for (component, _, _), assay in book.assays.items():
+        graded.setdefault(component, assay.line)
+    for what, names, lines in (
+        ("nodes", nodes, book.lines),
+        ("streams", streams, book.lines),
+        ("components", list(graded), graded),
+    ):
         for one, other in near_pairs(names):
-            first, second = sorted((one, other), key=lambda name: book.lines[name])
+            first, second = sorted((one, other), key=lambda name: lines[name])
             text = f"the {what} {first} and {second} have nearly the same name"
-            remedy = "mend one of them, if they are one; or choose names that are told apart"
-            yield Finding("near-names", text, remedy, _place(book, book.lines[second]), second)
+            remedy = "mend one of them, if they are one; or choose names that can't be mistaken"
+            yield Finding("near-names", text, remedy, _place(book, lines[second]), second)
 
 
 # ---- values
@@ -760,7 +771,8 @@ def _assays(book: Book) -> Iterator[Finding]:
         of[component, period].append(name)
     for (component, period), names in of.items():
         lines = [book.assays[component, name, period].line for name in names]
-        asked = book.balanced.get((component, period))
+        balanced = book.balanced.get((component, period))
+        asked = balanced.line if balanced else None
         count = "1 assay" if len(names) == 1 else f"{len(names)} assays"
         remedy = f"add `component,{component},{period}`"
         if asked is None:
@@ -780,11 +792,51 @@ def _assays(book: Book) -> Iterator[Finding]:
             )
 
 
+def _unused_assays(book: Book) -> Iterator[Finding]:
+    """Give the assays that a balance leaves out, since nothing determines the flow."""
+    for (component, period), balanced in book.balanced.items():
+        names = [
+            name
+            for (of, name, when), assay in book.assays.items()
+            if (of, when) == (component, period) and assay.line < balanced.line
+        ]
+        measured = book.measured(balanced)
+        if measured.issuperset(names):
+            continue
+        classes = _classes(book, balanced)
+        for name in names:
+            if classes[name] == "unobservable":
+                text = f"nothing determines the flow of {name} in {period}, so the balance of "
+                text += f"{component} leaves its assay out"
+                remedy = "book what is missing, or measure a stream of its cycle"
+                line = book.assays[component, name, period].line
+                yield Finding("unused-assay", text, remedy, _place(book, line), name, period)
+
+
+def _costs(book: Book) -> Iterator[Finding]:
+    """Give the plain streams whose meters have no cost, beside others that have one."""
+    for line, names in book.uncosted.items():
+        if names:
+            verb = "has" if len(names) == 1 else "have"
+            counts = "counts" if len(names) == 1 else "count"
+            text = f"{_some(names)} {verb} no cost in this advise row, and {counts} as 1"
+            remedy = "add the costs, or name a cost of 1 if that is meant"
+            yield Finding("no-cost", text, remedy, _place(book, line), names[0])
+
+
 def _grades(book: Book) -> Iterator[Finding]:
-    """Give the grades that are in another unit than those of the same stream."""
+    """Give the grades that are in another unit than those of the same stream, or have errors
+    greater than themselves."""
     of: dict[tuple[str, str], list[tuple[str, Assay]]] = defaultdict(list)
     for (component, name, period), assay in book.assays.items():
         of[component, name].append((period, assay))
+        if assay.variance > assay.ppm**2 > 0:
+            deviation = isqrt(assay.variance)
+            text = f"the assay of {component} in {name} in {period} has a standard deviation of "
+            text += f"{deviation:,} ppm, more than its grade, {assay.ppm:,} ppm"
+            remedy = "look for a digit too many in GRADEVAR, in squares of parts per million"
+            place = _place(book, assay.line)
+            yield Finding("large-deviation", text, remedy, place, name, period)
     for (component, name), some in of.items():
         sizes = [assay.ppm for _, assay in some if assay.ppm]
         if len(sizes) < FEWEST_OF_A_MEDIAN:
@@ -836,6 +888,8 @@ _FINDERS: tuple[Callable[[Book], Iterator[Finding]], ...] = (
     _worse_classes,
     _critical,
     _assays,
+    _unused_assays,
     _grades,
+    _costs,
     _nearly_full,
 )

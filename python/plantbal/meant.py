@@ -5,10 +5,13 @@ from __future__ import annotations
 import calendar
 import datetime
 import re
-from collections.abc import Sequence
+from collections.abc import Mapping, Sequence
 from decimal import Decimal, InvalidOperation
 
 Scale = tuple[str, int, str]
+_UNIT = re.compile(r" ?([a-z]+(/[a-z]+)?3?|%)$", re.IGNORECASE)
+# Its point may stand between thousands, or before decimals.
+_EITHER = re.compile(r"[1-9][0-9]{0,2}\.[0-9]{3}")
 _SPACES = "  \t'"
 
 
@@ -55,7 +58,23 @@ def whole_meant(text: str) -> tuple[int, str] | None:
     return int(exact), odd
 
 
-def number_meant(text: str, low: int, high: int, scales: Sequence[Scale] = ()) -> str:
+def _with_unit(text: str, units: Mapping[str, int]) -> Decimal | None:
+    """Return the number that a text writes before one of some units, counted in the column's own.
+
+    It is None if there is no such unit, or if the number could be read in two ways.
+    """
+    number, unit = _UNIT.sub("", text), (_UNIT.search(text) or [""])[0].strip().casefold()
+    exact = None if _EITHER.fullmatch(number) else _exact(number)
+    return None if exact is None or unit not in units else exact * units[unit]
+
+
+def number_meant(
+    text: str,
+    low: int,
+    high: int,
+    scales: Sequence[Scale] = (),
+    units: Mapping[str, int] | None = None,
+) -> str:
     """Return what was probably meant by a text that is no whole number of a range, or nothing.
 
     Parameters
@@ -67,6 +86,8 @@ def number_meant(text: str, low: int, high: int, scales: Sequence[Scale] = ()) -
     scales : sequence of tuple
         Greater units, how many of the number's own each has, and what these are called: a number
         with decimals is probably of the first one in which it is in the range.
+    units : mapping of str to int, optional
+        The units that may stand after the number, and how many of its own each has.
     """
     found = whole_meant(text)
     if found is not None:
@@ -89,6 +110,9 @@ def number_meant(text: str, low: int, high: int, scales: Sequence[Scale] = ()) -
             return f"if {text.strip()} is in {greater}, write {int(scaled)}, in {own}"
     if re.fullmatch(r"[0-9]{4}-[0-9]{2}-[0-9]{2}", plain):
         return "a day stands there: are the fields in their order?"
+    counted = _with_unit(plain, units or {})
+    if counted is not None and counted == int(counted) and low <= counted <= high:
+        return f"write {int(counted)}, without the unit"
     if re.fullmatch(r"-?[0-9][0-9.,]* ?(kg|t|g|mm|cm|m3|m|l|ml)", plain):
         return "take the unit of measure out"
     return ""

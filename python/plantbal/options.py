@@ -1,4 +1,4 @@
-"""Words that several commands have: which program is run, and how."""
+"""Words that several commands have: which program is run and how, and how a workbook is read."""
 
 from __future__ import annotations
 
@@ -26,3 +26,28 @@ def add_run(parser: argparse.ArgumentParser) -> None:
     parser.add_argument("--no-tests", action="store_true", help="make no tests")
     rounds = "take out at most N suspects, one in each round"
     parser.add_argument("--eliminate", metavar="N", type=int, default=0, help=rounds)
+
+
+def add_reading(parser: argparse.ArgumentParser) -> None:
+    """Add the words that say how a workbook is read."""
+    form = "how numbers and days are written: de, en_GB, fr"
+    parser.add_argument("--locale", metavar="NAME", default="", help=form)
+    parser.add_argument(
+        "--missing",
+        metavar="TEXT",
+        action="append",
+        default=[],
+        help="a further text that stands for a missing figure",
+    )
+    parser.add_argument(
+        "--skip",
+        metavar="HEAD",
+        action="append",
+        default=[],
+        help="a column of the readings to leave out",
+    )
+    parser.add_argument(
+        "--limits",
+        action="store_true",
+        help="errors are limits that hold 95 times in 100: half of each is taken",
+    )

@@ -1,4 +1,4 @@
-"""The program itself: where it is, a run, a check."""
+"""The program itself: where it is, and a call of it."""
 
 from __future__ import annotations
 
@@ -10,15 +10,8 @@ import tempfile
 import time
 from collections.abc import Callable, Sequence
 from pathlib import Path
-from typing import TYPE_CHECKING
 
-from plantbal.faults import InputFault, Place, ProgramFault, ToolMissing, read_bytes
-from plantbal.output import Output, parse_report, verdict_frame
-from plantbal.report import parse_rows
-from plantbal.session import Session
-
-if TYPE_CHECKING:
-    import pandas
+from plantbal.faults import ProgramFault, ToolMissing
 
 # The statuses beside 0 and 1, and what to do about each.
 STATUSES = {
@@ -126,123 +119,9 @@ def _watched(
         return subprocess.CompletedProcess(command, status, b"".join(pieces), said.read())
 
 
-def session_bytes(session: Session | str | Path | bytes) -> tuple[str, bytes, int]:
-    """Return how a session is called, its bytes, and how many rows were left out of it.
-
-    Parameters
-    ----------
-    session : Session, bytes, str or Path
-        The session, its bytes, or a file; a text with a line feed is taken for rows.
-    """
-    if isinstance(session, Session):
-        return "session", session.to_csv().encode("ascii"), len(session.refused)
-    if isinstance(session, bytes):
-        return "session", session, 0
-    if isinstance(session, str) and "\n" in session:
-        return "session", session.encode("utf-8"), 0
-    source, data = read_bytes(session)
-    return source, data, 0
-
-
-def run(
-    session: Session | str | Path | bytes,
-    *,
-    tests: bool = True,
-    eliminate: int = 0,
-    gap: int = 10,
-    sweeps: int = 5000,
-    program: str | Path | None = None,
-    timeout: float | None = None,
-    watch: Callable[[bytes], None] | None = None,
-) -> Output:
-    """Run a session.
-
-    Parameters
-    ----------
-    session : Session, bytes, str or Path
-        The session, its bytes, or a file.
-    tests : bool
-        Whether the global, nodal and measurement tests are made.
-    eliminate : int
-        At most this many rounds of elimination, with the tests; 0 is none.
-    gap : int
-        The greatest gap of a report that has converged, in thousandths of a standard deviation.
-    sweeps : int
-        At most this many sweeps.
-    program : str or Path, optional
-        The program, if it isn't the one that `find_program` finds.
-    timeout : float, optional
-        The most seconds that it may take.
-    watch : callable, optional
-        Gets what the program writes piece by piece, and an empty piece once in a while.
-
-    Returns
-    -------
-    Output
-        What the program wrote. Its `ok` is false if a row was refused, no report came, or a global
-        test rejects: look at it before its flows are booked.
-
-    Raises
-    ------
-    ProgramFault
-        If the program ends with 2 to 6.
-    """
+def words_of(*, tests: bool, eliminate: int, gap: int, sweeps: int) -> list[str]:
+    """Return the words of a run."""
     words = ["run", "--gap", str(gap), "--sweeps", str(sweeps)]
     if eliminate:
         words += ["--eliminate", str(eliminate)]
-    if tests:
-        words.append("--tests")
-    source, data, left_out = session_bytes(session)
-    status, text = call(words, data, program=program, timeout=timeout, watch=watch)
-    output = parse_report(text.decode("utf-8"), f"the output of {source}", status)
-    output.left_out = left_out
-    return output
-
-
-def check(
-    report: Output | str | Path | bytes,
-    *,
-    program: str | Path | None = None,
-    timeout: float | None = None,
-    source: str = "the report",
-) -> pandas.DataFrame:
-    """Check the blocks of a report by their own numbers.
-
-    Parameters
-    ----------
-    report : Output, bytes, str or Path
-        An output, its bytes in CSV or JSON lines, or a file.
-    program, timeout : optional
-        As in `run`.
-    source : str
-        What bytes are called in what is said.
-
-    Returns
-    -------
-    DataFrame
-        A row a block: `verdict` is ``yes`` or ``no``, and of a ``no`` the first test that it fails,
-        at which node or stream, what is stated there and what the rule gives. A row that can't be
-        read is ``unreadable``, and nothing after it is judged.
-
-    Raises
-    ------
-    Fault
-        If there is nothing to check.
-    """
-    if isinstance(report, Output):
-        data = report.to_csv().encode("utf-8")
-    elif isinstance(report, bytes):
-        data = report
-    else:
-        source, data = read_bytes(report)
-    if data.lstrip().startswith(b"{"):
-        data = parse_report(data.decode("utf-8"), source).to_csv().encode("utf-8")
-    _, text = call(["check"], data, program=program, timeout=timeout)
-    frame = verdict_frame(parse_rows("the check", text.decode("utf-8")))
-    if not len(frame):
-        raise InputFault(
-            "there is no block to check",
-            place=Place(file=source),
-            remedy="ask for a report in the session",
-        )
-    return frame
+    return [*words, "--tests"] if tests else words

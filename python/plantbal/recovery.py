@@ -120,9 +120,11 @@ class Balance:
     def deviation(self, name: str, share: float = 0.0) -> float:
         """Return the standard deviation of what a known stream carries, less a part of the feeds.
 
-        With its share as the part it is that of the share, times what came in.
+        With its share as the part it is that of the share, times what came in. A stream that isn't
+        in the balance carries nothing.
         """
-        error = self._answers[:, self._columns[name]]
+        known = name in self._columns
+        error = self._answers[:, self._columns[name]] if known else 0.0 * self._variance
         for feed in self._feeds if share else ():
             error = error - share * self._answers[:, self._columns[feed]]
         return float((error**2 @ self._variance) ** 0.5)
@@ -153,19 +155,21 @@ def _way(from_: str, to: str, name: str) -> str:
 def together(balances: Sequence[Balance]) -> list[Share]:
     """Return the same of all periods of a component together; errors of periods are independent.
 
-    A stream that isn't known in some period has no figure.
+    A stream that isn't known in some period has no figure; one that isn't in service in a period
+    carries nothing there.
     """
     ways = {name: way for balance in balances for name, way in balance.ways.items()}
     fed = sum(balance.fed for balance in balances)
     found = []
     for name, way in sorted(ways.items(), key=lambda pair: pair[1] != "in"):
         head = balances[0].block.component, "", name, way
-        carried = [each.grams(name) if name in each.ways else None for each in balances]
+        own = [each for each in balances if name in each.ways]
+        carried = [each.grams(name) for each in own]
         if None in carried:
             found.append(Share(*head, None, _NAN, _NAN, _NAN))
             continue
         grams = sum(each or 0 for each in carried)
-        sd = sum(each.deviation(name) ** 2 for each in balances) ** 0.5
+        sd = sum(each.deviation(name) ** 2 for each in own) ** 0.5
         share = grams / fed
         errors = [each.deviation(name, share) for each in balances if share == share]
         share_sd = sum(error**2 for error in errors) ** 0.5 / abs(fed) if errors else _NAN

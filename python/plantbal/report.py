@@ -7,12 +7,13 @@ import io
 import json
 import re
 import sys
-from collections.abc import Collection, Iterable, Iterator, Mapping
+from collections.abc import Collection, Iterable, Iterator, Mapping, Sequence
 from dataclasses import dataclass, field
 from pathlib import Path
 
 from plantbal.faults import InputFault, Place, read_text
 from plantbal.memory import uncollected
+from plantbal.records import read_records
 from plantbal.schema import Row, schema
 
 # A field with a power of ten; no name has a plus sign.
@@ -23,6 +24,14 @@ _AS_WRITTEN = "give the file as plantbal wrote it: this one was cut off, or edit
 _REPORT = "report,PERIOD"
 _ASKING = {"component": "component,COMPONENT,PERIOD", "design": "design"}
 _OF_CHECKS = ("yes", "no", "unreadable")
+# What the verdict of a global test says.
+_GLOBAL = {
+    "accept": "accepted by the global test",
+    "reject": "rejected by the global test",
+    "undecided": "the global test is undecided",
+    "nocritical": "no global test: no critical value for its degrees of freedom",
+    "notest": "no global test: nothing tests it",
+}
 
 
 def _names_of(source: str, line: int, fields: list[str]) -> tuple[str, ...]:
@@ -242,7 +251,14 @@ def refuse_parts(source: str, rows: list[Values], *, checks: bool = False) -> No
             "this is what a check said", place=place, remedy="give the report that was checked"
         )
     cut = [block.title for block in blocks_of(rows) if not block.ended or block.solved is None]
-    cut = [f"the report of {title}" for title in cut]
+    cut = [f"the report of {title}" for title in cut] + cut_beside_blocks(rows)
+    if cut:
+        raise InputFault(f"{cut[0]} is cut off", place=place, remedy="run the session again")
+
+
+def cut_beside_blocks(rows: Sequence[Values]) -> list[str]:
+    """Return what is cut off of an output outside its blocks, such as ``the design``."""
+    cut = []
     for head, below, count, what in (
         ("design", "class", "streams", "the design"),
         ("advise", "meter", "count", "the advice"),
@@ -250,10 +266,9 @@ def refuse_parts(source: str, rows: list[Values], *, checks: bool = False) -> No
         wanted = sum(int(row[count]) for row in rows if row["row"] == head)
         if sum(row["row"] == below for row in rows) < wanted:
             cut.append(what)
-    if rows[-1]["row"] in ("window", "place", "component"):
+    if rows and rows[-1]["row"] in ("window", "place", "component"):
         cut.append("a window" if rows[-1]["row"] != "component" else "a balance")
-    if cut:
-        raise InputFault(f"{cut[0]} is cut off", place=place, remedy="run the session again")
+    return cut
 
 
 def fields_of(values: Values) -> list[str]:
@@ -333,6 +348,35 @@ class Window:
         return self.spots[code].shown if code in self.spots else code
 
 
+@dataclass(frozen=True, slots=True)
+class Subject:
+    """What flows are asked for: a period's report, a window's, or a component's balance.
+
+    Attributes
+    ----------
+    period : str
+        The period; of a window the first one.
+    last : str
+        The last period of a window; empty if it is none.
+    component : str
+        The component whose balance it is; empty if it is one of mass.
+    """
+
+    period: str
+    last: str = ""
+    component: str = ""
+
+    @property
+    def what(self) -> str:
+        """What is asked for: ``report``, ``window`` or ``balance``."""
+        return "balance" if self.component else "window" if self.last else "report"
+
+    def __str__(self) -> str:
+        if self.component:
+            return f"{self.component} in {self.period}"
+        return f"{self.period} to {self.last}" if self.last else self.period
+
+
 @dataclass
 class Block:
     """One block of rows: a round of a period's report, of a window's, or of a component's balance.
@@ -383,9 +427,13 @@ class Block:
     @property
     def subject(self) -> str:
         """What it is of: ``may``, ``cu in may`` of a balance, ``may to june`` of a window."""
-        if self.component:
-            return f"{self.component} in {self.period}"
-        return f"{self.window.first} to {self.window.last}" if self.window else self.period
+        return str(self.asked)
+
+    @property
+    def asked(self) -> Subject:
+        """What it is of, by its names."""
+        last = self.window.last if self.window else ""
+        return Subject(self.period, last, self.component)
 
     def shown(self, name: str) -> str:
         """Return what a person reads in place of the name of a node or a stream."""
@@ -400,6 +448,16 @@ class Block:
     def title(self) -> str:
         """What it is of, and the round if it isn't the first."""
         return f"{self.subject}, round {self.round}" if self.round else self.subject
+
+    @property
+    def verdict(self) -> str:
+        """What it says as a whole: its state, what was taken out before it, and the global test."""
+        if self.solved is None:
+            return "cut off"
+        said = self.solved["state"]
+        if self.taken:
+            said += f" after {', '.join(self.taken)} was taken out"
+        return said if self.whole is None else f"{said}, {_GLOBAL[self.whole['verdict']]}"
 
     def suspects(self) -> list[str]:
         """Return the streams whose measurement test rejects, the greatest statistic first."""
@@ -468,6 +526,52 @@ def advice_of(rows: list[Values]) -> list[Values] | None:
 def reports_of(rows: Iterable[Values]) -> list[Block]:
     """Return the blocks of the reports of periods in order: no window's, and no balance's."""
     return [block for block in blocks_of(rows) if block.is_report]
+
+
+def subjects_of(session: bytes, refused: Collection[int]) -> list[Subject]:
+    """Return what a session asks flows of, in the order of its answers.
+
+    Parameters
+    ----------
+    session : bytes
+        The session.
+    refused : collection of int
+        The numbers of the refused rows.
+    """
+    found = []
+    for record in read_records(session):
+        kind, names = record.fields[0], record.fields[1:]
+        if record.number in refused:
+            continue
+        if kind == "report":
+            found.append(Subject(names[0]))
+        elif kind == "window":
+            found.append(Subject(names[0], last=names[1]))
+        elif kind == "component":
+            found.append(Subject(names[1], component=names[0]))
+    return found
+
+
+def over_of(rows: Iterable[Values], asked: Sequence[Subject]) -> dict[Subject, str]:
+    """Return the stream beyond the limits of each subject whose last answer is an `over` row.
+
+    Parameters
+    ----------
+    rows : iterable of dict
+        The rows of the output. An `over` row has a period alone, whatever is asked for.
+    asked : sequence of Subject
+        What the session asks for. If that isn't as many as there are answers, each `over` row
+        counts, as one of its period.
+    """
+    answers = [
+        row
+        for row in rows
+        if row["row"] == "over" or (row["row"] == "report" and row["round"] == "0")
+    ]
+    if len(asked) != len(answers):
+        return {Subject(row["period"]): row["stream"] for row in answers if row["row"] == "over"}
+    last = {subject: row.get("stream", "") for subject, row in zip(asked, answers)}
+    return {subject: stream for subject, stream in last.items() if stream}
 
 
 def last_blocks(blocks: Iterable[Block]) -> dict[str, Block]:

@@ -7,14 +7,7 @@ import re
 from plantbal.faults import Fault
 from plantbal.held import number_of
 from plantbal.output import Output
-
-
-def words_of(*, tests: bool, eliminate: int, gap: int, sweeps: int) -> list[str]:
-    """Return the words of a run."""
-    words = ["run", "--gap", str(gap), "--sweeps", str(sweeps)]
-    if eliminate:
-        words += ["--eliminate", str(eliminate)]
-    return [*words, "--tests"] if tests else words
+from plantbal.program import words_of
 
 
 def words_read(text: str) -> list[str]:

@@ -88,6 +88,12 @@ def _day_number(text: str) -> int | None:
         return None
 
 
+def _is_beyond(text: str) -> bool:
+    """Say whether a text writes a day of a year that no date may have, such as 9999-12-31."""
+    years = range(LIMITS["first_year"], LIMITS["last_year"] + 1)
+    return _DATE.fullmatch(text) is not None and int(text[:4]) not in years
+
+
 def day_of_number(number: int) -> datetime.date:
     """Return the day of a number."""
     return datetime.date.fromordinal(number)
@@ -126,6 +132,8 @@ def _rows_by_kind(version: int) -> dict[str, list[Row]]:
 
 _ROWS_OF = {version: _rows_by_kind(version) for version in (1, 2)}
 _ROWS = _ROWS_OF[2]
+# How many fields say which row it is, of kinds that need more than two.
+_FIELDS_OF_HEAD = {"late": 3, "window": 3, "component": 3, "assay": 4}
 # The rows that ask for output and aren't stored.
 ASKS = ("design", "advise", "report", "history", "window", "component")
 
@@ -211,12 +219,20 @@ def _near(name: str, names: Iterable[str]) -> str:
 
 
 _DECLARE = "declare it in a row before this one, or mend the name"
+_STREAM_AT = "name a stream that leads to it or from it"
 _ANOTHER = "begin another session, with the plant's rows again"
+# What to write for a date of service that isn't known.
 _NO_END = {
     "since": f"write {FIRST_DAY} if it was always in service",
     "until": f"write {LAST_DAY} if there is no end",
 }
 _OF_VERSION_2 = "are of sessions of version 2: write version,2 as the first row"
+# What to do about rows that have no `late` form.
+_NEVER_LATE = {
+    "assay": "an assay can't come late: put its row before the close, without `late,`",
+    "amend": "an amendment needs no `late,`: take it out",
+    "strike": "a strike needs no `late,`: take it out",
+}
 
 
 def _of_no_kind(first: str) -> str:
@@ -249,6 +265,14 @@ _SCALES = {
     "ml": [("cubic metres", 1_000_000, "millilitres")],
     "ppm": [("percent", 10_000, "parts per million")],
 }
+# Units that may stand after a number, and how many of the column's own each has.
+_UNITS = {
+    "grams": {"t": 1_000_000, "kg": 1000, "g": 1},
+    "density": {"kg/m3": 1000, "g/m3": 1, "t/m3": 1_000_000},
+    "mm": {"m": 1000, "cm": 10, "mm": 1},
+    "ml": {"m3": 1_000_000, "l": 1000, "ml": 1},
+    "ppm": {"%": 10_000, "kg/t": 1000, "g/t": 1, "ppm": 1},
+}
 
 
 def _number_remedy(column: Column, text: str) -> str:
@@ -256,11 +280,14 @@ def _number_remedy(column: Column, text: str) -> str:
     low, high = column.low or 0, column.high or 0
     if low == high:
         return f"write {low}: a plain stream has no variance"
-    meant = number_meant(text, low, high, _SCALES.get(column.name, ()))
+    name = column.name
+    meant = number_meant(text, low, high, _SCALES.get(name, ()), _UNITS.get(name, {}))
     if meant.startswith("write "):
         return meant
-    if not text and column.name == "grams":
+    if not text and name == "grams":
         meant = "if there is no figure, leave the row out"
+    elif not meant and name == "cost" and re.fullmatch(r"[0-9]+[.,][0-9]+", text):
+        meant = "costs may be in any unit, such as cents"
     range_ = f"a whole number in digits alone, {low:,} to {high:,}"
     return f"{range_}; {meant}" if meant else range_
 
@@ -360,6 +387,10 @@ class Session:
     def assays(self) -> tuple[tuple[str, str, str], ...]:
         """The component, the stream or tank, and the period of each assay, in order."""
         return tuple(self._assays)
+
+    def components_in(self, period: str) -> list[str]:
+        """Return the components that have assays in a period, in the order of their rows."""
+        return list(dict.fromkeys(each[0] for each in self._assays if each[2] == period))
 
     def service(self, name: str) -> Service:
         """Return the days on which a stream or tank is in service, as their numbers.
@@ -501,6 +532,8 @@ class Session:
             return found
         words = list(dict.fromkeys(_word_of(row)[0] for row in rows))
         remedy = _near(record[place], words) or f"write {', '.join(words[:-1])} or {words[-1]}"
+        if record[0] == "late":
+            remedy = _NEVER_LATE.get(record[place], remedy)
         name = rows[0].columns[place - 1].name
         self._refuse(
             1, record, f"field {place + 1} is {record[place]!r}", name, record[place], remedy
@@ -556,7 +589,9 @@ class Session:
         elif at.type == "date":
             first, last = LIMITS["first_year"], LIMITS["last_year"]
             remedy = f"a day of the calendar, of the years {first} to {last}, such as 2024-03-01"
-            meant = _NO_END.get(at.name, "") if not said else day_meant(said)
+            meant = day_meant(said)
+            if not said or _is_beyond(said):
+                meant = _NO_END.get(at.name, meant)
             if meant.startswith("write "):
                 remedy = meant
             elif meant:
@@ -575,7 +610,7 @@ class Session:
         remedy: str = "",
     ) -> NoReturn:
         word = schema().refusals[code].word
-        count = 3 if record[0] == "late" else 2
+        count = _FIELDS_OF_HEAD.get(record[0], 2)
         head = " ".join(field for field in record[:count] if field).strip()
         raise Refusal(
             f"{head}: {what} (refused {code}, {word})",
@@ -601,18 +636,22 @@ class Session:
 
     def _judge_name(self, record: tuple[str, ...], name: str) -> None:
         """Refuse a name that is taken."""
-        what = "the world outside" if name == ENV else None
-        if name in self._nodes:
-            what = f"a {self._nodes[name]}"
-        elif name in self._streams:
-            what = f"a {self._streams[name]} stream"
-        elif name in self._boundaries:
-            what = "a boundary"
-        if what is not None:
+        what = self._what_is(name)
+        if what:
             said = f"{name} is {what} already" if name != ENV else f"{name} is {what}"
             self._refuse(
                 7, record, said, "name", name, "choose another name, or leave this row out"
             )
+
+    def _what_is(self, name: str) -> str:
+        """Return what of the plant a name stands for, such as ``a unit``; nothing if for none."""
+        if name == ENV:
+            return "the world outside"
+        if name in self._nodes:
+            return f"a {self._nodes[name]}"
+        if name in self._streams:
+            return f"a {self._streams[name]} stream"
+        return "a boundary" if name in self._boundaries else ""
 
     def _judge_service(self, record: tuple[str, ...], values: dict[str, str]) -> Service:
         """Return the days of service of a row, or refuse it if they aren't in order."""
@@ -646,7 +685,7 @@ class Session:
                 "" if service is None else "since",
                 "" if service is None else record[-2],
                 "give it dates of service after the closed periods: "
-                f"SINCE {day_of_number(last + 1)} or later, and UNTIL",
+                f"SINCE {day_of_number(last + 1)} or later, and UNTIL {LAST_DAY} if there is no end",
             )
 
     def _judge_room(self, record: tuple[str, ...], nodes: bool, arcs: bool) -> None:
@@ -721,15 +760,42 @@ class Session:
     def _table(self, record: tuple[str, ...], tank: str) -> list[tuple[int, int]]:
         """Return the table of a tank, or refuse a record that names none."""
         if tank not in self._tables:
-            what, other = f"there is no tank {tank}", _DECLARE
+            other = "name a tank"
             if tank in self._nodes:
-                what = f"{tank} is a unit, not a tank"
                 other = "name a tank, or declare it by a tank row in place of its unit row"
             elif tank in self._streams:
-                what, other = f"{tank} is a stream, not a tank", "name the tank at one of its ends"
-            remedy = _near(tank, self._tables) or other
-            self._refuse(6, record, what, "tank", tank, remedy)
+                other = "name the tank at one of its ends"
+            self._refuse_name(record, "tank", tank, "tank", self._tables, other)
         return self._tables[tank]
+
+    def _refuse_name(
+        self,
+        record: tuple[str, ...],
+        column: str,
+        name: str,
+        wanted: str,
+        near: Iterable[str],
+        other: str,
+    ) -> NoReturn:
+        """Refuse a record that names nothing, or something else than what is wanted.
+
+        Parameters
+        ----------
+        record : tuple of str
+            The record.
+        column, name : str
+            The column, and the name in it.
+        wanted : str
+            What is wanted there, such as ``stream or tank``.
+        near : iterable of str
+            The names that it may be in place of a mistyped one.
+        other : str
+            What to do if it names something else.
+        """
+        there = self._what_is(name)
+        what = f"{name} is {there}, not a {wanted}" if there else f"there is no {wanted} {name}"
+        remedy = _near(name, near) or (other if there else _DECLARE)
+        self._refuse(6, record, what, column, name, remedy)
 
     def _judge_stream(self, record: tuple[str, ...], values: dict[str, str]) -> Callable[[], None]:
         name, kind = values["name"], record[4]
@@ -737,12 +803,9 @@ class Session:
             named = values[end]
             if named != ENV and named not in self._nodes and named not in self._boundaries:
                 which = "unit or tank" if self.version == 1 else "unit, tank or boundary"
-                what, other = f"there is no {which} {named}", _DECLARE
-                if named in self._streams:
-                    what = f"{named} is a stream, not a unit or tank"
-                    other = "name the unit or tank at which it ends"
-                remedy = _near(named, [ENV, *self._nodes, *self._boundaries]) or other
-                self._refuse(6, record, what, end, named, remedy)
+                there = [ENV, *self._nodes, *self._boundaries]
+                other = "name the unit or tank at which it ends"
+                self._refuse_name(record, end, named, which, there, other)
         self._judge_name(record, name)
         service = self._judge_service(record, values)
         if self.node_of(values["from"]) == self.node_of(values["to"]):
@@ -811,9 +874,17 @@ class Session:
     def _period(self, record: tuple[str, ...], name: str, column: str = "period") -> Period:
         """Return the period of a name, or refuse a record that names none."""
         if name not in self._periods:
-            remedy = _near(name, self._periods) or _DECLARE
+            remedy = self._period_of_day(name) or _near(name, self._periods) or _DECLARE
             self._refuse(6, record, f"there is no period {name}", column, name, remedy)
         return self._periods[name]
+
+    def _period_of_day(self, text: str) -> str:
+        """Return what to write in place of a day that stands for its period, or nothing."""
+        day = _day_number(text)
+        if day is None:
+            return ""
+        within = (it.name for it in self._periods.values() if it.first <= day <= it.last)
+        return next((f"write {name}, the period of this day" for name in within), "")
 
     def _judge_close(self, record: tuple[str, ...], values: dict[str, str]) -> Callable[[], None]:
         period = self._period(record, values["period"])
@@ -909,12 +980,11 @@ class Session:
     def _judge_assay(self, record: tuple[str, ...], values: dict[str, str]) -> Callable[[], None]:
         component, name = values["component"], values["stream"]
         if name not in self._streams and name not in self._tables:
-            what, other = f"there is no stream or tank {name}", _DECLARE
-            if name in self._nodes:
-                what = f"{name} is a unit, not a stream or tank"
-                other = "name a stream that leads to it or from it"
-            remedy = _near(name, [*self._streams, *self._tables]) or other
-            self._refuse(6, record, what, "stream", name, remedy)
+            if component in self._streams or component in self._tables:
+                what = f"there is no stream or tank {name}, and {component} is one"
+                self._refuse(6, record, what, "stream", name, "exchange the two fields")
+            there = [*self._streams, *self._tables]
+            self._refuse_name(record, "stream", name, "stream or tank", there, _STREAM_AT)
         period = self._period(record, values["period"])
         key = component, name, period.name
         if key in self._assays:
@@ -938,7 +1008,11 @@ class Session:
         return lambda: self._assays.update({key: None})
 
     def _judge_component(self, record: tuple[str, ...], values: dict[str, str]) -> None:
-        component, period = values["component"], self._period(record, values["period"])
+        component, named = values["component"], values["period"]
+        if named not in self._periods and component in self._periods:
+            what = f"there is no period {named}, and {component} is one"
+            self._refuse(6, record, what, "period", named, "exchange the two fields")
+        period = self._period(record, named)
         if not any((each[0], each[2]) == (component, period.name) for each in self._assays):
             what = f"there is no assay of {component} in {period.name}"
             there = list(dict.fromkeys(each[0] for each in self._assays))
@@ -1003,17 +1077,14 @@ class Session:
             self._refuse(11, record, what, remedy="write `late,` before the row")
 
     def _judge_stream_of(self, record: tuple[str, ...], stream: str) -> None:
-        """Refuse a fact of a stream that isn't declared."""
+        """Refuse a row of a stream that isn't declared."""
         if stream not in self._streams:
-            what = f"there is no stream {stream}"
-            if stream in self._nodes:
-                what = f"{stream} is a {self._nodes[stream]}, not a stream"
-            other = {
-                "tank": "name a stream, or write a dip row: a tank has dips",
-                "unit": "name a stream that leads to it or from it",
-            }.get(self._nodes.get(stream, ""), _DECLARE)
-            remedy = _near(stream, self._streams) or other
-            self._refuse(6, record, what, "stream", stream, remedy)
+            other = _STREAM_AT
+            if stream in self._tables:
+                other = "name a stream, or write a dip row: a tank has dips"
+                if record[0] == "advise":
+                    other = "leave it out: a tank is measured by its dips"
+            self._refuse_name(record, "stream", stream, "stream", self._streams, other)
 
     def _judge_full(self, record: tuple[str, ...]) -> None:
         if len(self._facts) >= LIMITS["most_facts"]:
@@ -1085,6 +1156,9 @@ class Session:
         said = day_of_number(outside).isoformat()
         what = f"{name} isn't in service on {said}: it is from {days}"
         remedy = "mend the date, or leave the row out"
+        if name in self._tables and outside < service[0]:
+            eve = day_of_number(service[0] - 1)
+            remedy += f"; the first dip may be of {eve}, the day before"
         self._refuse(12, record, what, at, said, remedy)
 
     def _judge_level(self, record: tuple[str, ...], tank: str, mm: int) -> None:
@@ -1105,6 +1179,10 @@ class Session:
         if fact is None:
             remedy = _near(identity, self._facts) if len(self._facts) < 5000 else ""
             remedy = remedy or "mend the id, or book the fact in a row before this one"
+            if any(component == identity for component, _, _ in self._assays):
+                remedy = "if an assay is meant: it can't be amended or struck, so mend its own row"
+            elif self._what_is(identity):
+                remedy = f"{identity} is {self._what_is(identity)}: name a fact by its id"
             self._refuse(6, record, f"there is no fact {identity}", "id", identity, remedy)
         if fact.struck:
             self._refuse(6, record, f"{identity} was struck", "id", identity, "book it anew")
@@ -1535,6 +1613,7 @@ class Session:
         readings: pandas.DataFrame | None = None,
         transfers: pandas.DataFrame | None = None,
         dips: pandas.DataFrame | None = None,
+        assays: pandas.DataFrame | None = None,
         boundaries: Iterable[str] | None = None,
         reports: bool | Iterable[str] = True,
         design: bool = False,
@@ -1556,6 +1635,10 @@ class Session:
             streams that are neither tanks nor ``env``.
         tanks, straps, streams, periods, critical, readings, transfers, dips : DataFrame, optional
             The other rows.
+        assays : DataFrame, optional
+            The grades of components, with columns ``component``, ``stream``, ``period``; ``ppm`` or
+            ``percent``; ``variance``, ``deviation_ppm`` or ``deviation_percent``. The balance of
+            each component is asked for after each report of a period that it has assays in.
         boundaries : iterable of str, optional
             The boundaries, which are further names of ``env``.
         reports : bool or iterable of str
@@ -1587,12 +1670,15 @@ class Session:
             readings=readings,
             transfers=transfers,
             dips=dips,
+            assays=assays,
         )
         if design:
             session.design()
         wanted = [period.name for period in session.periods] if reports is True else reports
         for name in wanted or ():
             session.report(name)
+            for component in session.components_in(name):
+                session.component(component, name)
         return session
 
     def take_readings(self, columns: Readings, place: Callable[[int], Place]) -> None:
@@ -1641,7 +1727,6 @@ class Session:
             self._days |= pairs
             self._rows.extend(zip(repeat("reading"), *columns))
         return accepted
-
 
     def _all_served(self, pairs: set[tuple[str, int]]) -> bool:
         """Say whether each stream is in service on the day beside it."""
@@ -1714,7 +1799,7 @@ def _amount(grams: int | None, tonnes: Tonnes | None) -> str:
     return str(grams_of(tonnes))
 
 
-def grade_of(ppm: int | None, percent: Tonnes | None) -> str:
+def grade_of(ppm: int | None = None, percent: Tonnes | None = None) -> str:
     """Return a grade in parts per million, of which exactly one is given."""
     if (ppm is None) == (percent is None):
         raise Fault("an assay needs ppm, or percent, and not both")
@@ -1728,7 +1813,9 @@ def grade_of(ppm: int | None, percent: Tonnes | None) -> str:
 
 
 def grade_variance(
-    variance: int | None, deviation_ppm: Tonnes | None, deviation_percent: Tonnes | None
+    variance: int | None = None,
+    deviation_ppm: Tonnes | None = None,
+    deviation_percent: Tonnes | None = None,
 ) -> str:
     """Return the variance of a grade in squares of parts per million, of which one is given."""
     given = [each for each in (variance, deviation_ppm, deviation_percent) if each is not None]

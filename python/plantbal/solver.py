@@ -16,9 +16,9 @@ from typing import TYPE_CHECKING
 from plantbal.amounts import root_up
 from plantbal.faults import Fault, ToolMissing
 from plantbal.output import Output
-from plantbal.program import check, run, session_bytes
 from plantbal.records import read_records, without_empty_end
 from plantbal.report import Block, Values
+from plantbal.runs import check, run, session_bytes
 from plantbal.session import Session
 
 if TYPE_CHECKING:

@@ -32,11 +32,11 @@ TAGS is a CSV file with the heads tag,stream,from,to,error and, if it is wanted,
           `1.5 % or 0.2 t`, the greater of both; empty for a stream without a meter
   base    the standard deviation that the meter has in every period beside these, such as `0.5 t`
 
-Fields are parted by commas, semicolons or tabs, whichever the first line has. Tonnes become grams
-exactly; more than six decimals are refused. Each month of READINGS becomes a period from its first
-to its last row, and a report. What is missing is said on standard error, days at the ends of a
-month too, and how many warnings lint has. No session is written if a unit would have nothing coming
-in, or nothing going out: mostly its name is mistyped.
+Fields are separated by commas, semicolons or tabs, whichever the first line has. Tonnes become
+grams exactly; more than six decimals are refused. Each month of READINGS becomes a period from its
+first to its last row, and a report. What is missing is said on standard error, days at the ends of
+a month too, and how many warnings lint has. No session is written if a unit would have nothing
+coming in, or nothing going out: mostly its name is mistyped.
 
 examples:
   plantbal-desk from-spreadsheet tags.csv readings.csv > session.csv

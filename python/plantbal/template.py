@@ -40,6 +40,7 @@ KINDS: dict[str, tuple[str, ...]] = {
         "assays",
         "critical",
         "periods",
+        "windows",
     ),
     "concentrator": (
         "units",
@@ -67,6 +68,7 @@ ABOUT = {
     "assays": "the grades of components, each of a period, entered before it is closed",
     "critical": "critical values of the tests; plantbal-desk critical gives them",
     "periods": "the periods; without a row each calendar month with a reading is one",
+    "windows": "periods to reconcile at once too, if a dip between them is missing",
 }
 _HEADS = {
     "name": "1 to 32 letters, digits, _, - or .",
@@ -94,7 +96,11 @@ _HEADS = {
     "dof": "the degrees of freedom, of the global test",
     "component": "such as cu",
     "period": "the name of a period: of a calendar month such as 2024-04",
-    "grade": "with its unit: 0.9 %, 12.4 g/t, 9000 ppm; or alone, with the unit beside it",
+    "grade": "with its unit: 0.9 %, 120 g/t, 9000 ppm; or alone, with the unit beside it",
+}
+_OF_WINDOWS = {
+    "first": "the name of the first period: of a calendar month such as 2024-04",
+    "last": "the name of the last period, counted too",
 }
 
 
@@ -194,14 +200,14 @@ def _write_sheet(sheet: Any, name: str, lists: dict[tuple[str, str], Choice]) ->
     from openpyxl.comments import Comment
     from openpyxl.worksheet.datavalidation import DataValidation
 
-    names = heads(name)
+    names, is_windows = heads(name), name == "windows"
     sheet.append(list(names))
     _head(sheet, names)
     for column, head in enumerate(names, 1):
         cell = sheet.cell(1, column)
-        cell.comment = Comment(_HEADS[head], "plantbal")
+        cell.comment = Comment(_OF_WINDOWS[head] if is_windows else _HEADS[head], "plantbal")
         letter = cell.column_letter
-        if head in ("day", "first", "last", "since", "until"):
+        if head in ("day", "first", "last", "since", "until") and not is_windows:
             sheet.column_dimensions[letter].number_format = "yyyy-mm-dd"
         choice = lists.get((name, head))
         if choice is not None:

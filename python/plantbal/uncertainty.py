@@ -24,7 +24,7 @@ HELP = """
 OUTPUT is what plantbal wrote, as CSV or as JSON lines; without it standard input is read. Of each
 period's last report the last round is taken. There is a row for each stream that is measured or
 observable; an unobservable one has no flow to book, and no uncertainty. Windows and balances of
-components stand under names of their own, such as may to june and cu in may.
+components have names of their own, such as may to june and cu in may.
 
   text   tonnes, as a table to be read: flow, its standard deviation, that of the meter alone, by
          how much it is smaller (the gain), and the three meters that contribute most to it

@@ -57,6 +57,19 @@ def fixture_month(program: Path, tmp_path_factory: pytest.TempPathFactory) -> Pa
     return folder / "month.zip"
 
 
+@pytest.fixture(name="bundles", scope="module")
+def fixture_bundles(month: Path) -> list[Path]:
+    """Bundles of reports alone, of reports with balances of copper, and of reports with windows."""
+    from plantbal import desk
+
+    found = [month]
+    for name in ("flotation_copper", "missed_dip"):
+        found.append(month.with_name(f"{name}.zip"))
+        words = ["archive", str(example(f"{name}.csv")), "--out", str(found[-1]), *TIME]
+        assert desk.call(desk.desk_parser(), words) == 0
+    return found
+
+
 def sentences(said: Said, kind: str) -> list[str]:
     """The sentences of a kind of an audit."""
     return [line for line in said.out.splitlines() if line.startswith(f"{kind}: ")]
@@ -257,8 +270,10 @@ def place_of_digit(data: st.DataObject, text: bytes) -> tuple[int, int]:
 
 @QUICK
 @given(data=st.data())
-def test_a_digit_anywhere(say: Desk, month: Path, tmp_path: Path, data: st.DataObject) -> None:
-    files = files_of(month)
+def test_a_digit_anywhere(
+    say: Desk, bundles: list[Path], tmp_path: Path, data: st.DataObject
+) -> None:
+    files = files_of(data.draw(st.sampled_from(bundles)))
     name = data.draw(st.sampled_from(NAMES))
     place, digit = place_of_digit(data, files[name])
     text = files[name][:place] + bytes([digit]) + files[name][place + 1 :]

@@ -6,6 +6,7 @@ import json
 from decimal import Decimal
 from pathlib import Path
 
+import pandas
 import pytest
 from conftest import Desk, assert_refused, example, session_of, text_of
 
@@ -29,7 +30,7 @@ REFUSED = [
     ("assay,cu,B,d1,1000001,0", 4, "PPM is '1000001'"),
     ("assay,cu,B,d1,1,100000001", 4, "GRADEVAR is '100000001'"),
     ("assay,cu,U,d1,1,0", 6, "U is a unit, not a stream or tank"),
-    ("assay,cu,env,d1,1,0", 6, "there is no stream or tank env"),
+    ("assay,cu,env,d1,1,0", 6, "env is the world outside, not a stream or tank"),
     ("assay,cu,B,d9,1,0", 6, "there is no period d9"),
     ("assay,cu,A,d1,1,0", 7, "A has an assay of cu in d1 already"),
     ("assay,cu,A,d2,1,0", 11, "period d2 is closed"),
@@ -122,6 +123,32 @@ def test_share_that_is_not_known() -> None:
     assert products_of(shares, []) == ["C"]
 
 
+def test_recovery_over_a_change_of_the_plant() -> None:
+    """A stream that isn't in service in a period carries nothing there."""
+    session = Session(version=2)
+    session.unit("U")
+    session.stream("A", "env", "U", variance=1)
+    session.stream("B", "U", "env", variance=1)
+    session.stream("C", "U", "env", variance=1, since="2024-05-02")
+    for number, day in enumerate(("2024-05-01", "2024-05-02"), 1):
+        session.period(f"d{number}", day, day)
+        streams = {"A": 100, "B": 60, "C": 40} if number == 2 else {"A": 100, "B": 100}
+        for name, tonnes in streams.items():
+            session.reading(f"{name}{number}", name, day, tonnes=tonnes, variance=10**10)
+            session.assay("cu", name, f"d{number}", ppm=9000, variance=900)
+        session.component("cu", f"d{number}")
+    balances = [Balance(block) for block in balances_of(run(session))]
+    shares = {each.stream: each for each in together(balances)}
+    assert {name: each.grams for name, each in shares.items()} == {
+        "A": 1_800_000,
+        "B": 1_440_000,
+        "C": 360_000,
+    }
+    assert shares["C"].share == pytest.approx(0.2)
+    # what C gains B loses, so both shares are known equally well
+    assert shares["C"].share_sd == pytest.approx(shares["B"].share_sd)
+
+
 def test_recovery_command(say: Desk, tmp_path: Path) -> None:
     text = say("recovery", OUT).out
     assert "cu         jun03   CONCENTRATE  out   96.341  0.471   88.43%  0.31%" in text
@@ -162,6 +189,9 @@ def test_drawing_and_chart(say: Desk, tmp_path: Path) -> None:
 def test_page(say: Desk) -> None:
     page = say("page", OUT, "--session", COPPER, "--seconds", "0").out
     assert page.count("cu in jun03") > 1 and "96.341" in page
+    assert "The grades fit together: the statistic is between 0.090 and 0.091" in page
+    assert "Of the cu that came in, 88.43 % ± 0.31 % went into CONCENTRATE and 11.57 % ± 0.31 %" in page
+    assert "An assay on any stream of the cycle settles" in page
 
 
 def test_audit(say: Desk, program: Path, tmp_path: Path) -> None:
@@ -183,6 +213,36 @@ def test_audit_without_the_report(say: Desk, program: Path, tmp_path: Path) -> N
     found = say("audit", output, session, "--no-program")
     assert found.status == 0, found.out
     assert "so its values aren't held against the assays" in found.out
+
+
+def test_from_frames() -> None:
+    ends = pandas.DataFrame(
+        [("FEED", "env", "MILL", 1), ("FINES", "MILL", "env", 1)],
+        columns=["name", "from", "to", "variance"],
+    )
+    periods = pandas.DataFrame(
+        [("d1", "2024-05-01", "2024-05-01"), ("d2", "2024-05-02", "2024-05-02")],
+        columns=["name", "first", "last"],
+    )
+    assays = pandas.DataFrame(
+        [("cu", "FEED", "d1", "0.9", "0.018"), ("cu", "FINES", "d1", "0.91", "0.02")],
+        columns=["component", "stream", "period", "percent", "deviation_percent"],
+    )
+    session = Session.from_frames(streams=ends, periods=periods, assays=assays)
+    rows = [row for row in session if row[0] in ("assay", "report", "component")]
+    assert rows == [
+        ("assay", "cu", "FEED", "d1", "9000", "32400"),
+        ("assay", "cu", "FINES", "d1", "9100", "40000"),
+        ("report", "d1"),
+        ("component", "cu", "d1"),
+        ("report", "d2"),
+    ]
+    whole = assays.drop(columns=["percent", "deviation_percent"]).assign(ppm=9, variance=4)
+    made = Session.from_frames(streams=ends, periods=periods, assays=whole, reports=["d2"])
+    assert [row[4:] for row in made if row[0] == "assay"] == [("9", "4"), ("9", "4")]
+    assert [row[0] for row in made][-1] == "report"
+    with pytest.raises(Fault, match="assays: there is no column variance or deviation_ppm or"):
+        Session.from_frames(streams=ends, periods=periods, assays=assays.iloc[:, :4])
 
 
 def test_lint(say: Desk) -> None:
@@ -245,6 +305,13 @@ def test_workbook(say: Desk, tmp_path: Path, program: Path) -> None:
     (book / "assays.csv").write_text(wrong, encoding="utf-8")
     said = say("convert", book).err
     assert "the grade 0.9 has no unit" in said and "F9" in said
+    # neither much of a grade nor much of its error may be lost
+    wrong = "component,stream,period,grade,error\nau,F1,apr1,1.5 g/t,5 %\nau,P1,apr1,3 g/t,2 %\n"
+    (book / "assays.csv").write_text(f"{wrong}au,P2,apr1,120 %,2 %\n", encoding="utf-8")
+    said = say("convert", book).err
+    assert "1.5 g/t with the error 5 % would become 2 ppm with an error of 1 ppm" in said
+    assert "3 g/t with the error 2 % would become 3 ppm" in said and "component au_mg" in said
+    assert "120 % is no grade" in said and "rounded" not in said
 
 
 def test_the_program_agrees() -> None:
@@ -279,9 +346,11 @@ def test_book(say: Desk, tmp_path: Path, program: Path) -> None:
     found = say("book", "add", other, "--book", books)
     assert (found.status, "9,100 ppm of cu in apr1 in the book" in found.err) == (1, True)
     assert say("book", "close", "apr1", "--book", books).status == 0
-    other.write_text(f"{heads}au,FINES,apr1,3 g/t,2 %\n", encoding="utf-8")
+    other.write_text(f"{heads}au,FINES,apr1,300 g/t,2 %\n", encoding="utf-8")
     found = say("book", "add", other, "--book", books)
     assert (found.status, "before plantbal-desk book close" in found.err) == (1, True)
-    other.write_text(f"{heads}au,FINES,may,3 g/t,2 %\n", encoding="utf-8")
+    rows = "au,FINES,may,300 g/t,2 %\nau,FINES,june,300 g/t,2 %\n"
+    other.write_text(heads + rows, encoding="utf-8")
     found = say("book", "add", other, "--book", books)
     assert (found.status, "there is no period may in this book" in found.err) == (1, True)
+    assert "there is no period june" in found.err and "2 faults, and nothing" in found.err

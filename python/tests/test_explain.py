@@ -121,7 +121,8 @@ CASES = [
     (4, "reading", "reading,q,S,2024-01-06,2741.25,5", "GRAMS", "write 2741250000, in grams"),
     (4, "reading", 'reading,q,S,2024-01-06,"2.741,25",5', "GRAMS", "write 2741250000, in grams"),
     (4, "reading", "reading,q,S,2024-01-06,007,5", "GRAMS", "without the zero in front"),
-    (4, "reading", "reading,q,S,2024-01-06,5 t,5", "GRAMS", "take the unit of measure out"),
+    (4, "reading", "reading,q,S,2024-01-06,5 t,5", "GRAMS", "write 5000000, without the unit"),
+    (4, "reading", "reading,q,S,2024-01-06,5.000 t,5", "GRAMS", "take the unit of measure out"),
     (4, "reading", "reading,q,S,2024-01-06,,5", "GRAMS", "GRAMS is empty"),
     (4, "reading", "reading,q,S,1.1.24,x,5", "GRAMS", "DATE can't be read either"),
     (4, "transfer", "transfer,q,B,2024-01-06,2024-01-06,5,-5", "VARIANCE", "0 to"),
@@ -165,7 +166,7 @@ CASES = [
         "stream",
         "stream,X,U,S,metered,1",
         "TO",
-        "S is a stream, not a unit or tank; name the unit",
+        "S is a metered stream, not a unit or tank; name the unit",
     ),
     (
         6,
@@ -304,11 +305,12 @@ LATER = [
     (SMALL, 1, "version,2", "KIND", "rows are stored before it"),
     (SMALL, 2, "tank,X,1,2024-03-05,2024-03-20", "SINCE", "are of sessions of version 2"),
     (SMALL, 2, "stream,X,env,U,plain,0,2024-03-05,2024-03-20", "SINCE", "write version,2 as the"),
-    (SMALL, 2, "advise,P", "COST", "COST is missing at its end"),
+    (SMALL, 2, "advise,P", "COST", "COST is missing at its end; write advise,STREAM,COST,STREAM"),
     (SMALL, 3, "advise,a b,1", "STREAM", "such as a_b"),
-    (SMALL, 4, "advise,P,1.50", "COST", "a whole number in digits alone"),
+    (SMALL, 4, "advise,P,1.50", "COST", "costs may be in any unit, such as cents"),
     (SMALL, 6, "advise,Q,1", "STREAM", "there is no stream Q"),
-    (SMALL, 6, "advise,P,1,T,1", "STREAM", "T is a tank, not a stream"),
+    (SMALL, 6, "advise,P,1,T,1", "STREAM", "leave it out: a tank is measured by its dips"),
+    (SMALL, 6, "advise,U,1", "STREAM", "U is a unit, not a stream; name a stream that leads to it"),
     (SMALL, 7, "advise,P,1,P,2", "STREAM", "P has a cost already"),
     (SMALL, 9, "advise,P,1,S,2", "STREAM", "S is a metered stream, which is measured already"),
     (SMALL_2, 1, "version,2", "KIND", "this session is of version 2 already"),
@@ -317,11 +319,15 @@ LATER = [
     (SMALL_2, 1, "jetty,K", "KIND", "a row boundary,NAME declares one"),
     (SMALL_2, 1, "stream,X,J,U,truck,0,2024-03-05,2024-03-20", "field 5", "write metered, batch"),
     (SMALL_2, 2, "boundary", "NAME", "NAME is missing; write boundary,NAME"),
-    (SMALL_2, 2, "tank,X,1,2024-03-05", "SINCE or UNTIL", "is missing"),
+    (SMALL_2, 2, "tank,X,1,2024-03-05", "SINCE or UNTIL", "is missing: dates of service are two"),
     (SMALL_2, 2, "stream,X,J,U,plain,0,2024-03-05", "SINCE or UNTIL", "is missing"),
     (SMALL_2, 3, "boundary,a b", "NAME", "such as a_b"),
     (SMALL_2, 5, "tank,X,1,,2024-03-20", "SINCE", "write 1900-01-01 if it was"),
     (SMALL_2, 5, "tank,X,1,2024-03-05,20.3.2024", "UNTIL", "write 2024-03-20"),
+    (SMALL_2, 5, "tank,X,1,2024-03-05,9999-12-31", "UNTIL", "write 2199-12-31 if there is no end"),
+    (SMALL_2, 5, "tank,X,1,1800-01-01,2024-03-05", "SINCE", "write 1900-01-01 if it was always"),
+    (SMALL_2, 6, "strap,J,5,5", "TANK", "J is a boundary, not a tank"),
+    (SMALL_2, 6, "reading,q,J,2024-03-05,5,5", "STREAM", "J is a boundary, not a stream"),
     (SMALL_2, 6, "stream,X,QUAY,U,plain,0", "FROM", "there is no unit, tank or boundary QUAY"),
     (SMALL_2, 7, "boundary,J", "NAME", "J is a boundary already"),
     (SMALL_2, 7, "unit,R", "NAME", "R is a boundary already"),
@@ -334,6 +340,47 @@ LATER = [
     (SMALL_2, 12, "transfer,q,N,2024-03-20,2024-03-21,5,5", "LAST", "in service on 2024-03-21"),
     (SMALL_2, 12, "transfer,q,N,2024-03-04,2024-03-06,5,5", "FIRST", "in service on 2024-03-0"),
     (SMALL_2, 12, "late,dip,q,Y,2024-03-03,5,5,5", "DATE", "Y isn't in service on 2024-03-03"),
+    (SMALL_2, 12, "dip,q,Y,2024-03-03,5,5,5", "DATE", "the first dip may be of 2024-03-04"),
+]
+# The same of windows, assays and balances: p and n follow each other, and p is closed.
+SMALL_3 = (
+    "version,2\n"
+    + SMALL
+    + """stream,Z,U,env,metered,1,2024-03-05,2024-03-20
+period,n,2024-02-01,2024-02-10
+assay,cu,S,n,9000,100
+assay,cu,S,o,9000,100
+close,p
+"""
+)
+LATER += [
+    (SMALL_3, 2, "window,p", "FIRST or LAST", "is missing"),
+    (SMALL_3, 2, "window,p,n,o", "field 4", "1 field too many; write window,FIRST,LAST"),
+    (SMALL_3, 3, "window,p,n o", "LAST", "such as n_o"),
+    (SMALL_3, 6, "window,p,N", "LAST", "did you mean n?"),
+    (SMALL_3, 6, "window,2024-01-05,n", "FIRST", "write p, the period of this day"),
+    (SMALL_3, 8, "window,n,p", "LAST", "period p begins before period n; exchange the periods"),
+    (SMALL_3, 9, "window,p,o", "LAST", "2024-02-11 is in no period, between n and o"),
+    (SMALL_3, 1, "late,assay,cu,B,p,1,1", "field 2", "an assay can't come late: put its row before"),
+    (SMALL_3, 2, "assay,cu,B,n,9000", "PPM or GRADEVAR", "is missing"),
+    (SMALL_3, 3, "assay,c u,B,n,1,1", "COMPONENT", "such as c_u"),
+    (SMALL_3, 4, "assay,cu,B,n,0.9,1", "PPM", "if 0.9 is in percent, write 9000"),
+    (SMALL_3, 4, "assay,cu,B,n,0.9 %,1", "PPM", "write 9000, without the unit"),
+    (SMALL_3, 4, "assay,cu,B,n,12 g/t,1", "PPM", "write 12, without the unit"),
+    (SMALL_3, 4, "assay,cu,B,n,1,0.5", "GRADEVAR", "0 to 100,000,000"),
+    (SMALL_3, 6, "assay,cu,V,n,1,1", "STREAM", "V is a unit, not a stream or tank"),
+    (SMALL_3, 6, "assay,cu,env,n,1,1", "STREAM", "env is the world outside, not a stream or tank"),
+    (SMALL_3, 6, "assay,B,cu,n,1,1", "STREAM", "B is one; exchange the two fields"),
+    (SMALL_3, 6, "assay,cu,B,2024-02-05,1,1", "PERIOD", "write n, the period of this day"),
+    (SMALL_3, 7, "assay,cu,S,n,1,1", "STREAM", "the first is in line 21"),
+    (SMALL_3, 11, "assay,cu,B,p,1,1", "PERIOD", "put it before the close"),
+    (SMALL_3, 12, "assay,cu,Z,n,1,1", "STREAM", "Z is in service on no day of n"),
+    (SMALL_3, 2, "component,cu", "COMPONENT or PERIOD", "is missing"),
+    (SMALL_3, 6, "component,cu,x", "PERIOD", "there is no period x"),
+    (SMALL_3, 6, "component,n,cu", "PERIOD", "n is one; exchange the two fields"),
+    (SMALL_3, 6, "component,au,n", "COMPONENT", "there is no assay of au in n"),
+    (SMALL_3, 6, "amend,cu,1,1,wrong", "ID", "it can't be amended or struck, so mend its own row"),
+    (SMALL_3, 6, "strike,S,wrong", "ID", "S is a metered stream: name a fact by its id"),
 ]
 
 
@@ -362,6 +409,25 @@ FULL = [
     ("most_facts", 3, "dip,q,T,2024-01-06,500,5,5"),
     ("most_facts", 3, "late,reading,q,S,2024-01-06,5,5"),
 ]
+
+
+FULL_2 = [
+    ("most_boundaries", 1, "boundary,K", "1 boundaries are there"),
+    ("most_streams", 6, "tank,X,1,2024-03-05,2024-03-20", "6 streams and tanks are there"),
+    ("most_assays", 2, "assay,cu,B,n,1,1", "2 assays are there"),
+    ("most_nodes", 3, "window,p,n", "it would have 9 nodes, and at most 3 may be"),
+    ("most_periods_of_window", 1, "window,p,n", "2 periods are from p to n"),
+]
+
+
+@pytest.mark.parametrize("limit, most, row, said", FULL_2, ids=[one[2] for one in FULL_2])
+def test_full_later(
+    monkeypatch: pytest.MonkeyPatch, limit: str, most: int, row: str, said: str
+) -> None:
+    monkeypatch.setitem(LIMITS, limit, most)  # type: ignore[arg-type]
+    before = SMALL_3.replace("version,2\n", "version,2\nboundary,J\n")
+    told = only(explain_bytes("day.csv", f"{before}{row}\nreport,o\n".encode()))
+    assert said in told.sentence, told.sentence
 
 
 @pytest.mark.parametrize("limit, most, row", FULL, ids=[f"{one}, {row}" for one, _, row in FULL])
@@ -468,6 +534,16 @@ dip,y,D,2024-01-01,0,1,1
     assert under == {1: [5, 6, 9], 3: [8], 10: [11], 12: [13], 15: [16]}
     assert "3 rows are refused only because of this row: lines 5, 6 and 9" in str(found)
     assert found.by_record()[8].endswith("(only because of line 1)")
+
+
+def test_balances_follow_from_the_assays_of_their_period() -> None:
+    data = f"{SMALL_3}assay,au,S,n,1.5,1\ncomponent,au,n\ncomponent,au,o\nreport,o\n".encode()
+    found = explain_bytes("day.csv", data)
+    under = {told.line: [other.line for other in told.under] for told in found.rows}
+    assert under == {24: [25], 26: []}
+    later = SMALL_3 + "component,au,n\nassay,au,S,n,1,1\nreport,o\n"
+    told = only(explain_bytes("day.csv", later.encode()))
+    assert "it is declared in line 25, after this one: move that row up" in told.sentence
 
 
 def test_later() -> None:

@@ -11,7 +11,7 @@ import signal
 import sqlite3
 import subprocess
 import time
-from collections.abc import Callable
+from collections.abc import Callable, Collection
 from contextlib import closing
 from pathlib import Path
 
@@ -24,6 +24,7 @@ from plantbal.fleet.given import Given, days_of, has_critical, sha256_of
 from plantbal.fleet.keep import checksums
 from plantbal.fleet.rows import HEADS
 from plantbal.fleet.sites import sites
+from plantbal.report import Subject, over_of, parse_rows, subjects_of
 
 SITE = """unit,U
 stream,FEED,env,U,metered,1
@@ -178,10 +179,56 @@ def check_mistake(mistake: Mistake, row: Row) -> None:
     assert bool(row["look"]) == bool(wants), row
 
 
+def test_windows_and_balances(program: Path, tmp_path: Path, say: Desk) -> None:
+    """Windows and balances of components have rows of their own, beside those of the periods."""
+    shipped = ("flotation_copper.csv", "missed_dip.csv", "conformance/component.in")
+    data = {f"{Path(name).stem}.csv": example(name).read_bytes() for name in shipped}
+    over = example("conformance/window.in").read_bytes() + b"report,p6\nreport,p7\n"
+    folder = folder_of(tmp_path / "sessions", {**data, "over.csv": over})
+    words = ["--program", program, "--out", tmp_path / "out", folder, "--", "run", "--tests"]
+    found = say("fleet", *words)
+    rows = {(row["site"], row["period"]): row for row in rows_of(found.out)}
+    said = ("state", "dof", "statistic", "verdict", "look")
+    balance, report = rows["flotation_copper", "cu in jun03"], rows["flotation_copper", "jun03"]
+    assert [balance[name] for name in said] == ["converged", "1", "0.090", "accept", ""]
+    assert [report[name] for name in said] == ["converged", "2", "1.425", "accept", ""]
+    window = rows["missed_dip", "may1 to may4"]
+    assert [window[name] for name in said] == ["converged", "7", "1.786", "accept", ""]
+    assert window["days"] == "2024-05-01..2024-05-04"
+    assert "big in d2: no balance: the total of T is beyond the limits" in found.err
+    assert "p6 to p7: no window: the total of s2.0 is beyond the limits" in found.err
+    assert (rows["over", "p7"]["state"], rows["over", "p7 to p7"]["state"]) == ("over", "over")
+    assert rows["over", "p6 to p6"]["state"] == rows["over", "p1 to p4"]["state"] == "converged"
+
+
+MAY, CUT, REPORT = Subject("may"), "over,may,S", "report,may,0,1,0,10,5000"
+JUNE, COPPER = Subject("may", last="june"), Subject("may", component="cu")
+NONE = frozenset[int]()
+ANSWERS = {
+    "later over": ("report,may\nreport,may", NONE, [REPORT, CUT], {MAY: "S"}),
+    "later report": ("report,may\nreport,may,,", NONE, [CUT, REPORT], {}),
+    "refused": ("unit,U\nreport,june\nreport,may", {2}, [CUT], {MAY: "S"}),
+    "window": ("window,may,june\ncomponent,cu,may", NONE, [CUT, REPORT], {JUNE: "S"}),
+    "balance": ("report,may\ncomponent,cu,may", NONE, [REPORT, CUT], {COPPER: "S"}),
+    "another session": ("report,may", NONE, [CUT, REPORT], {MAY: "S"}),
+}
+
+
+@pytest.mark.parametrize("session, refused, output, over", ANSWERS.values(), ids=ANSWERS)
+def test_what_is_beyond_the_limits(
+    session: str, refused: Collection[int], output: list[str], over: dict[Subject, str]
+) -> None:
+    """A total counts until a later answer to the same question, and stands beside other answers."""
+    rows = parse_rows("out", "\n".join(output))
+    assert over_of(rows, subjects_of(session.encode(), refused)) == over
+
+
 OUTPUTS = {
     "garbage": ("echo hello, world", "unreadable", "output.csv: line 1"),
     "bytes": ("printf '\\377\\376'", "unreadable", "UTF-16"),
     "cut": ("sed '$d' $CANNED", "unreadable", "its report is cut off"),
+    "window": ("echo window,may1,may2,2", "unreadable", "a window is cut off"),
+    "advice": ("echo advise,2,3", "unreadable", "the advice is cut off"),
     "usage": ("echo Usage >&2; exit 2", "Usage", "status 2, Usage; these words are no command"),
     "memory": ("echo NoMemory >&2; exit 6", "NoMemory", "it ran out of memory"),
     "other": ("echo no such luck >&2; exit 17", "ended", "status 17; no such luck"),

@@ -81,6 +81,10 @@ def test_nothing_looks_wrong() -> None:
     assert codes(BASE) == []
 
 
+# Two streams side by side of which nothing determines either.
+LOOPED = changed(
+    "period,d1", "stream,ONE,MILL,SILO,plain,0\nstream,TWO,MILL,SILO,plain,0\nperiod,d1"
+)
 CASES = [
     (
         "refused",
@@ -98,6 +102,11 @@ CASES = [
         "nothing-asked",
         changed("report,d1\n", ""),
         "9 facts are there, and no report is asked for: add `report,d1`",
+    ),
+    (
+        "nothing-asked",
+        "unit,U\nstream,A,env,U,metered,1\nreading,a,A,2024-03-01,1,1\n",
+        "1 fact is there, and no report is asked for",
     ),
     ("nothing-asked", "", "there is no row"),
     (
@@ -312,6 +321,26 @@ CASES = [
         ),
         "FEED has 9 ppm of cu in e1, and 9,000 ppm in the middle of its periods",
     ),
+    (
+        "large-deviation",
+        GOOD + "assay,cu,FEED,d1,9000,82000000\n",
+        "the assay of cu in FEED in d1 has a standard deviation of 9,055 ppm, more than its grade",
+    ),
+    (
+        "near-names",
+        GOOD + "assay,cu,FEED,d1,9000,100\nassay,Cu,MEAL,d1,9900,100\n",
+        "the components cu and Cu have nearly the same name",
+    ),
+    (
+        "unused-assay",
+        LOOPED + "assay,cu,FEED,d1,9000,4\nassay,cu,ONE,d1,9,4\ncomponent,cu,d1\n",
+        "nothing determines the flow of ONE in d1, so the balance of cu leaves its assay out",
+    ),
+    (
+        "no-cost",
+        LOOPED + "advise,ONE,30\n",
+        "TWO has no cost in this advise row, and counts as 1: add the costs",
+    ),
 ]
 
 
@@ -337,6 +366,7 @@ QUIET = [
     ("a second report", GOOD + "amend,f1,1201000000,100000000000000,typed wrong\nreport,d1\n"),
     ("a late fact before the report", GOOD.replace("report,d1\n", "").replace("reading,u1", "close,d1\nlate,reading,u1").replace("\nreading,u2", "\nlate,reading,u2").replace("\nreading,m", "\nlate,reading,m").replace("\ntransfer", "\nlate,transfer").replace("\ndip", "\nlate,dip") + "report,d1\n"),
     ("a design alone", PLANT + "design\n"),
+    ("costs of all plain streams", LOOPED + "advise,ONE,30,TWO,1\nadvise\n"),
 ]  # fmt: skip
 
 

@@ -174,7 +174,7 @@ OF_COSTS = {
     "a session": (SESSION, NO_HEADS),
     "no such stream": (b"stream,cost\nRESI,9000\n", "there is no stream RESI: mend the name"),
     "no name": (b"stream,cost\n,9000\n", "there is no name of a stream: mend the name"),
-    "a tank": (b"stream,cost\nTK1,9000\n", "there is no stream TK1"),
+    "a tank": (b"stream,cost\nTK1,9000\n", "TK1 is a tank, not a stream: mend the name"),
     "a meter": (b"stream,cost\nSHIP,9000\n", "SHIP is a batch stream: it is measured already"),
     "twice": (b"stream,cost\nRES,1\nRES,2\n", "RES stands above too: leave one of both out"),
     "decimals": (b"stream,cost\nRES,9.50\n", "9.50 is no cost: write a whole number from 0 to"),

@@ -21,7 +21,7 @@ from plantbal.page.head import program_text
 from plantbal.page.ledger import Ledger
 from plantbal.page.render import certificate, plus_minus, soft
 from plantbal.page.statement import Line, Worth
-from plantbal.program import run
+from plantbal.runs import run
 from plantbal.report import Values, parse_rows
 
 # The machine may be busy.

@@ -14,7 +14,9 @@ PAGES = [
     (
         "docs/MONTH_END.md",
         "examples/month_end",
-        ["examples/refinery_workbook", "examples/terminal_workbook"],
+        [
+            f"examples/{name}_workbook" for name in ("refinery", "terminal", "tank_farm")
+        ],
     ),
 ]
 

@@ -3,12 +3,15 @@
 from __future__ import annotations
 
 import datetime
+import shutil
 from pathlib import Path
 
 import pytest
-from conftest import Desk, assert_refused, example, session_of, text_of
+from books import folder
+from conftest import Desk, Said, assert_refused, example, session_of, text_of
 
 from plantbal import Session, run, solve
+from plantbal.book.window import undipped
 from plantbal.faults import Refusal
 from plantbal.output import Output, read_report
 from plantbal.report import blocks_of, last_blocks, parse_rows, reports_of
@@ -182,3 +185,90 @@ def test_kinds_are_told(say: Desk) -> None:
     told = say("explain", "-", text="tank,K,1\nperiod,p1,2024-05-01,2024-05-01\nwindow,p1,p2\n")
     assert "LAST is 'p2': there is no period p2" in told.out
     assert say("lint", MISSED).status == 0
+
+
+# ---- workbooks and books
+
+FARM = example("tank_farm_workbook")
+
+
+def test_workbook(say: Desk, tmp_path: Path) -> None:
+    said = say("convert", "--locale", "en", FARM, "--out", tmp_path / "farm.csv")
+    assert "a sheet windows with may2, may3 has what it held then" in said.err
+    workbook, out = tmp_path / "farm", tmp_path / "windows.csv"
+    shutil.copytree(FARM, workbook)
+    sheet = workbook / "windows.csv"
+    sheet.write_text("first,last\nmay2,may3\nmay1,may4\n", encoding="utf-8")
+    said = say("convert", "--locale", "en", workbook, "--out", out)
+    assert said.status == 0 and "a sheet windows" not in said.err
+    rows = text_of(out).splitlines()
+    assert rows[-3:] == ["report,may4", "window,may2,may3", "window,may1,may4"]
+    facts = ("reading", "transfer", "dip")
+
+    def plain(row: str) -> str:
+        """A row, without the id of a fact."""
+        kind, _, rest = row.partition(",")
+        return f"{kind},{rest.partition(',')[2]}" if kind in facts else row
+
+    missed = [row for row in text_of(MISSED).splitlines() if not row.startswith("report,")]
+    ours = [row for row in rows if not row.startswith("report,")]
+    assert sorted(map(plain, ours)) == sorted(map(plain, missed))
+    sheet.write_text("first,last\nmay3,may2\n", encoding="utf-8")
+    said = say("convert", "--locale", "en", workbook)
+    assert "windows.csv: line 2, column 2: window may3 may2: period may2 begins before" in said.err
+
+
+def test_book(say: Desk, tmp_path: Path, program: Path) -> None:
+    book = tmp_path / "book"
+
+    def typed(*words: object) -> Said:
+        return say("book", *words, "--book", book, "--who", "anna")
+
+    assert typed("new", "2024", FARM, "--locale", "en").status == 0
+    said = typed("add", FARM, "--locale", "en").out
+    missing = "no dip of TK_RUN on 2024-05-02; if nobody took it: "
+    missing += "plantbal-desk book window may2 may3"
+    assert f"may2: {missing}\nmay3: {missing}\n" in said
+    asked = tmp_path / "asked.csv"
+    found = typed("window", "may2", "may3", "--session", asked)
+    assert (found.status, found.err) == (0, "")
+    assert "may2 to may3: converged, accepted by the global test" in found.out
+    assert "TK_RUN after may2: 5,775.462 t ± 9.724 t, by the flows around it\n" in found.out
+    report = book / "reports" / "may2_to_may3.csv"
+    assert text_of(report).startswith("window,may2,may3,2\n")
+    assert text_of(asked).endswith("window,may2,may3\n")
+    assert text_of(asked)[: -len("window,may2,may3\n")] == text_of(book / "2024.csv")
+    assert "as it was" in typed("window", "may2", "may3").out
+    assert typed("close", "may2", "--anyway").status == 0
+    assert typed("window", "may2", "may3").status == 0
+    for first, last, wanted in (
+        ("may3", "may2", "period may2 begins before period may3: exchange the periods"),
+        ("may2", "may9", "there is no period may9 in this book"),
+    ):
+        found = typed("window", first, last)
+        assert (found.status, wanted in found.err) == (1, True), found.err
+    assert typed("next", "2024-2").status == 0
+    may5 = folder(
+        tmp_path / "may5",
+        {
+            "readings": [["day", "FI-1", "FI-2"], ["2024-05-05", "2400", "2000"]],
+            "periods": [["name", "first", "last"], ["may5", "2024-05-05", "2024-05-05"]],
+            "windows": [["first", "last"], ["may4", "may5"]],
+        },
+    )
+    said = typed("add", may5)
+    assert said.status == 0 and "plantbal-desk book window asks for a window" in said.out
+    found = typed("window", "may4", "may5")
+    assert (found.status, "may4 and may5 are of two years" in found.err) == (1, True)
+
+
+def test_nothing_determines_a_content(say: Desk, tmp_path: Path, program: Path) -> None:
+    """A tank into which something flows unmeasured, and which is dipped at its ends alone."""
+    session = session_of(
+        "tank,K,1\nstrap,K,0,0\nstrap,K,1000,1000000\nstream,A,env,K,plain,0\n"
+        "period,p1,2024-05-01,2024-05-01\nperiod,p2,2024-05-02,2024-05-02\n"
+        "dip,d0,K,2024-04-30,100,850000,1\ndip,d2,K,2024-05-02,500,850000,1"
+    )
+    session.window("p1", "p2")
+    block = run(session, program=program).blocks_in_order[-1]
+    assert list(undipped(block)) == ["K after p1: nothing determines what it held"]

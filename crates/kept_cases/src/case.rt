@@ -161,9 +161,9 @@ impl Case {
 
     fn tell_classes(&self, text: &mut Vec<u8>) -> Result<(), AllocError> {
         match self.session.classes() {
-            Some(classes) => {
-                for classified in classes.list.as_slice() {
-                    tell(text, class_word(classified.class))?;
+            Some(stage) => {
+                for result in stage.streams.as_slice() {
+                    tell(text, class_word(result.classified.class))?;
                 }
                 Ok(())
             }

@@ -187,6 +187,17 @@ position_is p xs i at =
 abbrev has_firm_columns : Schema → Bool
 has_firm_columns schema = list_all is_firm schema.columns
 
+-- the place of a schema that a record is of is the place of the first one
+place_first : (schemas : List Schema) (i : ℕ) (schema : Schema) (fields : List (List ℕ)) → all_differ schemas ≡ true → slice_get schemas i ≡ Some schema
+    → is_of fields schema ≡ true → position (is_of fields) schemas ≡ Some i
+place_first schemas i schema fields apart at is = position_is (is_of fields) schemas i (first_at (is_of fields) schemas i schema at is others)
+  where
+    others : (k : ℕ) (other : Schema) → k < i → slice_get schemas k ≡ Some other → is_of fields other ≡ false
+    others k other before there = elim (cases_Bool (is_of fields other)) [
+      | inr not_it ↦ not_it
+      | inl it ↦ absurd (cc (sym (differ_at schemas k i other schema apart before there at) ∙ of_both other schema fields it is))
+    ]
+
 -- the place of a schema by which a record was read is the place of the first one that the record is of
 place_told : (schemas : List Schema) (i : ℕ) (schema : Schema) (values : List Value) (fields : List (List ℕ)) → all_differ schemas ≡ true → list_all has_firm_columns schemas ≡ true
     → slice_get schemas i ≡ Some schema → row_read schema fields ≡ Ok values → position (is_of fields) schemas ≡ Some i
@@ -194,13 +205,7 @@ place_told schemas i schema values fields apart firm at reads =
     let read = read_parts schema values fields reads in
     let words = words_read schema.columns values fields (passes_at has_firm_columns schemas i schema firm at) read.says in
     let is : is_of fields schema ≡ true = rw (read.counts, words) refl in
-    position_is (is_of fields) schemas i (first_at (is_of fields) schemas i schema at is (others is))
-  where
-    others : is_of fields schema ≡ true → (k : ℕ) (other : Schema) → k < i → slice_get schemas k ≡ Some other → is_of fields other ≡ false
-    others is k other before there = elim (cases_Bool (is_of fields other)) [
-      | inr not_it ↦ not_it
-      | inl it ↦ absurd (cc (sym (differ_at schemas k i other schema apart before there at) ∙ of_both other schema fields it is))
-    ]
+    place_first schemas i schema fields apart at is
 
 -- ---- no empty field at the end
 
@@ -393,6 +398,12 @@ told kinds it values fields are at reads =
     let place = place_told (map session_schema kinds) at.0 (session_schema it) values fields are.apart are.firm schema_there reads in
     ap (λ (o : Option ℕ). kind_in kinds (told_at (map session_schema kinds) fields o)) place ∙ ap kind_at at.1
 
+-- some of the schemas of a table differ too
+apart_after : (n : ℕ) (schemas : List Schema) → all_differ schemas ≡ true → all_differ (drop n schemas) ≡ true
+apart_after zero schemas apart = apart
+apart_after (suc n) [] apart = refl
+apart_after (suc n) (schema ∷ schemas) apart = apart_after n schemas (and_parts (list_all (differ schema) schemas) (all_differ schemas) apart).1
+
 -- two kinds of one record have one place
 schema_at : (it : SessionKind) (i : ℕ) → slice_get session_kinds i ≡ Some it → slice_get session_schemas i ≡ Some (session_schema it)
 schema_at it i at = slice_get-map session_schema session_kinds i ∙ ap (λ (o : Option SessionKind). option_map session_schema o) at
@@ -417,6 +428,30 @@ same_kind fields a b one other =
         let same : i ≡ j = omega (arith, ge, le) in
         let both : (let a_there : Option SessionKind = Some a in a_there) ≡ Some b = sym at ∙ ap (slice_get session_kinds) same ∙ there in
         cc both
+
+-- a record that is of the kind of readings is told to be a reading among the kinds of each version
+pub reading_told : (start : ℕ) (fields : List (List ℕ)) → start ≤ 6 → is_of fields (session_schema kind.Reading) ≡ true
+    → session_told (drop start session_kinds) fields ≡ Ok kind.Reading
+unfolding session_told
+reading_told start fields few is =
+    let schema_at_place : slice_get (map session_schema (drop start session_kinds)) (16 - start) ≡ Some (session_schema kind.Reading) =
+    slice_get-map session_schema (drop start session_kinds) (16 - start) ∙ ap (λ (o : Option SessionKind). option_map session_schema o) at in
+    let place = place_first (map session_schema (drop start session_kinds)) (16 - start) (session_schema kind.Reading) fields apart schema_at_place is in
+    ap (λ (o : Option ℕ). kind_in (drop start session_kinds) (told_at (map session_schema (drop start session_kinds)) fields o)) place ∙ ap kind_at at
+  where
+    at : slice_get (drop start session_kinds) (16 - start) ≡ Some kind.Reading
+    at =
+        let count : length session_kinds ≡ 33 = refl in
+        let there : 16 - start < length (drop start session_kinds) = omega (arith, few, count, length-drop start session_kinds) in
+        let place : start + (16 - start) ≡ 16 = omega (arith, few) in
+        let some : SessionKind → Option SessionKind = λ it. Some it in
+        slice_get-get_or (drop start session_kinds) (16 - start) kind.Version there
+        ∙ ap some (get_or-drop start session_kinds (16 - start) kind.Version ∙ ap (λ (n : ℕ). get_or session_kinds n kind.Version) place)
+
+    apart : all_differ (map session_schema (drop start session_kinds)) ≡ true
+    apart =
+        subst (λ (schemas : List Schema). all_differ schemas ≡ true) (drop-map session_schema start session_kinds)
+        (apart_after start session_schemas session_differ)
 
 pub one_kind : OneKindLaw
 one_kind it values fields reads =

@@ -334,11 +334,14 @@ pub fn kind_of_version_2(fields: &Fields) -> Result<SessionKind, FormFault>
     kind_from(FIRST_OF_VERSION_2, fields)
 }
 
-// The kind of a record among those from a place on, or `Kind` or `Fields`.
+// The kind of a record among those from a place on, or `Kind` or `Fields`. Most records are readings.
 fn kind_from(start: usize, fields: &Fields) -> Result<SessionKind, FormFault>
-    requires { start < length session_kinds }
+    requires { start ≤ FIRST_OF_VERSION_1 }
     ensures { result ≡ session_told (drop start session_kinds) fields.now }
 {
+    if is_of_kind(SessionKind::Reading, fields) {
+        return Ok(SessionKind::Reading);
+    }
     let place = tell(&session_schemas()[start..], fields)?;
     Ok(KINDS[start + place])
 }

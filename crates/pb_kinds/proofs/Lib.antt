@@ -4,3 +4,4 @@ mod VersionLemmas
 mod RequestLemmas
 mod CostLemmas
 mod WrittenLemmas
+mod ReadingLemmas

@@ -3,19 +3,21 @@ use Rattle.std.specs.Prelude.{◌≡◌, ◌≤ℤ◌, ◌^◌, ◌-◌, ◌/◌
 use Rattle.pb_rows.specs.Date.{IsDay}
 use Rattle.pb_rows.specs.Name.{is_name}
 use Rattle.pb_rows.specs.Records.{without_trailing_empty}
-use Rattle.pb_form.specs.Reading.{fields_read, repeated}
-use Rattle.pb_form.specs.SessionRows.{cost_columns}
+use Rattle.pb_form.specs.Reading.{fields_read, repeated, row_read}
+use Rattle.pb_form.specs.SessionRows.{cost_columns, session_columns, session_schema}
 use Rattle.pb_form.specs.Value.{Value}
 use Rattle.pb_form.specs.Values.{day_in, name_in, number_in, reason_in, value_at}
+use Rattle.pb_form.specs.Writing.{FitEach}
 use Rattle.pb_form.specs.declared.fault.FormFault.{FormFault}
 use Rattle.pb_form.specs.declared.session.SessionKind.{SessionKind}
-use Rattle.pb_form.specs.declared.session.SessionKind.TheVariants.{BatchInService, MeteredInService, PlainInService, StreamBatch, StreamMetered, StreamPlain}
+use Rattle.pb_form.specs.declared.session.SessionKind.TheVariants.{BatchInService, MeteredInService, PlainInService, Reading, StreamBatch, StreamMetered, StreamPlain}
+use Rattle.pb_facts.specs.declared.fact.Fact.{Fact}
 use Rattle.pb_site.specs.declared.declared.Kind.{Kind}
 use Rattle.pb_site.specs.declared.declared.Kind.TheVariants.{Metered, Batch, Plain}
 use Rattle.pb_site.specs.declared.declared.Version.{Version}
 use Rattle.pb_kinds.specs.declared.rows.Effect.{Effect}
 use Rattle.pb_kinds.specs.declared.rows.Request.TheVariants.{Store}
-use Rattle.pb_kinds.specs.Requests.{request_in}
+use Rattle.pb_kinds.specs.Requests.{reading_from, request_in}
 use Rattle.pb_kinds.specs.Versions.{may_do}
 
 -- a name
@@ -73,3 +75,10 @@ abbrev pub served_stream_kind : Kind → SessionKind
 served_stream_kind Metered = MeteredInService
 served_stream_kind Batch = BatchInService
 served_stream_kind Plain = PlainInService
+
+-- the values of a row of a reading, whose fields have no fault, say a reading
+pub record IsReadingIn (fields : List (List ℕ)) (fact : Fact) : Type 0 where
+  pub values : List Value
+  pub read : row_read (session_schema Reading) fields ≡ Ok values
+  pub fit : FitEach (session_columns Reading) values
+  pub is : fact ≡ reading_from values 1

@@ -1,15 +1,17 @@
 // What a record asks, by the table of kinds.
 
 ghost use Rattle.std.specs.Prelude.{◌≡◌, ◌≤◌, IfOk, None, Some, true};
-ghost use Rattle.pb_form.specs.SessionRows.{session_columns, session_told};
+ghost use Rattle.pb_form.specs.Reading.{row_read};
+ghost use Rattle.pb_form.specs.SessionRows.{session_columns, session_schema, session_told};
+ghost use Rattle.pb_form.specs.Telling.{is_of};
 ghost use Rattle.pb_form.specs.Writing.{FitEach};
 ghost use Rattle.pb_form.specs.declared.session.SessionKind.TheVariants as kinds;
 ghost use Rattle.pb_kinds.specs.Ranges.{IsRequestInRange};
-ghost use Rattle.pb_kinds.specs.Requests.{asked_by, asked_in, books, declares, kinds_of, request_in, request_of, service_from, stream_of};
+ghost use Rattle.pb_kinds.specs.Requests.{asked_by, asked_in, books, declares, kinds_of, request_by, request_in, request_of, service_from, stream_of};
 ghost use Rattle.pb_kinds.specs.There.{IsNameThere};
 ghost use Rattle.pb_kinds.specs.Versions.{may_ask};
 
-use crate::facts::{dip_from, reading_from, transfer_from};
+use crate::facts::{dip_from, reading_from, reading_in, transfer_from};
 use crate::rows::{Assay, Edit, Effect, Request};
 use crate::there::{day_there, dof_there, long_there, name_there, number_there, reason_there};
 use pb_assay::Grade;
@@ -59,6 +61,29 @@ fn read_fields(version: Version, fields: &Fields) -> Result<Request, FormFault>
         return Ok(Request::Blank);
     }
     let kind = kind_of(version, fields)?;
+    asked_of(kind, fields)
+}
+
+// What the fields of a row of a kind ask. Most rows are readings, and most of these have no fault: their fields are read once.
+fn asked_of(kind: SessionKind, fields: &Fields) -> Result<Request, FormFault>
+    requires { is_of fields.now (session_schema kind) ≡ true }
+    ensures value { result ≡ request_by kind (row_read (session_schema kind) fields.now) }
+    ensures in_range { IfOk result IsRequestInRange }
+{
+    match kind {
+        SessionKind::Reading => match reading_in(fields) {
+            Some(reading) => Ok(books(false, reading)),
+            None => asked_by_values(kind, fields),
+        },
+        _ => asked_by_values(kind, fields),
+    }
+}
+
+// What the fields of a row of a kind ask, by their values.
+fn asked_by_values(kind: SessionKind, fields: &Fields) -> Result<Request, FormFault>
+    ensures value { result ≡ request_by kind (row_read (session_schema kind) fields.now) }
+    ensures in_range { IfOk result IsRequestInRange }
+{
     match &read(session_schema(kind), fields) {
         Ok(values) => Ok(request_of(kind, values)),
         Err(fault) => Err(*fault),

@@ -1,5 +1,6 @@
 mod NameLemmas
 mod RowLemmas
+mod JoinLemmas
 mod ReadLemmas
 mod NumberLemmas
 mod TextLemmas

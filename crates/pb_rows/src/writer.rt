@@ -1,12 +1,15 @@
 // Rows out: the text of the rows ended so far, and the fields of the row that is being filled.
 
-ghost use Rattle.std.specs.Prelude.{◌≡◌, ◌∷◌, ◌++◌, [], IfOk, OnOk, OnErr};
+ghost use Rattle.std.specs.Prelude.{◌≡◌, ◌<◌, ◌∷◌, ◌++◌, [], length, take, false, IfOk, IsTrue, OnOk, OnErr};
+ghost use Rattle.std.specs.List.{list_any};
 ghost use Rattle.csv.specs.Records.{fields_of};
+ghost use Rattle.csv.specs.Writing.{default_writer, needs_quotes};
 ghost use Rattle.pb_rows.specs.Number.{whole_text};
 ghost use Rattle.pb_rows.specs.Written.{AddsField, AddsLine, EndsRow, line_of};
 
 use crate::row::Row;
 use csv::{ByteRecord, WriterBuilder};
+use memchr::{memchr, memchr3};
 use std::alloc::{AllocError, Global};
 use std::marker::Model;
 
@@ -78,10 +81,51 @@ impl Row {
         ensures appended { OnOk result (AddsLine text.old.items text.new.items self.now) }
         ensures unchanged { OnErr result (text.new.items ≡ text.old.items) }
     {
-        let alloc = *text.allocator();
-        let line = line_of(alloc, self.as_record())?;
-        text.extend_from_slice(line.as_slice())
+        if self.len() < 2 || !self.is_plain() {
+            return write_quoted(self.as_record(), text);
+        }
+        let before = text.len();
+        if let Err(error) = self.join_to(text) {
+            text.truncate(before);
+            return Err(error);
+        }
+        Ok(())
     }
+
+    // Whether no byte of a field calls for quotes.
+    fn is_plain(&self) -> bool
+        ensures { IsTrue result → list_any (needs_quotes default_writer) self.now ≡ false }
+    {
+        let bytes = self.as_record().as_slice();
+        memchr3(b',', b'"', b'\n', bytes).is_none() && memchr(b'\r', bytes).is_none()
+    }
+
+    // Appends the fields of a row that needs no quotes with a comma between two, and a line feed. After an `Err`, out of memory, the
+    // text begins as before.
+    fn join_to(&self, text: &mut Vec<u8>) -> Result<(), AllocError>
+        requires several { 1 < length self.now }
+        requires plain { list_any (needs_quotes default_writer) self.now ≡ false }
+        ensures ok { OnOk result (AddsLine text.old.items text.new.items self.now) }
+        ensures err { OnErr result
+            (take (length text.old.items) text.new.items ≡ text.old.items) }
+    {
+        text.extend_from_slice(self.field(0))?;
+        for i in 1..self.len() {
+            text.push(b',')?;
+            text.extend_from_slice(self.field(i))?;
+        }
+        text.push(b'\n')?;
+        Ok(())
+    }
+}
+
+// Appends the line of a row of any fields.
+fn write_quoted(row: &ByteRecord, text: &mut Vec<u8>) -> Result<(), AllocError>
+    ensures appended { OnOk result (AddsLine text.old.items text.new.items (fields_of row.now)) }
+    ensures unchanged { OnErr result (text.new.items ≡ text.old.items) }
+{
+    let line = line_of(*text.allocator(), row)?;
+    text.extend_from_slice(line.as_slice())
 }
 
 // The line of one row, by a writer of its own: so no length of an earlier row and no pending byte matters.

@@ -59,7 +59,7 @@ with_rows state rows = record { options = state.options; form = state.form; rows
 -- ---- records that write accepted rows
 
 -- a row was acceptable behind those before it
-seam : (done more : List StoredRow) (stored : StoredRow) → AreAccepted (done ++ stored ∷ more) → IsAcceptable done stored.effect
+pub seam : (done more : List StoredRow) (stored : StoredRow) → AreAccepted (done ++ stored ∷ more) → IsAcceptable done stored.effect
 seam done more stored accepted =
     let long = length-append done (stored ∷ more) in
     let here : length done < length (done ++ stored ∷ more) = omega (arith, long) in

@@ -1,21 +1,18 @@
 -- What a session keeps, behind a row and behind a report.
-use Rattle.std.specs.Prelude.{◌-◌, IsSome, IfOk, IfSome, find, option_map, slice_index_or}
+use Rattle.std.specs.Prelude.{◌-◌, ◌+◌, ◌==◌, IsSome, IfOk, IfSome, find, option_map, slice_index_or}
 use Rattle.std.specs.List.{AllByRecursion}
-use Rattle.std.specs.Option.{option_map_or}
+use Rattle.std.specs.Option.{option_and_then, option_map_or}
 use Rattle.std.proofs.Common.{◌≡◌, ◌≢◌, ◌∙◌, ◌≤◌, ℕ, zero, suc, Bool, true, false, List, [], ◌∷◌, ◌++◌, length, Option, Some, None, Result, Ok, Err, slice_get, refl, sym, ap, ap₂, subst, arith, inl, inr, length-append}
-use Rattle.std.proofs.lemmas.Bool.{cases_Bool}
+use Rattle.std.proofs.lemmas.Bool.{cases_Bool, eqb-true}
 use Rattle.std.proofs.lemmas.List.Sums.{fold_push}
 use Rattle.std.proofs.lemmas.Option.{slice_get-get_or, slice_get-map}
 use Rattle.pb_rows.specs.declared.name.Names.{Names}
-use Rattle.pb_graph.specs.declared.records.Classified.{Classified}
 use Rattle.pb_graph.specs.declared.results.Critical.{Critical}
 use Rattle.pb_graph.specs.declared.results.Options.{Options}
 use Rattle.pb_graph.specs.declared.results.Stage.{Stage}
 use Rattle.pb_graph.specs.declared.results.Study.{Study}
-use Rattle.pb_graph.specs.Alike.{AreAlike}
 use Rattle.pb_graph.specs.ProcessGraph.{ProcessGraph, IsProcessGraph}
 use Rattle.pb_classify.specs.Classification.{IsClassification}
-use Rattle.pb_classify.specs.Laws.{AlikeLaw}
 use Rattle.pb_elim.specs.Printed.{printed_classes}
 use Rattle.pb_elim.specs.Study.{IsStudyOf}
 use Rattle.pb_facts.specs.Facts.{NoRepeats}
@@ -46,16 +43,15 @@ use Rattle.pb_book.specs.TakenOut.{row_takes_out, takes_out, touched_at, touchin
 use Rattle.pb_period.specs.Laws.{AreGraphNames, UntouchedLaw}
 use Rattle.pb_period.specs.declared.graph.Assembly.{Assembly}
 use Rattle.pb_period.specs.PeriodGraph.{assembly_of, period_graph, period_names}
-use Rattle.pb_session.specs.declared.classes.Classes.{Classes}
 use Rattle.pb_session.specs.declared.kept.KeptStudy.{KeptStudy}
 use Rattle.pb_session.specs.declared.session.Reported.{Reported}
 use Rattle.pb_session.specs.Criticals.{critical_of, declared_critical}
-use Rattle.pb_session.specs.Kept.{Held, IsKeptAt, IsKeptBy, IsKeptOf, KeepsAccepted, KeepsBy, KeepsReport, KeepsReportOf, kept_behind, most_kept, reported_after, reported_behind, reported_by, reported_of, untouched}
-use Rattle.pb_session.specs.Keeping.{IsKeeping, IsKeptStudy, IsMade, IsRenewal, IsReportedAt, IsReportedBy, IsReportedOf, held_of, is_of, left_by, others_than, place_in, renewed, settled, settled_by, studies_behind, untouched_studies}
+use Rattle.pb_session.specs.Kept.{Held, IsKeptAt, IsKeptBy, IsKeptOf, KeepsAccepted, KeepsBy, KeepsReport, KeepsReportOf, kept_behind, most_kept, reported_after, reported_behind, reported_by, reported_of, untouched, without}
+use Rattle.pb_session.specs.Keeping.{IsKeeping, IsKeptStudy, IsMade, IsReportedAt, IsReportedBy, IsReportedOf, held_of, is_of, last_stage, left_by, others_than, place_in, saved_by, saved_stage, settled, settled_by, settled_stage, stage_beside, studies_behind, untouched_studies}
 use Rattle.pb_session.specs.Session.{AreNamesOf, SessionState}
 use Rattle.pb_session.proofs.NamedLemmas.{period_names_are}
 use Rattle.pb_session.proofs.ReportLemmas.{at_found}
-use Rattle.pb_session.proofs.KeptLemmas.{all_behind, all_filter, behind_periods, contained_found, few_behind, few_filter, found_is, others_periods, periods_in, place_found, untouched_periods}
+use Rattle.pb_session.proofs.KeptLemmas.{all_behind, behind_periods, contained_found, few_behind, few_filter, found_is, others_periods, periods_in, place_found, untouched_periods}
 
 -- accepted rows, of which no two facts have one id
 abbrev pub AreInOrder : List StoredRow → Type 0
@@ -334,19 +330,21 @@ record Written (state : SessionState) (i : ℕ) (found : Option Period) (graph :
   study : Study
   is_study : IsStudyOf graph state.options (critical_of state.rows) study
   settled_is : settled i made kept ≡ studies_behind i study kept
+  stage_is : settled_stage i made kept ≡ stage_beside study
   of : length study.stages ≡ 1 → IsKeptAt state found study
 
-written : (state : SessionState) (i : ℕ) (period : Period) (graph : ProcessGraph) (made : Option Study) (kept : List KeptStudy) (classes : Option Classes)
-    → slice_get (periods_of state.rows) i ≡ Some period → Ok graph ≡ assembly_of state.rows (days_of period) → IsProcessGraph graph → IsMade (held_of state kept classes) i graph made
+written : (state : SessionState) (i : ℕ) (period : Period) (graph : ProcessGraph) (made : Option Study) (kept : List KeptStudy) (last : Option Stage)
+    → slice_get (periods_of state.rows) i ≡ Some period → Ok graph ≡ assembly_of state.rows (days_of period) → IsProcessGraph graph → IsMade (held_of state kept last) i graph made
     → AllByRecursion (IsKeptStudy state) kept → Written state i (slice_get (periods_of state.rows) i) graph made kept
-written state i period graph (Some study) kept classes at is limits (is_study, certified, formed) all = record {
+written state i period graph (Some study) kept last at is limits (is_study, certified, formed) all = record {
   study = study;
   is_study = is_study;
   settled_is = refl;
+  stage_is = refl;
   of = λ one. kept_at state (slice_get (periods_of state.rows) i) period graph study at is
       (record { limits = limits; is_study = is_study; one_stage = one; certified = certified; formed = formed });
 }
-written state i period graph None kept classes at is limits has all = by (find (is_of i) kept) refl (contained_found i kept has)
+written state i period graph None kept last at is limits has all = by (find (is_of i) kept) refl (contained_found i kept has)
   where
     by : (o : Option KeptStudy) → find (is_of i) kept ≡ o → IsSome o → Written state i (slice_get (periods_of state.rows) i) graph None kept
     by None found some = cc some
@@ -358,72 +356,89 @@ written state i period graph None kept classes at is limits has all = by (find (
           study = k.study;
           is_study = of.is_study;
           settled_is = ap (λ (o : Option KeptStudy). settled_by i o kept) found;
+          stage_is = ap (λ (o : Option KeptStudy). option_and_then (λ (x : KeptStudy). stage_beside x.study) o) found;
           of = λ one. kept_here;
         }
-
--- the classes that are kept are those of a graph alike
-pub known_classes : AlikeLaw → (classes : Option Classes) (kept : Classes) (graph : ProcessGraph) → IsProcessGraph graph → classes ≡ Some kept → AreAlike kept.graph graph
-    → IfSome classes (λ (c : Classes). IsClassification c.graph c.list) → IsClassification graph kept.list
-known_classes law classes kept graph limits is alike are =
-    law kept.graph graph kept.list limits alike (subst (λ (o : Option Classes). IfSome o (λ (c : Classes). IsClassification c.graph c.list)) is are)
 
 -- what holds of a list holds of its copy
 pub such_copy : {T E : Type 0} (r : Result T E) (x : T) (P : T → Type 0) → P x → IfOk r (λ y. y ≡ x) → IfOk r P
 such_copy (Ok y) x P holds is = subst P (sym is) holds
 such_copy (Err e) x P holds is = tt
 
--- the classes that are kept are those of the graph
-classes_right : AlikeLaw → (classes : Option Classes) (graph : ProcessGraph) (list : Option (List Classified)) → IsProcessGraph graph → IsRenewal (option_map (λ (c : Classes). c.graph) classes) graph list
-    → IfSome classes (λ (c : Classes). IsClassification c.graph c.list)
-    → IfSome (renewed classes graph list) (λ (c : Classes). IsClassification c.graph c.list) × (option_map (λ (c : Classes). c.graph) (renewed classes graph list) ≡ Some graph)
-classes_right law classes graph (Some list) limits renewal are = (renewal, refl)
-classes_right law (Some before) graph None limits alike are = (law before.graph graph before.list limits alike are, refl)
-classes_right law None graph None limits alike are = absurd alike
+-- the stage that is reported last, behind a study that was written, is the first one of that study
+stage_behind : (i : ℕ) (study : Study) (kept : List KeptStudy) (stage : Stage) → slice_get study.stages 0 ≡ Some stage
+    → last_stage (studies_behind i study kept) (stage_beside study) ≡ Some stage
+stage_behind i study kept stage at = elim (cases_Bool (length study.stages == 1)) [ inl one ↦ rw one at | inr more ↦ rw (more, at) refl ]
+
+some_first : (stages : List Stage) (n : ℕ) → length stages ≡ n + 1 → IsSome (slice_get stages 0)
+some_first [] n long = absurd (omega (arith, long))
+some_first (stage ∷ stages) n long = refl
+
+-- a study has a first stage, which is that of its graph and has its classes
+record Begun (graph : ProcessGraph) (study : Study) : Type 0 where
+  stage : Stage
+  at : slice_get study.stages 0 ≡ Some stage
+  graph_is : stage.graph ≡ graph
+  classes : IsClassification stage.graph (printed_classes stage)
+
+begun : (graph : ProcessGraph) (options : Options) (critical : Critical) (study : Study) → IsStudyOf graph options critical study → Begun graph study
+begun graph options critical study is = by (slice_get study.stages 0) refl (some_first study.stages (length study.taken) is.rounds.between)
+  where
+    by : (o : Option Stage) → slice_get study.stages 0 ≡ o → IsSome o → Begun graph study
+    by None at some = cc some
+    by (Some stage) at some =
+        let of = first_classes graph options critical study stage is at in
+        record { stage = stage; at = at; graph_is = of.0; classes = subst (λ (g : ProcessGraph). IsClassification g (printed_classes stage)) (sym of.0) of.1 }
+
+-- the graph of a stage
+abbrev pub graph_in : Option Stage → Option ProcessGraph
+graph_in stage = option_map (λ (s : Stage). s.graph) stage
 
 -- what a session holds behind the report of a period
-pub record Settles (state : SessionState) (i : ℕ) (found : Option Period) (kept : List KeptStudy) (classes : Option Classes) (new : List KeptStudy) (new_classes : Option Classes) : Type 0 where
+pub record Settles (state : SessionState) (i : ℕ) (found : Option Period) (kept : List KeptStudy) (last : Option Stage) (new : List KeptStudy) (new_last : Option Stage) : Type 0 where
   pub keeps : KeepsReportOf state i (periods_in kept) found (periods_in new)
-  pub reports : option_map (λ (c : Classes). c.graph) new_classes ≡ reported_of state (option_map (λ (c : Classes). c.graph) classes) found
-  pub keeping : IsKeeping state new new_classes
+  pub reports : graph_in (last_stage new new_last) ≡ reported_of state (graph_in (last_stage kept last)) found
+  pub keeping : IsKeeping state new new_last
 
-settles_graph : AlikeLaw → (state : SessionState) (i : ℕ) (period : Period) (graph : ProcessGraph) (reported : Reported) (kept : List KeptStudy) (classes : Option Classes)
-    → slice_get (periods_of state.rows) i ≡ Some period → Ok graph ≡ assembly_of state.rows (days_of period) → IsReportedOf (held_of state kept classes) i graph reported
-    → IsKeeping state kept classes → Settles state i (Some period) kept classes (settled i reported.made kept) (renewed classes reported.graph reported.classes)
-settles_graph law state i period graph reported kept classes at is of keeping =
-    let before : Option ProcessGraph = option_map (λ (c : Classes). c.graph) classes in
-    let w = written state i period graph reported.made kept classes at is of.limits of.made keeping.studies in
+settles_graph : (state : SessionState) (i : ℕ) (period : Period) (graph : ProcessGraph) (reported : Reported) (kept : List KeptStudy) (last : Option Stage)
+    → slice_get (periods_of state.rows) i ≡ Some period → Ok graph ≡ assembly_of state.rows (days_of period) → IsReportedOf (held_of state kept last) i graph reported
+    → IsKeeping state kept last → Settles state i (Some period) kept last (settled i reported.made kept) (settled_stage i reported.made kept)
+settles_graph state i period graph reported kept last at is of keeping =
+    let before : Option ProcessGraph = graph_in (last_stage kept last) in
+    let w = written state i period graph reported.made kept last at is of.limits of.made keeping.studies in
     let periods : periods_in (settled i reported.made kept) ≡ kept_behind i w.study (periods_in kept) = ap periods_in w.settled_is ∙ behind_periods i w.study kept in
     let keeps : KeepsReport state i (periods_in kept) (Ok graph) (periods_in (settled i reported.made kept)) = (w.study, w.is_study, periods) in
-    let renewal : IsRenewal before reported.graph reported.classes = subst (λ (g : ProcessGraph). IsRenewal before g reported.classes) (sym of.graph_is) of.classes in
-    let right = classes_right law classes reported.graph reported.classes (subst IsProcessGraph (sym of.graph_is) of.limits) renewal keeping.classes in
+    let first = begun graph state.options (critical_of state.rows) w.study w.is_study in
+    let stage : last_stage (settled i reported.made kept) (settled_stage i reported.made kept) ≡ Some first.stage =
+    ap₂ last_stage w.settled_is w.stage_is ∙ stage_behind i w.study kept first.stage first.at in
     record {
       keeps = subst (λ (a : Result ProcessGraph Assembly). KeepsReport state i (periods_in kept) a (periods_in (settled i reported.made kept))) is keeps;
-      reports = right.1 ∙ ap (λ (g : ProcessGraph). Some g) of.graph_is ∙ ap (reported_by before) is;
+      reports = ap graph_in stage ∙ ap (λ (g : ProcessGraph). Some g) first.graph_is ∙ ap (reported_by before) is;
       keeping = record {
         options = keeping.options;
         studies = subst (AllByRecursion (IsKeptStudy state)) (sym w.settled_is) (all_behind (IsKeptStudy state) i w.study kept w.of keeping.studies);
         few = subst (λ (ks : List KeptStudy). length ks ≤ most_kept) (sym w.settled_is) (few_behind i w.study kept keeping.few);
-        classes = right.0;
+        classes = subst (λ (o : Option Stage). IfSome o (λ (s : Stage). IsClassification s.graph (printed_classes s))) (sym stage) first.classes;
       };
     }
 
-settles_by : AlikeLaw → (state : SessionState) (i : ℕ) (period : Period) (assembly : Result ProcessGraph Assembly) (reported : Reported) (kept : List KeptStudy) (classes : Option Classes)
-    → slice_get (periods_of state.rows) i ≡ Some period → assembly ≡ assembly_of state.rows (days_of period) → IsReportedBy (held_of state kept classes) i assembly (Some reported)
-    → IsKeeping state kept classes → Settles state i (Some period) kept classes (settled i reported.made kept) (renewed classes reported.graph reported.classes)
-settles_by law state i period (Ok graph) reported kept classes at is of keeping = settles_graph law state i period graph reported kept classes at is of keeping
-settles_by law state i period (Err why) reported kept classes at is of keeping = absurd of
+settles_by : (state : SessionState) (i : ℕ) (period : Period) (assembly : Result ProcessGraph Assembly) (reported : Reported) (kept : List KeptStudy) (last : Option Stage)
+    → slice_get (periods_of state.rows) i ≡ Some period → assembly ≡ assembly_of state.rows (days_of period) → IsReportedBy (held_of state kept last) i assembly (Some reported)
+    → IsKeeping state kept last → Settles state i (Some period) kept last (settled i reported.made kept) (settled_stage i reported.made kept)
+settles_by state i period (Ok graph) reported kept last at is of keeping = settles_graph state i period graph reported kept last at is of keeping
+settles_by state i period (Err why) reported kept last at is of keeping = absurd of
 
-settles_at : AlikeLaw → (state : SessionState) (i : ℕ) (found : Option Period) (reported : Reported) (kept : List KeptStudy) (classes : Option Classes) → slice_get (periods_of state.rows) i ≡ found
-    → IsReportedAt (held_of state kept classes) i found (Some reported) → IsKeeping state kept classes
-    → Settles state i found kept classes (settled i reported.made kept) (renewed classes reported.graph reported.classes)
-settles_at law state i None reported kept classes at leaves keeping = absurd leaves
-settles_at law state i (Some period) reported kept classes at leaves keeping =
-    settles_by law state i period (assembly_of state.rows (days_of period)) reported kept classes at refl leaves keeping
+settles_at : (state : SessionState) (i : ℕ) (found : Option Period) (reported : Reported) (kept : List KeptStudy) (last : Option Stage) → slice_get (periods_of state.rows) i ≡ found
+    → IsReportedAt (held_of state kept last) i found (Some reported) → IsKeeping state kept last
+    → Settles state i found kept last (settled i reported.made kept) (settled_stage i reported.made kept)
+settles_at state i None reported kept last at leaves keeping = absurd leaves
+settles_at state i (Some period) reported kept last at leaves keeping =
+    settles_by state i period (assembly_of state.rows (days_of period)) reported kept last at refl leaves keeping
 
-pub settles : AlikeLaw → (state : SessionState) (i : ℕ) (reported : Reported) (kept : List KeptStudy) (classes : Option Classes)
-    → IsReportedAt (held_of state kept classes) i (slice_get (periods_of state.rows) i) (Some reported) → IsKeeping state kept classes
-    → Settles state i (slice_get (periods_of state.rows) i) kept classes (settled i reported.made kept) (renewed classes reported.graph reported.classes)
-settles law state i reported kept classes leaves keeping = settles_at law state i (slice_get (periods_of state.rows) i) reported kept classes refl leaves keeping
+pub settles : (state : SessionState) (i : ℕ) (reported : Reported) (kept : List KeptStudy) (last : Option Stage)
+    → IsReportedAt (held_of state kept last) i (slice_get (periods_of state.rows) i) (Some reported) → IsKeeping state kept last
+    → Settles state i (slice_get (periods_of state.rows) i) kept last (settled i reported.made kept) (settled_stage i reported.made kept)
+settles state i reported kept last leaves keeping = settles_at state i (slice_get (periods_of state.rows) i) reported kept last refl leaves keeping
 
 -- what a report leaves, by the graph of its period
 pub reported_at : (held : Held) (i : ℕ) (found : Option Period) (period : Period) (graph : ProcessGraph) (reported : Reported) → found ≡ Some period
@@ -440,27 +455,81 @@ passed_at held i found period why at is =
     let here : IsReportedBy held i (assembly_of held.state.rows (days_of period)) none = subst (λ (a : Result ProcessGraph Assembly). IsReportedBy held i a none) is tt in
     subst (λ (o : Option Period). IsReportedAt held i o none) (sym at) here
 
--- behind the row that names a stream over the limits
-passes_by : (state : SessionState) (i : ℕ) (period : Period) (assembly : Result ProcessGraph Assembly) (kept : List KeptStudy) (classes : Option Classes)
-    → assembly ≡ assembly_of state.rows (days_of period) → IsReportedBy (held_of state kept classes) i assembly None → IsKeeping state kept classes
-    → Settles state i (Some period) kept classes (others_than i kept) classes
-passes_by state i period (Ok graph) kept classes is of keeping = absurd of
-passes_by state i period (Err why) kept classes is of keeping = record {
-  keeps = subst (λ (a : Result ProcessGraph Assembly). KeepsReport state i (periods_in kept) a (periods_in (others_than i kept))) is (others_periods i kept);
-  reports = ap (reported_by (option_map (λ (c : Classes). c.graph) classes)) is;
-  keeping = record {
-    options = keeping.options;
-    studies = all_filter (IsKeptStudy state) _ kept keeping.studies;
-    few = few_filter _ kept most_kept keeping.few;
-    classes = keeping.classes;
-  };
-}
+-- behind the row that names a stream over the limits no study of the period is kept, so that all stay
+other_study : (state : SessionState) (i : ℕ) (found : Option Period) (period : Period) (why : Assembly) (k : KeptStudy) → found ≡ Some period → Err why ≡ assembly_of state.rows (days_of period)
+    → slice_get (periods_of state.rows) i ≡ found → IsKeptStudy state k → is_of i k ≡ false
+other_study state i found period why k at is there kept = elim (cases_Bool (is_of i k)) [
+  | inl own ↦
+      let own_is : k.period ≡ i = eqb-true k.period i own in
+      let here : IsKeptAt state found k.study = subst (λ (o : Option Period). IsKeptAt state o k.study) (ap (slice_get (periods_of state.rows)) own_is ∙ there) kept in
+      let has : IsKeptAt state (Some period) k.study = subst (λ (o : Option Period). IsKeptAt state o k.study) at here in
+      absurd (subst (λ (a : Result ProcessGraph Assembly). IsKeptBy state a k.study) (sym is) has)
+  | inr other ↦ other
+]
 
-passes_at : (state : SessionState) (i : ℕ) (found : Option Period) (kept : List KeptStudy) (classes : Option Classes) → IsReportedAt (held_of state kept classes) i found None
-    → IsKeeping state kept classes → Settles state i found kept classes (others_than i kept) classes
-passes_at state i None kept classes leaves keeping = absurd leaves
-passes_at state i (Some period) kept classes leaves keeping = passes_by state i period (assembly_of state.rows (days_of period)) kept classes refl leaves keeping
+all_others : (state : SessionState) (i : ℕ) (found : Option Period) (period : Period) (why : Assembly) (kept : List KeptStudy) → found ≡ Some period → Err why ≡ assembly_of state.rows (days_of period)
+    → slice_get (periods_of state.rows) i ≡ found → AllByRecursion (IsKeptStudy state) kept → others_than i kept ≡ kept
+all_others state i found period why [] at is there all = refl
+all_others state i found period why (k ∷ kept) at is there (here, all) =
+    rw (other_study state i found period why k at is there here) (ap (λ (ks : List KeptStudy). k ∷ ks) (all_others state i found period why kept at is there all))
 
-pub passes_over : (state : SessionState) (i : ℕ) (kept : List KeptStudy) (classes : Option Classes) → IsReportedAt (held_of state kept classes) i (slice_get (periods_of state.rows) i) None
-    → IsKeeping state kept classes → Settles state i (slice_get (periods_of state.rows) i) kept classes (others_than i kept) classes
-passes_over state i kept classes leaves keeping = passes_at state i (slice_get (periods_of state.rows) i) kept classes leaves keeping
+passes_by : (state : SessionState) (i : ℕ) (period : Period) (assembly : Result ProcessGraph Assembly) (kept : List KeptStudy) (last : Option Stage) → slice_get (periods_of state.rows) i ≡ Some period
+    → assembly ≡ assembly_of state.rows (days_of period) → IsReportedBy (held_of state kept last) i assembly None → IsKeeping state kept last
+    → Settles state i (Some period) kept last kept last
+passes_by state i period (Ok graph) kept last at is of keeping = absurd of
+passes_by state i period (Err why) kept last at is of keeping =
+    let all : others_than i kept ≡ kept = all_others state i (Some period) period why kept refl is at keeping.studies in
+    let periods : periods_in kept ≡ without i (periods_in kept) = sym (ap periods_in all) ∙ others_periods i kept in
+    record {
+      keeps = subst (λ (a : Result ProcessGraph Assembly). KeepsReport state i (periods_in kept) a (periods_in kept)) is periods;
+      reports = ap (reported_by (graph_in (last_stage kept last))) is;
+      keeping = keeping;
+    }
+
+passes_at : (state : SessionState) (i : ℕ) (found : Option Period) (kept : List KeptStudy) (last : Option Stage) → slice_get (periods_of state.rows) i ≡ found
+    → IsReportedAt (held_of state kept last) i found None → IsKeeping state kept last → Settles state i found kept last kept last
+passes_at state i None kept last at leaves keeping = absurd leaves
+passes_at state i (Some period) kept last at leaves keeping = passes_by state i period (assembly_of state.rows (days_of period)) kept last at refl leaves keeping
+
+pub passes_over : (state : SessionState) (i : ℕ) (kept : List KeptStudy) (last : Option Stage) → IsReportedAt (held_of state kept last) i (slice_get (periods_of state.rows) i) None
+    → IsKeeping state kept last → Settles state i (slice_get (periods_of state.rows) i) kept last kept last
+passes_over state i kept last leaves keeping = passes_at state i (slice_get (periods_of state.rows) i) kept last refl leaves keeping
+
+-- ---- the stage that was reported last, behind a stored row
+
+-- it stays, though its study may go
+untouched_stage : (state : SessionState) (rows : List StoredRow) (kept : List KeptStudy) (last : Option Stage) → AllByRecursion (IsKeptStudy state) kept
+    → last_stage (untouched_studies rows kept) (saved_stage (λ (k : KeptStudy). touched_at rows k.period) kept last) ≡ last_stage kept last
+untouched_stage state rows kept (Some stage) all = refl
+untouched_stage state rows [] None all = refl
+untouched_stage state rows (k ∷ kept) None (here, all) = elim (cases_Bool (touched_at rows k.period)) [
+  | inl gone ↦
+      let has = has_graph state (slice_get (periods_of state.rows) k.period) k.study here in
+      rw gone (by (slice_get k.study.stages 0) (some_first k.study.stages 0 has.kept.one_stage))
+  | inr spared ↦ rw spared refl
+]
+  where
+    by : (o : Option Stage) → IsSome o → last_stage (untouched_studies rows kept) o ≡ o
+    by (Some stage) some = refl
+    by None some = cc some
+
+pub left_stage : (state : SessionState) (accepted : Accepted) (rows : List StoredRow) (kept : List KeptStudy) (last : Option Stage) → AllByRecursion (IsKeptStudy state) kept
+    → last_stage (left_by accepted rows kept) (saved_by accepted rows kept last) ≡ last_stage kept last
+left_stage state StoredAccepted rows kept last all = untouched_stage state rows kept last all
+left_stage state Blank rows kept last all = refl
+left_stage state Design rows kept last all = refl
+left_stage state (Report i) rows kept last all = refl
+left_stage state (History i) rows kept last all = refl
+left_stage state (Component component i) rows kept last all = refl
+left_stage state (Window first final) rows kept last all = refl
+left_stage state Advise rows kept last all = refl
+
+pub saved_other : (accepted : Accepted) (rows : List StoredRow) (kept : List KeptStudy) (last : Option Stage) → accepted ≢ StoredAccepted → saved_by accepted rows kept last ≡ last
+saved_other Blank rows kept last other = refl
+saved_other StoredAccepted rows kept last other = absurd (other refl)
+saved_other Design rows kept last other = refl
+saved_other (Report i) rows kept last other = refl
+saved_other (History i) rows kept last other = refl
+saved_other (Component component i) rows kept last other = refl
+saved_other (Window first final) rows kept last other = refl
+saved_other Advise rows kept last other = refl

@@ -1,16 +1,20 @@
 -- Lists of studies that are kept, and of their periods.
-use Rattle.std.specs.Prelude.{◌==◌, ◌↔◌, Contains, filter, find, map, not, IsSome, nat_lt, slice_index_or, if◌then◌else◌}
+use Rattle.std.specs.Prelude.{◌==◌, ◌↔◌, Contains, filter, find, map, not, is_some, IsSome, nat_lt, slice_index_or, if◌then◌else◌}
 use Rattle.std.specs.List.{AllByRecursion, position_or_len, remove}
+use Rattle.std.specs.Option.{option_and_then}
 use Rattle.std.proofs.Common.{◌≡◌, ◌∙◌, ◌<◌, ◌≤◌, ℕ, zero, suc, cond, Bool, true, false, true≢false, List, [], ◌∷◌, length, take, Option, Some, None, slice_get, refl, sym, ap, subst, arith, inl, inr}
 use Rattle.std.proofs.lemmas.Bool.{cases_Bool, eq-eqb, eqb-true, ltb-false, ltb-true}
 use Rattle.std.proofs.lemmas.List.{take-map}
 use Rattle.std.proofs.lemmas.List.Folds.{find_at}
 use Rattle.std.proofs.lemmas.Option.{slice_get-get_or, slice_get_past}
+use Rattle.pb_graph.specs.declared.results.Stage.{Stage}
 use Rattle.pb_graph.specs.declared.results.Study.{Study}
+use Rattle.pb_book.specs.declared.answer.Accepted.TheVariants.{Stored}
 use Rattle.pb_book.specs.declared.rows.StoredRow.{StoredRow}
+use Rattle.pb_book.specs.TakenOut.{touched_at}
 use Rattle.pb_session.specs.declared.kept.KeptStudy.{KeptStudy}
 use Rattle.pb_session.specs.Kept.{kept_behind, most_kept, untouched, without}
-use Rattle.pb_session.specs.Keeping.{is_of, others_than, place_in, settled, settled_by, studies_behind, untouched_studies}
+use Rattle.pb_session.specs.Keeping.{is_of, others_than, place_in, saved_by, settled, settled_by, settled_stage, stage_beside, studies_behind, untouched_studies}
 
 -- the periods of kept studies
 abbrev pub periods_in : List KeptStudy → List ℕ
@@ -59,6 +63,9 @@ filter_without test (x ∷ xs) (suc n) d lt fails = ap (λ ys. cond (test x) (x 
 
 pub others_periods : (i : ℕ) (kept : List KeptStudy) → periods_in (others_than i kept) ≡ without i (periods_in kept)
 others_periods i kept = map_filter (λ (k : KeptStudy). k.period) (λ (n : ℕ). not (n == i)) kept
+
+abbrev no_stage : Option Stage
+no_stage = None
 
 -- a study of a period
 abbrev pub first : ℕ → Study → KeptStudy
@@ -169,6 +176,50 @@ settled_place i kept n k at is =
 
 pub settled_none : (i : ℕ) (kept : List KeptStudy) → place_in i kept ≡ None → kept ≡ settled i None kept
 settled_none i kept at = sym (ap (λ (o : Option KeptStudy). settled_by i o kept) (place_none i kept at))
+
+-- and its first stage is that of the one that is found
+pub placed_stage : (i : ℕ) (kept : List KeptStudy) (n : ℕ) (k : KeptStudy) → place_in i kept ≡ Some n → k ≡ slice_index_or kept n k
+    → stage_beside k.study ≡ settled_stage i None kept
+placed_stage i kept n k at is =
+    let (lt, found) = place_found i kept n at in
+    let here : slice_get kept n ≡ Some k = slice_get-get_or kept n k lt ∙ ap (λ (x : KeptStudy). Some x) (sym is) in
+    sym (ap (λ (o : Option KeptStudy). option_and_then (λ (x : KeptStudy). stage_beside x.study) o) (found ∙ here))
+
+pub unplaced_stage : (i : ℕ) (kept : List KeptStudy) → place_in i kept ≡ None → no_stage ≡ settled_stage i None kept
+unplaced_stage i kept at = sym (ap (λ (o : Option KeptStudy). option_and_then (λ (x : KeptStudy). stage_beside x.study) o) (place_none i kept at))
+
+-- ---- the first stage of a study that goes
+
+-- the study that is kept first is left out of those that stay, where the row touches it
+pub first_gone : (rows : List StoredRow) (kept : List KeptStudy) (k : KeptStudy) → 0 < length kept → k ≡ slice_index_or kept 0 k → touched_at rows k.period ≡ true
+    → untouched_studies rows (remove kept 0) ≡ untouched_studies rows kept
+first_gone rows kept k some is touched =
+    filter_without (λ (x : KeptStudy). not (touched_at rows x.period)) kept 0 k some (ap (λ (x : KeptStudy). not (touched_at rows x.period)) (sym is) ∙ ap not touched)
+
+-- and its first stage is saved, where no other was reported last
+pub first_saved : (rows : List StoredRow) (kept : List KeptStudy) (k : KeptStudy) (last : Option Stage) → 0 < length kept → k ≡ slice_index_or kept 0 k → touched_at rows k.period ≡ true
+    → is_some last ≡ false → slice_get k.study.stages 0 ≡ saved_by Stored rows kept last
+first_saved rows [] k last some is touched none = absurd (omega (arith, some))
+first_saved rows (x ∷ kept) k (Some stage) some is touched none = cc none
+first_saved rows (x ∷ kept) k None some is touched none =
+    subst (λ (y : KeptStudy). slice_get k.study.stages 0 ≡ (if touched_at rows y.period then slice_get y.study.stages 0 else no_stage)) is (rw touched refl)
+
+-- else nothing is
+pub other_saved : (rows : List StoredRow) (kept : List KeptStudy) (last : Option Stage) → is_some last ≡ true → last ≡ saved_by Stored rows kept last
+other_saved rows kept (Some stage) some = refl
+other_saved rows kept None some = cc some
+
+pub spared_saved : (rows : List StoredRow) (kept : List KeptStudy) (k : KeptStudy) (last : Option Stage) → k ≡ slice_index_or kept 0 k → touched_at rows k.period ≡ false
+    → last ≡ saved_by Stored rows kept last
+spared_saved rows kept k (Some stage) is spared = refl
+spared_saved rows [] k None is spared = refl
+spared_saved rows (x ∷ kept) k None is spared =
+    subst (λ (y : KeptStudy). no_stage ≡ (if touched_at rows y.period then slice_get y.study.stages 0 else no_stage)) is (rw spared refl)
+
+pub none_saved : (rows : List StoredRow) (kept : List KeptStudy) (last : Option Stage) → (length kept == 0) ≡ true → last ≡ saved_by Stored rows kept last
+none_saved rows kept (Some stage) none = refl
+none_saved rows [] None none = refl
+none_saved rows (x ∷ kept) None none = absurd (omega (arith, eqb-true (length (x ∷ kept)) 0 none))
 
 slice_get-some : {A : Type 0} (xs : List A) (n : ℕ) → n < length xs → IsSome (slice_get xs n)
 slice_get-some [] n lt = absurd (omega (arith, lt))

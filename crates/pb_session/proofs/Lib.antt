@@ -14,3 +14,4 @@ mod TextLemmas
 mod KeepingLemmas
 mod KeptLawLemmas
 mod KeptLemmas
+mod VersionOneLemmas

@@ -1,15 +1,17 @@
--- Inside. The studies and classes that a session keeps, as its code has them.
-use Rattle.std.specs.Prelude.{◌≡◌, ◌==◌, ℕ, ◌≤◌, Bool, Contains, not, List, ◌∷◌, filter, find, length, map, position, slice_get, take, All, Option, Some, None, IfSome, IsSomeAnd, Result, Ok, Err, option_map, if◌then◌else◌}
+-- Inside. The studies that a session keeps, and the stage that it reported last, as its code has them.
+use Rattle.std.specs.Prelude.{◌≡◌, ◌==◌, ℕ, ◌≤◌, Bool, Contains, not, List, [], ◌∷◌, filter, find, length, map, position, slice_get, take, All, Option, Some, None, IfSome, Result, Ok, Err, option_map, if◌then◌else◌}
 use Rattle.std.specs.List.{AllByRecursion}
+use Rattle.std.specs.Option.{option_and_then}
 use Rattle.pb_graph.specs.declared.records.Classified.{Classified}
+use Rattle.pb_graph.specs.declared.results.Stage.{Stage}
 use Rattle.pb_graph.specs.declared.results.StreamResult.{StreamResult}
 use Rattle.pb_graph.specs.declared.results.Study.{Study}
-use Rattle.pb_graph.specs.Alike.{AreAlike}
 use Rattle.pb_graph.specs.ProcessGraph.{ProcessGraph, IsProcessGraph}
 use Rattle.pb_graph.specs.WellFormed.{IsWellFormedStudy}
 use Rattle.pb_classify.specs.Classification.{IsClassification}
 use Rattle.pb_elim.specs.Certified.{IsCertifiedStage, HasLeastThroughout, TestsEachRedundant}
 use Rattle.pb_elim.specs.Options.{AreOptions}
+use Rattle.pb_elim.specs.Printed.{printed_classes}
 use Rattle.pb_elim.specs.Study.{IsStudyOf}
 use Rattle.pb_book.specs.declared.answer.Accepted.{Accepted}
 use Rattle.pb_book.specs.declared.answer.Accepted.TheVariants.{Stored}
@@ -20,7 +22,6 @@ use Rattle.pb_book.specs.Rows.{periods_of}
 use Rattle.pb_period.specs.Days.{days_of}
 use Rattle.pb_period.specs.declared.graph.Assembly.{Assembly}
 use Rattle.pb_period.specs.PeriodGraph.{assembly_of}
-use Rattle.pb_session.specs.declared.classes.Classes.{Classes}
 use Rattle.pb_session.specs.declared.kept.KeptStudy.{KeptStudy}
 use Rattle.pb_session.specs.declared.session.Reported.{Reported}
 use Rattle.pb_session.specs.Criticals.{critical_of}
@@ -67,26 +68,41 @@ abbrev pub left_by : Accepted → List StoredRow → List KeptStudy → List Kep
 left_by Stored rows kept = untouched_studies rows kept
 left_by accepted rows kept = kept
 
--- ---- the classes
+-- ---- the stage that was reported last
 
--- the classes of a graph: those of another one that were kept, or others in their place
-abbrev pub renewed : Option Classes → ProcessGraph → Option (List Classified) → Option Classes
-renewed before graph (Some list) = Some (record { graph = graph; list = list })
-renewed (Some before) graph None = Some (record { graph = graph; list = before.list })
-renewed None graph None = None
+-- the first stage of the study that is kept first
+abbrev pub first_stage : List KeptStudy → Option Stage
+first_stage [] = None
+first_stage (k ∷ kept) = slice_get k.study.stages 0
+
+-- the first stage of the study that was reported last: one of its own, or that of the study that is kept first
+abbrev pub last_stage : List KeptStudy → Option Stage → Option Stage
+last_stage kept (Some stage) = Some stage
+last_stage kept None = first_stage kept
+
+-- the first stage of a study that isn't kept, since it has several
+abbrev pub stage_beside : Study → Option Stage
+stage_beside study = if length study.stages == 1 then None else slice_get study.stages 0
+
+-- that of the study that was written, where it was made or was kept
+abbrev pub settled_stage : ℕ → Option Study → List KeptStudy → Option Stage
+settled_stage period (Some study) kept = stage_beside study
+settled_stage period None kept = option_and_then (λ (k : KeptStudy). stage_beside k.study) (find (is_of period) kept)
+
+-- where the study that is kept first goes, its first stage stays, unless another one was reported last
+abbrev pub saved_stage : (KeptStudy → Bool) → List KeptStudy → Option Stage → Option Stage
+saved_stage goes kept (Some stage) = Some stage
+saved_stage goes [] None = None
+saved_stage goes (k ∷ kept) None = if goes k then slice_get k.study.stages 0 else None
+
+-- so it is where the last stored row touches that study
+abbrev pub saved_by : Accepted → List StoredRow → List KeptStudy → Option Stage → Option Stage
+saved_by Stored rows kept last = saved_stage (λ (k : KeptStudy). touched_at rows k.period) kept last
+saved_by accepted rows kept last = last
 
 -- the classes that stand in the results of streams
 abbrev pub classes_in : List StreamResult → List Classified
 classes_in results = map (λ (r : StreamResult). r.classified) results
-
--- the kept graph is alike, so that its classes are those of this one
-abbrev pub KeepsAlike : Option ProcessGraph → ProcessGraph → Type 0
-KeepsAlike reported graph = IsSomeAnd reported (λ (other : ProcessGraph). AreAlike other graph)
-
--- classes in place of the kept ones are those of the graph, and none are needed where that of the last report is alike
-abbrev pub IsRenewal : Option ProcessGraph → ProcessGraph → Option (List Classified) → Type 0
-IsRenewal reported graph (Some list) = IsClassification graph list
-IsRenewal reported graph None = KeepsAlike reported graph
 
 -- ---- a study and what a report leaves to be kept
 
@@ -108,10 +124,8 @@ IsMade held i graph (Some study) =
 IsMade held i graph None = Contains held.kept i
 
 pub record IsReportedOf (held : Held) (i : ℕ) (graph : ProcessGraph) (reported : Reported) : Type 0 where
-  pub graph_is : reported.graph ≡ graph
   pub limits : IsProcessGraph graph
   pub made : IsMade held i graph reported.made
-  pub classes : IsRenewal held.reported graph reported.classes
 
 abbrev pub IsReportedBy : Held → ℕ → Result ProcessGraph Assembly → Option Reported → Type 0
 IsReportedBy held i (Ok graph) (Some reported) = IsReportedOf held i graph reported
@@ -141,18 +155,18 @@ IsBalanceAt state component None answer = ⊥
 abbrev pub IsKeptStudy : SessionState → KeptStudy → Type 0
 IsKeptStudy state kept = IsKeptAt state (slice_get (periods_of state.rows) kept.period) kept.study
 
--- The studies that are kept are those of their periods by the rows stored so far, at most so many, and the classes are those of
--- their graph.
-pub record IsKeeping (state : SessionState) (kept : List KeptStudy) (last : Option Classes) : Type 0 where
+-- The studies that are kept are those of their periods by the rows stored so far, at most so many, and the stage that was reported last
+-- has the classes of its graph.
+pub record IsKeeping (state : SessionState) (kept : List KeptStudy) (last : Option Stage) : Type 0 where
   pub options : AreOptions state.options
   pub studies : AllByRecursion (IsKeptStudy state) kept
   pub few : length kept ≤ most_kept
-  pub classes : IfSome last (λ (c : Classes). IsClassification c.graph c.list)
+  pub classes : IfSome (last_stage kept last) (λ (stage : Stage). IsClassification stage.graph (printed_classes stage))
 
 -- what a session holds that is made of these
-abbrev pub held_of : SessionState → List KeptStudy → Option Classes → Held
-held_of state studies classes = record {
+abbrev pub held_of : SessionState → List KeptStudy → Option Stage → Held
+held_of state studies last = record {
   state = state;
   kept = map (λ (k : KeptStudy). k.period) studies;
-  reported = option_map (λ (c : Classes). c.graph) classes;
+  reported = option_map (λ (stage : Stage). stage.graph) (last_stage studies last);
 }

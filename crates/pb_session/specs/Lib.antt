@@ -9,6 +9,7 @@ pub mod Edited
 pub mod Kept
 pub mod KeptLaws
 pub mod Closed
+pub mod VersionOne
 -- Inside
 pub mod Accepted
 pub mod Keeping

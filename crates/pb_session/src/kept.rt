@@ -1,12 +1,13 @@
 // The studies that a session keeps.
 
-ghost use Rattle.std.specs.Prelude.{◌≡◌, ◌<◌, ◌≤◌, ◌∷◌, take, vec_capacity, vec_len};
+ghost use Rattle.std.specs.Prelude.{◌≡◌, ◌<◌, ◌≤◌, ◌∷◌, option_map, slice_get, take, vec_capacity, vec_len};
 ghost use Rattle.pb_book.specs.TakenOut.{touched_at};
+ghost use Rattle.pb_book.specs.declared.answer.Accepted.TheVariants.{Stored};
 ghost use Rattle.pb_session.specs.Kept.{most_kept};
-ghost use Rattle.pb_session.specs.Keeping.{left_by, others_than, place_in, settled, studies_behind, untouched_studies};
+ghost use Rattle.pb_session.specs.Keeping.{last_stage, left_by, others_than, place_in, saved_by, settled, settled_stage, stage_beside, studies_behind, untouched_studies};
 
 use pb_book::{Accepted, Book};
-use pb_graph::Study;
+use pb_graph::{Stage, Study};
 
 /// A study that is kept, with the place of its period.
 #[derive(Debug, Drop)]
@@ -25,50 +26,104 @@ pub fn place_of(kept: &[KeptStudy], period: u32) -> Option<usize>
     kept.iter().position(|k| k.period == period)
 }
 
-/// Lets the studies go that a stored row touches: the last one of the book, where the record was stored.
-pub fn drop_touched(kept: &mut Vec<KeptStudy>, book: &Book, accepted: &Accepted)
-    ensures { kept.new.items ≡ left_by accepted.now book.now kept.old.items }
+/// The first stage of the study that was reported last: one of its own, or that of the study that is kept first.
+pub fn last_stage<'a>(kept: &'a [KeptStudy], last: &'a Option<Stage>) -> Option<&'a Stage>
+    ensures { option_map (λ stage. stage.now) result ≡ last_stage kept.now last.now }
+{
+    match last {
+        Some(stage) => Some(stage),
+        None => kept.first()?.study.stages.as_slice().first(),
+    }
+}
+
+/// Lets the studies go that a stored row touches: the last one of the book, where the record was stored. If the one that is kept first
+/// goes, its first stage stays as the one that was reported last.
+pub fn drop_touched(
+    kept: &mut Vec<KeptStudy>,
+    last: &mut Option<Stage>,
+    book: &Book,
+    accepted: &Accepted,
+)
+    ensures left { kept.new.items ≡ left_by accepted.now book.now kept.old.items }
+    ensures saved { last.new ≡ saved_by accepted.now book.now kept.old.items last.old }
 {
     if matches!(accepted, Accepted::Stored) {
+        save_first(kept, last, book);
         retain_untouched(kept, book);
     }
 }
 
-/// Lets the study of a period go, if it is kept.
-pub fn drop_study(kept: &mut Vec<KeptStudy>, period: u32)
+// Takes the study that is kept first out of the others, where the last stored row touches it, and keeps its first stage, where no other
+// was reported last.
+fn save_first(kept: &mut Vec<KeptStudy>, last: &mut Option<Stage>, book: &Book)
+    ensures others { untouched_studies book.now kept.new.items
+        ≡ untouched_studies book.now kept.old.items }
+    ensures saved { last.new ≡ saved_by Stored book.now kept.old.items last.old }
+{
+    if !kept.is_empty() && is_touched(book, kept[0].period) {
+        let study = kept.remove(0).study;
+        if last.is_none() {
+            *last = first_of(study);
+        }
+    }
+}
+
+// The first stage of a study.
+fn first_of(study: Study) -> Option<Stage>
+    ensures { result ≡ slice_get study.stages 0 }
+{
+    study.stages.into_vec().into_iter().next()
+}
+
+/// Keeps the study that was written of a period, before all others: one that was made, or the one that is kept. Of a study of several
+/// stages the first stage alone is kept, as the one that was reported last; of those before it the last ones go where there are too many.
+pub fn settle(kept: &mut Vec<KeptStudy>, last: &mut Option<Stage>, period: u32, made: Option<Study>)
+    requires { vec_len kept.old < vec_capacity kept.old }
+    ensures kept { kept.new.items ≡ settled period made kept.old.items }
+    ensures stage { last.new ≡ settled_stage period made kept.old.items }
+{
+    *last = keep_written(kept, period, made);
+}
+
+// Keeps the study that was written of a period, and returns the first stage of one that has several.
+fn keep_written(kept: &mut Vec<KeptStudy>, period: u32, made: Option<Study>) -> Option<Stage>
+    requires { vec_len kept.old < vec_capacity kept.old }
+    ensures kept { kept.new.items ≡ settled period made kept.old.items }
+    ensures stage { result ≡ settled_stage period made kept.old.items }
+{
+    match made {
+        Some(study) => keep_study(kept, period, study),
+        None => match place_of(kept, period) {
+            Some(place) => {
+                let found = kept.remove(place);
+                keep_study(kept, period, found.study)
+            }
+            None => None,
+        },
+    }
+}
+
+// Keeps a study of a period before all others, where it has one stage, and returns the first stage of one that has several.
+fn keep_study(kept: &mut Vec<KeptStudy>, period: u32, study: Study) -> Option<Stage>
+    requires { vec_len kept.old < vec_capacity kept.old }
+    ensures kept { kept.new.items ≡ studies_behind period study kept.old.items }
+    ensures stage { result ≡ stage_beside study }
+{
+    drop_study(kept, period);
+    if study.stages.len() != 1 {
+        return first_of(study);
+    }
+    put_first(kept, KeptStudy { period, study });
+    None
+}
+
+// Lets the study of a period go, if it is kept.
+fn drop_study(kept: &mut Vec<KeptStudy>, period: u32)
     ensures items { kept.new.items ≡ others_than period kept.old.items }
     ensures len { vec_len kept.new ≤ vec_len kept.old }
     ensures capacity { vec_capacity kept.new ≡ vec_capacity kept.old }
 {
     kept.retain(|k| k.period != period);
-}
-
-/// Keeps the study that was written of a period, before all others: one that was made, or the one that is kept. A study of several
-/// stages isn't kept, and of those before it the last ones go where there are too many.
-pub fn settle(kept: &mut Vec<KeptStudy>, period: u32, made: Option<Study>)
-    requires { vec_len kept.old < vec_capacity kept.old }
-    ensures { kept.new.items ≡ settled period made kept.old.items }
-{
-    match made {
-        Some(study) => keep_study(kept, period, study),
-        None => {
-            if let Some(place) = place_of(kept, period) {
-                let study = kept.remove(place).study;
-                keep_study(kept, period, study);
-            }
-        }
-    }
-}
-
-// Keeps a study of a period before all others, where it has one stage.
-fn keep_study(kept: &mut Vec<KeptStudy>, period: u32, study: Study)
-    requires { vec_len kept.old < vec_capacity kept.old }
-    ensures { kept.new.items ≡ studies_behind period study kept.old.items }
-{
-    drop_study(kept, period);
-    if study.stages.len() == 1 {
-        put_first(kept, KeptStudy { period, study });
-    }
 }
 
 // Puts a study before all others, of which the last ones go where there are too many.

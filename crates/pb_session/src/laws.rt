@@ -3,10 +3,14 @@
 ghost use Rattle.pb_session.specs.Edited.{EditedFileLaw};
 ghost use Rattle.pb_session.specs.KeptLaws.{FewKeptLaw, KeptTextLaw, OneKeptLaw, SomeKeptLaw};
 ghost use Rattle.pb_session.specs.Laws.{CriticalsLaw, OneTextLaw, OneSessionTextLaw, SomeTextLaw, SomeSessionTextLaw};
+ghost use Rattle.pb_session.specs.VersionOne.{FirstPlantLaw, FirstRefusalLaw, FirstSessionTextLaw, FirstTextLaw, FirstWindowLaw};
 
 use pb_advise::{cheapest_law, one_advice_law, some_advice_law};
 use pb_assay::component_form_law;
-use pb_book::{accepted_law, book_windows_law, grades_law, meter_costs_law, plain_law, ranges_law};
+use pb_book::{
+    accepted_law, book_windows_law, grades_law, meter_costs_law, plain_law, ranges_law,
+    version_one_law,
+};
 use pb_classify::{one_classification_law, some_classification_law};
 use pb_elim::{
     certified_law, formed_law, least_throughout_law, one_study_law, some_study_law, tested_law,
@@ -58,6 +62,20 @@ pub fn edited_file_law()
 {
     plain_law();
     plain_graphs_law();
+}
+
+/// The law that a session writes what it wrote before there was a version 2, unless one of its records is accepted as the one that says
+/// it. Records have the answers of version 1. The graph of a period is that of the whole plant, also of units and tanks that no stream
+/// joins, with the names of the plant. What is measured or refused, or stands in a history, doesn't depend on days of service: none are
+/// declared, and no boundaries. A window takes the same plant, and what the same days measured; its text is as in all sessions.
+pub fn version_one_text_law()
+    ensures of_a_record { FirstTextLaw }
+    ensures of_a_session { FirstSessionTextLaw }
+    ensures plant { FirstPlantLaw }
+    ensures refusals { FirstRefusalLaw }
+    ensures windows { FirstWindowLaw }
+{
+    version_one_law();
 }
 
 /// The law that the critical values of accepted rows keep their limits.

@@ -14,6 +14,7 @@ mod laws;
 mod session;
 mod windows;
 
-pub use classes::Classes;
-pub use laws::{criticals_law, edited_file_law, kept_law, one_text_law, some_text_law};
+pub use laws::{
+    criticals_law, edited_file_law, kept_law, one_text_law, some_text_law, version_one_text_law,
+};
 pub use session::Session;

@@ -10,10 +10,10 @@ ghost use Rattle.pb_report.specs.Refusal.{refused_row};
 ghost use Rattle.pb_book.specs.Rows.{periods_of};
 ghost use Rattle.pb_book.specs.Windows.{IsWindowAsked, OfEnds};
 
-use crate::classes::{Classes, classes_in, copied, renew};
+use crate::classes::classes_in;
 use crate::criticals::declared_critical;
 use crate::history::{told_edits, told_period};
-use crate::kept::{KeptStudy, drop_study, drop_touched, place_of, settle};
+use crate::kept::{KeptStudy, drop_touched, last_stage, place_of, settle};
 use crate::windows::places_of;
 use pb_advise::advise;
 use pb_assay::{ComponentFault, Grade, component_graph};
@@ -32,7 +32,7 @@ use std::alloc::{AllocError, Global};
 use std::marker::Model;
 
 /// A session: what is asked of its studies, the form of its output, and the book of its rows. Beside these it keeps studies of periods
-/// whose rows no later row touched, and the classes of its last report.
+/// whose rows no later row touched, and the first stage of the study that it reported last, which has the classes of its streams.
 #[derive(Drop)]
 pub struct Session {
     alloc: Global,
@@ -40,7 +40,8 @@ pub struct Session {
     form: Form,
     book: Book,
     kept: Vec<KeptStudy>,
-    classes: Option<Classes>,
+    // The stage that was reported last, where it isn't that of the study that is kept first.
+    last: Option<Stage>,
 }
 
 impl Model for Session {
@@ -51,10 +52,10 @@ impl Model for Session {
     ghost use Rattle.pb_session.specs.Keeping.{IsKeeping, held_of};
 
     ghost view = { λ a. held_of
-        (record { options = a.options; form = a.form; rows = a.book }) a.kept.items a.classes };
+        (record { options = a.options; form = a.form; rows = a.book }) a.kept.items a.last };
 
     ghost invariant = { λ a. IsKeeping
-        (record { options = a.options; form = a.form; rows = a.book }) a.kept.items a.classes };
+        (record { options = a.options; form = a.form; rows = a.book }) a.kept.items a.last };
 }
 
 /// What a report that was written leaves to be kept.
@@ -62,10 +63,6 @@ impl Model for Session {
 struct Reported {
     /// The study, where it was made for the report and wasn't kept before.
     made: Option<Study>,
-    /// The graph of the period.
-    graph: Graph,
-    /// Its classes, where those that are kept aren't its own too.
-    classes: Option<List<Classified>>,
 }
 
 impl Session {
@@ -84,7 +81,7 @@ impl Session {
     ghost use Rattle.pb_session.specs.Appending.{AppendsText, KeepsText};
     ghost use Rattle.pb_session.specs.Closed.{LeavesClosed};
     ghost use Rattle.pb_session.specs.FirstStage.{Begins, IsFirstStage, TellsAStream};
-    ghost use Rattle.pb_session.specs.Keeping.{HasCountsOf, IsBalanceAt, IsRenewal, IsReportedAt, IsReportedOf, IsStudied, KeepsAlike};
+    ghost use Rattle.pb_session.specs.Keeping.{HasCountsOf, IsBalanceAt, IsReportedAt, IsReportedOf, IsStudied};
     ghost use Rattle.pb_session.specs.Kept.{IsKeptAt, Keeps, KeepsAccepted, KeepsReportOf, most_kept, reported_after, reported_behind, reported_of};
     ghost use Rattle.pb_session.specs.Session.{Adds, AddsAccepted, AreNamesOf, Balances, IsAdviceText, IsBalanceOf, IsDesign, IsReport, IsReportAfter, IsTextOf, Reports, Tells, Windows, state_after, window_head};
     ghost use Rattle.pb_session.specs.Windowed.{IsWindowAt};
@@ -104,7 +101,7 @@ impl Session {
             form,
             book: Book::new(alloc),
             kept: Vec::new(alloc),
-            classes: None,
+            last: None,
         }
     }
 
@@ -130,14 +127,14 @@ impl Session {
         }
     }
 
-    /// The graph of the last report with the class of each of its streams, and their certificates. `None` exactly where no report
-    /// was written. It takes no memory.
-    pub fn classes(&self) -> Option<&Classes>
-        ensures graph { option_map (λ classes. classes.now.graph) result ≡ self.now.reported }
+    /// The first stage of the study that was reported last: it has the graph of that report, and the class of each stream with its
+    /// certificate. `None` exactly where no report was written. It takes no memory.
+    pub fn classes(&self) -> Option<&Stage>
+        ensures graph { option_map (λ stage. stage.now.graph) result ≡ self.now.reported }
         ensures list { IfSome result
-            (λ classes. IsClassification classes.now.graph classes.now.list) }
+            (λ stage. IsClassification stage.now.graph (printed_classes stage.now)) }
     {
-        self.classes.as_ref()
+        last_stage(&self.kept, &self.last)
     }
 
     /// Takes the record with the number `at`, counted from 1, and appends to `out` what it adds to the output. True exactly
@@ -161,7 +158,7 @@ impl Session {
             Ok(accepted) => {
                 untouched_law();
                 closed_graphs_law();
-                drop_touched(&mut self.kept, &self.book, &accepted);
+                drop_touched(&mut self.kept, &mut self.last, &self.book, &accepted);
                 self.write(accepted, row, out)?;
                 Ok(false)
             }
@@ -327,18 +324,8 @@ impl Session {
     {
         self.kept.reserve(1)?;
         match self.report(i, out)? {
-            None => drop_study(&mut self.kept, i),
-            Some(
-                Reported {
-                    made,
-                    graph,
-                    classes,
-                },
-            ) => {
-                alike_law();
-                settle(&mut self.kept, i, made);
-                renew(&mut self.classes, graph, classes);
-            }
+            Some(reported) => settle(&mut self.kept, &mut self.last, i, reported.made),
+            None => {}
         }
         Ok(())
     }
@@ -377,9 +364,6 @@ impl Session {
     {
         let names = pb_period::names(self.alloc, &self.book, i)?;
         let name = self.book.period(i).name;
-        let stage = study.stages.at(0);
-        let graph = stage.graph.copy(self.alloc)?;
-        let classes = self.renewal(&graph, stage)?;
         write_study(
             self.alloc,
             &names,
@@ -391,11 +375,7 @@ impl Session {
         )?;
         least_throughout_law();
         tested_law();
-        Ok(Some(Reported {
-            made: None,
-            graph,
-            classes,
-        }))
+        Ok(Some(Reported { made: None }))
     }
 
     // Appends the report of a period, or the row that names the first stream beyond the limits.
@@ -410,7 +390,7 @@ impl Session {
         let names = pb_period::names(self.alloc, &self.book, i)?;
         let period = self.book.period(i).name;
         match assemble(self.alloc, &self.book, i) {
-            Ok(graph) => Ok(Some(self.report_graph(i, &names, &period, graph, out)?)),
+            Ok(graph) => Ok(Some(self.report_graph(i, &names, &period, &graph, out)?)),
             Err(Assembly::Over(j)) => {
                 write_over(
                     self.alloc,
@@ -432,18 +412,17 @@ impl Session {
         i: u32,
         names: &Names,
         period: &Name,
-        graph: Graph,
+        graph: &Graph,
         out: &mut Vec<u8>,
     ) -> Result<Reported, AllocError>
-        requires names { AreNamesOf names.now graph }
-        requires limits { IsProcessGraph graph }
+        requires names { AreNamesOf names.now graph.now }
+        requires limits { IsProcessGraph graph.now }
         ensures ok { OnOk result (AppendsText
-            (IsReport self.now.state names.now period.now graph) out.old out.new) }
-        ensures leaves { IfOk result (IsReportedOf self.now i graph) }
+            (IsReport self.now.state names.now period.now graph.now) out.old out.new) }
+        ensures leaves { IfOk result (IsReportedOf self.now i graph.now) }
         ensures err { OnErr result (KeepsText out.old out.new) }
     {
-        let study = self.study_of(&graph)?;
-        let classes = self.renewal(&graph, study.stages.at(0))?;
+        let study = self.study_of(graph)?;
         write_study(
             self.alloc,
             names,
@@ -453,11 +432,7 @@ impl Session {
             self.form,
             out,
         )?;
-        Ok(Reported {
-            made: Some(study),
-            graph,
-            classes,
-        })
+        Ok(Reported { made: Some(study) })
     }
 
     // Appends the report of a graph under this name, with the names of its nodes and streams. Nothing of it is kept.
@@ -679,36 +654,17 @@ impl Session {
         Ok(())
     }
 
-    // Whether the graph of the kept classes is alike this one, so that they are its classes too.
-    fn is_known(&self, graph: &Graph) -> bool
-        ensures { IsTrue result ↔ KeepsAlike self.now.reported graph.now }
-    {
-        match &self.classes {
-            Some(kept) => kept.graph.alike(graph),
-            None => false,
-        }
-    }
-
-    // The classes of a graph: a copy of the kept ones where they are its classes too.
+    // The classes of a graph: a copy of those that were reported last where they are its classes too.
     fn classes_of(&self, graph: &Graph) -> Result<List<Classified>, AllocError>
         requires { IsProcessGraph graph.now }
         ensures { IfOk result (IsClassification graph.now) }
     {
         alike_law();
-        match &self.classes {
-            Some(kept) if kept.graph.alike(graph) => copied(self.alloc, kept.list.as_slice()),
+        match self.classes() {
+            Some(stage) if stage.graph.alike(graph) => {
+                classes_in(self.alloc, stage.streams.as_slice())
+            }
             _ => classify(self.alloc, graph),
         }
-    }
-
-    // The classes to keep of a graph with this stage; `None` where those that are kept are its classes too.
-    fn renewal(&self, graph: &Graph, stage: &Stage) -> Result<Option<List<Classified>>, AllocError>
-        requires { IsClassification graph.now (printed_classes stage.now) }
-        ensures { IfOk result (IsRenewal self.now.reported graph.now) }
-    {
-        if self.is_known(graph) {
-            return Ok(None);
-        }
-        Ok(Some(classes_in(self.alloc, stage.streams.as_slice())?))
     }
 }

@@ -6,19 +6,22 @@ import argparse
 import calendar
 import datetime
 import sys
+from collections.abc import Mapping
 from pathlib import Path
 
 from plantbal.book.changes import Changes, compare, gone, strayed
 from plantbal.book.ledger import FACT_KINDS, PLANT_KINDS, Fact, Ledger, rows_text
 from plantbal.book.meters import meters_of, meters_text, read_meters
-from plantbal.book.reading import add_reading, converted, raise_all
+from plantbal.book.reading import converted, raise_all
 from plantbal.book.said import FIRST, added, changed, counted, doubts, lacking
 from plantbal.book.store import METERS, PLANT, Action, Book
 from plantbal.book.years import Years
 from plantbal.conversion_facts import Converter
 from plantbal.faults import Fault, InputFault, Refusal
+from plantbal.options import add_reading
 from plantbal.records import text_of
 from plantbal.session import Period
+from plantbal.workbook import Cell
 
 # The codes of what would change a closed period, and of what is of one.
 _SEALED, _CLOSED = 10, 11
@@ -33,7 +36,9 @@ def add_arguments(parser: argparse.ArgumentParser) -> None:
     )
     parser.add_argument("--anyway", action="store_true", help="strike also most of what is booked")
     parser.add_argument("--year", metavar="YEAR", help="the year of its plant (default: the last)")
-    parser.add_argument("--dry-run", action="store_true", help="say it, and book nothing")
+    parser.add_argument(
+        "--dry-run", action="store_true", help="say what would be booked, and book nothing"
+    )
     add_reading(parser)
 
 
@@ -54,7 +59,7 @@ def run(options: argparse.Namespace) -> int:
         check_reasons(options, changes)
         reasons = Reasons(options.why or "")
         changes.put(reasons, options.strike)
-        put_assays(years, work)
+        raise_all(options.prog, put_assays(years, work))
 
         action = Action(f"add {name}", reasons.said(), options.who)
         for ledger in years.used:
@@ -169,39 +174,52 @@ def check_reasons(options: argparse.Namespace, changes: Changes) -> None:
 # ---- assays
 
 
-def put_assays(years: Years, work: Converter) -> None:
-    """Put the assays of a workbook that aren't booked yet.
+def put_assays(years: Years, work: Converter) -> list[Fault]:
+    """Put the assays of a workbook that aren't booked yet, and return what is wrong with others.
+
+    That is one which is booked with another grade, whose period is closed or isn't there, or that
+    would be refused otherwise.
+    """
+    faults: list[Fault] = []
+    for row, cells in work.assays:
+        try:
+            _put_assay(years, row, cells)
+        except Refusal as refusal:
+            refusal.place = (cells.get(refusal.column) or cells["period"]).place()
+            if refusal.code == _CLOSED:
+                refusal.remedy = "enter assays before plantbal-desk book close: take it out"
+            faults.append(refusal)
+        except InputFault as fault:
+            faults.append(fault)
+    return faults
+
+
+def _put_assay(years: Years, row: tuple[str, ...], cells: Mapping[str, Cell]) -> None:
+    """Put an assay, if it isn't booked yet.
 
     Raises
     ------
     Fault
-        If one is booked with another grade, its period is closed, or there is no such period.
+        If it can't be.
     """
-    for row, cells in work.assays:
-        component, stream, period = row[1:4]
+    component, stream, period = row[1:4]
+    # its period may be one that the workbook declares
+    new = (each for each in years.used if period in each.periods)
+    try:
+        ledger = next(new, None) or years.of_period(period)
+    except Fault as fault:
         place = cells["period"].place()
-        # its period may be one that the workbook declares
-        new = (each for each in years.used if period in each.periods)
-        try:
-            ledger = next(new, None) or years.of_period(period)
-        except Fault as fault:
-            raise InputFault(fault.what, place=place, remedy=fault.remedy) from fault
-        there = ledger.assays.get((component, stream, period))
-        if there is None:
-            try:
-                ledger.put(*row)
-            except Refusal as refusal:
-                refusal.place = place
-                if refusal.code == _CLOSED:
-                    refusal.remedy = "enter assays before plantbal-desk book close: take it out"
-                raise
-        elif there != (int(row[4]), int(row[5])):
-            raise InputFault(
-                f"{stream} has {there[0]:,} ppm of {component} in {period} in the book, and "
-                f"{int(row[4]):,} ppm in the workbook, or another error",
-                place=cells["ppm"].place(),
-                remedy="an assay can't be amended: mend the workbook",
-            )
+        raise InputFault(fault.what, place=place, remedy=fault.remedy) from fault
+    there = ledger.assays.get((component, stream, period))
+    if there is None:
+        ledger.put(*row)
+    elif there != (int(row[4]), int(row[5])):
+        raise InputFault(
+            f"{stream} has {there[0]:,} ppm of {component} in {period} in the book, and "
+            f"{int(row[4]):,} ppm in the workbook, or another error",
+            place=cells["ppm"].place(),
+            remedy="an assay can't be amended: mend the workbook",
+        )
 
 
 # ---- the plant and the periods

@@ -11,13 +11,13 @@ from pathlib import Path
 
 from plantbal.book.ledger import PLANT_KINDS, rows_text
 from plantbal.book.meters import Meter, meters_of, meters_text
-from plantbal.book.reading import add_reading, reader_of, say_faults, sheets_of
+from plantbal.book.reading import reader_of, say_faults, sheets_of
 from plantbal.book.said import counted, listed
 from plantbal.book.store import METERS, PLANT, Action, Book, is_year
 from plantbal.conversion import Conversion
 from plantbal.conversion_facts import Converter
 from plantbal.faults import Fault, InputFault, Place
-from plantbal.options import add_program
+from plantbal.options import add_program, add_reading
 from plantbal.program import call
 from plantbal.report import parse_rows
 

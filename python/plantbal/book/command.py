@@ -14,7 +14,7 @@ The book is the present folder, or that of --book. It has
   plant.csv     the rows of the plant, with which the next year begins
   meters.csv    tags, units, densities and errors of meters and gauges
   2024.csv      the session of a year; rows are only added to it
-  reports/      the last report of each period, with its history
+  reports/      the last report of each period, with its history, and of each window
   journal.csv   a line for each action: when, who, what, why, and which rows it added
 
 A command is done as a whole or not at all, at whatever moment it is stopped; what was begun is
@@ -26,6 +26,7 @@ examples:
   plantbal-desk book show FI-302 2024-04-16 2024-04-19
   plantbal-desk book amend FI-302 2024-04-18 "12188 t" --why "typed a digit short"
   plantbal-desk book report 2024-04
+  plantbal-desk book window 2024-04 2024-05
   plantbal-desk book close 2024-04
   plantbal-desk book next 2025
 """
@@ -63,6 +64,7 @@ COMMANDS: Sequence[Inner] = (
     Inner("amend", "editing:AMEND", "give a fact another value, with a reason"),
     Inner("strike", "editing:STRIKE", "take a fact out, with a reason"),
     Inner("report", "reporting", "write the reports of periods"),
+    Inner("window", "window", "reconcile several periods at once, over a dip that is missing"),
     Inner("close", "editing:CLOSE", "close a period with its report"),
     Inner("status", "overview", "say what is open, what is missing, and how full the year is"),
     Inner("next", "following", "begin the next year"),

@@ -198,7 +198,7 @@ def _close(options: argparse.Namespace) -> int:
             return 0
         ledger.put("close", name)
         text = book.text(f"{ledger.name}.csv") + ledger.added_text()
-        report, output = report_of(options, text, name, ledger.components_of(name))
+        report, output = report_of(options, text, name, ledger.session.components_in(name))
         said = [state_of(output, name), *suspects_of(output), *balances_said(output)]
         for line in said:
             print(line)

@@ -1,4 +1,4 @@
-"""Begins the next year: its plant, the dips of the eve, and what else touches both years go over.
+"""Begins the next year with the plant, the dips of its eve, and whatever else touches both years.
 
 It is refused unless each tank holds the same at the end of one year and as the other begins, to the
 gram.
@@ -17,12 +17,11 @@ from plantbal.book.contents import contents_of
 from plantbal.book.ledger import Fact, Ledger, plain, rows_text
 from plantbal.book.meters import meters_text, read_meters
 from plantbal.book.naming import day_of
-from plantbal.book.reading import add_reading
 from plantbal.book.said import counted
 from plantbal.book.store import METERS, PLANT, Action, Book
 from plantbal.book.years import Years, calendar_year, periods_of
 from plantbal.faults import Fault, InputFault, Place, Refusal
-from plantbal.options import add_program
+from plantbal.options import add_program, add_reading
 from plantbal.records import read_records
 
 _DAY = datetime.timedelta(1)

@@ -376,7 +376,3 @@ class Ledger:
             day += _DAY
         return max([*numbers, self._latest_assay.get(period.name, 0)])
 
-    def components_of(self, period: str) -> list[str]:
-        """Return the components that have an assay in a period, in the order of their rows."""
-        return list(dict.fromkeys(each[0] for each in self.assays if each[2] == period))
-

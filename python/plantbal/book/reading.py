@@ -22,23 +22,6 @@ _PLANT = ("boundaries", "units", "tanks", "straps", "critical")
 _FIRST = 12  # faults that are said; the others are counted
 
 
-def add_reading(parser: argparse.ArgumentParser) -> None:
-    """Add the words that say how a workbook is read."""
-    form = "how numbers and days are written, such as de"
-    parser.add_argument("--locale", metavar="NAME", default="", help=form)
-    parser.add_argument(
-        "--missing",
-        metavar="TEXT",
-        action="append",
-        default=[],
-        help="a further text that stands for a missing figure",
-    )
-    parser.add_argument(
-        "--skip", metavar="HEAD", action="append", default=[], help="a column to leave out"
-    )
-    parser.add_argument("--limits", action="store_true", help="errors are limits: half is taken")
-
-
 def sheets_of(path: str) -> list[Sheet]:
     """Return the sheets of a workbook; a CSV file of another name is one of readings."""
     sheets = read_workbook(path)
@@ -108,6 +91,9 @@ def converted(
         if not edits:
             work.read_rows()
         work.say_rounded()
+        for sheet in work.sheets["windows"]:
+            what = "the sheet is passed over: plantbal-desk book window asks for a window"
+            work.notes.append(f"{sheet.place()} {what}")
     work.faults += [*work.session.refused, *edits]
     found = Conversion(work.session, work.faults, work.notes)
     say_faults(options.prog, found, "nothing is booked")

@@ -15,7 +15,7 @@ from plantbal.faults import Fault
 from plantbal.files import write_text
 from plantbal.options import add_run
 from plantbal.output import Output, parse_report
-from plantbal.program import call
+from plantbal.program import call, words_of
 from plantbal.report import Block, last_blocks
 
 _MOST = 5  # suspects that are named
@@ -48,15 +48,30 @@ def report_of(
     components : sequence of str
         The components whose balances are asked for too.
     """
-    words = ["run", "--gap", str(options.gap), "--sweeps", str(options.sweeps)]
-    if options.eliminate:
-        words += ["--eliminate", str(options.eliminate)]
-    if not options.no_tests:
-        words.append("--tests")
-    asked = text + rows_asking(period, components)
+    return written_of(options, text + rows_asking(period, components), period)
+
+
+def written_of(options: argparse.Namespace, asked: str, what: str) -> tuple[str, Output]:
+    """Return what the program writes of a session, and the same as tables.
+
+    Parameters
+    ----------
+    options : Namespace
+        The words of the command.
+    asked : str
+        The session.
+    what : str
+        What it asks for, in what is said.
+    """
+    words = words_of(
+        tests=not options.no_tests,
+        eliminate=options.eliminate,
+        gap=options.gap,
+        sweeps=options.sweeps,
+    )
     status, output = call(words, asked.encode("ascii"), program=options.program)
     written = output.decode("ascii")
-    return written, parse_report(written, f"the report of {period}", status)
+    return written, parse_report(written, f"the report of {what}", status)
 
 
 def rows_asking(period: str, components: Sequence[str] = ()) -> str:
@@ -70,37 +85,23 @@ def state_of(output: Output, period: str) -> str:
     block = output.reports[-1] if output.reports else None
     if block is None or block.solved is None:
         return f"{period}: no report: {'; '.join(output.why)}"
-    return _state_of(block)
+    return state_of_block(block)
 
 
 def balances_said(output: Output) -> list[str]:
     """Return what the balances of components say as a whole, a line each."""
     last = last_blocks(output.blocks_in_order).values()
-    return [_state_of(block) for block in last if block.component]
+    return [state_of_block(block) for block in last if block.component]
 
 
-def _state_of(block: Block) -> str:
+def state_of_block(block: Block) -> str:
     """Return what a round says as a whole, after what it is of."""
-    period = block.subject
-    if block.solved is None:
-        return f"{period}: it is cut off"
-    said = block.solved["state"]
-    if block.taken:
-        said += f" after {', '.join(block.taken)} was taken out"
-    if block.whole is None:
-        return f"{period}: {said}"
-    said += {
-        "accept": ", accepted by the global test",
-        "reject": ", rejected by the global test",
-        "undecided": ", the global test is undecided",
-        "nocritical": ", no global test: no critical value for its degrees of freedom",
-        "notest": ", no global test: nothing tests it",
-    }[block.whole["verdict"]]
-    if block.whole["critical"]:
+    said = f"{block.subject}: {block.verdict}"
+    if block.solved and block.whole and block.whole["critical"]:
         low = Decimal(block.solved["low"]) / 1000
-        most = Decimal(block.whole["critical"]) / 1000
-        said += f": {plain(low)}, where {plain(most)} is the most"
-    return f"{period}: {said}"
+        critical = Decimal(block.whole["critical"]) / 1000
+        said += f": {plain(low)} (critical value {plain(critical)})"
+    return said
 
 
 def suspects_of(output: Output) -> list[str]:
@@ -155,7 +156,7 @@ def run(options: argparse.Namespace) -> int:
             raise Fault("no period is open", remedy="name the periods whose reports are wanted")
         for name in periods:
             ledger = years.of_period(name)
-            components = ledger.components_of(name)
+            components = ledger.session.components_in(name)
             text, output = report_of(options, book.text(f"{ledger.name}.csv"), name, components)
             action = Action(f"report {name}", who=options.who)
             new = keep(book, action, ledger, name, text, ledger.periods[name].closed)
@@ -175,6 +176,6 @@ def run(options: argparse.Namespace) -> int:
             if len(texts) > 1:
                 raise Fault("these periods are of several years", remedy="name those of one year")
             text = book.text(f"{next(iter(texts))}.csv")
-            asked = [rows_asking(name, ledger.components_of(name)) for name in periods]
+            asked = [rows_asking(name, ledger.session.components_in(name)) for name in periods]
             write_text(options.session, text + "".join(asked))
     return status

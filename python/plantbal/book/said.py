@@ -4,7 +4,7 @@ from __future__ import annotations
 
 import datetime
 from collections import Counter
-from collections.abc import Iterable
+from collections.abc import Collection, Iterable
 
 from plantbal.book.changes import Changes
 from plantbal.book.ledger import PLANT_KINDS, Fact, Ledger
@@ -12,7 +12,7 @@ from plantbal.book.meters import Meter
 from plantbal.conversion_facts import days_of, spans, tank_days
 from plantbal.lint import lint_session
 from plantbal.lintrules import RULES
-from plantbal.session import Period, in_service, period_days
+from plantbal.session import Period, day_of_number, in_service, is_served, period_days
 
 FIRST = 12  # things of which each is shown; the others are counted
 _NEW = {
@@ -120,28 +120,32 @@ def lacks(ledger: Ledger, period: Period, meters: dict[str, Meter]) -> list[str]
         if kind == "metered":
             service = ledger.session.service(name)
             served = [day for day in days if in_service(service, day.toordinal())]
-            _group(groups, "reading", ledger, name, meters, served)
+            missing = [day for day in served if ledger.on(name, day) is None]
+            if missing:
+                tag = meters[name].tag if name in meters else ""
+                said = f"{tag} ({name})" if tag else name
+                groups.setdefault(("reading", spans(missing)), []).append(said)
     for name, kind in ledger.session.nodes.items():
         if kind == "tank":
             ends = tank_days(ledger.session.service(name), first, last)
-            _group(groups, "dip", ledger, name, meters, ends)
+            missing = [day for day in ends if ledger.on(name, day) is None]
+            if missing:
+                when = spans(missing) + _by_window(ledger, name, period, missing)
+                groups.setdefault(("dip", when), []).append(name)
     return [
         f"{period.name}: no {kind} of {listed(names)} on {when}"
         for (kind, when), names in groups.items()
     ]
 
 
-def _group(
-    groups: dict[tuple[str, str], list[str]],
-    kind: str,
-    ledger: Ledger,
-    name: str,
-    meters: dict[str, Meter],
-    days: list[datetime.date],
-) -> None:
-    """Put a stream or a tank to those without a reading or a dip on the same days."""
-    missing = [day for day in days if ledger.on(name, day) is None]
-    if missing:
-        tag = meters[name].tag if name in meters else ""
-        said = f"{tag} ({name})" if tag else name
-        groups.setdefault((kind, spans(missing)), []).append(said)
+def _by_window(
+    ledger: Ledger, tank: str, period: Period, missing: Collection[datetime.date]
+) -> str:
+    """Return which window has what a tank held on a day without a dip, or nothing."""
+    service = ledger.session.service(tank)
+    for other in ledger.session.periods:
+        one, next_ = sorted((period, other), key=lambda each: each.first)
+        served = all(is_served(service, each.first, each.last) for each in (one, next_))
+        if served and one.last + 1 == next_.first and day_of_number(one.last) in missing:
+            return f"; if nobody took it: plantbal-desk book window {one.name} {next_.name}"
+    return ""

@@ -167,9 +167,10 @@ class _Cluster:
         """Hand in a job by its paths, or with its bytes, and return its future."""
         command, timeout = self._asked.command, self._asked.timeout
         call: Callable[..., Any] = calls.run_here
-        given: list[object] = [command, str(job.session), str(job.part), timeout]
+        given: list[object] = [command, str(job.session), str(job.output), timeout]
         if self._asked.send:
-            call, given = calls.run_sent, [command, job.session.read_bytes(), timeout]
+            call = calls.run_sent
+            given = [command, job.session.read_bytes(), job.output.name, timeout]
         if self._asked.scheduler is None:
             call, given = _in_this_process, [call.__name__, *given]
         with warnings.catch_warnings():

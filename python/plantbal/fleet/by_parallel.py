@@ -99,7 +99,7 @@ def _hand_out(given: IO[bytes], handed: list[Job], jobs: Sequence[Job], begin: B
 
 
 def _arguments(job: Job) -> bytes:
-    return f"{job.session}\0{job.part}\0".encode("utf-8", "surrogateescape")
+    return f"{job.session}\0{job.output}\0".encode("utf-8", "surrogateescape")
 
 
 def _started(asked: Asked, said: int) -> subprocess.Popen[bytes]:

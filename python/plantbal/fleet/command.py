@@ -1,4 +1,7 @@
-"""Runs a folder of sessions, keeps each night, and says which plants need a person."""
+"""Runs a folder of sessions, keeps each night, and says which plants need a person.
+
+Only what starts the first sessions is loaded here: `_load` loads the rest while these run.
+"""
 
 from __future__ import annotations
 
@@ -15,14 +18,10 @@ from pathlib import Path
 
 from plantbal.faults import Fault, InputFault
 from plantbal.files import write_text
-from plantbal.fleet import by_dask, by_parallel
-from plantbal.fleet.engines import Asked, Engine, Job
-from plantbal.fleet.gather import WHY, failed, gather
+from plantbal.fleet.engines import WHY, Asked, Engine, Job
 from plantbal.fleet.given import Given, sha256_of
-from plantbal.fleet.index import index, summary, template
-from plantbal.fleet.keep import Times, keep, table
 from plantbal.fleet.night import Kept, Night, Run, alone
-from plantbal.fleet.rows import Plant
+from plantbal.fleet.rows import Plant, failed, summary
 from plantbal.fleet.sites import NIGHT, Site, sites
 from plantbal.program import find_program
 
@@ -45,7 +44,8 @@ The table goes to standard output too, with a row for each period's last report:
   site,period,days,state,dof,statistic,critical,verdict,suspects,refused,first_refusal,status,
   seconds,warnings,look
 
-`state` is converged, unconverged, over (a total beyond the limits), none (no report), unreadable
+Windows and balances of components have rows of their own, their `period` such as may to june and
+cu in may; a window's `suspects` are codes of its streams, which `look` names. `state` is converged, unconverged, over (a total beyond the limits), none (no report), unreadable
 (the output is none of plantbal's), yes or no (of a check). Of a plant without an output it is the
 name of the program's status of 2 to 6, ended (another status), timeout, lost (by a machine of the
 cluster), nosession or nooutput (files that can't be read or written). `verdict` is that of the
@@ -146,7 +146,8 @@ class Fleet:
 
     def job(self, site: Site) -> Job:
         """Return the job of a plant."""
-        return Job(site.name, site.path.absolute(), self.night.part_of(site).absolute())
+        output = self.night.part_of(site) / self.night.output_name
+        return Job(site.name, site.path.absolute(), output.absolute())
 
     def ask(self, site: Site) -> bool:
         """Read a plant's session, and say whether it can be read."""
@@ -195,6 +196,8 @@ class Fleet:
 
     def take(self, site: Site, kept: Kept) -> None:
         """Take in what is kept of a plant."""
+        from plantbal.fleet.gather import gather
+
         self.runs[site], self.sums[site] = kept.run, kept.sums
         self.plants[site.name] = gather(self.night, site, kept, self.given[site])
 
@@ -210,7 +213,7 @@ class Fleet:
                 todo = [site for site in self.sites if site.name not in self.plants]
                 jobs = [self.job(site) for site in sorted(todo, key=_size_of, reverse=True)]
                 every = engine(asked, jobs, self.begin, [self.job(site) for site in done])
-                pool.submit(template)  # it is wanted at the end
+                pool.submit(_load)
                 with closing(every):
                     for ended in every:
                         taken.append(pool.submit(self.came, self._site_of[ended.site], ended.why))
@@ -223,6 +226,13 @@ class Fleet:
     def in_order(self) -> list[Plant]:
         """Return the plants by name, with the reasons in their rows."""
         return [self.plants[site.name] for site in self.sites]
+
+
+def _load() -> None:
+    """Load what takes in outputs, and what writes the night."""
+    from plantbal.fleet import gather, index, keep  # noqa: F401
+
+    index.template()
 
 
 def _size_of(site: Site) -> int:
@@ -267,6 +277,17 @@ def _now() -> str:
     return datetime.datetime.now().astimezone().isoformat(timespec="seconds")
 
 
+def _engine(by_cluster: bool) -> Engine:
+    """Return what runs the sessions."""
+    if by_cluster:
+        from plantbal.fleet import by_dask
+
+        return by_dask.run
+    from plantbal.fleet import by_parallel
+
+    return by_parallel.run
+
+
 def run(options: argparse.Namespace) -> int:
     """Run the sessions, keep what comes, and write the table."""
     say: Callable[[str], None] = lambda said: print(f"{options.prog}: {said}", file=sys.stderr)
@@ -282,8 +303,7 @@ def run(options: argparse.Namespace) -> int:
     name = options.date or datetime.date.today().isoformat()
     digest = "" if elsewhere else sha256_of(program)
     fleet = Fleet(Night(out, name, program, digest, options.words or ["run"]), chosen.sites)
-    by_cluster = elsewhere or options.send or options.engine == "dask"
-    engine: Engine = by_dask.run if by_cluster else by_parallel.run
+    engine = _engine(elsewhere or options.send or options.engine == "dask")
     begun = _now()
     with _stopped_by_sigterm(), alone(out) as lock:
         asked = Asked(
@@ -302,6 +322,9 @@ def run(options: argparse.Namespace) -> int:
             count = f"{len(fleet.plants)} of {len(chosen.sites)} plants"
             say(f"stopped after {count}: the same words with --date {name} run the others")
             return 130
+        from plantbal.fleet.index import index
+        from plantbal.fleet.keep import Times, keep, table
+
         plants = fleet.in_order()
         if options.lint:
             lint_plants(plants, chosen.sites)

@@ -18,13 +18,18 @@ class Job:
         The plant.
     session : Path
         The file of its session.
-    part : Path
-        The folder that its files go to, once it is ready.
+    output : Path
+        The file of its output, in a folder of its own, which is there once the job is ready.
     """
 
     site: str
     session: Path
-    part: Path
+    output: Path
+
+    @property
+    def part(self) -> Path:
+        """The folder that its files go to."""
+        return self.output.parent
 
 
 @dataclass(frozen=True, slots=True)
@@ -76,6 +81,14 @@ class Ended:
     site: str
     why: str = ""
 
+
+# What the words of `Ended.why` mean.
+WHY = {
+    "timeout": "it was stopped by the time limit; --timeout gives it more seconds",
+    "lost": "the machine that ran it has gone, or doesn't see its folder; --send sends the bytes",
+    "stopped": "it was stopped before it had ended",
+    "nosession": "its session has gone",
+}
 
 # Makes a job ready right before it is handed out, and says whether it can be run.
 Begin = Callable[[Job], bool]

@@ -2,29 +2,32 @@
 
 from __future__ import annotations
 
-from collections.abc import Collection
+from collections.abc import Collection, Mapping
 from contextlib import suppress
 from dataclasses import dataclass, replace
 from functools import cached_property
 from pathlib import Path
 
 from plantbal.faults import InputFault, decoded, read_bytes
+from plantbal.fleet.engines import WHY
 from plantbal.fleet.given import Given, days_of, has_critical
 from plantbal.fleet.job import SAID
-from plantbal.fleet.night import Kept, Night, Run
-from plantbal.fleet.rows import Plant, Row
+from plantbal.fleet.night import Kept, Night
+from plantbal.fleet.rows import Plant, Row, failed
 from plantbal.fleet.sites import Site
 from plantbal.program import STATUSES
-from plantbal.report import Block, Values, blocks_of, last_blocks, parse_rows
+from plantbal.report import (
+    Block,
+    Subject,
+    Values,
+    blocks_of,
+    cut_beside_blocks,
+    over_of,
+    parse_rows,
+    subjects_of,
+)
 from plantbal.schema import schema
 
-# What the words of `Ended.why` mean.
-WHY = {
-    "timeout": "it was stopped by the time limit; --timeout gives it more seconds",
-    "lost": "the machine that ran it has gone, or doesn't see its folder; --send sends the bytes",
-    "stopped": "it was stopped before it had ended",
-    "nosession": "its session has gone",
-}
 _VERDICTS = {
     "reject": "the global test rejects",
     "undecided": "the global test is undecided; a smaller --gap among the words decides it",
@@ -33,7 +36,8 @@ _VERDICTS = {
 _HEAD = 1 << 16
 # The rows of an output that say something of the plant as a whole.
 _TOLD = frozenset(
-    "refused over report taken solved global measure end yes no unreadable".split()
+    "refused over window place component report taken solved global measure end yes no unreadable"
+    " design class advise meter".split()
 )
 
 
@@ -73,17 +77,16 @@ class Told:
         return days_of(self.session, periods, self.refused)
 
     @cached_property
+    def over(self) -> dict[Subject, str]:
+        """What has no flows since a total is beyond the limits, and the stream of that total."""
+        if not any(row["row"] == "over" for row in self.rows):
+            return {}
+        return over_of(self.rows, subjects_of(self.session, self.refused))
+
+    @cached_property
     def has_critical(self) -> bool:
         """Whether the session has critical values of the global test."""
         return has_critical(self.session, self.refused)
-
-
-def failed(site: Site, state: str, said: str, run: Run | None = None) -> Plant:
-    """Return a plant without an output."""
-    row = Row(site.name, state=state)
-    if run is not None and run.status is not None:
-        row = replace(row, status=str(run.status), seconds=f"{run.seconds:.3f}")
-    return Plant(site.name, [row], [said])
 
 
 def gather(night: Night, site: Site, kept: Kept, given: Given) -> Plant:
@@ -141,26 +144,35 @@ def _of_rows(told: Told) -> Plant:
     """Return what an output says of a plant."""
     site, rows = told.site, told.rows
     plant = Plant(site.name)
-    blocks = last_blocks(blocks_of(rows))
-    over = {row["period"]: row["stream"] for row in rows if row["row"] == "over"}
-    periods = dict.fromkeys([*blocks, *over])
-    days = told.days(periods)
-    for period in periods:
-        if period in blocks:
-            row, said = _of_block(told, blocks[period])
+    blocks = {block.asked: block for block in blocks_of(rows)}
+    over = told.over
+    subjects = dict.fromkeys([*blocks, *over])
+    days = told.days({name for each in subjects for name in (each.period, each.last) if name})
+    for each in subjects:
+        if each in over:
+            row = Row(site.name, str(each), state="over")
+            said = [f"no {each.what}: the total of {over[each]} is beyond the limits"]
         else:
-            row = Row(site.name, period, state="over")
-            said = [f"no report: the total of {over[period]} is beyond the limits"]
-        plant.rows.append(replace(row, days=days.get(period, ""), refused="0"))
-        plant.why_of[period] = said
+            row, said = _of_block(told, blocks[each])
+        plant.rows.append(replace(row, days=_days_of(each, days), refused="0"))
+        plant.why_of[str(each)] = said
+    for what in cut_beside_blocks(rows):
+        plant.rows.append(Row(site.name, state="unreadable"))
+        plant.why.append(f"{what} is cut off")
     _of_check(plant, rows)
     if told.refused or not plant.rows:
         _of_refused(plant, site, len(told.refused))
     return plant
 
 
+def _days_of(subject: Subject, days: Mapping[str, str]) -> str:
+    """Return the first and the last day of a subject by those of its periods."""
+    first, last = (days.get(name, "") for name in (subject.period, subject.last or subject.period))
+    return f"{first.split('..')[0]}..{last.split('..')[-1]}" if first and last else ""
+
+
 def _of_block(told: Told, block: Block) -> tuple[Row, list[str]]:
-    """Return the row of a period's last round, and why a person has to look at it.
+    """Return the row of a subject's last round, and why a person has to look at it.
 
     If rows are refused, the report is that of another plant: its suspects aren't worth a look.
     """
@@ -173,7 +185,8 @@ def _of_block(told: Told, block: Block) -> tuple[Row, list[str]]:
     if solved["state"] != "converged":
         said.append("its report isn't converged; --sweeps among the words allows more sweeps")
     if block.taken:
-        said.append(f"{', '.join(block.taken)} was taken out, so that the rest fits")
+        taken = ", ".join(map(block.shown, block.taken))
+        said.append(f"{taken} was taken out, so that the rest fits")
     if block.whole:
         verdict, critical = block.whole["verdict"], block.whole["critical"]
         if verdict == "reject" and not told.refused:
@@ -196,7 +209,7 @@ def _of_block(told: Told, block: Block) -> tuple[Row, list[str]]:
         suspects=" ".join(suspects),
     )
     if verdict == "reject" and suspects:
-        said[-1] += f"; suspects are {', '.join(suspects[:5])}"
+        said[-1] += f"; suspects are {', '.join(map(block.shown, suspects[:5]))}"
     return row, said
 
 

@@ -14,7 +14,7 @@ from plantbal.faults import ToolMissing
 from plantbal.files import write_text
 from plantbal.fleet.keep import Times, database
 from plantbal.fleet.night import Night
-from plantbal.fleet.rows import Plant, Row
+from plantbal.fleet.rows import Plant, Row, summary
 
 if TYPE_CHECKING:
     from jinja2 import Template
@@ -90,14 +90,6 @@ def index(night: Night, plants: Sequence[Plant], times: Times) -> None:
         words=" ".join(night.words),
     )
     write_text(night.out / "index.html", text)
-
-
-def summary(plants: Sequence[Plant]) -> str:
-    """Return how many plants there are, and how many need a person."""
-    wanting = sum(plant.needs for plant in plants)
-    count = "1 plant" if len(plants) == 1 else f"{len(plants)} plants"
-    some = f"{wanting} needs" if wanting == 1 else f"{wanting} need" if wanting else "none needs"
-    return f"{count}, of which {some} a person"
 
 
 def _link(night: Night, row: Row) -> str:

@@ -12,32 +12,21 @@ import tempfile
 from contextlib import suppress
 from pathlib import Path
 
-WROTE, SAID, STATUS = "output", "stderr.txt", "run.json"
-# `sh -c JOB job SESSION PART PROGRAM WORD..` runs a session and leaves three files in the folder
-# PART, which `make_ready` has made. STATUS has the program's status, and later becomes the record
-# of the run. The output is the one file that the job makes itself: so the folder is as old as the
-# program's start, and STATUS as its end. The job ends with a fault if the program wasn't done.
+SAID, STATUS = "stderr.txt", "run.json"
+# `sh -c JOB job SESSION OUTPUT PROGRAM WORD..` runs a session. In the folder of OUTPUT, which has to
+# be there and empty, it leaves that file, SAID and STATUS. STATUS has the program's status, and
+# later becomes the record of the run. It is made first and written at the end, and OUTPUT is made
+# last: so the folder is as old as the program's start, and STATUS as its end. The job ends with a
+# fault if the program wasn't done.
 JOB = f"""
-session=$1 part=$2
+session=$1 output=$2 part=${{2%/*}}
 shift 2
-(exec "$@" <"$session" >"$part/{WROTE}") 2>"$part/{SAID}"
+: >"$part/{STATUS}"
+(exec "$@" <"$session" >"$output") 2>"$part/{SAID}"
 status=$?
 echo "$status" >"$part/{STATUS}"
 [ "$status" -le 1 ]
 """
-
-
-def make_ready(part: str) -> None:
-    """Make the folder of a job; the fewer files the job has to make, the less it waits for the disk.
-
-    Raises
-    ------
-    OSError
-        If it can't be made.
-    """
-    os.makedirs(part)
-    for name in (SAID, STATUS):
-        Path(part, name).touch(exist_ok=False)
 
 
 # The jobs that run in this process, and whether more may begin.
@@ -45,20 +34,20 @@ _RUNNING: set[subprocess.Popen[bytes]] = set()
 _STOPPED: set[str] = set()
 
 
-def run_here(command: list[str], session: str, part: str, timeout: float | None) -> bool:
+def run_here(command: list[str], session: str, output: str, timeout: float | None) -> bool:
     """Run a session into a folder that this machine sees, and return whether it ended in time.
 
     Parameters
     ----------
     command : list of str
         The program and its words.
-    session, part : str
-        The file of the session, and the folder.
+    session, output : str
+        The files of the session and of its output.
     timeout : float or None
         The most seconds that it may take.
     """
     job = subprocess.Popen(
-        ["sh", "-c", JOB, "job", session, part, *command],
+        ["sh", "-c", JOB, "job", session, output, *command],
         stdin=subprocess.DEVNULL,
         start_new_session=True,
     )
@@ -94,14 +83,28 @@ def go_on() -> None:
     _STOPPED.clear()
 
 
-def run_sent(command: list[str], session: bytes, timeout: float | None) -> dict[str, bytes] | None:
-    """Run the bytes of a session, and return the files that it leaves; None if it took too long."""
+def run_sent(
+    command: list[str], session: bytes, name: str, timeout: float | None
+) -> dict[str, bytes] | None:
+    """Run the bytes of a session, and return the files that it leaves; None if it took too long.
+
+    Parameters
+    ----------
+    command : list of str
+        The program and its words.
+    session : bytes
+        The session.
+    name : str
+        What the file of its output is called.
+    timeout : float or None
+        The most seconds that it may take.
+    """
     with tempfile.TemporaryDirectory(prefix="plantbal-") as folder:
         given = Path(folder, "session")
         given.write_bytes(session)
         part = Path(folder, "part")
-        make_ready(str(part))
-        if not run_here(command, str(given), str(part), timeout):
+        part.mkdir()
+        if not run_here(command, str(given), str(part / name), timeout):
             return None
         found = {path.name: path.read_bytes() for path in part.iterdir()}
         found[STATUS] = " ".join(map(str, ended(str(part)))).encode("ascii")

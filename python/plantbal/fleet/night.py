@@ -16,6 +16,7 @@ A plant's folder gets its name when all in it is written.
 
 from __future__ import annotations
 
+import errno
 import fcntl
 import hashlib
 import json
@@ -28,8 +29,11 @@ from pathlib import Path
 
 from plantbal.faults import Fault, InputFault, Place
 from plantbal.fleet.given import Given
-from plantbal.fleet.job import SAID, STATUS, WROTE, ended, make_ready
+from plantbal.fleet.job import SAID, STATUS, ended
 from plantbal.fleet.sites import Site
+
+# Why a folder can't get a name: another one has it, which isn't empty, or a file.
+_TAKEN = (errno.ENOTEMPTY, errno.EEXIST, errno.ENOTDIR)
 
 
 @dataclass(frozen=True, slots=True)
@@ -68,8 +72,9 @@ class Run:
 
     def to_json(self) -> bytes:
         """Return it as JSON, an item a line."""
-        items = {each.name: getattr(self, each.name) for each in fields(self)}
-        return (json.dumps(items, indent=1) + "\n").encode("utf-8")
+        items = ((each.name, getattr(self, each.name)) for each in fields(self))
+        lines = ",\n".join(f' "{name}": {json.dumps(value)}' for name, value in items)
+        return f"{{\n{lines}\n}}\n".encode("ascii")
 
     @property
     def asked(self) -> tuple[str, str, list[str]]:
@@ -182,12 +187,12 @@ class Night:
             If it can't be made.
         """
         part = self.part_of(site)
-        with suppress(OSError):
-            for stopped in os.scandir(part.parent):  # also of a night before
-                if stopped.name.startswith(".") and stopped.name.endswith(".part"):
-                    shutil.rmtree(stopped, ignore_errors=True)
         try:
-            make_ready(str(part))
+            try:
+                part.parent.mkdir(parents=True)
+            except FileExistsError:
+                _clear(part.parent)
+            part.mkdir()
         except OSError as error:
             raise InputFault(
                 error.strerror or "it can't be written", place=Place(file=str(part))
@@ -202,19 +207,21 @@ class Night:
     def publish(self, site: Site, asked: Run) -> Kept:
         """Give the files of a plant their names, and return what is kept.
 
-        An output is kept if the program ended with 0 or 1: otherwise it may be cut off.
+        An output is kept if the program ended with 0 or 1: otherwise it may be cut off. The disk may
+        still lack some of it if the power fails now: then it isn't of its digest, and `kept` has
+        nothing of it.
         """
         part = self.part_of(site)
         status, begun, seconds = status_of(part)
         run = replace(asked, status=status, begun=begun, seconds=seconds)
-        if status in (0, 1):
-            (part / WROTE).rename(part / self.output_name)
-        else:
-            (part / WROTE).unlink(missing_ok=True)
-        files = {name: _on_disk(part / name) for name in os.listdir(part) if name != STATUS}
+        if status not in (0, 1):
+            (part / self.output_name).unlink(missing_ok=True)
+        files = {name: (part / name).read_bytes() for name in os.listdir(part) if name != STATUS}
         output, sums = files.get(self.output_name, b""), _sums(files)
         run = replace(run, output_sha256=sums.get(self.output_name, ""))
-        sums |= _sums({STATUS: _to_disk(part / STATUS, run.to_json())})
+        said = run.to_json()
+        (part / STATUS).write_bytes(said)
+        sums |= _sums({STATUS: said})
         put(part, self.folder_of(site))
         if status in (0, 1):
             newest = self.out / site.name / "latest"
@@ -228,24 +235,6 @@ def _sums(files: dict[str, bytes]) -> dict[str, str]:
     return {name: hashlib.sha256(data).hexdigest() for name, data in files.items()}
 
 
-def _to_disk(path: Path, data: bytes) -> bytes:
-    """Write a file, and return its bytes once the disk has them."""
-    with path.open("wb") as file:
-        file.write(data)
-        file.flush()
-        os.fsync(file.fileno())
-    return data
-
-
-def _on_disk(path: Path) -> bytes:
-    """Return the bytes of a file, once the disk has them."""
-    with path.open("rb") as file:
-        data = file.read()
-        if data:
-            os.fsync(file.fileno())
-    return data
-
-
 def status_of(part: Path) -> tuple[int | None, float, float]:
     """Return how a job ended by what it left: the status, when it began, and how long it took."""
     try:
@@ -255,18 +244,33 @@ def status_of(part: Path) -> tuple[int | None, float, float]:
         return None, 0.0, 0.0
 
 
+def _clear(home: Path) -> None:
+    """Take away what fleets that were stopped have left in a plant's folder, whichever night."""
+    with suppress(OSError):
+        for left in os.scandir(home):
+            if left.name.startswith(".") and left.name.endswith((".part", ".old")):
+                shutil.rmtree(left, ignore_errors=True)
+
+
 def put(made: Path, folder: Path) -> None:
     """Give a folder its name, in the place of one that has it."""
+    try:
+        made.rename(folder)
+        return
+    except OSError as error:
+        if error.errno not in _TAKEN:
+            raise
     old = folder.with_name(f".{folder.name}.old")
-    shutil.rmtree(old, ignore_errors=True)
-    if folder.exists():
-        folder.rename(old)
+    folder.rename(old)
     made.rename(folder)
     shutil.rmtree(old, ignore_errors=True)
 
 
 def link(path: Path, target: str) -> None:
     """Make a link, in the place of one that is there."""
+    with suppress(FileExistsError):
+        path.symlink_to(target)
+        return
     made = path.with_name(f".{path.name}.new")
     try:
         made.symlink_to(target)

@@ -1,9 +1,12 @@
-"""What is said of a plant: a row for each period's last report, and why a person has to look."""
+"""What is said of a plant: a row for each last report, and why a person has to look."""
 
 from __future__ import annotations
 
-from collections.abc import Iterator
+from collections.abc import Iterator, Sequence
 from dataclasses import dataclass, field, fields, replace
+
+from plantbal.fleet.night import Run
+from plantbal.fleet.sites import Site
 
 
 @dataclass(frozen=True, slots=True)
@@ -13,7 +16,8 @@ class Row:
     Attributes
     ----------
     site, period, days : str
-        The plant, the period, and its first and last day.
+        The plant, what the report is of (``may``, of a window ``may to june``, of a balance
+        ``cu in may``), and its first and last day.
     state : str
         ``converged``, ``unconverged``, ``over``, ``none``, ``unreadable``; ``yes`` or ``no`` of a
         check; the name of a status of 2 to 6, ``ended`` of any other, ``timeout``, ``lost``,
@@ -103,3 +107,19 @@ class Plant:
         for period, some in self.why_of.items():
             for said in some:
                 yield f"{self.site}, {period}: {said}"
+
+
+def failed(site: Site, state: str, said: str, run: Run | None = None) -> Plant:
+    """Return a plant without an output."""
+    row = Row(site.name, state=state)
+    if run is not None and run.status is not None:
+        row = replace(row, status=str(run.status), seconds=f"{run.seconds:.3f}")
+    return Plant(site.name, [row], [said])
+
+
+def summary(plants: Sequence[Plant]) -> str:
+    """Return how many plants there are, and how many need a person."""
+    wanting = sum(plant.needs for plant in plants)
+    count = "1 plant" if len(plants) == 1 else f"{len(plants)} plants"
+    some = f"{wanting} needs" if wanting == 1 else f"{wanting} need" if wanting else "none needs"
+    return f"{count}, of which {some} a person"

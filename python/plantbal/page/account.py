@@ -19,7 +19,7 @@ from plantbal.page.statement import (
     Tank,
     Worth,
 )
-from plantbal.page.verdict import Lost, Verdict, names_of, verdict_of
+from plantbal.page.verdict import Lost, Verdict, names_of, verdict_of, whither
 from plantbal.report import Block, Values, Window, advice_of, blocks_of, designs_of
 
 if TYPE_CHECKING:
@@ -28,7 +28,7 @@ if TYPE_CHECKING:
 
 # A space that stands within a name.
 NO_BREAK = "\u00a0"
-# What lint finds that a verdict tells: a meter or a tank without a value, and facts too late.
+# What lint finds that a verdict says: a meter or a tank without a value, and facts too late.
 LATE = "after-report"
 TOLD = ("missing-reading", "missing-dip", LATE)
 
@@ -135,6 +135,8 @@ def round_of(
     ]
     dips = asked.dips if asked is not None else {}
     said = verdict_of(block, lost, suspects, lines, stop)
+    if block.component and worth:
+        said = replace(said, reasons=[*said.reasons, *whither(block)])
     return Round(block, lines, tanks_of(lines, dips), said)
 
 

@@ -200,7 +200,8 @@ def _source(options: argparse.Namespace) -> tuple[Source, Output | None, Path | 
     if options.session is not None:
         place = Place(file=options.session)
         raise InputFault("--run takes the session as its file", place=place, remedy="say it once")
-    from plantbal.program import find_program, run as run_program
+    from plantbal.program import find_program
+    from plantbal.runs import run as run_program
 
     session = read_bytes(options.output)
     program = find_program(options.program)

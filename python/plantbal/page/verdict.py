@@ -141,12 +141,32 @@ def verdict_of(
     if block.taken:
         ended = f": {STOPS[stop]}" if stop in STOPS else ""
         were = "was" if len(block.taken) == 1 else "were"
-        reasons.append(f"The meter of {names_of(block.taken)} {were} taken out{ended}.")
+        taken = f"The {_measured(block)} of {names_of(block.taken)}"
+        reasons.append(f"{taken} {were} taken out{ended}.")
     reasons.append(_tests(block))
     if block.whole is not None and block.whole["verdict"] == "reject":
         reasons.append(_suspects(block, lost.lacking, suspects))
     reasons += _of_lines(lines)
     return Verdict(level, headline, reasons)
+
+
+def whither(block: Block) -> list[str]:
+    """Return where a component went, as a sentence; none if what came in isn't known.
+
+    Parameters
+    ----------
+    block : Block
+        A round of its balance.
+    """
+    from plantbal.recovery import Balance
+
+    leaving = [each for each in Balance(block).shares() if each.way != "in"]
+    known = [each for each in leaving if each.share == each.share]
+    parts = [
+        f"{100 * each.share:.2f} % ± {100 * each.share_sd:.2f} % went into {each.stream}"
+        for each in sorted(known, key=lambda each: -each.share)
+    ]
+    return [f"Of the {block.component} that came in, {names_of(parts)}."] if parts else []
 
 
 def _of_lines(lines: Sequence[Line]) -> list[str]:
@@ -174,7 +194,8 @@ def _headline(block: Block, lacking: int, suspects: Sequence[str]) -> tuple[str,
     if lacking:
         return "bad", f"{count_of(lacking, 'row', 'rows')} refused: not to be booked"
     if verdict == "reject":
-        return "look", f"Look at {suspects[0]}" if suspects else "Rejected: look at the meters"
+        what = f"Look at {suspects[0]}" if suspects else f"Rejected: look at the {_measured(block)}s"
+        return "look", what
     if verdict == "accept" and block.taken:
         return "look", f"Accepted without {names_of(block.taken)}"
     if verdict == "accept":
@@ -184,9 +205,15 @@ def _headline(block: Block, lacking: int, suspects: Sequence[str]) -> tuple[str,
     return "plain", "Not tested"
 
 
+def _measured(block: Block) -> str:
+    """Return what the values of a round come from, such as ``meter``."""
+    return "grade" if block.component else "meter"
+
+
 def _tests(block: Block) -> str:
     """Return what the global test says, as a sentence."""
     assert block.solved is not None
+    one = _measured(block)
     solved = block.solved
     low, high = thousandths(solved["low"]), thousandths(solved["high"])
     between = f"between {low} and {high}" if high else f"at least {low}"
@@ -198,15 +225,15 @@ def _tests(block: Block) -> str:
         )
     critical = thousandths(block.whole["critical"])
     return {
-        "accept": f"The meters fit together: the statistic is {between} at {degrees} of freedom, "
+        "accept": f"The {one}s fit together: the statistic is {between} at {degrees} of freedom, "
         f"and up to {critical} is accepted.",
-        "reject": f"No balanced flows fit these meters: the statistic is {between} at {degrees} of "
+        "reject": f"No balanced flows fit these {one}s: the statistic is {between} at {degrees} of "
         f"freedom, and up to {critical} is accepted.",
         "undecided": f"The statistic is {between}, and {critical} lies between: ask for a smaller "
         "gap.",
         "nocritical": f"There is no critical value for {degrees} of freedom, so nothing is "
         f"accepted or rejected. The statistic is {between}.",
-        "notest": "No meter is checked by another: there is nothing to test.",
+        "notest": f"No {one} is checked by another: there is nothing to test.",
     }[block.whole["verdict"]]
 
 
@@ -216,7 +243,7 @@ def _suspects(block: Block, lacking: int, suspects: Sequence[str]) -> str:
         return "Which meter is off can't be said while rows of the plant are missing."
     if not suspects:
         what = "several may be off, or a stream or a ticket may be missing"
-        return f"No single meter explains it: {what}."
+        return f"No single {_measured(block)} explains it: {what}."
     low = {row["stream"]: thousandths(row["low"]) for row in block.measure}
     critical = {row["stream"]: thousandths(row["critical"]) for row in block.measure}
     first = suspects[0]
@@ -225,6 +252,6 @@ def _suspects(block: Block, lacking: int, suspects: Sequence[str]) -> str:
         f"{low[first]}, where {critical[first]} is critical."
     )
     if len(suspects) > 1:
-        more = len(suspects) - 1
-        said += f" The tests of {count_of(more, 'other meter', 'other meters')} reject as well."
+        others = f"other {_measured(block)}"
+        said += f" The tests of {count_of(len(suspects) - 1, others, f'{others}s')} reject as well."
     return said

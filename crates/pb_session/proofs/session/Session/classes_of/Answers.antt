@@ -1,13 +1,17 @@
-use Rattle.std.proofs.Common.{List, subst, sym}
-use Rattle.pb_graph.specs.declared.records.Classified.{Classified}
+use Rattle.std.proofs.Common.{◌≡◌, List, IfOk, subst}
+use Rattle.pb_graph.specs.declared.results.StreamResult.{StreamResult}
 use Rattle.pb_classify.specs.Classification.{IsClassification}
-use Rattle.pb_session.proofs.KeepingLemmas.{known_classes, such_copy}
+use Rattle.pb_elim.specs.Printed.{printed_classes}
+use Rattle.pb_session.specs.Keeping.{classes_in}
+use Rattle.pb_session.proofs.KeepingLemmas.{such_copy}
 use Rattle.pb_session.proofs.session.Session.classes_of.Goals as goal
 
--- those that are kept, copied
+-- those that were reported last, copied
 pub returns-in-Some : goal.returns-in-Some
 returns-in-Some c =
+    let stage = c.in-Some.stage.now in
     let alike = c.alike.ensures.0 c.if-alike.true in
-    let known = known_classes c.alike_law.ensures c.self.inside.classes c.in-Some.kept c.args.graph.now c.requires c.in-Some.is alike c.self.invariant.classes in
-    such_copy c.copied.result c.as_slice.result.now (IsClassification c.args.graph.now)
-    (subst (λ (list : List Classified). IsClassification c.args.graph.now list) (sym c.as_slice.ensures) known) c.copied.ensures
+    let own = rw c.in-Some.is at c.classes.ensures.list in
+    let known = c.alike_law.ensures stage.graph c.args.graph.now (printed_classes stage) c.requires alike own in
+    such_copy c.classes_in.result (printed_classes stage) (IsClassification c.args.graph.now) known
+    (subst (λ (results : List StreamResult). IfOk c.classes_in.result (λ classes. classes ≡ classes_in results)) c.as_slice.ensures c.classes_in.ensures)

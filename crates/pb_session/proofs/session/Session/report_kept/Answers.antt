@@ -1,9 +1,6 @@
-use Rattle.std.proofs.Common.{◌≡◌, ◌∙◌, List, Some, None, Ok, ℕ, Option, slice_get, sym, ap, ap₂, subst}
+use Rattle.std.proofs.Common.{◌≡◌, ◌∙◌, List, Some, None, Ok, ℕ, Option, slice_get, ap, ap₂, subst}
 use Rattle.pb_rows.specs.declared.name.Names.{Names}
 use Rattle.pb_graph.specs.declared.results.Options.{Options}
-use Rattle.pb_graph.specs.ProcessGraph.{ProcessGraph}
-use Rattle.pb_classify.specs.Classification.{IsClassification}
-use Rattle.pb_elim.specs.Printed.{printed_classes}
 use Rattle.pb_book.specs.declared.rows.Period.{Period}
 use Rattle.pb_book.specs.declared.rows.StoredRow.{StoredRow}
 use Rattle.pb_book.specs.Rows.{periods_of}
@@ -12,22 +9,15 @@ use Rattle.pb_report.specs.Form.{text_in}
 use Rattle.pb_report.specs.Study.{study_rows}
 use Rattle.pb_session.specs.declared.session.Reported.{Reported}
 use Rattle.pb_session.specs.Criticals.{critical_of}
-use Rattle.pb_session.specs.Keeping.{IsRenewal, IsReportedOf}
+use Rattle.pb_session.specs.Keeping.{IsReportedOf}
 use Rattle.pb_session.specs.Kept.{Held}
 use Rattle.pb_session.specs.Session.{IsReport, Reports}
-use Rattle.pb_session.proofs.KeepingLemmas.{first_classes, has_graph, kept_names, reported_at}
+use Rattle.pb_session.proofs.KeepingLemmas.{has_graph, kept_names, reported_at}
 use Rattle.pb_session.proofs.ReportLemmas.{reports_at}
 use Rattle.pb_session.proofs.session.Session.report_kept.Goals as goal
 
 same_some : (a b : Period) (o : Option Period) → o ≡ Some a → o ≡ Some b → a ≡ b
 same_some a b o one other = cc (one, other)
-
-pub renewal-requires : goal.renewal-requires
-renewal-requires c =
-    let has = has_graph c.args.self.now.state _ c.args.study.now c.requires.study in
-    let stage = c.at-stage.result.now in
-    let of = first_classes has.graph _ _ c.args.study.now stage has.kept.is_study c.at-stage.ensures in
-    subst (λ (g : ProcessGraph). IsClassification g (printed_classes stage)) (sym (c.in_ok-graph.ensures ∙ of.0)) of.1
 
 pub write_study-requires : goal.write_study-requires
 write_study-requires c =
@@ -69,15 +59,8 @@ returns c =
     } in
     let reports : Reports state found text =
     reports_at state i has.period (Ok has.graph) text has.there has.is (subst (λ (n : Names). IsReport state n has.period.name has.graph text) named.0 report) in
-    let of = first_classes has.graph _ _ study c.at-stage.result.now has.kept.is_study c.at-stage.ensures in
-    let graph_is : c.in_ok-graph.graph ≡ has.graph = c.in_ok-graph.ensures ∙ of.0 in
-    let reported : Reported = record { made = None; graph = c.in_ok-graph.graph; classes = c.in_ok-classes.classes } in
-    let leaves : IsReportedOf held i has.graph reported = record {
-      graph_is = graph_is;
-      limits = has.kept.limits;
-      made = c.requires.kept;
-      classes = subst (λ (g : ProcessGraph). IsRenewal held.reported g c.in_ok-classes.classes) graph_is c.in_ok-classes.ensures;
-    } in
+    let reported : Reported = record { made = None } in
+    let leaves : IsReportedOf held i has.graph reported = record { limits = has.kept.limits; made = c.requires.kept } in
     record {
       ok = (text, c.in_ok-write_study.ensures.ok, reports);
       leaves = reported_at held i found has.period has.graph reported has.there has.is leaves;

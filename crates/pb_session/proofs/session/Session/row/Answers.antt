@@ -1,5 +1,8 @@
-use Rattle.std.proofs.Common.{◌≡◌, ◌≢◌, ◌∙◌, ◌≤◌, List, length, OnErr, Result, Ok, Err, true, false, refl, sym, ap, ap₂, subst}
+use Rattle.std.proofs.Common.{◌≡◌, ◌≢◌, ◌∙◌, ◌≤◌, List, Option, length, IfSome, OnErr, Result, Ok, Err, true, false, refl, sym, ap, ap₂, subst}
 use Rattle.std.specs.List.{AllByRecursion}
+use Rattle.pb_graph.specs.declared.results.Stage.{Stage}
+use Rattle.pb_classify.specs.Classification.{IsClassification}
+use Rattle.pb_elim.specs.Printed.{printed_classes}
 use Rattle.pb_book.specs.declared.answer.Accepted.{Accepted}
 use Rattle.pb_book.specs.declared.answer.Refused.{Refused as Refusal}
 use Rattle.pb_book.specs.declared.answer.NotAccepted.{NotAccepted}
@@ -10,10 +13,10 @@ use Rattle.pb_kinds.specs.Costs.{named_costs}
 use Rattle.pb_book.specs.Answer.{Answer, Refused, Says, after, after_answer, answer_of, is_refused, said_of}
 use Rattle.pb_session.specs.declared.kept.KeptStudy.{KeptStudy}
 use Rattle.pb_session.specs.Closed.{LeavesClosed}
-use Rattle.pb_session.specs.Keeping.{IsKeeping, IsKeptStudy, held_of, left_by}
-use Rattle.pb_session.specs.Kept.{Held, Keeps, KeepsAccepted, KeepsBy, most_kept, reported_after}
+use Rattle.pb_session.specs.Keeping.{IsKeeping, IsKeptStudy, held_of, last_stage, left_by, saved_by}
+use Rattle.pb_session.specs.Kept.{Held, Keeps, KeepsAccepted, KeepsBy, most_kept, reported_after, reported_behind}
 use Rattle.pb_session.specs.Session.{AddsBy, Adds, SessionState, state_after}
-use Rattle.pb_session.proofs.KeepingLemmas.{keeps_by, left_few, left_kept, left_other, reported_still, said, said_ok, state_with}
+use Rattle.pb_session.proofs.KeepingLemmas.{graph_in, keeps_by, left_few, left_kept, left_other, left_stage, reported_still, said, said_ok, saved_other, state_with}
 use Rattle.pb_session.proofs.ClosedLemmas.{leaves_closed, none_joined}
 use Rattle.pb_session.proofs.KeptLemmas.{periods_in}
 use Rattle.pb_session.proofs.RowLemmas.{accepted_adds, accepted_is, advice_is, answers, of_periods, refused_is, unchanged_by}
@@ -47,6 +50,11 @@ write-requires-clause-advised c = λ asks.
     let it = advice_is rows c.accept.new.self c.args.at (answer_of rows c.args.row.now) said (c.accept.ensures.stored sure) in
     subst (λ (rs : List StoredRow). answer_of rs c.args.row.now ≡ Says Advise) (sym it.1) it.0
 
+-- the stage that was reported last stays
+stage_left : (state : SessionState) (accepted : Accepted) (rows : List StoredRow) (kept new : List KeptStudy) (last new_last : Option Stage) → new ≡ left_by accepted rows kept
+    → new_last ≡ saved_by accepted rows kept last → AllByRecursion (IsKeptStudy state) kept → last_stage new new_last ≡ last_stage kept last
+stage_left state accepted rows kept new last new_last left saved all = ap₂ last_stage left saved ∙ left_stage state accepted rows kept last all
+
 -- what is kept behind the row is that of the rows stored then
 pub invariant_of-self : goal.invariant_of-self
 invariant_of-self c =
@@ -57,14 +65,15 @@ invariant_of-self c =
     let sure = accepted_sure accepted c.accept.result c.in-Ok.is in
     let said_is = sym c.in-Ok.is ∙ c.accept.ensures.answer sure in
     let answer = answer_of state.rows c.args.row.now in
-    let left = c.drop_touched.ensures in
+    let left = c.drop_touched.ensures.left in
+    let stage = stage_left state accepted rows kept c.drop_touched.new.kept.items c.self.inside.last c.drop_touched.new.last left c.drop_touched.ensures.saved c.self.invariant.studies in
     let studies = left_kept c.untouched_law.ensures state rows c.args.at answer accepted kept said_is (said state.rows c.args.row.now) (c.accept.ensures.stored sure)
     (λ stored. (c.accept.ensures.accepted, c.accept.ensures.no_repeats (c.in-Ok.is ∙ ap (λ (a : Accepted). said_ok a) stored))) c.self.invariant.studies in
     record {
       options = c.self.invariant.options;
       studies = subst (AllByRecursion (IsKeptStudy (state_with state rows))) (sym left) studies;
       few = subst (λ (ks : List KeptStudy). length ks ≤ most_kept) (sym left) (left_few accepted rows kept c.self.invariant.few);
-      classes = c.self.invariant.classes;
+      classes = subst (λ (o : Option Stage). IfSome o (λ (s : Stage). IsClassification s.graph (printed_classes s))) (sym stage) c.self.invariant.classes;
     }
 
 -- a refused record leaves it as it was
@@ -76,22 +85,23 @@ invariant_of-self-in-Err-Refused c =
     let sure = refused_sure cause c.accept.result is_for in
     let answer_is = refused_is (answer_of state.rows c.args.row.now) cause (sym is_for ∙ c.accept.ensures.answer sure) in
     let rows_stay : c.accept.new.self ≡ state.rows = c.accept.ensures.stored sure ∙ ap (after_answer state.rows c.args.at) answer_is in
-    subst (λ (rows : List StoredRow). IsKeeping (state_with state rows) c.self.inside.kept.items c.self.inside.classes) (sym rows_stay) c.self.invariant
+    subst (λ (rows : List StoredRow). IsKeeping (state_with state rows) c.self.inside.kept.items c.self.inside.last) (sym rows_stay) c.self.invariant
 
 pub returns-in_err-write-in-Ok-clause-err : goal.returns-in_err-write-in-Ok-clause-err
 returns-in_err-write-in-Ok-clause-err c =
     let state : SessionState = record { options = c.self.inside.options; form = c.self.inside.form; rows = c.self.inside.book } in
     let kept = c.self.inside.kept.items in
-    let classes = c.self.inside.classes in
+    let last = c.self.inside.last in
     let accepted = c.in-Ok.accepted in
     let sure = accepted_sure accepted c.accept.result c.in-Ok.is in
     let said_is = sym c.in-Ok.is ∙ c.accept.ensures.answer sure in
     let answer = answer_of state.rows c.args.row.now in
     let other = c.in_err-write-in-Ok.ensures.sure in
     let rows_stay : c.accept.new.self ≡ state.rows = c.accept.ensures.stored sure ∙ unchanged_by state.rows c.args.at answer accepted said_is other in
-    let kept_stay : c.drop_touched.new.kept.items ≡ kept = c.drop_touched.ensures ∙ left_other accepted c.accept.new.self kept other in
-    let same : held_of (state_with state c.accept.new.self) c.drop_touched.new.kept.items classes ≡ held_of state kept classes =
-    ap₂ (λ (rows : List StoredRow) (ks : List KeptStudy). held_of (state_with state rows) ks classes) rows_stay kept_stay in
+    let kept_stay : c.drop_touched.new.kept.items ≡ kept = c.drop_touched.ensures.left ∙ left_other accepted c.accept.new.self kept other in
+    let last_stay : c.drop_touched.new.last ≡ last = c.drop_touched.ensures.saved ∙ saved_other accepted c.accept.new.self kept last other in
+    let same : held_of (state_with state c.accept.new.self) c.drop_touched.new.kept.items c.drop_touched.new.last ≡ held_of state kept last =
+    ap₂ (λ (rows : List StoredRow) (ks : List KeptStudy). held_of (state_with state rows) ks c.drop_touched.new.last) rows_stay kept_stay ∙ ap (held_of state kept) last_stay in
     on_err _ _ (c.in_err-write-in-Ok.ensures.err ∙ same ∙ c.self.view_is)
 
 pub returns-in_ok-write-in-Ok-clause-ok : goal.returns-in_ok-write-in-Ok-clause-ok
@@ -129,7 +139,7 @@ returns-in_ok-write-in-Ok-clause-kept c =
     let said_is = sym c.in-Ok.is ∙ c.accept.ensures.answer sure in
     let answer = answer_of state.rows c.args.row.now in
     let after = c.write.new.self.kept in
-    let left = c.drop_touched.ensures in
+    let left = c.drop_touched.ensures.left in
     let keeps : KeepsAccepted (state_with state rows) (periods_in (left_by accepted rows kept)) accepted after =
     subst (λ (ks : List KeptStudy). KeepsAccepted (state_with state rows) (periods_in ks) accepted after) left c.in_ok-write-in-Ok.ensures.kept in
     let here : Keeps state (periods_in kept) c.args.at c.args.row.now after =
@@ -147,21 +157,24 @@ returns-in_ok-write-in-Ok-clause-closed c =
 pub returns-in_ok-write-in-Ok-clause-reported : goal.returns-in_ok-write-in-Ok-clause-reported
 returns-in_ok-write-in-Ok-clause-reported c =
     let state : SessionState = record { options = c.self.inside.options; form = c.self.inside.form; rows = c.self.inside.book } in
-    let held = held_of state c.self.inside.kept.items c.self.inside.classes in
+    let held = held_of state c.self.inside.kept.items c.self.inside.last in
     let accepted = c.in-Ok.accepted in
     let sure = accepted_sure accepted c.accept.result c.in-Ok.is in
     let said_is = sym c.in-Ok.is ∙ c.accept.ensures.answer sure in
     let answer = answer_of state.rows c.args.row.now in
     let still = reported_still state c.accept.new.self c.args.at answer accepted held.reported said_is (c.accept.ensures.stored sure) in
-    c.in_ok-write-in-Ok.ensures.reported ∙ still ∙ ap (λ (h : Held). reported_after h.state h.reported (answer_of h.state.rows c.args.row.now)) c.self.view_is
+    let stage = stage_left state accepted c.accept.new.self c.self.inside.kept.items c.drop_touched.new.kept.items c.self.inside.last c.drop_touched.new.last
+    c.drop_touched.ensures.left c.drop_touched.ensures.saved c.self.invariant.studies in
+    let left = ap (λ (last : Option Stage). reported_behind (state_with state c.accept.new.self) (graph_in last) accepted) stage in
+    c.in_ok-write-in-Ok.ensures.reported ∙ left ∙ still ∙ ap (λ (h : Held). reported_after h.state h.reported (answer_of h.state.rows c.args.row.now)) c.self.view_is
 
 pub returns-in_ok-refuse-in-Err-Refused : goal.returns-in_ok-refuse-in-Err-Refused
 returns-in_ok-refuse-in-Err-Refused c =
     let state : SessionState = record { options = c.self.inside.options; form = c.self.inside.form; rows = c.self.inside.book } in
     let kept = c.self.inside.kept.items in
-    let classes = c.self.inside.classes in
-    let held = held_of state kept classes in
-    let new = held_of (state_with state c.accept.new.self) kept classes in
+    let last = c.self.inside.last in
+    let held = held_of state kept last in
+    let new = held_of (state_with state c.accept.new.self) kept last in
     let cause = c.in-Err-Refused.cause in
     let is_for = refused_for cause c.in-Err-Refused.field-0 c.accept.result c.in-Err-Refused.is c.in-Err-Refused.field-0-is in
     let sure = refused_sure cause c.accept.result is_for in
@@ -195,6 +208,6 @@ returns-in_err-refuse-in-Err-Refused-clause-err c =
     let answer_is : answer ≡ Refused cause = refused_is answer cause (sym is_for ∙ c.accept.ensures.answer sure) in
     let rows_stay : c.accept.new.self ≡ c.self.inside.book = c.accept.ensures.stored sure ∙ ap (after_answer c.self.inside.book c.args.at) answer_is in
     let state : SessionState = record { options = c.self.inside.options; form = c.self.inside.form; rows = c.self.inside.book } in
-    let held : List StoredRow → Held = λ rows. held_of (state_with state rows) c.self.inside.kept.items c.self.inside.classes in
+    let held : List StoredRow → Held = λ rows. held_of (state_with state rows) c.self.inside.kept.items c.self.inside.last in
     let same : held c.accept.new.self ≡ held state.rows = ap held rows_stay in
     on_err _ _ (same ∙ c.self.view_is)

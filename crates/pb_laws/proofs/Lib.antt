@@ -1,0 +1,4 @@
+mod FlowLemmas
+mod NodalLemmas
+mod PeriodLemmas
+mod PlainTextLemmas

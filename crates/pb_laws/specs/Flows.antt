@@ -1,0 +1,19 @@
+-- Statement. Each printed flow is within its own bounds, and within its own least bounds.
+use Rattle.std.specs.Prelude.{ℤ, ◌≤ℤ◌, IfSome}
+use Rattle.pb_graph.specs.declared.results.Bounds.{Bounds}
+use Rattle.pb_graph.specs.declared.results.Stage.{Stage}
+use Rattle.pb_elim.specs.Printed.{EachStream}
+use Rattle.pb_elim.specs.Certified.{IsCertifiedStage}
+
+-- a flow in whole grams is within the bounds
+pub record IsFlowWithin (flow : ℤ) (bounds : Bounds) : Type 0 where
+  pub from : bounds.lo ≤ℤ flow
+  pub to : flow ≤ℤ bounds.hi
+
+-- each printed flow of a certified stage is within its bounds, if it has any
+abbrev pub OwnBoundsLaw : Type 0
+OwnBoundsLaw = (stage : Stage) → IsCertifiedStage stage → EachStream stage (λ j r. IfSome r.bounds (IsFlowWithin r.flow))
+
+-- and within its least bounds, if it has any
+abbrev pub OwnLeastBoundsLaw : Type 0
+OwnLeastBoundsLaw = (stage : Stage) → IsCertifiedStage stage → EachStream stage (λ j r. IfSome r.least (IsFlowWithin r.flow))

@@ -1,0 +1,5 @@
+-- Statement
+pub mod Flows
+pub mod Nodal
+pub mod Closing
+pub mod PlainText

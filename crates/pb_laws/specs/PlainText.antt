@@ -1,0 +1,14 @@
+-- Statement. The plain rows can always be written: there is a text whose records write them.
+use Rattle.std.specs.Prelude.{ℕ, List}
+use Rattle.pb_rows.specs.Records.{records_of}
+use Rattle.pb_book.specs.declared.rows.StoredRow.{StoredRow}
+use Rattle.pb_book.specs.Accepted.{AreAccepted}
+use Rattle.pb_book.specs.Named.{HaveNames}
+use Rattle.pb_book.specs.Plain.{plain_rows}
+use Rattle.pb_book.specs.Written.{WriteRows}
+
+-- The plain rows of accepted rows whose names are names have a text: as the rows of a session are, whatever its records, each session
+-- has an edited file.
+abbrev pub SomePlainTextLaw : Type 0
+SomePlainTextLaw =
+    (rows : List StoredRow) → AreAccepted rows → HaveNames rows → (text : List ℕ) × WriteRows (records_of text) (plain_rows rows)

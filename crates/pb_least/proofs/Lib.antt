@@ -1,0 +1,5 @@
+mod CombinationLemmas
+mod InnerProductLemmas
+mod OrthogonalLemmas
+mod LeastLemmas
+mod OtherLeastLemmas

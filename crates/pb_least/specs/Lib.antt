@@ -1,0 +1,2 @@
+-- Statement
+pub mod Laws
