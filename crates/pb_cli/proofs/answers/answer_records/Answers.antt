@@ -35,6 +35,9 @@ returns-in_err-fill-clause-cause g c =
     let p = err_from_is_err_and c.from_residual.result c.from_residual.ensures.1 in
     rw (p.1, p.2) (λ e. absurd (no_sink_fault e))
 
+pub returns-in_err-fill-clause-memory_no_fault : goal.returns-in_err-fill-clause-memory_no_fault
+returns-in_err-fill-clause-memory_no_fault g c = any_err c.from_residual.result _ (λ e same. c.turns.invariant.faults)
+
 pub returns-in_err-some_refused-clause-memory_no_fault : goal.returns-in_err-some_refused-clause-memory_no_fault
 returns-in_err-some_refused-clause-memory_no_fault g c =
     let p = err_from_is_err_and c.from_residual-in_err-some_refused.result c.from_residual-in_err-some_refused.ensures.1 in
