@@ -1,9 +1,9 @@
 // Advice held against all choices of small graphs. The advice of plants that were worked by hand is data, in examples/worked.
 
-use crate::graphs::{METER, stream};
+use crate::graphs::{METER, graph_of, stream};
 use pb_advise::{Advice, MOST_COST, advise};
 use pb_classify::classify;
-use pb_graph::{Class, Graph};
+use pb_graph::{Class, Graph, Stream};
 use std::alloc::{AllocError, Global};
 use std::process::Abort;
 
@@ -79,14 +79,8 @@ fn least_cost(rt: &impl Abort, alloc: Global, g: &Graph, costs: &[i64]) -> Resul
     Ok(least)
 }
 
-// The advised streams as a set, each with a cycle of the graph, and what they cost.
-fn advised(
-    rt: &impl Abort,
-    alloc: Global,
-    g: &Graph,
-    costs: &[i64],
-) -> Result<(u32, i128), AllocError> {
-    let advice = advice_for(rt, alloc, g, costs)?;
+// The streams of an advice as a set, each with a cycle of the graph.
+fn set_of(rt: &impl Abort, g: &Graph, advice: &Advice) -> u32 {
     let mut set = 0u32;
     for meter in advice.meter.iter() {
         assert!(rt;
@@ -96,47 +90,70 @@ fn advised(
         );
         set |= 1 << (meter.stream % 32);
     }
-    Ok((set, advice.total))
+    set
+}
+
+// The advised streams as a set, and what they cost.
+fn advised(
+    rt: &impl Abort,
+    alloc: Global,
+    g: &Graph,
+    costs: &[i64],
+) -> Result<(u32, i128), AllocError> {
+    let advice = advice_for(rt, alloc, g, costs)?;
+    Ok((set_of(rt, g, &advice), advice.total))
 }
 
 // Six streams between three units and the environment, drawn by lot from a number, with costs of 0 to 3.
-fn drawn(rt: &impl Abort, alloc: Global, seed: u32) -> Result<(Graph, Vec<i64>), AllocError> {
+fn drawn(seed: u32) -> ([Stream; 6], [i64; 6]) {
+    let mut streams = [stream(0, 1, None); 6];
+    let mut costs = [0; 6];
     let mut lot = seed;
-    let mut g = Graph::new(alloc, 4);
-    let mut costs = Vec::new(alloc);
-    for _stream in 0..6 {
+    for place in 0..6 {
         lot = lot.wrapping_mul(1_103_515_245).wrapping_add(12_345);
         let from = (lot >> 16) % 4;
         let to = (from + 1 + (lot >> 20) % 3) % 4;
         let meas = if (lot >> 24) % 4 == 0 { METER } else { None };
-        let s = stream(from, to, meas);
-        assert!(rt; g.fits(&s), "{s:?}");
-        g.push(s)?;
-        costs.push(i64::from((lot >> 28) % 4))?;
+        streams[place] = stream(from, to, meas);
+        costs[place] = i64::from((lot >> 28) % 4);
     }
-    Ok((g, costs))
+    (streams, costs)
 }
 
-// The advice for a graph drawn by lot suffices, and no set of its streams that suffices costs less.
-fn assert_least(rt: &impl Abort, alloc: Global, seed: u32) -> Result<(), AllocError> {
-    let (g, costs) = drawn(rt, alloc, seed)?;
-    let (set, total) = advised(rt, alloc, &g, &costs)?;
-    assert!(rt; is_unmeasured(&g, set), "graph {seed}");
-    assert!(rt; suffices(rt, alloc, &g, set)?, "graph {seed}");
-    assert_eq!(rt; i128::from(cost_of(&costs, set)), total, "graph {seed}");
+// The advice for a graph suffices, and no set of its streams that suffices costs less.
+fn assert_least(
+    rt: &impl Abort,
+    alloc: Global,
+    seed: u32,
+    g: &Graph,
+    costs: &[i64],
+) -> Result<(), AllocError> {
+    let (set, total) = advised(rt, alloc, g, costs)?;
+    assert!(rt; is_unmeasured(g, set), "graph {seed}");
+    assert!(rt; suffices(rt, alloc, g, set)?, "graph {seed}");
     assert_eq!(rt;
-        i128::from(least_cost(rt, alloc, &g, &costs)?),
-        total,
+        (
+            i128::from(cost_of(costs, set)),
+            i128::from(least_cost(rt, alloc, g, costs)?)
+        ),
+        (total, total),
         "graph {seed}"
     );
     Ok(())
+}
+
+// The same of a graph drawn by lot.
+fn assert_least_by_lot(rt: &impl Abort, alloc: Global, seed: u32) -> Result<(), AllocError> {
+    let (streams, costs) = drawn(seed);
+    let g = graph_of(rt, alloc, 4, &streams)?;
+    assert_least(rt, alloc, seed, &g, &costs)
 }
 
 /// Small graphs drawn by lot, each against all sets of its streams.
 #[test]
 fn as_cheap_as_any_set(rt: HostRuntime) -> Result<(), AllocError> {
     for seed in 0..60 {
-        assert_least(&rt, rt.alloc(), seed)?;
+        assert_least_by_lot(&rt, rt.alloc(), seed)?;
     }
     Ok(())
 }

@@ -76,13 +76,6 @@ fn assert_cuts(rt: &impl Abort, g: &Graph) {
     }
 }
 
-#[test]
-fn decides_cuts(rt: HostRuntime) -> Result<(), AllocError> {
-    let g = line(&rt, rt.alloc())?;
-    assert_cuts(&rt, &g);
-    Ok(())
-}
-
 fn assert_cycles(rt: &impl Abort, g: &Graph) {
     let round = [step(0, true), step(1, true), step(2, true)];
     let there_and_back = [step(0, true), step(0, false)];
@@ -106,13 +99,6 @@ fn assert_cycles(rt: &impl Abort, g: &Graph) {
     }
 }
 
-#[test]
-fn decides_cycles(rt: HostRuntime) -> Result<(), AllocError> {
-    let g = line(&rt, rt.alloc())?;
-    assert_cycles(&rt, &g);
-    Ok(())
-}
-
 fn assert_balances(rt: &impl Abort, g: &Graph) {
     assert!(rt; g.len() == 3 && g.nodes() == 3, "the line");
     assert_eq!(rt;
@@ -128,8 +114,10 @@ fn assert_balances(rt: &impl Abort, g: &Graph) {
 }
 
 #[test]
-fn balances(rt: HostRuntime) -> Result<(), AllocError> {
+fn decides_cuts_cycles_and_balances(rt: HostRuntime) -> Result<(), AllocError> {
     let g = line(&rt, rt.alloc())?;
+    assert_cuts(&rt, &g);
+    assert_cycles(&rt, &g);
     assert_balances(&rt, &g);
     Ok(())
 }
@@ -169,12 +157,6 @@ fn assert_reached(rt: &impl Abort, alloc: Global, g: &Graph) -> Result<(), Alloc
     Ok(())
 }
 
-#[test]
-fn reaches(rt: HostRuntime) -> Result<(), AllocError> {
-    let g = line(&rt, rt.alloc())?;
-    assert_reached(&rt, rt.alloc(), &g)
-}
-
 // No path over B from env to U, and one of a step from V to U.
 fn assert_paths(rt: &impl Abort, alloc: Global, g: &Graph) -> Result<(), AllocError> {
     assert!(rt; g.len() == 3 && g.nodes() == 3);
@@ -187,8 +169,9 @@ fn assert_paths(rt: &impl Abort, alloc: Global, g: &Graph) -> Result<(), AllocEr
 }
 
 #[test]
-fn finds_paths(rt: HostRuntime) -> Result<(), AllocError> {
+fn searches(rt: HostRuntime) -> Result<(), AllocError> {
     let g = line(&rt, rt.alloc())?;
+    assert_reached(&rt, rt.alloc(), &g)?;
     assert_paths(&rt, rt.alloc(), &g)
 }
 

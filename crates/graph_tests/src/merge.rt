@@ -1,10 +1,13 @@
 //! Groups of small graphs, worked by hand.
 
+ghost use Rattle.std.specs.Prelude.{◌≤◌};
+ghost use Rattle.pb_limits.specs.Limits.{most_nodes};
+
 use crate::graphs::{graph_of, stream};
 use pb_graph::{Meas, Stream};
 use pb_merge::Groups;
+use std::alloc::{AllocError, Global};
 use std::process::Abort;
-use std::test::Fail;
 
 fn plain(from: u32, to: u32) -> Stream {
     stream(from, to, None)
@@ -29,30 +32,30 @@ fn check(rt: &impl Abort, groups: &Groups, numbers: &[u32], rows: &[(u32, bool, 
     }
 }
 
-#[test]
-fn a_part_apart_from_the_environment(rt: HostRuntime) -> Result<(), Fail> {
-    let g = graph_of(&rt, rt.alloc(), 3, &[metered(1, 2, 1), metered(2, 1, 1)])?;
-    let groups = Groups::of(rt.alloc(), &g)?;
-    check(
-        &rt,
-        &groups,
-        &[0, 1, 2],
-        &[(0, false, 0), (1, true, 2), (2, true, 2)],
-    );
+// The groups of the graph of these streams.
+fn groups_are(
+    rt: &impl Abort,
+    alloc: Global,
+    nodes: u32,
+    streams: &[Stream],
+    numbers: &[u32],
+    rows: &[(u32, bool, i128)],
+) -> Result<(), AllocError>
+    requires env { 1 ≤ nodes }
+    requires most { nodes ≤ most_nodes }
+{
+    let g = graph_of(rt, alloc, nodes, streams)?;
+    let groups = Groups::of(alloc, &g)?;
+    check(rt, &groups, numbers, rows);
     Ok(())
 }
 
+/// A part apart from the environment, a meter beside a plain stream, and streams that join groups in any order.
 #[test]
-fn a_meter_beside_a_plain_stream(rt: HostRuntime) -> Result<(), Fail> {
-    let g = graph_of(&rt, rt.alloc(), 3, &[plain(1, 2), metered(1, 2, 1)])?;
-    let groups = Groups::of(rt.alloc(), &g)?;
-    check(&rt, &groups, &[0, 1, 1], &[(0, false, 0), (1, false, 0)]);
-    Ok(())
-}
-
-#[test]
-fn groups_join_in_any_order(rt: HostRuntime) -> Result<(), Fail> {
-    let streams = [
+fn groups(rt: HostRuntime) -> Result<(), AllocError> {
+    let apart = [metered(1, 2, 1), metered(2, 1, 1)];
+    let beside = [plain(1, 2), metered(1, 2, 1)];
+    let mixed = [
         plain(3, 5),
         metered(0, 3, 7),
         plain(4, 2),
@@ -60,14 +63,11 @@ fn groups_join_in_any_order(rt: HostRuntime) -> Result<(), Fail> {
         plain(2, 5),
         metered(3, 4, 100),
     ];
-    let g = graph_of(&rt, rt.alloc(), 6, &streams)?;
-    let groups = Groups::of(rt.alloc(), &g)?;
-    check(
-        &rt,
-        &groups,
-        &[0, 1, 2, 2, 2, 2],
-        &[(0, false, 7), (1, true, 11), (2, true, 18)],
-    );
-    assert!(rt; groups.numbers().len() == 6);
-    Ok(())
+    let alloc = rt.alloc();
+    let parts = [(0, false, 0), (1, true, 2), (2, true, 2)];
+    groups_are(&rt, alloc, 3, &apart, &[0, 1, 2], &parts)?;
+    let pair = [(0, false, 0), (1, false, 0)];
+    groups_are(&rt, alloc, 3, &beside, &[0, 1, 1], &pair)?;
+    let joined = [(0, false, 7), (1, true, 11), (2, true, 18)];
+    groups_are(&rt, alloc, 6, &mixed, &[0, 1, 2, 2, 2, 2], &joined)
 }

@@ -2,7 +2,8 @@ ghost use Rattle.std.specs.Prelude.{IfOk};
 ghost use Rattle.pb_window.specs.Window.{IsWindow};
 
 use pb_classify::classify;
-use pb_graph::{Class, Graph, List, Meas};
+use pb_graph::{Class, Classified, Graph, List, Meas};
+use pb_rows::Names;
 use pb_window::{
     Plant, PlantArc, Service, Source, Span, Window, WindowAssembly, WindowFault, WindowNode,
     is_plant, node_code, stream_code, window_graph, window_names, window_of,
@@ -269,14 +270,7 @@ fn assert_days(rt: &impl Abort, case: &Case, window: &Window) {
     assert_eq!(rt; seen, case.days.len(), "{}", case.name);
 }
 
-// The names of the environment, of the nodes and of the streams, in order.
-fn assert_names(
-    rt: &impl Abort,
-    alloc: Global,
-    case: &Case,
-    window: &Window,
-) -> Result<(), AllocError> {
-    let names = window_names(alloc, window)?;
+fn assert_named(rt: &impl Abort, case: &Case, names: &Names) {
     assert_eq!(rt;
         (names.nodes.len(), names.streams.len()),
         (1 + case.window_nodes.len(), case.window_streams.len()),
@@ -286,6 +280,17 @@ fn assert_names(
     for (name, wanted) in names.streams.iter().zip(case.window_streams) {
         assert_eq!(rt; name.as_str(), wanted.0, "{}", case.name);
     }
+}
+
+// The names of the environment, of the nodes and of the streams, in order.
+fn assert_names(
+    rt: &impl Abort,
+    alloc: Global,
+    case: &Case,
+    window: &Window,
+) -> Result<(), AllocError> {
+    let names = window_names(alloc, window)?;
+    assert_named(rt, case, &names);
     Ok(())
 }
 
@@ -382,6 +387,13 @@ fn graph_by(
     window_graph(alloc, &window, measured)
 }
 
+fn assert_are(rt: &impl Abort, classes: &[Classified], wanted: &[Class]) {
+    assert_eq!(rt; classes.len(), wanted.len(), "streams");
+    for (found, wanted) in classes.iter().zip(wanted) {
+        assert_eq!(rt; found.class, *wanted, "a class");
+    }
+}
+
 fn assert_classes(
     rt: &impl Abort,
     alloc: Global,
@@ -389,10 +401,7 @@ fn assert_classes(
     wanted: &[Class],
 ) -> Result<(), AllocError> {
     let classes = classify(alloc, g)?;
-    assert_eq!(rt; classes.len(), wanted.len(), "streams");
-    for (found, wanted) in classes.iter().zip(wanted) {
-        assert_eq!(rt; found.class, *wanted, "a class");
-    }
+    assert_are(rt, classes.as_slice(), wanted);
     Ok(())
 }
 

@@ -19,7 +19,7 @@ const REPORT: &str =
 
 /// How a run over ends in memory goes: its words, the most bytes of a take and of a put, the number of the take and of the put that
 /// fails, counted from 1 (0 names none), and how many bytes there is room for.
-#[derive(Clone, Copy, Debug)]
+#[derive(Clone, Copy)]
 struct Ends<'a> {
     words: &'a [&'a str],
     take: usize,
@@ -66,17 +66,35 @@ fn run_in_memory(
     run(alloc, words, source, sink)
 }
 
-fn outcome(alloc: Global, ends: Ends<'_>, input: Vec<u8>) -> Result<(Status, Vec<u8>), AllocError> {
+fn source_of(alloc: Global, ends: &Ends<'_>, input: &[u8]) -> Result<MemSource, AllocError> {
     let failing_takes = vec![in alloc; ends.failing_take]?;
-    let failing_puts = vec![in alloc; ends.failing_put]?;
-    let mut sink = MemSink::new(alloc, ends.room, ends.put.max(1), failing_puts)?;
-    let words = words_from(alloc, ends.words)?;
-    let mut source = MemSource::new(input, ends.take.max(1), failing_takes);
-    let status = run_in_memory(alloc, &words, &mut source, &mut sink);
-    Ok((status, Vec::from_slice(alloc, sink.bytes())?))
+    let bytes = Vec::from_slice(alloc, input)?;
+    Ok(MemSource::new(bytes, ends.take.max(1), failing_takes))
 }
 
-// Runs over a copy of the input, and compares how that ends and what it writes.
+fn sink_of(alloc: Global, ends: &Ends<'_>) -> Result<MemSink, AllocError> {
+    let failing_puts = vec![in alloc; ends.failing_put]?;
+    MemSink::new(alloc, ends.room, ends.put.max(1), failing_puts)
+}
+
+// Runs, and compares how that ends and what it writes.
+fn assert_run(
+    rt: &impl Abort,
+    alloc: Global,
+    words: &Words,
+    source: &mut MemSource,
+    sink: &mut MemSink,
+    wanted: (Status, &[u8]),
+) {
+    let status = run_in_memory(alloc, words, source, sink);
+    assert_eq!(rt;
+        (status, sink.bytes()),
+        wanted,
+        "how the run ends, and what it writes"
+    );
+}
+
+// The same over a copy of the input.
 fn gives(
     rt: &impl Abort,
     alloc: Global,
@@ -85,12 +103,11 @@ fn gives(
     status: Status,
     output: &str,
 ) -> Result<(), AllocError> {
-    let (ended, written) = outcome(alloc, ends, Vec::from_slice(alloc, input)?)?;
-    assert_eq!(rt;
-        (ended, written.as_slice()),
-        (status, output.as_bytes()),
-        "{ends:?}, which gives {output}"
-    );
+    let words = words_from(alloc, ends.words)?;
+    let mut source = source_of(alloc, &ends, input)?;
+    let mut sink = sink_of(alloc, &ends)?;
+    let wanted = (status, output.as_bytes());
+    assert_run(rt, alloc, &words, &mut source, &mut sink, wanted);
     Ok(())
 }
 
@@ -103,35 +120,34 @@ const MAKE: Ends<'static> = Ends {
     room: 65_536,
 };
 
-/// The sixth put of one byte fails.
-#[test]
-fn stops_making_where_a_put_fails(rt: HostRuntime) -> Result<(), AllocError> {
-    let cut = Ends {
+// The k-th put fails, one byte a put: the first k - 1 bytes are written. All of them are if it would come after the last one.
+fn assert_cut_at_each_put(
+    rt: &impl Abort,
+    alloc: Global,
+    ends: Ends<'_>,
+    input: &[u8],
+    output: &str,
+) -> Result<(), AllocError> {
+    let mut cut = Ends {
         put: 1,
-        failing_put: 6,
-        ..MAKE
+        failing_put: 1,
+        ..ends
     };
-    gives(&rt, rt.alloc(), cut, b"", Status::WriteFault, "unit,")
+    for before in 0..output.len() {
+        let begin = output.get(..before).unwrap_or(output);
+        gives(rt, alloc, cut, input, Status::WriteFault, begin)?;
+        cut.failing_put = cut.failing_put.saturating_add(1);
+    }
+    gives(rt, alloc, cut, input, Status::Done, output)
 }
 
-/// The k-th put fails, one byte a put: the first k - 1 bytes are written.
+/// Over a report, and over the judgement of two reports.
 #[test]
 fn stops_where_a_put_fails(rt: HostRuntime) -> Result<(), AllocError> {
-    for k in 1..REPORT.len() as u32 + 2 {
-        let ends = Ends {
-            put: 1,
-            failing_put: k,
-            ..TESTS
-        };
-        let status = if k as usize <= REPORT.len() {
-            Status::WriteFault
-        } else {
-            Status::Done
-        };
-        let begin = REPORT.get(..k as usize - 1).unwrap_or(REPORT);
-        gives(&rt, rt.alloc(), ends, TWO_METERS.as_bytes(), status, begin)?;
-    }
-    Ok(())
+    let alloc = rt.alloc();
+    assert_cut_at_each_put(&rt, alloc, TESTS, TWO_METERS.as_bytes(), REPORT)?;
+    let reports = joined(alloc, &[REPORT.as_bytes(), REPORT.as_bytes()])?;
+    assert_cut_at_each_put(&rt, alloc, CHECK, &reports, "yes,d1,0\nyes,d1,0\n")
 }
 
 /// The k-th take fails, seven bytes a take: nothing is written.
@@ -152,21 +168,6 @@ fn stops_where_a_take_fails(rt: HostRuntime) -> Result<(), AllocError> {
         gives(&rt, rt.alloc(), ends, TWO_METERS.as_bytes(), status, output)?;
     }
     Ok(())
-}
-
-/// A sink with room for 100 bytes holds the first 100 of the output.
-#[test]
-fn stops_where_a_sink_is_full(rt: HostRuntime) -> Result<(), AllocError> {
-    let ends = Ends { room: 100, ..TESTS };
-    let begin = REPORT.get(..100).unwrap_or(REPORT);
-    gives(
-        &rt,
-        rt.alloc(),
-        ends,
-        TWO_METERS.as_bytes(),
-        Status::WriteFault,
-        begin,
-    )
 }
 
 /// A run over ends that never fail, and how many bytes it writes. No fault is its answer: that is proved.
@@ -195,16 +196,6 @@ fn runs_over_sure_ends(rt: HostRuntime) -> Result<(), AllocError> {
     Ok(())
 }
 
-/// Words that are no command. More of them are tried on the built program.
-#[test]
-fn refuses_other_words(rt: HostRuntime) -> Result<(), AllocError> {
-    let ends = Ends {
-        words: &["run", "run"],
-        ..PLAIN
-    };
-    gives(&rt, rt.alloc(), ends, b"", Status::Usage, "")
-}
-
 /// One byte more than the limit.
 #[test]
 fn refuses_one_byte_too_many(rt: HostRuntime) -> Result<(), AllocError> {
@@ -216,46 +207,46 @@ fn refuses_one_byte_too_many(rt: HostRuntime) -> Result<(), AllocError> {
     gives(&rt, rt.alloc(), ends, &feeds, Status::TooLarge, "")
 }
 
-/// Input that is cut, and names and numbers of another form.
+/// Words that are no command; input that is cut, and names and numbers of another form; a session that is made, of which the sixth put
+/// of one byte fails; and a sink with room for the first 100 bytes of a report.
 #[test]
-fn refuses_what_is_cut_or_strange(rt: HostRuntime) -> Result<(), AllocError> {
-    let cases: [(&[u8], &str); 3] = [
-        (b"unit,U\nstream,A,en", "refused,2,2,fields\n"),
+fn ends_by_words_input_and_sink(rt: HostRuntime) -> Result<(), AllocError> {
+    let no_command = Ends {
+        words: &["run", "run"],
+        ..PLAIN
+    };
+    let cut = Ends {
+        put: 1,
+        failing_put: 6,
+        ..MAKE
+    };
+    let full = Ends { room: 100, ..TESTS };
+    let begin = REPORT.get(..100).unwrap_or(REPORT);
+    let cases: [(Ends<'_>, &[u8], Status, &str); 6] = [
+        (no_command, b"", Status::Usage, ""),
         (
+            PLAIN,
+            b"unit,U\nstream,A,en",
+            Status::DoneRefused,
+            "refused,2,2,fields\n",
+        ),
+        (
+            PLAIN,
             b"unit,a\x00\nunit,\xff\nunit,nnnnnnnnnnnnnnnnnnnnnnnnnnnnnnnn\nunit,mmmmmmmmmmmmmmmmmmmmmmmmmmmmmmmmm\n",
+            Status::DoneRefused,
             "refused,1,3,name\nrefused,2,3,name\nrefused,4,3,name\n",
         ),
         (
+            PLAIN,
             b"tank,K,+1\ntank,K,1e3\n",
+            Status::DoneRefused,
             "refused,1,4,number\nrefused,2,4,number\n",
         ),
+        (cut, b"", Status::WriteFault, "unit,"),
+        (full, TWO_METERS.as_bytes(), Status::WriteFault, begin),
     ];
-    for (input, output) in cases {
-        gives(&rt, rt.alloc(), PLAIN, input, Status::DoneRefused, output)?;
-    }
-    Ok(())
-}
-
-/// The k-th put fails, one byte a put: the first k - 1 bytes of the judgement are written.
-#[test]
-fn stops_a_check_where_a_put_fails(rt: HostRuntime) -> Result<(), AllocError> {
-    let output = "yes,d1,0\nyes,d1,0\n";
-    for k in 1..output.len() as u32 + 1 {
-        let ends = Ends {
-            put: 1,
-            failing_put: k,
-            ..CHECK
-        };
-        let input = joined(rt.alloc(), &[REPORT.as_bytes(), REPORT.as_bytes()])?;
-        let begin = output.get(..k as usize - 1).unwrap_or(output);
-        gives(
-            &rt,
-            rt.alloc(),
-            ends,
-            input.as_slice(),
-            Status::WriteFault,
-            begin,
-        )?;
+    for (ends, input, status, output) in cases {
+        gives(&rt, rt.alloc(), ends, input, status, output)?;
     }
     Ok(())
 }

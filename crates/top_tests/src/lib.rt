@@ -12,8 +12,6 @@ mod program;
 #[cfg(test)]
 mod session;
 #[cfg(test)]
-mod stage;
-#[cfg(test)]
 mod summary;
 #[cfg(test)]
 mod words;

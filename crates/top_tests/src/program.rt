@@ -5,13 +5,13 @@ use pb_io::{MemSink, MemSource};
 use std::alloc::{AllocError, Global};
 use std::env::Args;
 use std::io;
-use std::process::{Abort, ExitCode};
+use std::process::ExitCode;
 
-/// How the program goes over ends in memory: its words and its input, the number of the take and of the put that fails, counted from 1
-/// (0 names none), and how many bytes the third end has room for.
-#[derive(Clone, Copy, Debug)]
+/// How the program goes over ends in memory: its words, or why the system doesn't give them; its input, the number of the take and of
+/// the put that fails, counted from 1 (0 names none), and how many bytes the third end has room for.
+#[derive(Clone, Copy)]
 struct Case<'a> {
-    words: &'a [&'a str],
+    words: Result<&'a [&'a str], io::ErrorKind>,
     input: &'a str,
     failing_take: u32,
     failing_put: u32,
@@ -20,14 +20,29 @@ struct Case<'a> {
 
 /// A unit that is declared twice.
 const TWICE: Case<'static> = Case {
-    words: &["run"],
+    words: Ok(&["run"]),
     input: "unit,U\nunit,U\n",
     failing_take: 0,
     failing_put: 0,
     room: 64,
 };
 
-const TWICE_OUT: &str = "refused,2,7,duplicate\n";
+/// Words that are no command, and a third end with this much room.
+fn mistyped(room: usize) -> Case<'static> {
+    Case {
+        words: Ok(&["runs"]),
+        room,
+        ..TWICE
+    }
+}
+
+/// Words that the system doesn't give.
+fn not_given(kind: io::ErrorKind) -> Case<'static> {
+    Case {
+        words: Err(kind),
+        ..TWICE
+    }
+}
 
 // The arguments of the program with these words.
 fn args_of(alloc: Global, words: &[&str]) -> Result<Args, AllocError> {
@@ -37,6 +52,25 @@ fn args_of(alloc: Global, words: &[&str]) -> Result<Args, AllocError> {
         args.push(String::from_str(alloc, word)?)?;
     }
     Ok(args.into_iter())
+}
+
+// What the system gives for a case.
+fn given(alloc: Global, case: Case<'_>) -> Result<io::Result<Args>, AllocError> {
+    match case.words {
+        Ok(words) => Ok(Ok(args_of(alloc, words)?)),
+        Err(kind) => Ok(Err(io::Error::from(kind))),
+    }
+}
+
+fn source_of(alloc: Global, case: Case<'_>) -> Result<MemSource, AllocError> {
+    let failing_takes = vec![in alloc; case.failing_take]?;
+    let input = Vec::from_slice(alloc, case.input.as_bytes())?;
+    Ok(MemSource::new(input, 4_096, failing_takes))
+}
+
+fn sink_of(alloc: Global, room: usize, failing_put: u32) -> Result<MemSink, AllocError> {
+    let failing_puts = vec![in alloc; failing_put]?;
+    MemSink::new(alloc, room, 4_096, failing_puts)
 }
 
 // The program over ends in memory, of which nothing is claimed here.
@@ -50,50 +84,49 @@ fn run_in_memory(
     run_program(alloc, args, source, sink, errors)
 }
 
-fn outcome(
+// How the program ends over these ends.
+fn ended(
     alloc: Global,
-    args: io::Result<Args>,
     case: Case<'_>,
-) -> Result<(ExitCode, Vec<u8>, Vec<u8>), AllocError> {
-    let failing_takes = vec![in alloc; case.failing_take]?;
-    let failing_puts = vec![in alloc; case.failing_put]?;
-    let input = Vec::from_slice(alloc, case.input.as_bytes())?;
-    let mut source = MemSource::new(input, 4_096, failing_takes);
-    let mut sink = MemSink::new(alloc, 4_096, 4_096, failing_puts)?;
-    let mut errors = MemSink::new(alloc, case.room, 4_096, Vec::new(alloc))?;
-    let ended = run_in_memory(alloc, args, &mut source, &mut sink, &mut errors);
-    let written = Vec::from_slice(alloc, sink.bytes())?;
-    let said = Vec::from_slice(alloc, errors.bytes())?;
-    Ok((ended, written, said))
+    source: &mut MemSource,
+    sink: &mut MemSink,
+    errors: &mut MemSink,
+) -> Result<ExitCode, AllocError> {
+    let args = given(alloc, case)?;
+    Ok(run_in_memory(alloc, args, source, sink, errors))
 }
 
-// Compares how the program ends over a case, what it writes, and what stands on its third end.
+// Whether the program ends over a case with this number, writes this output, and puts this line on its third end.
 fn gives(
-    rt: &impl Abort,
     alloc: Global,
     case: Case<'_>,
     number: u8,
     output: &str,
     line: &str,
-) -> Result<(), AllocError> {
-    let args = args_of(alloc, case.words)?;
-    let (ended, written, said) = outcome(alloc, Ok(args), case)?;
-    let is_so = ended == ExitCode::from(number)
-        && written.as_slice() == output.as_bytes()
-        && said.as_slice() == line.as_bytes();
-    assert!(rt;
-        is_so,
-        "{case:?}, which ends with {number}, {output} and {line}"
-    );
-    Ok(())
+) -> Result<bool, AllocError> {
+    let mut source = source_of(alloc, case)?;
+    let mut sink = sink_of(alloc, 4_096, case.failing_put)?;
+    let mut errors = sink_of(alloc, case.room, 0)?;
+    let ended = ended(alloc, case, &mut source, &mut sink, &mut errors)?;
+    Ok(
+        ended == ExitCode::from(number)
+            && sink.bytes() == output.as_bytes()
+            && errors.bytes() == line.as_bytes(),
+    )
 }
 
-/// Each status with its number and, if it is no success, its line.
+/// Each status with its number and, if it is no success, its line; a third end with too little room, which holds what goes into it; and
+/// arguments that the system doesn't give.
 #[test]
 fn ends_with_a_number_and_a_line(rt: HostRuntime) -> Result<(), AllocError> {
+    let refused = "refused,2,7,duplicate\n";
     let json = "{\"at\":\"2\",\"code\":\"7\",\"row\":\"refused\",\"word\":\"duplicate\"}\n";
     let once = Case {
         input: "unit,U\n",
+        ..TWICE
+    };
+    let objects = Case {
+        words: Ok(&["run", "--format", "json"]),
         ..TWICE
     };
     let unread = Case {
@@ -104,55 +137,23 @@ fn ends_with_a_number_and_a_line(rt: HostRuntime) -> Result<(), AllocError> {
         failing_put: 1,
         ..TWICE
     };
-    let cases: [(Case<'_>, u8, &str, &str); 5] = [
+    let cases: [(Case<'_>, u8, &str, &str); 12] = [
         (once, 0, "", ""),
-        (TWICE, 1, TWICE_OUT, ""),
-        (
-            Case {
-                words: &["run", "--format", "json"],
-                ..TWICE
-            },
-            1,
-            json,
-            "",
-        ),
+        (TWICE, 1, refused, ""),
+        (objects, 1, json, ""),
         (unread, 3, "", "ReadFault\n"),
         (unwritten, 4, "", "WriteFault\n"),
+        (mistyped(0), 2, "", ""),
+        (mistyped(3), 2, "", "Usa"),
+        (mistyped(5), 2, "", "Usage"),
+        (mistyped(6), 2, "", "Usage\n"),
+        (not_given(io::ErrorKind::InvalidData), 2, "", "Usage\n"),
+        (not_given(io::ErrorKind::Other), 2, "", "Usage\n"),
+        (not_given(io::ErrorKind::OutOfMemory), 6, "", "NoMemory\n"),
     ];
     for (case, number, output, line) in cases {
-        gives(&rt, rt.alloc(), case, number, output, line)?;
-    }
-    Ok(())
-}
-
-/// A third end with too little room holds what goes into it, and the number is the same.
-#[test]
-fn keeps_its_number_where_the_third_end_fails(rt: HostRuntime) -> Result<(), AllocError> {
-    for (room, line) in [(0, ""), (3, "Usa"), (5, "Usage"), (6, "Usage\n")] {
-        let case = Case {
-            words: &["runs"],
-            room,
-            ..TWICE
-        };
-        gives(&rt, rt.alloc(), case, 2, "", line)?;
-    }
-    Ok(())
-}
-
-/// Arguments that the system doesn't give.
-#[test]
-fn says_why_there_are_no_words(rt: HostRuntime) -> Result<(), AllocError> {
-    let cases = [
-        (io::ErrorKind::InvalidData, 2, "Usage\n"),
-        (io::ErrorKind::Other, 2, "Usage\n"),
-        (io::ErrorKind::OutOfMemory, 6, "NoMemory\n"),
-    ];
-    for (kind, number, line) in cases {
-        let (ended, written, said) = outcome(rt.alloc(), Err(io::Error::from(kind)), TWICE)?;
-        let is_so = ended == ExitCode::from(number)
-            && written.is_empty()
-            && said.as_slice() == line.as_bytes();
-        assert!(rt; is_so, "the line {line}");
+        let is_so = gives(rt.alloc(), case, number, output, line)?;
+        assert!(rt; is_so, "not {number}, {output} and {line}");
     }
     Ok(())
 }

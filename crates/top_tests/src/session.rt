@@ -1,14 +1,19 @@
-// What no clause says: that records are answered where memory is ample. The outputs of whole sessions are data, in examples/worked.
+// What no clause says: that records are answered, and that the first stage of a period is there, if memory is ample. The outputs of
+// whole sessions are data, in examples/worked.
 
 ghost use Rattle.std.specs.Prelude.{◌≡◌, false};
-ghost use Rattle.pb_elim.specs.Options.{AreOptions};
 
 use pb_graph::Options;
+use pb_period::Assembly;
 use pb_report::Form;
 use pb_rows::{Row, Rows};
 use pb_session::Session;
 use std::alloc::Global;
 use std::test::Fail;
+
+// A day of a stream that is transferred, and of one that carries it on.
+const PLANT: &[u8] =
+    b"unit,U\nstream,T,env,U,batch,1\nstream,O,U,env,plain,0\nperiod,d1,2024-01-30,2024-01-30\n";
 
 // What is asked of the studies: a gap of 10 thousandths, and at most 5,000 sweeps.
 fn asked() -> Options
@@ -20,6 +25,17 @@ fn asked() -> Options
         tests: false,
         eliminate: 0,
     }
+}
+
+// The rows of that day with transfers of 10^13 grams each, of which a hundred are the greatest total, and a last row.
+fn rows_of(alloc: Global, transfers: u32, last: &[u8]) -> Result<Rows, Fail> {
+    let mut text = Vec::from_slice(alloc, PLANT)?;
+    for i in 0..transfers {
+        let row = format!(in alloc; "transfer,t{i},T,2024-01-30,2024-01-30,10000000000000,0\n")?;
+        text.extend_from_slice(row.as_bytes())?;
+    }
+    text.extend_from_slice(last)?;
+    Ok(Rows::of(alloc, text.as_slice())?)
 }
 
 // Whether a session refuses a row.
@@ -38,66 +54,48 @@ fn take_all(session: &mut Session, rows: &Rows, out: &mut Vec<u8>) -> Result<boo
     Ok(refused)
 }
 
-// Writes the output of a session of rows, and says whether the last one is refused.
-fn write_by(alloc: Global, options: Options, rows: &Rows, out: &mut Vec<u8>) -> Result<bool, Fail>
-    requires { AreOptions options }
-{
-    let mut session = Session::new(alloc, options, Form::Csv);
-    take_all(&mut session, rows, out)
-}
-
-// The output of a session, and whether its last record is refused.
-fn output(alloc: Global, text: &str) -> Result<(Vec<u8>, bool), Fail> {
-    let rows = Rows::of(alloc, text.as_bytes())?;
-    let mut out = Vec::new(alloc);
-    let refused = write_by(alloc, asked(), &rows, &mut out)?;
-    Ok((out, refused))
-}
-
-// Whether the output of a session is this one, and whether its last record is refused.
-fn gives(alloc: Global, text: &str, want: &str) -> Result<(bool, bool), Fail> {
-    let (out, refused) = output(alloc, text)?;
-    Ok((out.as_slice() == want.as_bytes(), refused))
-}
-
-#[test]
-fn answers_records(rt: HostRuntime) -> Result<(), Fail> {
-    let table: [(&str, &str, bool); 4] = [
-        ("unit,U\nunit,U\n", "refused,2,7,duplicate\n", true),
-        ("design\n", "design,1,0\n", false),
-        (
-            "unit,U\nunit,V\nstream,P,U,V,plain,0\nstream,R,V,U,plain,0\nadvise,P,2,R,1\n",
-            "advise,1,1\nmeter,R,1,+R +P\n",
-            false,
-        ),
-        (
-            "unit,U\nstream,A,env,U,metered,1\nstream,B,U,env,plain,0\nperiod,d1,2024-03-01,2024-03-01\nreading,r1,A,2024-03-01,5,0\nreport,d1\nclose,d1\nhistory,d1\n",
-            "report,d1,0,2,2,10,5000\nnode,env,0\nnode,U,0\nstream,A,env,U,5,1,nonredundant,5,5,5,5,5,cycle,,+A +B\nstream,B,U,env,,,observable,5,5,5,5,5,cut,U,+A -B\nsolved,0,converged,0,0,0,0,0\nend,d1,0\nhistory,d1,closed,1\nedit,7,close,,\n",
-            false,
-        ),
-    ];
-    for (text, want, refused) in table {
-        let given = gives(rt.alloc(), text, want)?;
-        assert_eq!(rt; given, (true, refused), "the output of {text}");
+// How many streams the first stage of the first period has, or which stream has too great a total.
+fn streams_of(session: &Session) -> Result<Result<usize, u32>, Fail> {
+    if session.book().periods() == 0 {
+        return Err(Fail::new("no period"));
     }
-    Ok(())
+    match session.first_stage(0) {
+        Ok(stage) => Ok(Ok(stage.streams.len())),
+        Err(Assembly::Over(stream)) => Ok(Err(stream)),
+        Err(Assembly::NoMemory) => Err(Fail::new("out of memory")),
+    }
 }
 
-// How many nodes and how many periods the book of a session has after rows.
-fn kept_of(session: &mut Session, rows: &Rows, out: &mut Vec<u8>) -> Result<(u32, u32), Fail> {
-    take_all(session, rows, out)?;
-    Ok((session.book().site().nodes(), session.book().periods()))
+// Whether the last of some rows is refused, how many nodes and periods the book has after them, and the streams of the first period.
+type Said = (bool, u32, u32, Result<usize, u32>);
+
+fn said_of(session: &mut Session, rows: &Rows, out: &mut Vec<u8>) -> Result<Said, Fail> {
+    let refused = take_all(session, rows, out)?;
+    let nodes = session.book().site().nodes();
+    let periods = session.book().periods();
+    Ok((refused, nodes, periods, streams_of(session)?))
 }
 
-fn kept(alloc: Global, text: &[u8]) -> Result<(u32, u32), Fail> {
-    let rows = Rows::of(alloc, text)?;
+fn said_after(alloc: Global, rows: &Rows) -> Result<Said, Fail> {
     let mut session = Session::new(alloc, asked(), Form::Csv);
-    kept_of(&mut session, &rows, &mut Vec::new(alloc))
+    said_of(&mut session, rows, &mut Vec::new(alloc))
 }
 
+fn said_by(alloc: Global, transfers: u32, last: &[u8]) -> Result<Said, Fail> {
+    let rows = rows_of(alloc, transfers, last)?;
+    said_after(alloc, &rows)
+}
+
+/// The greatest total of a stream, and a greater one with a row after it that is refused.
 #[test]
-fn keeps_the_book(rt: HostRuntime) -> Result<(), Fail> {
-    let text = b"unit,U\nunit,U\nperiod,d1,2024-03-01,2024-03-02\n";
-    assert_eq!(rt; kept(rt.alloc(), text)?, (2, 1));
+fn takes_rows(rt: HostRuntime) -> Result<(), Fail> {
+    let table: [(u32, &[u8], Said); 2] = [
+        (100, b"", (false, 2, 1, Ok(2))),
+        (101, b"unit,U\n", (true, 2, 1, Err(0))),
+    ];
+    for (transfers, last, want) in table {
+        let said = said_by(rt.alloc(), transfers, last)?;
+        assert_eq!(rt; said, want, "{transfers} transfers");
+    }
     Ok(())
 }

@@ -1,4 +1,5 @@
-// What no clause says: that words are read with ample memory, lists of words in every order, and words that give no command.
+// What no clause says: that words are read with ample memory.
+
 use crate::inputs::words_from;
 use pb_graph::Options;
 use pb_report::Form;
@@ -14,63 +15,36 @@ const USUAL: Options = Options {
 };
 
 // What the words give.
-fn read(rt: &HostRuntime, words: &[&str]) -> Result<Result<Command, WordsRefused>, AllocError> {
-    let list = words_from(rt.alloc(), words)?;
-    Ok(read_words(rt.alloc(), &list))
+fn read(alloc: Global, words: &[&str]) -> Result<Result<Command, WordsRefused>, AllocError> {
+    let list = words_from(alloc, words)?;
+    Ok(read_words(alloc, &list))
 }
 
+/// One list of words for each command, and words that are none. More of both are tried on the built program.
 #[test]
-fn reads_runs(rt: HostRuntime) -> Result<(), AllocError> {
-    let lists: [(&[&str], Options); 12] = [
-        (&["run"], USUAL),
-        (&["run", "--gap", "1"], Options { gap: 1, ..USUAL }),
-        (
-            &["run", "--gap=1000000"],
-            Options {
-                gap: 1_000_000,
-                ..USUAL
-            },
-        ),
-        (&["--gap=7", "run"], Options { gap: 7, ..USUAL }),
-        (&["--sweeps", "0", "run"], Options { sweeps: 0, ..USUAL }),
-        (
-            &["run", "--sweeps=100000"],
-            Options {
-                sweeps: 100_000,
-                ..USUAL
-            },
-        ),
-        (
-            &["run", "--tests"],
-            Options {
-                tests: true,
-                ..USUAL
-            },
-        ),
-        (
-            &["run", "--eliminate", "1"],
-            Options {
-                tests: true,
-                eliminate: 1,
-                ..USUAL
-            },
-        ),
-        (
-            &["run", "--tests", "--eliminate=20"],
-            Options {
-                tests: true,
-                eliminate: 20,
-                ..USUAL
-            },
-        ),
-        (&["run", "--format", "csv"], USUAL),
-        (
-            &["--format=csv", "--tests", "run"],
-            Options {
-                tests: true,
-                ..USUAL
-            },
-        ),
+fn reads_commands(rt: HostRuntime) -> Result<(), AllocError> {
+    let options = Options {
+        gap: 4,
+        sweeps: 3,
+        tests: true,
+        eliminate: 2,
+    };
+    let eliminating = Command::Run {
+        options,
+        form: Form::Csv,
+    };
+    let usual = Command::Run {
+        options: USUAL,
+        form: Form::Json,
+    };
+    let making = Command::Make {
+        number: 4_294_967_295,
+        streams: 3,
+        summary: true,
+        gap: 2,
+        sweeps: 0,
+    };
+    let lists: [(&[&str], Result<Command, WordsRefused>); 5] = [
         (
             &[
                 "--sweeps=3",
@@ -81,88 +55,9 @@ fn reads_runs(rt: HostRuntime) -> Result<(), AllocError> {
                 "4",
                 "--tests",
             ],
-            Options {
-                gap: 4,
-                sweeps: 3,
-                tests: true,
-                eliminate: 2,
-            },
+            Ok(eliminating),
         ),
-    ];
-    for (words, options) in lists {
-        let command = Command::Run {
-            options,
-            form: Form::Csv,
-        };
-        assert_eq!(rt; read(&rt, words)?, Ok(command), "at {words:?}");
-    }
-    Ok(())
-}
-
-#[test]
-fn reads_forms(rt: HostRuntime) -> Result<(), AllocError> {
-    let command = Command::Run {
-        options: USUAL,
-        form: Form::Json,
-    };
-    let lists: [&[&str]; 2] = [&["run", "--format", "json"], &["--format=json", "run"]];
-    for words in lists {
-        assert_eq!(rt; read(&rt, words)?, Ok(command), "at {words:?}");
-    }
-    Ok(())
-}
-
-/// Three parts in every order, with the value after the option or an equals sign.
-#[test]
-fn reads_words_in_every_order(rt: HostRuntime) -> Result<(), AllocError> {
-    let lists: [&[&str]; 12] = [
-        &["run", "--gap", "12", "--tests"],
-        &["run", "--tests", "--gap", "12"],
-        &["--gap", "12", "run", "--tests"],
-        &["--gap", "12", "--tests", "run"],
-        &["--tests", "run", "--gap", "12"],
-        &["--tests", "--gap", "12", "run"],
-        &["run", "--gap=12", "--tests"],
-        &["run", "--tests", "--gap=12"],
-        &["--gap=12", "run", "--tests"],
-        &["--gap=12", "--tests", "run"],
-        &["--tests", "run", "--gap=12"],
-        &["--tests", "--gap=12", "run"],
-    ];
-    let options = Options {
-        gap: 12,
-        tests: true,
-        ..USUAL
-    };
-    let command = Command::Run {
-        options,
-        form: Form::Csv,
-    };
-    for words in lists {
-        assert_eq!(rt; read(&rt, words)?, Ok(command), "at {words:?}");
-    }
-    Ok(())
-}
-
-#[test]
-fn reads_makes(rt: HostRuntime) -> Result<(), AllocError> {
-    let usual = Command::Make {
-        number: 1,
-        streams: 300,
-        summary: false,
-        gap: 10,
-        sweeps: 5_000,
-    };
-    let other = Command::Make {
-        number: 4_294_967_295,
-        streams: 3,
-        summary: true,
-        gap: 2,
-        sweeps: 0,
-    };
-    let lists: [(&[&str], Command); 4] = [
-        (&["make"], usual),
-        (&["make", "--streams", "300", "--number=1"], usual),
+        (&["run", "--format", "json"], Ok(usual)),
         (
             &[
                 "--summary",
@@ -174,121 +69,13 @@ fn reads_makes(rt: HostRuntime) -> Result<(), AllocError> {
                 "--sweeps",
                 "0",
             ],
-            other,
+            Ok(making),
         ),
-        (
-            &[
-                "make",
-                "--sweeps=0",
-                "--gap",
-                "2",
-                "--streams",
-                "3",
-                "--number=4294967295",
-                "--summary",
-            ],
-            other,
-        ),
+        (&["check"], Ok(Command::Check)),
+        (&["run", "--gap", "0"], Err(WordsRefused::Usage)),
     ];
     for (words, command) in lists {
-        assert_eq!(rt; read(&rt, words)?, Ok(command), "at {words:?}");
-    }
-    Ok(())
-}
-
-#[test]
-fn reads_a_check(rt: HostRuntime) -> Result<(), AllocError> {
-    assert_eq!(rt; read(&rt, &["check"])?, Ok(Command::Check));
-    Ok(())
-}
-
-/// No mode or two, values out of range or of another form, options twice, cut short or of another mode, and words that `clap`
-/// itself would take otherwise.
-#[test]
-fn refuses_other_words(rt: HostRuntime) -> Result<(), AllocError> {
-    let lists: [&[&str]; 79] = [
-        &[],
-        &[""],
-        &["-"],
-        &["--"],
-        &["Run"],
-        &["ru"],
-        &["runs"],
-        &["check", "check"],
-        &["check", "run"],
-        &["run", "run"],
-        &["run", "make"],
-        &["--tests"],
-        &["--gap", "10"],
-        &["run", ""],
-        &["run", "-"],
-        &["run", "--"],
-        &["--", "run"],
-        &["run", "--help"],
-        &["--help"],
-        &["run", "-h"],
-        &["run", "--version"],
-        &["-V"],
-        &["help"],
-        &["run", "--gap"],
-        &["run", "--gap="],
-        &["run", "--gap", "--"],
-        &["run", "--gap", "-"],
-        &["run", "--gap", ""],
-        &["run", "--gap", "--tests"],
-        &["--gap", "run", "10"],
-        &["run", "--gap", "0"],
-        &["run", "--gap", "1000001"],
-        &["run", "--gap", "007"],
-        &["run", "--gap=007"],
-        &["run", "--gap", "+7"],
-        &["run", "--gap", "-7"],
-        &["run", "--gap=-7"],
-        &["run", "--gap", "7 "],
-        &["run", "--gap", "7.0"],
-        &["run", "--gap", "10", "--gap", "10"],
-        &["run", "--gap=10", "--gap", "10"],
-        &["run", "--ga", "5"],
-        &["run", "--ga=5"],
-        &["run", "--Gap", "5"],
-        &["run", "-gap", "5"],
-        &["run", "--gap==5"],
-        &["run", "--=5"],
-        &["run", "--sweeps", "100001"],
-        &["run", "--tests=1"],
-        &["run", "--tests="],
-        &["run", "--tests", "1"],
-        &["run", "--tests", "--tests"],
-        &["run", "--test"],
-        &["run", "--eliminate", "0"],
-        &["run", "--eliminate", "21"],
-        &["run", "--format", "CSV"],
-        &["run", "--format", "xml"],
-        &["run", "--number", "1"],
-        &["run", "--streams=300"],
-        &["run", "--summary"],
-        &["make", "--tests"],
-        &["make", "--eliminate", "1"],
-        &["check", "--gap", "5"],
-        &["check", "--sweeps=5"],
-        &["check", "--tests"],
-        &["check", "--eliminate", "1"],
-        &["check", "--format", "csv"],
-        &["check", "--number", "1"],
-        &["--streams=3", "check"],
-        &["check", "--summary"],
-        &["checks"],
-        &["make", "--format", "csv"],
-        &["make", "--number", "4294967296"],
-        &["make", "--number", "-1"],
-        &["make", "--streams", "2"],
-        &["make", "--streams", "2001"],
-        &["make", "--summary=1"],
-        &["make", "--summary", "--summary"],
-        &["make", "--gap", "0"],
-    ];
-    for words in lists {
-        assert_eq!(rt; read(&rt, words)?, Err(WordsRefused::Usage), "at {words:?}");
+        assert_eq!(rt; read(rt.alloc(), words)?, command, "at {words:?}");
     }
     Ok(())
 }
@@ -347,15 +134,6 @@ fn refuses_arguments_that_are_not_given(rt: HostRuntime) {
         };
         assert!(rt; is_so && refused_args(kind) == refused, "at {refused:?}");
     }
-}
-
-#[test]
-fn keeps_words(rt: HostRuntime) -> Result<(), AllocError> {
-    let words = words_from(rt.alloc(), &["run", ""])?;
-    assert_eq!(rt; words.len(), 2);
-    assert_eq!(rt; words.at(0), "run");
-    assert_eq!(rt; words.at(1), "");
-    Ok(())
 }
 
 #[test]
