@@ -357,8 +357,8 @@ def body_of(sources: Sources, page: Page) -> list[str]:
     lines += [*page.here(page.run), *code_block("rust", page.run.text), "", "## What it takes", ""]
     lines += paragraph(
         "The contract refers to what the source and the sink have been seen to do, and to the value"
-        " of the words. The traits say what every source and every sink guarantees. The blocks after"
-        " them say what a contract sees of those that `main` hands over, and of words."
+        " of the words. The traits say what every source and every sink guarantees. The blocks"
+        " after them say what a contract sees of those that `main` hands over, and of words."
     )
     lines += shown(page, page.ends)
     lines += ["", "## Laws beside it", ""]
@@ -401,11 +401,12 @@ def document(sources: Sources) -> str:
         ),
         "",
         *paragraph(
-            f"The program is proved to meet the contract of `pb_cli::{TOP_CALL}`, and a few laws are"
-            " proved as well. To accept these claims, a reader must believe that their words mean"
-            f" what they should. This page has all of these words: {count} definitions in"
+            f"The program is proved to meet the contract of `pb_cli::{TOP_CALL}`, and a few laws"
+            " are proved as well. To accept these claims, a reader must believe that their words"
+            f" mean what they should. This page has all of these words: {count} definitions in"
             f" {len(page.files)} files, by the layers of their crates from the program down, and"
-            f" then the {len(page.reach.types)} types and constants of the code to which they refer."
+            f" then the {len(page.reach.types)} types and constants of the code to which they"
+            " refer."
             " Words that aren't here come from the toolchain's libraries:"
             f" {libraries}. Nothing else in the repository has to be read to know what is claimed:"
             " bodies, invariants, lemmas and the other contracts only serve to prove it."
