@@ -22,7 +22,7 @@ use Rattle.pb_site.specs.Laws.{DaysLaw, JoinsPlaces, SamePartLaw}
 use Rattle.pb_site.proofs.DaysLemmas.{all_kept, increasing, kept_few, kept_nodes, kept_rises, kept_there, kept_within, place_apart, ranges, same_kept}
 use Rattle.pb_site.proofs.KeptLemmas.{growth_law}
 
--- ---- what is declared later and isn't in service leaves the part as it was
+-- ---- what is declared later and isn't in service doesn't change the part
 
 none_pass : {A : Type 0} (p : A → Bool) (xs : List A) → AllByRecursion (λ x. p x ≡ false) xs → filter p xs ≡ []
 none_pass p [] none = refl
@@ -111,7 +111,7 @@ end_to arcs k d within =
     or_true true = refl
     or_true false = refl
 
--- arcs whose ends are kept join two of the nodes that are
+-- arcs whose ends are kept join two of the kept nodes
 joins : (p : ℕ → Bool) (n : ℕ) (arcs : List Arc) → All (IsArc n) arcs → ((k : ℕ) (d : Arc) → k < length arcs → (p (get_or arcs k d).from ≡ true) × (p (get_or arcs k d).to ≡ true))
     → All (JoinsPlaces (kept_nodes p n)) arcs
 joins p n arcs joined ends k d within =
