@@ -99,7 +99,7 @@ fault_at state component found period why there is =
     let answer : Result ProcessGraph Assembly = Err why in
     subst (λ (o : Option Period). IsBalanceAt state component o answer) (sym there) (subst (λ (a : Result ProcessGraph Assembly). BalancesIn state component period a answer) is refl)
 
--- what holds of the graph of a period that is found holds of its assembled graph
+-- what holds for the graph of a period that is found holds for its assembled graph
 pub of_graph : (P : ProcessGraph → Type 0) (rows : List StoredRow) (found : Option Period) (period : Period) (graph : ProcessGraph) → found ≡ Some period
     → Ok graph ≡ assembly_of rows (days_of period) → P graph → IfSome found (λ (p : Period). P (period_graph rows (days_of p)))
 of_graph P rows found period graph there is holds =

@@ -58,7 +58,7 @@ with_rows state rows = record { options = state.options; form = state.form; rows
 
 -- ---- records that write accepted rows
 
--- a row was acceptable behind those before it
+-- a row was acceptable after those before it
 pub seam : (done more : List StoredRow) (stored : StoredRow) → AreAccepted (done ++ stored ∷ more) → IsAcceptable done stored.effect
 seam done more stored accepted =
     let long = length-append done (stored ∷ more) in
@@ -172,7 +172,7 @@ same_said rows plain accepted one costs (Ok (asked.Window first last)) are is = 
 same_said rows plain accepted one costs (Ok asked.Advise) are is = ap (λ (ds : List Declared). advise_or_refused (refusal_of_costs ds costs)) are.declared ∙ is
 same_said rows plain accepted one costs (Err fault) are is = is
 
--- the version, where there is a period
+-- the version, if there is a period
 version_some : (rows : List StoredRow) (i : ℕ) → i < length (periods_of rows) → version_at rows ≡ Some (version_of (declared_of rows))
 version_some [] i within = absurd (omega (arith, within))
 version_some (stored ∷ rows) i within = refl
@@ -215,7 +215,7 @@ balances_in_as state rows other component period same_days (Ok graph) answer sam
 }
 balances_in_as state rows other component period same_days (Err why) answer same grades of = of
 
--- a report of a period says the same where the declarations and the names do, be the period open or closed
+-- a report of a period is the same if the declarations and the names are, whether the period is open or closed
 reports_by_as : (state : SessionState) (rows other : List StoredRow) (period same_days : Period) (assembly : Result ProcessGraph Assembly) (text : List ℕ) → declared_of rows ≡ declared_of other
     → same_days.name ≡ period.name → period_names rows (days_of period) ≡ period_names other (days_of same_days) → ReportsBy (with_rows state rows) period assembly text → ReportsBy (with_rows state other) same_days assembly text
 reports_by_as state rows other period same_days (Ok graph) text declared name names report =

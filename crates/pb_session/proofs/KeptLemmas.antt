@@ -99,7 +99,7 @@ few_behind i study kept few = elim (cases_Bool (length study.stages == 1)) [
 
 -- ---- the study of a period
 
--- what is found is of the period, and what holds of all holds of it
+-- what is found is of the period, and what holds for all holds for it
 pub found_is : (P : KeptStudy → Type 0) (i : ℕ) (kept : List KeptStudy) (k : KeptStudy) → find (is_of i) kept ≡ Some k → AllByRecursion P kept → (k.period ≡ i) × P k
 found_is P i [] k found all = cc found
 found_is P i (x ∷ kept) k found (here, all) = elim (cases_Bool (is_of i x)) [
@@ -136,7 +136,7 @@ found_contained i (x ∷ kept) k found = elim (cases_Bool (is_of i x)) [
 
 -- ---- the place of the study of a period
 
--- the study at the place of a period's is the one that is found
+-- the study at the place of the period's study is the one that is found
 pub place_found : (i : ℕ) (kept : List KeptStudy) (n : ℕ) → place_in i kept ≡ Some n → (n < length kept) × (find (is_of i) kept ≡ slice_get kept n)
 place_found i kept n at = elim (cases_Bool (nat_lt (position_or_len (is_of i) kept) (length kept))) [
   | inl there ↦
@@ -161,7 +161,7 @@ found_passes test (y ∷ xs) x found = elim (cases_Bool (test y)) [
   | inr other ↦ found_passes test xs x (rw other at found)
 ]
 
--- to take the study out that is at its place, and keep it, is to keep the one that is found
+-- to take out the study at its place, and keep it, is to keep the one that is found
 pub settled_place : (i : ℕ) (kept : List KeptStudy) (n : ℕ) (k : KeptStudy) → place_in i kept ≡ Some n → k ≡ slice_index_or kept n k
     → studies_behind i k.study (remove kept n) ≡ settled i None kept
 settled_place i kept n k at is =
@@ -190,13 +190,13 @@ unplaced_stage i kept at = sym (ap (λ (o : Option KeptStudy). option_and_then (
 
 -- ---- the first stage of a study that goes
 
--- the study that is kept first is left out of those that stay, where the row touches it
+-- the first kept study isn't one of those that stay, if the row touches it
 pub first_gone : (rows : List StoredRow) (kept : List KeptStudy) (k : KeptStudy) → 0 < length kept → k ≡ slice_index_or kept 0 k → touched_at rows k.period ≡ true
     → untouched_studies rows (remove kept 0) ≡ untouched_studies rows kept
 first_gone rows kept k some is touched =
     filter_without (λ (x : KeptStudy). not (touched_at rows x.period)) kept 0 k some (ap (λ (x : KeptStudy). not (touched_at rows x.period)) (sym is) ∙ ap not touched)
 
--- and its first stage is saved, where no other was reported last
+-- and its first stage is saved, unless another was reported last
 pub first_saved : (rows : List StoredRow) (kept : List KeptStudy) (k : KeptStudy) (last : Option Stage) → 0 < length kept → k ≡ slice_index_or kept 0 k → touched_at rows k.period ≡ true
     → is_some last ≡ false → slice_get k.study.stages 0 ≡ saved_by Stored rows kept last
 first_saved rows [] k last some is touched none = absurd (omega (arith, some))

@@ -183,7 +183,8 @@ some_balances state known component i asked graphs there =
 
 -- ---- a window of several periods
 
--- what holds of a window that there is no cause to refuse: what a book says of it, and that its graph is within the limits, if it has one
+-- what holds for a window that there is no cause to refuse: what a book says about it, and that its graph is within the limits, if
+-- it has one
 pub record HasWindow (rows : List StoredRow) (first last : Period) : Type 0 where
   pub made : IsBookWindow rows first last
   pub within : IfOk (assembly_between rows first last) IsProcessGraph
@@ -238,7 +239,7 @@ some_advice advices cheapest state costs graphs within =
       },
     )
 
--- what meters cost where an advice is asked for
+-- what meters cost if advice is asked for
 abbrev HasCosts : List StoredRow → List NamedCost → Answer → Type 0
 HasCosts rows costs answer = answer ≡ Says Advise → All IsMeterCost (meter_costs (declared_of rows) costs)
 

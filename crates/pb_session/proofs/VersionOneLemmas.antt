@@ -273,7 +273,7 @@ first_may : (row : Declared) → version_of (row ∷ []) ≡ One → may_declare
 first_may Version2 one may = cc one
 first_may row one may = may
 
--- a row that was accepted behind others may be one of version 1, if the session is of it
+-- a row that was accepted after others may be one of version 1, if the session is of that version
 may_one : (done : List StoredRow) (effect : Effect) → version_of (declared_of done ++ cons_option (declaration_in effect) []) ≡ One → may_do (version_at done) effect ≡ true → may_do (Some One) effect ≡ true
 may_one [] (Declares row) one may = first_may row one may
 may_one [] effect one may = refl
