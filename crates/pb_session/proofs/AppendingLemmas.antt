@@ -1,7 +1,7 @@
 -- A text that was appended if a call succeeded.
 use Rattle.std.proofs.Common.{◌≡◌, ℕ, List, ◌++◌, OnOk, Result, Ok, Err}
 
--- a text of which this holds was appended
+-- a text with this property was appended
 pub appends_such : {T E : Type 0} (r : Result T E) (Holds : List ℕ → Type 0) (old new text : List ℕ) → Holds text → OnOk r (new ≡ old ++ text)
     → OnOk r ((t : List ℕ) × (new ≡ old ++ t) × Holds t)
 appends_such (Ok x) Holds old new text holds is = (text, is, holds)

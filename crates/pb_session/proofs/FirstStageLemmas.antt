@@ -21,7 +21,7 @@ pub begins_by : (state : SessionState) (graph : ProcessGraph) (answer : Result S
 begins_by state graph (Ok stage) first none sure = first
 begins_by state graph (Err e) first none sure = absurd (sure (ap (λ (why : Assembly). Err why) none))
 
--- so it is of the period at a place
+-- the same for the period at a place
 pub begins_at : (state : SessionState) (i : ℕ) (assembly found : Result ProcessGraph Assembly) (answer : Result Stage Assembly) → i < length (periods_of state.rows) → found ≡ assembly
     → IfSome (slice_get (periods_of state.rows) i) (λ period. found ≡ assembly_of state.rows (days_of period)) → BeginsBy state assembly answer
     → Begins state (slice_get (periods_of state.rows) i) answer

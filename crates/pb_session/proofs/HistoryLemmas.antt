@@ -88,7 +88,7 @@ told_one rows period e i so_far stored at touched is right =
     one_more so_far (told stored) (told_of rows period rest)
     ∙ ap (λ (others : List HistoryRow). so_far ++ others) (sym more ∙ ap (told_of rows period) (sym (drop_next (edits_of rows) e stored is))) ∙ right
 
--- none is left
+-- no edit remains
 all_told : (rows : List StoredRow) (period : Period) (e : ℕ) (so_far : List HistoryRow) → e ≡ length (edits_of rows)
     → so_far ++ told_of rows period (drop e (edits_of rows)) ≡ whole_of rows period → so_far ≡ whole_of rows period
 all_told rows period e so_far end right =
@@ -100,7 +100,7 @@ all_told rows period e so_far end right =
     none (x ∷ xs) zero same = absurd (omega (arith, same))
     none (x ∷ xs) (suc e) same = none xs e (omega (arith, same))
 
--- ---- the same of the period at a place
+-- ---- the same for the period at a place
 
 -- what was reported so far, and what the edits from a place on report, is the history of the period
 abbrev pub AreTold : List StoredRow → ℕ → List HistoryRow → ℕ → Type 0

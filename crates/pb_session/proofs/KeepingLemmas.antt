@@ -53,7 +53,7 @@ use Rattle.pb_session.proofs.NamedLemmas.{period_names_are}
 use Rattle.pb_session.proofs.ReportLemmas.{at_found}
 use Rattle.pb_session.proofs.KeptLemmas.{all_behind, behind_periods, contained_found, few_behind, few_filter, found_is, others_periods, periods_in, place_found, untouched_periods}
 
--- accepted rows, of which no two facts have one id
+-- accepted rows, no two facts of which have the same id
 abbrev pub AreInOrder : List StoredRow → Type 0
 AreInOrder rows = AreAccepted rows × NoRepeats (facts_of rows)
 
@@ -74,7 +74,7 @@ kept_at state found period graph study at is kept =
     let here : IsKeptBy state (assembly_of state.rows (days_of period)) study = subst (λ (a : Result ProcessGraph Assembly). IsKeptBy state a study) is kept in
     subst (λ (o : Option Period). IsKeptAt state o study) (sym at) here
 
--- the study at the place of a period's is that of the period
+-- the study at the place of a period's study is that of the period
 pub kept_placed : (state : SessionState) (i : ℕ) (kept : List KeptStudy) (n : ℕ) (k : KeptStudy) → place_in i kept ≡ Some n → k ≡ slice_index_or kept n k
     → AllByRecursion (IsKeptStudy state) kept → IsKeptAt state (slice_get (periods_of state.rows) i) k.study
 kept_placed state i kept n k at is all =
@@ -191,7 +191,7 @@ all_still law state at effect (k ∷ kept) accepted (here, all) =
       | inr spared ↦ rw spared (still law state at effect k.period k.study accepted spared here, rest)
     ]
 
--- what an answer says, but that it stores a row
+-- what an answer says, except that it stores a row
 abbrev pub IsSaid : Answer → Type 0
 IsSaid (Says StoredAccepted) = ⊥
 IsSaid answer = Unit {0}
@@ -206,7 +206,7 @@ left_same (Component component i) rows kept said = refl
 left_same (Window first last) rows kept said = refl
 left_same Advise rows kept said = refl
 
--- what the book says of a record that it takes
+-- what the book says about a record that it accepts
 abbrev pub said_ok : Accepted → Result Accepted NotAccepted
 said_ok accepted = Ok accepted
 
@@ -497,7 +497,7 @@ passes_over state i kept last leaves keeping = passes_at state i (slice_get (per
 
 -- ---- the stage that was reported last, after a stored row
 
--- it stays, though its study may go
+-- it stays, though its study may be dropped
 untouched_stage : (state : SessionState) (rows : List StoredRow) (kept : List KeptStudy) (last : Option Stage) → AllByRecursion (IsKeptStudy state) kept
     → last_stage (untouched_studies rows kept) (saved_stage (λ (k : KeptStudy). touched_at rows k.period) kept last) ≡ last_stage kept last
 untouched_stage state rows kept (Some stage) all = refl

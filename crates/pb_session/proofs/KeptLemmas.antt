@@ -53,7 +53,7 @@ few_take zero xs = omega arith
 few_take (suc n) [] = omega arith
 few_take (suc n) (x ∷ xs) = let rest = few_take n xs in omega (arith, rest)
 
--- an item that fails is as good as gone
+-- an item that fails might as well be missing
 filter_without : {A : Type 0} (test : A → Bool) (xs : List A) (n : ℕ) (d : A) → n < length xs → test (slice_index_or xs n d) ≡ false → filter test (remove xs n) ≡ filter test xs
 filter_without test [] n d lt fails = absurd (omega (arith, lt))
 filter_without test (x ∷ xs) zero d lt fails = rw fails refl
@@ -80,7 +80,7 @@ behind_periods i study kept = elim (cases_Bool (length study.stages == 1)) [
 pub untouched_periods : (rows : List StoredRow) (kept : List KeptStudy) → periods_in (untouched_studies rows kept) ≡ untouched rows (periods_in kept)
 untouched_periods rows kept = map_filter (λ (k : KeptStudy). k.period) _ kept
 
--- ---- what holds of the studies that stay
+-- ---- what holds for the studies that stay
 
 pub all_behind : (P : KeptStudy → Type 0) (i : ℕ) (study : Study) (kept : List KeptStudy) → (length study.stages ≡ 1 → P (first i study)) → AllByRecursion P kept
     → AllByRecursion P (studies_behind i study kept)
@@ -188,7 +188,7 @@ placed_stage i kept n k at is =
 pub unplaced_stage : (i : ℕ) (kept : List KeptStudy) → place_in i kept ≡ None → no_stage ≡ settled_stage i None kept
 unplaced_stage i kept at = sym (ap (λ (o : Option KeptStudy). option_and_then (λ (x : KeptStudy). stage_beside x.study) o) (place_none i kept at))
 
--- ---- the first stage of a study that goes
+-- ---- the first stage of a study that is dropped
 
 -- the first kept study isn't one of those that stay, if the row touches it
 pub first_gone : (rows : List StoredRow) (kept : List KeptStudy) (k : KeptStudy) → 0 < length kept → k ≡ slice_index_or kept 0 k → touched_at rows k.period ≡ true
@@ -204,7 +204,7 @@ first_saved rows (x ∷ kept) k (Some stage) some is touched none = cc none
 first_saved rows (x ∷ kept) k None some is touched none =
     subst (λ (y : KeptStudy). slice_get k.study.stages 0 ≡ (if touched_at rows y.period then slice_get y.study.stages 0 else no_stage)) is (rw touched refl)
 
--- else nothing is
+-- otherwise nothing is
 pub other_saved : (rows : List StoredRow) (kept : List KeptStudy) (last : Option Stage) → is_some last ≡ true → last ≡ saved_by Stored rows kept last
 other_saved rows kept (Some stage) some = refl
 other_saved rows kept None some = cc some
@@ -226,7 +226,7 @@ slice_get-some [] n lt = absurd (omega (arith, lt))
 slice_get-some (x ∷ xs) zero lt = refl
 slice_get-some (x ∷ xs) (suc n) lt = slice_get-some xs n (omega (arith, lt))
 
--- ---- what the places say of the periods
+-- ---- what the places say about the periods
 
 contained : (i : ℕ) (kept : List KeptStudy) (o : Option KeptStudy) → find (is_of i) kept ≡ o → IsSome o → Contains (periods_in kept) i
 contained i kept None found some = cc some

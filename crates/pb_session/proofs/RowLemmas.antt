@@ -1,4 +1,4 @@
--- What the book says of a record, and what the record adds.
+-- What the book says about a record, and what the record adds.
 use Rattle.std.proofs.Common.{◌≡◌, ◌≢◌, ℕ, ◌<◌, Bool, true, false, List, [], length, Option, Some, None, IfSome, Result, Ok, Err, sym, ap, refl, subst, position, slice_get}
 use Rattle.std.proofs.lemmas.List.Quantifiers.{position-Some}
 use Rattle.std.specs.Prelude.{pos}
@@ -26,14 +26,14 @@ use Rattle.pb_book.specs.Answer.{Answer, Refused, Says, Stored, advise_or_refuse
 use Rattle.pb_session.specs.Session.{AddsAccepted, AddsBy, SessionState}
 use Rattle.pb_session.specs.Accepted.{IsOfPeriods}
 
--- what the book says of a record that it takes, and of one that it refuses
+-- what the book says about a record that it accepts, and about one that it refuses
 abbrev said_ok : Accepted → Result Accepted NotAccepted
 said_ok accepted = Ok accepted
 
 abbrev said_err : Refusal → Result Accepted NotAccepted
 said_err cause = Err (NotAcceptedFor cause)
 
--- an accepted record's answer is no refusal
+-- an accepted record's answer isn't a refusal
 pub accepted_is : (answer : Answer) (accepted : Accepted) → said_ok accepted ≡ said_of answer → false ≡ is_refused answer
 accepted_is (Refused cause) accepted is = cc is
 accepted_is (Stored effect) accepted is = refl
@@ -50,12 +50,12 @@ accepted_adds state new at costs (Stored effect) accepted text is new_is adds = 
 accepted_adds state new at costs (Says said) accepted text is new_is adds =
     subst (λ (s : SessionState). AddsAccepted s costs said text) new_is (subst (λ (a : Accepted). AddsAccepted new costs a text) (same_accepted accepted said is) adds)
 
--- the answer to a record asks for a report, a history or a balance of a period that there is, or for a window from one to another
+-- the answer to a record asks for a report, a history or a balance of a period that exists, or for a window from one to another
 abbrev pub AnswersOf : List StoredRow → Answer → Type 0
 AnswersOf rows (Says accepted) = IsOfPeriods rows accepted
 AnswersOf rows answer = Unit {0}
 
--- a report, a history or a balance is of a period that there is, and a window from one to another
+-- a report, a history or a balance is of a period that exists, and a window from one to another
 pub of_periods : (rows new : List StoredRow) (at : ℕ) (answer : Answer) (accepted : Accepted) → said_ok accepted ≡ said_of answer → AnswersOf rows answer
     → new ≡ after_answer rows at answer → IsOfPeriods new accepted
 of_periods rows new at (Refused cause) accepted is of is_new = cc is
