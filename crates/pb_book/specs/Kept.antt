@@ -1,4 +1,4 @@
--- Inside. What a book keeps beside its rows, so that no look-up walks through them.
+-- Inside. What a book keeps beside its rows, so that look-ups don't walk through them.
 use Rattle.std.specs.Prelude.{◌≡◌, ℕ, ◌<◌, ◌≤◌, nat_eq, ℤ, ◌≤ℤ◌, Bool, true, false, ◌&&◌, List, length, map, filter_map, slice_get, slice_index_or, All, Option, Some, None, if◌then◌else◌, IsSome, AllPairs}
 use Rattle.std.specs.Ordering.{int_cmp, int_eq}
 use Rattle.std.specs.BTreeMap.{BTreeMap, get}

@@ -89,7 +89,8 @@ is_in_none periods day = not (list_any (shares_a_day day day) periods)
 unfoldable pub has_gap : List Period → Period → Period → Bool
 has_gap periods first last = list_any (is_in_none periods) (days_between first.first last.last)
 
--- The periods from one to another, in order of days: those whose first day is one from that of `first` to that of `last`.
+-- The periods from one to another, in order of days: those that begin on a day from the first day of `first` to the first day of
+-- `last`.
 unfoldable pub periods_between : List Period → Period → Period → List Period
 periods_between periods first last =
     filter_map (λ day. find (begins_on day) periods) (days_between first.first last.first)

@@ -200,8 +200,8 @@ impl Book {
         }
     }
 
-    /// Whether an edit touches the period at a place: a closing touches its own period, a late fact those that the fact touches,
-    /// and a change and a strike those that their fact touches.
+    /// Whether an edit touches the period at a place: a closing touches its own period, a late fact those that it touches, and a
+    /// change and a strike those that their fact touches.
     pub fn touches(&self, e: usize, i: u32) -> bool
         requires edit { e < length (edits_of self.now) }
         requires period { i < length (periods_of self.now) }

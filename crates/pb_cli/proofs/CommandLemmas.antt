@@ -8,7 +8,7 @@ use Rattle.pb_cli.specs.declared.status.Status.{Status}
 use Rattle.pb_cli.specs.declared.status.Status.TheVariants.{NoMemory}
 use Rattle.pb_cli.specs.Run.{AskToMake, EndsAs, IsGiven, is_making}
 
--- if the bytes decide and no fault was counted, a command ends as they say; only NoMemory is always possible
+-- if the bytes decide and no fault was counted, a command ends as they say, or else with NoMemory
 abbrev pub Completes : List (List ℕ) → SourceSeen → SourceSeen → Type 0 → Status → Type 0
 Completes words source_old source_new WriteFailed status =
     (command : Command) (input : List ℕ) → IsCommandOf words command → IsGiven command source_old source_new input → (WriteFailed → ⊥)

@@ -59,7 +59,7 @@ pub record Runs {R W : Type 0} (seen_read : R → SourceSeen) (seen_written : W 
   -- If memory ran out, nothing was written, or the texts of the first rows or of the first blocks, whole.
   pub no_memory : status ≡ NoMemory → (sink_new ≡ sink_old) ⊎ Does IsFront words (seen_read source_old) (seen_read source_new) (seen_written sink_old) (seen_written sink_new)
   -- If the source shows its bytes and no fault was counted, the bytes decide how the command ends; if the command makes a session,
-  -- it doesn't need them, and nothing is read. Only NoMemory is always possible.
+  -- it doesn't need them, and nothing is read. The only other possible status is NoMemory.
   pub complete : (command : Command) (input : List ℕ) → IsCommandOf words command → IsGiven command (seen_read source_old) (seen_read source_new) input
       → (Rose (seen_written sink_old).faults (seen_written sink_new).faults → ⊥) → EndsAs command input status ⊎ (status ≡ NoMemory)
   pub make_unread : AskToMake words → source_new ≡ source_old

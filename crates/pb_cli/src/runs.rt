@@ -77,7 +77,7 @@ pub fn run<R: Source, W: Sink>(alloc: Global, words: &Words, source: &mut R, sin
         (R.seen source.old) (R.seen source.new) (W.seen sink.old) (W.seen sink.new) }
 
     // If the source shows its bytes and no fault was counted, the bytes decide how the command ends; if the command makes a
-    // session, it doesn't need them, and nothing is read. Only NoMemory is always possible.
+    // session, it doesn't need them, and nothing is read. The only other possible answer is NoMemory.
     ensures complete { (command : Command) (input : List ℕ)
         → IsCommandOf words.now command
         → IsGiven command (R.seen source.old) (R.seen source.new) input →

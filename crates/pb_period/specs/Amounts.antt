@@ -8,7 +8,7 @@ pub record IsAmount (facts : ℕ) (amount : Amount) : Type 0 where
   pub from : pos 0 ≤ℤ amount.variance
   pub to : amount.variance ≤ℤ pos (facts * 10 ^ 19)
 
--- an amount that fits 128 bits with much room to spare
+-- an amount well within 128 bits
 pub record IsSmall (amount : Amount) : Type 0 where
   pub grams : unsigned_abs amount.grams ≤ 10 ^ 30
   pub from : pos 0 ≤ℤ amount.variance
@@ -23,7 +23,7 @@ abbrev pub with_more : Amount → Option Amount → Amount
 with_more total None = total
 with_more total (Some more) = sum_of_two total more
 
--- from 1 to 366 days, and two counts of them in order
+-- from 1 to 366 days, and two counts of these days, in order
 pub record IsSpan (days before until : ℕ) : Type 0 where
   pub some : 1 ≤ days
   pub few : days ≤ 366

@@ -28,7 +28,7 @@ abbrev pub stream_with : (Arc → Option Meas) → Arc → Stream
 stream_with measure arc = record { from = arc.from; to = arc.to; meas = measure arc }
 
 -- the declared plant: its nodes are the environment, the units and the tanks; its streams are the declared streams and the
--- inventories of the tanks, all in order of declaration
+-- inventories of the tanks; all are in order of declaration
 abbrev pub graph_with : (Arc → Option Meas) → List StoredRow → ProcessGraph
 graph_with measure rows = record {
   nodes = length (node_names (declared_of rows));
@@ -59,8 +59,8 @@ stream_among nodes measure arc = record {
 abbrev pub measured_served : List Declared → List Fact → Days → Arc → Option Meas
 measured_served declared facts days arc = measured declared facts days arc.service arc
 
--- the part of the plant that is in service on any of these days: its streams are the streams and the inventories of the tanks in
--- service, its nodes are the environment and the ends of these streams, all in order of declaration
+-- the part of the plant that is in service on any of these days: its streams are the declared streams and the inventories of the
+-- tanks that are in service; its nodes are the environment and the ends of these streams; all are in order of declaration
 abbrev pub served_graph : List Declared → List Fact → Days → ProcessGraph
 served_graph declared facts days =
     let nodes = nodes_on Two declared days.first days.last in

@@ -88,8 +88,8 @@ pub record IsAdviceText (state : SessionState) (names : Names) (graph : ProcessG
   pub rows : IsTextOf state (advice_rows names advice) text
 
 -- The text is the report of a period with this name and this graph: the rows of the study of the graph, by the critical values of
--- the stored rows and under the names of its nodes and streams. Each stage of the study is certified, has least bounds at each
--- stream that has bounds, and if it has tests, has those of its redundant streams.
+-- the stored rows and under the names of its nodes and streams. Each stage of the study is certified and has least bounds at each
+-- stream that has bounds; if it has tests, it has those of its redundant streams.
 pub record IsReport (state : SessionState) (names : Names) (period : List ℕ) (graph : ProcessGraph) (text : List ℕ) : Type 0 where
   pub limits : IsProcessGraph graph
   pub named : AreNamesOf names graph

@@ -1,4 +1,4 @@
--- Inside. What a site keeps beside the declarations, so that no look-up walks through them.
+-- Inside. What a site keeps beside the declarations, so that look-ups don't walk through them.
 use Rattle.std.specs.Prelude.{◌≡◌, ℕ, ◌<◌, ◌≤◌, ◌==◌, ◌-◌, nat_eq, ℤ, Bool, true, false, ◌||◌, List, [], ◌∷◌, ◌++◌, length, get_or, filter, filter_map, position, Option, Some, None, IsSomeAnd, if◌then◌else◌, codes, vec_len, vec_capacity}
 use Rattle.std.specs.Option.{option_map}
 use Rattle.std.specs.HashMap.{get, spare}

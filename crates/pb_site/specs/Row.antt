@@ -36,7 +36,7 @@ IsInRange (CritNodal value) = IsCriticalValue value
 IsInRange (CritMeasure value) = IsCriticalValue value
 IsInRange row = Unit {0}
 
--- the declaration that the session is of version 2
+-- this is the declaration that the session is of version 2
 abbrev pub says_version_2 : Declared → Bool
 says_version_2 Version2 = true
 says_version_2 row = false

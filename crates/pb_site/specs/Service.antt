@@ -47,10 +47,10 @@ abbrev pub last_served : Option Service → ℤ → ℤ
 last_served None last = last
 last_served (Some service) last = int_min last service.until
 
--- the opening content of a tank is that at the end of the day before the first in service
+-- the day at whose end a tank has its opening content: the day before the first in service
 abbrev pub day_of_opening : Option Service → ℤ → ℤ
 day_of_opening service first = first_served service first -ℤ pos 1
 
--- and the closing content is that at the end of the last day in service
+-- and the day at whose end it has its closing content: the last in service
 abbrev pub day_of_closing : Option Service → ℤ → ℤ
 day_of_closing service last = last_served service last

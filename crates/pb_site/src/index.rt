@@ -1,4 +1,4 @@
-// What is looked up, so that no look-up walks through the declarations.
+// What is kept for look-ups, so that they don't walk through the declarations.
 
 ghost use Rattle.std.specs.Prelude.{◌≡◌, ℕ, ◌<◌, ◌≤◌, ◌∷◌, ◌++◌, [], List, Option, Some, IsSomeAnd, if◌then◌else◌, true, false, length, position, OnOk, OnErr};
 ghost use Rattle.std.specs.HashMap.{get, spare};

@@ -2,9 +2,9 @@
 
 ghost use Rattle.pb_site.specs.Laws.{DaysLaw, GrowthLaw, PlantLaw, SamePartLaw};
 
-/// If no declaration has a fault given those before it, numbers and days are in their ranges, names are distinct, each arc leads
-/// from a node to another one, the numbers of nodes, boundaries and arcs are within the limits, and only the first declaration can
-/// state the version.
+/// If no declaration has a fault, given those before it, then numbers and days are in their ranges, names are distinct, each arc
+/// leads from a node to another one, the numbers of nodes, boundaries and arcs are within the limits, and only the first
+/// declaration can state the version.
 pub fn plant_law()
     ensures { PlantLaw }
 {}

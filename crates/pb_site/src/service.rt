@@ -76,7 +76,7 @@ pub fn last_served(service: Option<Service>, last: i32) -> i32
     }
 }
 
-/// The day at whose end the opening content of a tank stands: the day before the first in service from `first` on.
+/// The day at whose end a tank has its opening content: the day before the first in service from `first` on.
 pub fn opening_day(service: Option<Service>, first: i32) -> i32
     requires { IsDay first }
     ensures { result ≡ day_of_opening service first }
@@ -84,7 +84,7 @@ pub fn opening_day(service: Option<Service>, first: i32) -> i32
     first_served(service, first) - 1
 }
 
-/// The day at whose end the closing content of a tank stands: the last day in service up to `last`.
+/// The day at whose end a tank has its closing content: the last day in service up to `last`.
 pub fn closing_day(service: Option<Service>, last: i32) -> i32
     ensures { result ≡ day_of_closing service last }
 {
