@@ -1,4 +1,5 @@
--- Statement. What holds for each period of a book: its days are in the calendar, in order, and within the limit in number.
+-- Statement. What holds for each period of a book: its days are in the calendar and in order, and there are at most as many as are
+-- allowed.
 use Rattle.std.specs.Prelude.{pos, ◌-ℤ◌, ◌≤ℤ◌, ◌<ℤ◌}
 use Rattle.pb_limits.specs.Limits.{most_days_of_period}
 use Rattle.pb_facts.specs.Fact.{IsDay}

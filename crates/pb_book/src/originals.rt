@@ -1,5 +1,5 @@
-// The facts as they came: those whose values an amendment changed are kept separately, and every other fact is returned as it is
-// kept.
+// The facts as they came: those whose values an amendment changed are kept separately, and every other fact is returned as it
+// stands.
 
 ghost use Rattle.std.specs.Prelude.{◌≡◌, ◌<◌, ℕ, nat_eq, length, slice_get, Some, IsSome, OnOk, if◌then◌else◌};
 ghost use Rattle.std.specs.HashMap.{get, spare};

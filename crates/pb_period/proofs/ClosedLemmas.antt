@@ -58,7 +58,7 @@ up : (b : Bool) → not b ≡ false → b ≡ true
 up true e = refl
 up false e = cc e
 
--- a volume by the table before is one by the table with one more declaration
+-- a volume by the old table is a volume by the table with one more declaration
 volume_more : TableGrowsLaw → (declared : List Declared) (row : Declared) (tank : List ℕ) (level volume : ℤ) → is_out_of_order_declared declared row ≡ false
     → volume_of (points_of declared tank) level ≡ Some volume → volume_of (points_of declared tank ++ filter_map (point_of tank) (row ∷ [])) level ≡ Some volume
 volume_more grows declared (Strap name mm ml) tank level volume order at = elim (cases_Bool (same_name name tank)) [

@@ -20,7 +20,7 @@ use Rattle.pb_period.proofs.AmountLemmas.{more_none, none_more, sum_assoc}
 
 -- ---- a transfer without a day in common moves nothing
 
--- days that have none in common
+-- days that have no day in common
 apart : (first last from to : ℤ) → (int_le first to && int_le from last) ≡ false → int_le (int_max from first) (int_min to last) ≡ false
 apart first last from to none = elim (cases_Bool (int_le (int_max from first) (int_min to last))) [
   | inl some ↦

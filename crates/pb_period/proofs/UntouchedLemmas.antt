@@ -118,7 +118,7 @@ heads : {A : Type 0} (R : A → A → Type 0) (P : A → Type 0) (x : A) (xs : L
 heads R P x [] so each = tt
 heads R P x (y ∷ xs) so each = (so y (each 0 y (omega arith)), heads R P x xs so (λ k d lt. each (suc k) d (omega (arith, lt))))
 
--- ---- what the facts that touch a period say of its days is what all of them say
+-- ---- what the facts that touch a period say about its days is what all facts say
 
 yes_le : (a b : ℤ) → a ≤ℤ b → int_le a b ≡ true
 yes_le a b le = elim (cases_Bool (int_le a b)) [ inl is ↦ is | inr not ↦ absurd (omega (arith, ints, not, le)) ]
@@ -258,7 +258,7 @@ own_services (a ∷ arcs) distinct =
     (λ k d lt. distinct 0 (suc k) d (omega arith) (omega (arith, lt))) in
     (rw same refl, put_before a arcs arcs apart (own_services arcs (pairs_tail (λ (one other : List ℕ). same_name one other ≡ false) a.name names distinct)))
 
--- what is the same of each item that passes
+-- what is the same for each item that passes
 map_kept : {A B : Type 0} (p : A → Bool) (f g : A → B) (xs : List A) → AllByRecursion (λ x. p x ≡ true → f x ≡ g x) xs → map f (filter p xs) ≡ map g (filter p xs)
 map_kept p f g [] same = refl
 map_kept p f g (x ∷ xs) (here, rest) = elim (cases_Bool (p x)) [

@@ -237,7 +237,7 @@ none_passes test xs none k d lt = elim (cases_Bool (test (get_or xs k d))) [
 both_all : {A : Type 0} (P Q R : A → Type 0) (xs : List A) → ((x : A) → P x → Q x → R x) → All P xs → All Q xs → All R xs
 both_all P Q R xs join ps qs k d lt = join (get_or xs k d) (ps k d lt) (qs k d lt)
 
--- what all items have, those have that pass
+-- what all items have, those that pass have
 all_filter : {A : Type 0} (P : A → Type 0) (p : A → Bool) (xs : List A) → All P xs → All P (filter p xs)
 all_filter P p [] all = All-nil P
 all_filter P p (x ∷ xs) all =

@@ -165,7 +165,7 @@ pub room_boundaries : (declared : List Declared) (row : Declared) → IsFine dec
 room_boundaries declared (Boundary name) good few = let less = below most_boundaries (length (boundary_names declared)) good.room in omega (arith, less)
 room_boundaries declared row good few = omega (arith, few)
 
--- no version has more arcs than a graph has streams
+-- no version allows more arcs than a graph can have streams
 within_streams : (version : Version) → most_arcs version ≤ most_streams
 within_streams One = omega arith
 within_streams Two = omega arith

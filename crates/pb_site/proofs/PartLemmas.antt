@@ -69,7 +69,7 @@ names_stay declared other more (node ∷ nodes) grown within =
     ap (λ (names : List (List ℕ)). get_or names node (codes "env")) grown ∙ get_or_append_left (node_names declared) more (codes "env") node (within 0 node (omega arith)) in
     ap₂ (λ (name : List ℕ) (names : List (List ℕ)). name ∷ names) here (names_stay declared other more nodes grown (λ k d lt. within (suc k) d (omega (arith, lt))))
 
--- the arc of a declaration that isn't in service isn't
+-- the arc of a declaration that isn't in service isn't in service
 new_away : (boundaries nodes : List (List ℕ)) (row : Declared) (first last : ℤ) → declares_in_service first last row ≡ false
     → AllByRecursion (λ arc. is_arc_in_service first last arc ≡ false) (filter_map (arc_in boundaries nodes) (row ∷ []))
 new_away boundaries nodes (Tank name base service) first last away = (away, tt)
