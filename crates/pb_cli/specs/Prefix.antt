@@ -17,7 +17,7 @@ pub record IsBeginningOf (Holds : List ℕ → Type 0) (bytes : List ℕ) : Type
   pub within : written < length whole
   pub is : bytes ≡ take written whole
 
--- The bytes are the texts of the first records in order, whole, and then a beginning of the next record's text.
+-- The bytes are the texts of the first records in order, whole, and then a proper beginning of the next record's text.
 pub record AreTextsCutShort (state : SessionState) (records : List (List (List ℕ))) (bytes : List ℕ) : Type 0 where
   pub front : List (List (List ℕ))
   pub next : List (List ℕ)

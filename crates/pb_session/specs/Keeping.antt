@@ -49,12 +49,12 @@ studies_behind period study kept =
     then take most_kept ((let first : KeptStudy = record { period = period; study = study } in first) ∷ others_than period kept)
     else others_than period kept
 
--- the kept studies after the kept study of a period, if there is one, was written
+-- the kept studies after a report written from the kept study of the period, if it has one
 abbrev pub settled_by : ℕ → Option KeptStudy → List KeptStudy → List KeptStudy
 settled_by period (Some found) kept = studies_behind period found.study kept
 settled_by period None kept = kept
 
--- the kept studies after a study was written that was made, or was kept
+-- the kept studies after a report of the period, written from a study that was made, or else from the kept one
 abbrev pub settled : ℕ → Option Study → List KeptStudy → List KeptStudy
 settled period (Some study) kept = studies_behind period study kept
 settled period None kept = settled_by period (find (is_of period) kept) kept
