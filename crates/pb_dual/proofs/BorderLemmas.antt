@@ -23,7 +23,7 @@ use Rattle.pb_dual.specs.Moves.{group_flow}
 use Rattle.pb_dual.specs.Candidates.{room_of, raised, lowered, raised_at, lowered_at, low_from, high_from}
 use Rattle.pb_dual.specs.Border.{seen_of, seen_at, border_from, border_of, border_flow, border_variance, border_low, border_high, IsBorderStream}
 
--- one stream more
+-- one more stream
 pub low_more : (prices : List ℤ) (lo : ℤ) (border : List BorderStream) (i : ℕ) (d : BorderStream) → i < length border
     → border_low prices lo (drop i border) ≡ border_low prices (int_max lo (get_or prices (get_or border i d).other (pos 0) -ℤ (get_or border i d).room)) (drop (i + 1) border)
 low_more prices lo border i d lt = ap (border_low prices lo) (drop_next border i d lt)
@@ -216,7 +216,7 @@ seen_is group k j (s ∷ ss) h =
     ap (λ (b : Bool). has_one_end group k s || b) (seen_is group k (suc j) ss h.1)
     ∙ seen_one j s.meas (group_at group s.from == k) (group_at group s.to == k) (group_at group s.from) (group_at group s.to) (border_from group k (suc j) ss) h.0
 
--- the border of one stream more
+-- the border of one more stream
 pub border_more : (group : List ℕ) (k j : ℕ) (ss : List Stream) (d : Stream) → j < length ss
     → border_of group k (take (j + 1) ss) ≡ border_of group k (take j ss) ++ option_to_list (seen_at group k j (get_or ss j d))
 border_more group k j ss d lt =

@@ -10,7 +10,7 @@ use Rattle.pb_dual.specs.declared.border.BorderStream.{BorderStream}
 use Rattle.pb_dual.specs.Best.{clamped}
 use Rattle.pb_dual.specs.Border.{AreBorder, IsBorderStream, IsGreatest, border_low, border_high, border_room}
 
--- one stream more
+-- one more stream
 pub room_more : (room : ℤ) (border : List BorderStream) (i : ℕ) (d : BorderStream) → i < length border
     → border_room room (drop i border) ≡ border_room (int_min room (get_or border i d).room) (drop (i + 1) border)
 room_more room border i d lt = ap (border_room room) (drop_next border i d lt)

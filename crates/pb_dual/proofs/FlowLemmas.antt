@@ -148,7 +148,7 @@ same_elsewhere group prices others k ss apart j h =
           ∙ sym (get_or_past those j (pos 0) (omega (arith, past, length-map ss (dual_flow (node_price group others)))))
     ]
 
--- one number more is written
+-- one more number is written
 pub put_value : (out target : List ℤ) (j : ℕ) (x : ℤ) → j < length out → x ≡ item target j → ((k : ℕ) → k < j → item out k ≡ item target k)
     → (k : ℕ) → k < j + 1 → item (set out j x) k ≡ item target k
 put_value out target j x lt is before k below = elim (cases_eq k j) [
@@ -159,7 +159,7 @@ put_value out target j x lt is before k below = elim (cases_eq k j) [
 pub whole : (out target : List ℤ) (n j : ℕ) → length out ≡ n → length target ≡ n → n ≤ j → ((k : ℕ) → k < j → item out k ≡ item target k) → out ≡ target
 whole out target n j each wanted end is = ext_get_or (pos 0) out target (each ∙ sym wanted) (λ k lt. is k (omega (arith, lt, each, end)))
 
--- one flow more is written
+-- one more flow is written
 pub write_more : (border : List BorderStream) (flows others : List ℤ) (i : ℕ) (d : BorderStream) (x : ℤ) → i < length border → (get_or border i d).stream < length flows
     → x ≡ item others (get_or border i d).stream → AreSameElsewhere (drop i border) flows others → AreSameElsewhere (drop (i + 1) border) (set flows (get_or border i d).stream x) others
 write_more border flows others i d x here lt is before j h =

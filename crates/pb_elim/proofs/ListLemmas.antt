@@ -10,7 +10,7 @@ use Rattle.pb_graph.proofs.WalkLemmas.{some_same}
 abbrev pub AtEach : {A : Type 0} → (ℕ → A → Type 0) → List A → Type 0
 AtEach {A} P xs = (k : ℕ) (x : A) → slice_get xs k ≡ Some x → P k x
 
--- one item more
+-- one more item
 pub each_push : {A : Type 0} (P : ℕ → A → Type 0) (xs : List A) (x : A) → AtEach P xs → P (length xs) x → AtEach P (xs ++ x ∷ [])
 each_push P xs x each last k y at =
     let within = slice_get_within (xs ++ x ∷ []) k y at in

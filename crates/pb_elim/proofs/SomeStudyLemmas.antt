@@ -193,7 +193,7 @@ ended g options critical stages taken last stop begun is = (
   },
 )
 
--- one stream more is taken
+-- one more stream is taken
 begun_more : Laws → (g : ProcessGraph) (options : Options) (critical : Critical) (stages : List Stage) (taken : List Taken) (last : Stage) (t : Taken) → IsBegun g options critical stages taken last
     → length taken < options.eliminate → IsSomeAnd last.tests (IsTakenAfter options critical (length taken) t)
     → (next : Stage) × IsBegun g options critical (stages ++ next ∷ []) (taken ++ t ∷ []) next

@@ -52,7 +52,7 @@ signs_of g (Cycle steps) within = tt
 pub witness_signs : (g : ProcessGraph) (j : ℕ) (c : Classified) → IsCertified g j c → AreWitnessSigns c.witness
 witness_signs g j c shown = signs_of g c.witness (witness_within g j c shown)
 
--- one result more
+-- one more result
 pub results_more : (s : State) (classes : List Classified) (results : List StreamResult) (c : Classified) (r : StreamResult) → AreResultsOf s classes results → IsResultOf s (length results) c r
     → AreResultsOf s (classes ++ c ∷ []) (results ++ r ∷ [])
 results_more s classes results c r are is = record {
@@ -74,7 +74,7 @@ pub at_end : (xs : List Classified) (c : Classified) (rest : List Classified) �
 at_end [] c rest = refl
 at_end (x ∷ xs) c rest = at_end xs c rest
 
--- one node more has its price
+-- one more node has its price
 pub price_more : (price : ℕ → ℤ) (before : List ℤ) (p : ℤ) (n : ℕ) → length before ≡ n → ((k : ℕ) → k < n → item before k ≡ price k) → p ≡ price n
     → (k : ℕ) → k < n + 1 → item (before ++ p ∷ []) k ≡ price k
 price_more price before p n each so_far is k lt = elim (cases_eq k n) [

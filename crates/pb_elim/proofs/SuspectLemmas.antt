@@ -38,7 +38,7 @@ none_rejects (t ∷ tests) none zero test at is =
     not_rejected test.verdict (ap is_suspect (sym (some_same at)) ∙ first) is
 none_rejects (t ∷ tests) none (suc k) test at is = none_rejects tests (or_none (is_suspect t) (list_any is_suspect tests) none).1 k test at is
 
--- ---- one test more
+-- ---- one more test
 none_more : (before : List MeasureTest) (test : MeasureTest) → list_any is_suspect before ≡ false → is_suspect test ≡ false → list_any is_suspect (before ++ test ∷ []) ≡ false
 none_more [] test none other = ap (λ (b : Bool). b || false) other
 none_more (t ∷ before) test none other =

@@ -20,7 +20,7 @@ acyclic_part ss some may part acyclic j s at ok r =
     acyclic j s at (part j s at ok)
     (reach_more (except j some) (except j may) ss s.from s.to (λ k t here both. let parts = and_parts (some k t) (not (k == j)) both in and_from _ _ (part k t here parts.0) parts.1) r)
 
--- one stream more, whose ends the others do not join, makes no cycle
+-- one more stream, whose ends the others don't join, makes no cycle
 acyclic_more : (ss : List Stream) (x y : ℕ → Stream → Bool) (i : ℕ) (u : Stream) → slice_get ss i ≡ Some u → (Reaches (ends_of x ss) u.from u.to → ⊥)
     → IsPartBut ss i y x → IsAcyclic ss x → IsAcyclic ss y
 acyclic_more ss x y i u at_u apart but acyclic j s at ok r = elim (cases_eq j i) [

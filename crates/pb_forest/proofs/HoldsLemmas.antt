@@ -11,7 +11,7 @@ decided_exactly : (ss : List Stream) (j : ℕ) (s : Stream) (b : Bool) → slice
 decided_exactly ss j s true at d = (d.apart, λ h. refl)
 decided_exactly ss j s false at d = ((λ e. cc e), (λ h. absurd (h s at (d.tied refl s at))))
 
--- a mark is true exactly where the stream is held
+-- a mark is true exactly when the stream is held
 pub held_exactly : (ss : List Stream) (held : List Bool) (j : ℕ) (b : Bool) → IsForest ss held → j < length ss → b ≡ get_or held j b
     → (b ≡ true → IsHeld ss j) × (IsHeld ss j → b ≡ true)
 held_exactly ss held j b forest lt is =

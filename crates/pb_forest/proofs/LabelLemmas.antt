@@ -66,7 +66,7 @@ decided_by ss nodes m labels j s at stream kind l =
 abbrev pub DecidedBelow : List Stream → Bool → ℕ → List Bool → Type 0
 DecidedBelow ss m j held = (k : ℕ) (s : Stream) → k < j → slice_get ss k ≡ Some s → is_measured s ≡ m → IsDecided ss k (get_or held k false)
 
--- one mark more
+-- one more mark
 pub marks_next : (ss : List Stream) (m : Bool) (j : ℕ) (held : List Bool) (mark : Bool) → j < length held → DecidedBelow ss m j held → IsDecided ss j mark
     → DecidedBelow ss m (j + 1) (set held j mark)
 marks_next ss m j held mark within below here k s lt at kind = elim (cases_eq k j) [

@@ -205,7 +205,7 @@ both_ends true false z x = omega (arith, ints)
 both_ends false true z x = omega (arith, ints)
 both_ends false false z x = omega (arith, ints)
 
--- one stream more
+-- one more stream
 pub nets_more : (nodes : ℕ) (ss : List Stream) (held : List Bool) (off : List ℤ) (t : RootedTrees) (j : ℕ) (out : List ℤ) → AreWhole nodes ss held t
     → AreNets ss held off t j out
     → AreNets ss held off t (j + 1) (added_at (up_of t (get_or ss j some_stream).to) (chord_flow held off j) (added_at (up_of t (get_or ss j some_stream).from) (neg_ℤ (chord_flow held off j)) out))
@@ -255,7 +255,7 @@ settle_none nodes ss held off t out whole marks few small nets = record {
   below = λ b k lt up. nets.net (node_at t b) k up;
 }
 
--- ---- one node more is balanced
+-- ---- one more node is balanced
 share_none : (n : ℕ) (s : Stream) → brought_to n s (pos 0) ≡ pos 0
 share_none n s = none (s.to == n) (s.from == n)
   where

@@ -39,7 +39,7 @@ leaves may nodes ss a b c t rest path e =
     (and_parts (not (list_any (λ y. begin_of nodes ss y == begin_of nodes ss t) rest)) (is_distinct (begin_of nodes ss) rest) path.once).0 in
     ((λ z. cc (sym here ∙ eq-eqb (begin_of nodes ss t) b (begin ∙ sym z))), subst (λ (n : ℕ). list_any (λ y. begin_of nodes ss y == n) rest ≡ false) begin later)
 
--- a walk that never begins a step at a node, and ends elsewhere, does not begin there
+-- a walk that never begins a step at a node, and ends elsewhere, doesn't begin there
 not_there : (may : ℕ → Stream → Bool) (nodes : ℕ) (ss : List Stream) (a b d : ℕ) (steps : List Step) → b ≢ a → Walks (ends_of may ss) d steps b
     → list_any (λ y. begin_of nodes ss y == a) steps ≡ false → d ≢ a
 not_there may nodes ss a b d [] out w none is = out (sym w ∙ is)
@@ -73,7 +73,7 @@ not_again may nodes ss a b c n t (u ∷ us) e out (d, f, w) none =
           ]
     ]
 
--- a walk that does not take a stream is one without it
+-- a walk that doesn't take a stream is one without it
 pub walk_without : (may : ℕ → Stream → Bool) (ss : List Stream) (j a b : ℕ) (steps : List Step) → Walks (ends_of may ss) a steps b
     → list_any (λ y. y.stream == j) steps ≡ false → Walks (ends_of (except j may) ss) a steps b
 walk_without may ss j a b [] w none = w

@@ -292,7 +292,7 @@ small_root r from to = record { from = omega (arith, ints, from); to = omega (ar
 pub few_variances : (v : ℤ) → v ≤ℤ pos most_group_variance → v <ℤ pos (2 ^ 86)
 few_variances v h = omega (arith, ints, h)
 
--- one number more
+-- one more number
 pub pushed : (P : ℕ → ℤ → Type 0) (xs : List ℤ) (x : ℤ) (k : ℕ) → length xs ≡ k → P k x → ((j : ℕ) → j < k → P j (item xs j)) → (j : ℕ) → j < k + 1 → P j (item (xs ++ x ∷ []) j)
 pushed P xs x k each own before j lt = elim (cases_lt j k) [
   | inl less ↦ subst (P j) (sym (get_or-append xs (x ∷ []) (pos 0) j (omega (arith, less, each)))) (before j less)

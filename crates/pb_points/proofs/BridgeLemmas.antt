@@ -1,4 +1,4 @@
--- A held unmeasured stream is a bridge of the unmeasured streams exactly where the points of its lower end are below that end.
+-- A held unmeasured stream is a bridge of the unmeasured streams exactly when the points of its lower end are below that end.
 use Rattle.std.proofs.Common.{◌≡◌, ◌≢◌, ◌∙◌, ℕ, ◌<◌, ◌≤◌, Bool, true, false, not, ◌==◌, List, Option, Some, slice_get, get_or, [], ap, ap₂, sym, refl, subst, inl, inr, arith}
 use Rattle.std.proofs.lemmas.Bool.{cases_Bool, and_parts, and_from, not_from_false, not-true, ne_eqb}
 use Rattle.pb_integers.proofs.Lists.{all_each}

@@ -1,4 +1,4 @@
--- The boundaries of trees, with one stream more.
+-- The boundaries of trees, with one more stream.
 use Rattle.std.proofs.Common.{◌≡◌, ◌≢◌, ◌∙◌, ℕ, ◌+◌, ◌<◌, ◌≤◌, pos, negsuc, Bool, true, false, ◌==◌, List, [], ◌∷◌, ◌++◌, length, Some, None, get_or, drop, replicate, refl, sym, ap, ap₂, subst, inl, inr, arith}
 use Rattle.std.proofs.lemmas.Bool.{cases_Bool, cases_eq, eq-eqb, ne_eqb}
 use Rattle.std.proofs.lemmas.List.{get_or-set_same, get_or-set_other, get_or-replicate, length-set, drop_all, append-nil}
@@ -13,7 +13,7 @@ use Rattle.pb_points.specs.Points.{NodePoints, ArePoints}
 use Rattle.pb_points.specs.Cuts.{IsTreeOf, AreCuts}
 use Rattle.pb_points.specs.CutLists.{with_member, with_crossing, with_stream, HasFewLabels, HasLabel, AreCutsBefore}
 
--- ---- one member more
+-- ---- one more member
 list_more : (lists : List (List Member)) (label : ℕ) (m : Member) → label < length lists → get_or (with_member lists label m) label [] ≡ get_or lists label [] ++ m ∷ []
 list_more lists label m lt = get_or-set_same lists label (get_or lists label [] ++ m ∷ []) [] lt
 
@@ -29,7 +29,7 @@ leaving j = record { stream = j; sign = negsuc 0 }
 abbrev entering : ℕ → Member
 entering j = record { stream = j; sign = pos 1 }
 
--- ---- one stream more
+-- ---- one more stream
 -- what a list and the streams left make
 abbrev IsSoFar : List Bool → List Stream → ℕ → List Member → Type 0
 IsSoFar side ss j list = boundary_of side ss ≡ list ++ members_from side j (drop j ss)

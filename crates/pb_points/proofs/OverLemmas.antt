@@ -323,7 +323,7 @@ branch_level g held w graph walked t a b e =
       | inr (to, from) ↦ ap (λ (n : ℕ). tree_at w (number_of w n)) (sym to) ∙ sym level ∙ ap (λ (n : ℕ). tree_at w (number_of w n)) from
     ]
 
--- nodes have one label exactly where unmeasured streams join them
+-- nodes have one label exactly when unmeasured streams join them
 pub labels_tell : (g : ProcessGraph) (held : List Bool) (w : Entries) (m n : ℕ) → IsProcessGraph g → IsForest g.streams held → IsWalked g.nodes g.streams held w
     → m < g.nodes → n < g.nodes → (tree_at w (number_of w m) ≡ tree_at w (number_of w n)) ↔ Reaches (ends_of unmeasured g.streams) m n
 labels_tell g held w m n graph forest walked lm ln =

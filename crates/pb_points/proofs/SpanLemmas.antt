@@ -1,4 +1,4 @@
--- Spans: one number more counts, and a span is joined to the one behind it.
+-- Spans: one more number counts, and a span is joined to the one behind it.
 use Rattle.std.proofs.Common.{◌≡◌, ◌≢◌, ◌∙◌, ◌⊎◌, ℕ, ◌+◌, ◌<◌, ◌≤◌, Bool, true, false, List, length, get_or, set, min, max, refl, sym, ap, subst, inl, inr, arith}
 use Rattle.std.proofs.lemmas.Bool.{cases_eq, cases_lt}
 use Rattle.std.proofs.lemmas.List.{get_or-set_same, get_or-set_other, length-set}
@@ -32,7 +32,7 @@ own_none ss held w spans each own =
       });
     }
 
--- ---- one stream more
+-- ---- one more stream
 counts_later : (ss : List Stream) (held : List Bool) (w : Entries) (j lo hi x : ℕ) → CountsAmong ss held w j lo hi x → CountsAmong ss held w (j + 1) lo hi x
 counts_later ss held w j lo hi x c = record {
   entry = c.entry;
@@ -145,7 +145,7 @@ ends_both one other span next a b = record {
   ];
 }
 
--- one number more
+-- one more number
 ends_more : (has : ℕ → Type 0) (span : Span) (number : ℕ) → AreEnds has span → AreEnds (λ x. has x ⊎ (x ≡ number)) (counted span number)
 ends_more has span number a = record {
   low = elim (min_cases span.low number) [

@@ -1,4 +1,4 @@
--- One stream more is followed from the last entry; an entry that waited is taken.
+-- One more stream is followed from the last entry; an entry that waited is taken.
 use Rattle.std.proofs.Common.{◌≡◌, ◌∙◌, ℕ, zero, suc, ◌+◌, ◌*◌, ◌<◌, ◌≤◌, Bool, true, false, List, [], ◌∷◌, ◌++◌, length, replicate, None, Result, Ok, Err, OnOk, get_or, refl, sym, ap, subst, inl, inr, arith}
 use Rattle.std.proofs.lemmas.Bool.{cases_Bool, cases_eq}
 use Rattle.std.proofs.lemmas.List.{get_or_append_left, length-append, length-replicate}

@@ -22,7 +22,7 @@ stage_without-requires-clause-stream c =
     let formed = formed_at at.stages at.count last at.invariant.so_far.formed.stages c.at-last.ensures in
     (taken_within last.graph options critical at.count last.tests c.in-Some.suspect formed.tests suspect).stream
 
--- one round more
+-- one more round
 pub loop-count-preserved : goal.loop-count-preserved
 loop-count-preserved c =
     let at = c.loop-count in

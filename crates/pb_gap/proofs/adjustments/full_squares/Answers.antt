@@ -34,7 +34,7 @@ returns-then-adjustment-gt-ADJUSTMENT_CAP-clause-value c =
     let any = list_any_at (λ b. int_lt adjustment_cap b) bs j (pos 0) within passes in
     rw any refl
 
--- the square of one adjustment more joins the total
+-- the square of one more adjustment joins the total
 pub loop-j-preserved : goal.loop-j-preserved
 loop-j-preserved c =
     let ss = c.args.streams.now in

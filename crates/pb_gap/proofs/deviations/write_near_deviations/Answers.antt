@@ -13,7 +13,7 @@ use Rattle.pb_gap.proofs.Columns.{all_put, deviation_item, dual_item, length-dev
 use Rattle.pb_gap.proofs.deviations.write_near_deviations.Goals.{After-square_up_to-left}
 use Rattle.pb_gap.proofs.deviations.write_near_deviations.Goals as goal
 
--- the deviation of one stream more
+-- the deviation of one more stream
 own : (c : After-square_up_to-left) (price : ℕ → ℤ) → c.args.dual_flows.now ≡ dual_flows_of price c.args.streams.now
     → c.stream_deviation-deviation.result ≡ item (deviations_of price c.args.streams.now c.args.flows.now) c.loop-j.j
 own c price of_price =

@@ -14,7 +14,7 @@ number-group_of-requires c ne =
     let low = c.requires.low c.loop-node.node c.loop-node-test.true in
     omega (arith, low, ne, ap length c.deref.ensures.value, c.loop-node.invariant.each)
 
--- one node more has the number of its group
+-- one more node has the number of its group
 pub loop-node-preserved : goal.loop-node-preserved
 loop-node-preserved c =
     let labels = c.args.labels.now in
