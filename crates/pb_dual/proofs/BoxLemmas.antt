@@ -1,4 +1,4 @@
--- Where a price and the greatest one together are within the least room, the interval of a border holds the price.
+-- If a price and the greatest price together are within the least room, the interval of a border contains the price.
 use Rattle.std.proofs.Common.{◌≡◌, ◌^◌, ◌<◌, ◌≤◌, ℕ, ◌+◌, ℤ, pos, neg_ℤ, ◌+ℤ◌, ◌-ℤ◌, ◌≤ℤ◌, List, [], ◌∷◌, length, get_or, drop, inl, inr, refl, ap, arith, unsigned_abs}
 use Rattle.std.specs.Prelude.{int_lt}
 use Rattle.std.specs.Int.{int_max, int_min}

@@ -37,7 +37,7 @@ node_of g group k limits free =
       | inr p ↦ (s.to, ends.to, p.1)
     ]
 
--- a free group isn't the environment's
+-- a free group isn't the environment's group
 pub free_apart : (group : List ℕ) (ss : List Stream) (k : ℕ) → is_free_group group ss k ≡ true → group_at group 0 ≢ k
 free_apart group ss k free e =
     let parts = and_parts (not (group_at group 0 == k)) (list_any (has_one_end group k) ss) free in
