@@ -15,7 +15,7 @@ use Rattle.pb_gap.proofs.Widths.{int_lt_no, int_lt_yes}
 use Rattle.pb_gap.proofs.Columns.{adjustment_item, length-adjustments}
 use Rattle.pb_gap.proofs.adjustments.full_squares.Goals as goal
 
--- an adjustment above the most leaves no sum
+-- an adjustment above the cap leaves no sum
 pub returns-then-adjustment-gt-ADJUSTMENT_CAP-clause-value : goal.returns-then-adjustment-gt-ADJUSTMENT_CAP-clause-value
 returns-then-adjustment-gt-ADJUSTMENT_CAP-clause-value c =
     let ss = c.args.streams.now in
