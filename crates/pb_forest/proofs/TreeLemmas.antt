@@ -85,7 +85,7 @@ found_within nodes ss held t n r trees found = elim (cases_lt n nodes) [
 pub node_within : (nodes : ℕ) (ss : List Stream) (held : List Bool) (t : RootedTrees) (i : ℕ) → AreTrees nodes ss held t → i < length t.order → node_at t i < nodes
 node_within nodes ss held t i trees lt = let (r, found) = trees.seen i lt in found_within nodes ss held t (node_at t i) r trees found
 
--- a node has one place
+-- a node has only one place
 pub one_place : (nodes : ℕ) (ss : List Stream) (held : List Bool) (t : RootedTrees) (i k : ℕ) → AreTrees nodes ss held t → i < length t.order → k < length t.order
     → node_at t i ≡ node_at t k → i ≡ k
 one_place nodes ss held t i k trees li lk same = elim (cases_lt i k) [
@@ -250,7 +250,7 @@ hung_growing nodes ss held done t m r up g new lt by_ here =
       one_tree = λ i le less. all i le less ∙ sym (all done (omega arith) (omega (arith, le, less)));
     }
 
--- a root more
+-- one more root
 pub record IsRooted (nodes : ℕ) (ss : List Stream) (held : List Bool) (m : ℕ) (t u : RootedTrees) : Type 0 where
   pub growing : AreGrowing nodes ss held (length t.order) u
   pub extends : Extends t u
