@@ -30,7 +30,7 @@ abbrev entering : ℕ → Member
 entering j = record { stream = j; sign = pos 1 }
 
 -- ---- one more stream
--- what a list and the streams left make
+-- what a list and the streams left make together
 abbrev IsSoFar : List Bool → List Stream → ℕ → List Member → Type 0
 IsSoFar side ss j list = boundary_of side ss ≡ list ++ members_from side j (drop j ss)
 
@@ -56,7 +56,7 @@ enters : (side : List Bool) (ss : List Stream) (j : ℕ) (list new : List Member
 enters side ss j list new lt from to is so_far =
     subst (IsSoFar side ss (j + 1)) (sym is) (member_more side ss list j some_stream (entering j) lt (ap (member_by j) (ap₂ sign_at from to)) so_far)
 
--- the lists where the labels of a stream's ends are from and to
+-- the lists if the labels of a stream's ends are from and to
 crossing_more : (side : List Bool) (ss : List Stream) (lists : List (List Member)) (j from to label : ℕ) → j < length ss → from < length lists → to < length lists → from ≢ to
     → is_in side (get_or ss j some_stream).from ≡ (from == label) → is_in side (get_or ss j some_stream).to ≡ (to == label)
     → IsSoFar side ss j (get_or lists label []) → IsSoFar side ss (j + 1) (get_or (with_crossing lists j from to) label [])
@@ -103,7 +103,7 @@ stream_more points ss lists j lt each is labels before = λ label side within ha
           (crossing_more side ss lists j (points.label s.from) (points.label s.to) label lt (omega (arith, from_within, each)) (omega (arith, to_within, each)) differ from to so_far)
     ]
 
--- ---- before the first stream, and behind the last
+-- ---- before the first stream, and after the last
 pub cuts_begin : (points : NodePoints) (ss : List Stream) (lists : List (List Member)) (nodes : ℕ) → lists ≡ replicate nodes [] → points.nodes ≡ nodes → AreCutsBefore points ss 0 lists
 cuts_begin points ss lists nodes empty same = λ label side within has.
     let none : get_or lists label [] ≡ [] = ap (λ (l : List (List Member)). get_or l label []) empty ∙ get_or-replicate nodes label [] [] (omega (arith, within, same)) in

@@ -1,4 +1,4 @@
--- One more node is entered: what was known of the entries stays.
+-- One more node is entered: what was known about the entries stays.
 use Rattle.std.proofs.Common.{◌≡◌, ◌≢◌, ◌∙◌, ◌⊎◌, ℕ, zero, suc, ◌+◌, ◌<◌, ◌≤◌, Bool, true, false, List, [], ◌∷◌, ◌++◌, length, Option, Some, None, get_or, set, refl, sym, ap, subst, inl, inr, arith}
 use Rattle.std.proofs.lemmas.Bool.{cases_eq}
 use Rattle.std.proofs.lemmas.List.{get_or-set_same, get_or-set_other, get_or_append_left, length-append, length-set}
@@ -53,7 +53,7 @@ unentered_set (true ∷ marks) zero lt none = cc none
 unentered_set (false ∷ marks) (suc n) lt none = let e = unentered_set marks n (omega (arith, lt)) none in omega (arith, e)
 unentered_set (true ∷ marks) (suc n) lt none = unentered_set marks n (omega (arith, lt)) none
 
--- ---- what hangs goes on to hang
+-- ---- what hangs still hangs
 pub hangs_more : (ss : List Stream) (held : List Bool) (w : Entries) (e x : Entry) (i k : ℕ) → i ≤ length w.list → Hangs ss held w i x k → Hangs ss held (with_entry w e) i x k
 hangs_more ss held w e x i k le h =
     let u = with_entry w e in
