@@ -120,7 +120,7 @@ impl<'a> Iterate<'a> {
         self.forest.rank()
     }
 
-    /// The flows beside the dual flows of the prices.
+    /// The flows together with the dual flows of the prices.
     pub fn pair(&self) -> FlowPair<'_>
         ensures graph { result.graph ≡ self.now.graph }
         ensures flows { result.flows ≡ self.now.flows }
