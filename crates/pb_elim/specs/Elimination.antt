@@ -13,7 +13,7 @@ use Rattle.pb_graph.specs.declared.results.Taken.{Taken}
 use Rattle.pb_graph.specs.declared.results.Options.{Options}
 use Rattle.pb_graph.specs.declared.results.Critical.{Critical}
 
--- the test says that the limit is passed
+-- the test says that the limit is exceeded
 abbrev pub is_reject : Verdict → Bool
 is_reject Reject = true
 is_reject verdict = false

@@ -1,4 +1,4 @@
--- Inside. What is printed of the streams of a solved graph.
+-- Inside. What is printed for the streams of a solved graph.
 use Rattle.std.specs.Prelude.{◌≡◌, ℕ, List, length, Some, slice_get, IfSome}
 use Rattle.pb_graph.specs.declared.records.Classified.{Classified}
 use Rattle.pb_graph.specs.declared.results.StreamResult.{StreamResult}

@@ -63,7 +63,7 @@ fn enclosure_of(
     }
 }
 
-// What is printed of a stream.
+// What is printed for a stream.
 fn stream_result(
     alloc: Global,
     solver: &Solver,
@@ -84,7 +84,7 @@ fn stream_result(
     })
 }
 
-// What is printed of each stream, in order.
+// What is printed for each stream, in order.
 fn stream_results(
     alloc: Global,
     solver: &Solver,

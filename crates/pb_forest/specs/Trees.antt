@@ -64,7 +64,7 @@ pub record AreWhole (nodes : ℕ) (streams : List Stream) (held : List Bool) (t 
   pub all : (n : ℕ) → n < nodes → (r : ℕ) × (root_of t n ≡ Some r)
   pub level : (k : ℕ) (s : Stream) → slice_get streams k ≡ Some s → get_or held k false ≡ true → root_of t s.from ≡ root_of t s.to
 
--- trees of which the last grows: held streams from the first nodes of the order were followed, and the other nodes are in one tree
+-- trees, the last of which still grows: held streams from the first nodes of the order were followed, and the other nodes are in one tree
 pub record AreGrowing (nodes : ℕ) (streams : List Stream) (held : List Bool) (done : ℕ) (t : RootedTrees) : Type 0 where
   pub trees : AreTrees nodes streams held t
   pub within : done ≤ length t.order
@@ -72,7 +72,7 @@ pub record AreGrowing (nodes : ℕ) (streams : List Stream) (held : List Bool) (
       → root_of t (end_from streams (node_at t i) k) ≡ root_of t (node_at t i)
   pub one_tree : (i : ℕ) → done ≤ i → i < length t.order → root_of t (node_at t i) ≡ root_of t (node_at t done)
 
--- trees with more nodes, which come after those before
+-- trees with more nodes, which come after those that were there before
 pub record Extends (t u : RootedTrees) : Type 0 where
   pub same : (i : ℕ) → i < length t.order → node_at u i ≡ node_at t i
   pub more : length t.order ≤ length u.order

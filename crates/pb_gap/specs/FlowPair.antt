@@ -17,7 +17,7 @@ pub record PairedFlows : Type 0 where
 abbrev pub AreOfPrices : (ℕ → ℤ) → PairedFlows → Type 0
 AreOfPrices price pair = pair.dual_flows ≡ dual_flows_of price pair.graph.streams
 
--- streams within their limits, with the standard deviation and a flow for each
+-- streams within their limits, with a standard deviation and a flow for each
 pub record AreMeasured (streams : List Stream) (standard_deviations flows : List ℤ) : Type 0 where
   pub few : length streams ≤ most_streams
   pub limits : All IsWithinLimits streams

@@ -41,7 +41,7 @@ ExcessLaw = (graph : ProcessGraph) (p x : Fractional)
     → (x.denominator *ℤ x.denominator) *ℤ weighted_squares graph p
     ≡ ((p.denominator *ℤ p.denominator) *ℤ weighted_squares graph x) +ℤ squared_distance graph p x
 
--- two flow vectors are at most a gap apart: this many standard deviations, over all streams together
+-- two flow vectors are at most a gap apart, in standard deviations, over all streams together
 abbrev pub AreWithinGap : ProcessGraph → Gap → Fractional → Fractional → Type 0
 AreWithinGap graph gap p x =
     (squared_distance graph p x *ℤ pos (2 ^ 40))

@@ -18,8 +18,9 @@ imbalance_root variance = scaled_root_of variance +ℤ pos 1
 abbrev pub most_net : ℕ → ℤ → ℤ
 most_net thousandths variance = (pos (thousandths * 2 ^ 20 / 1000) *ℤ imbalance_root variance) *ℤ pos (2 ^ 16)
 
--- If the gap of balanced whole flows is met, the net dual flow of each group, whose net flow is 0, is at most this many standard
--- deviations of the group's imbalance (by Cauchy and Schwarz over the streams at its border).
+-- If the gap of balanced whole flows is met at a number of thousandths, the net dual flow of each group, whose net flow is 0, is at
+-- most that many thousandths of the standard deviation of the group's imbalance (by Cauchy and Schwarz over the streams at its
+-- border).
 abbrev pub NetLaw : Type 0
 NetLaw = (graph : ProcessGraph) (group : List ℕ) (price : ℕ → ℤ) (flows : List ℤ) (k thousandths : ℕ)
     → IsProcessGraph graph → AreGroups graph group → PricesFit graph price → IsBalanced graph flows

@@ -24,8 +24,8 @@ pub fn schwarz_law()
     ensures { SchwarzLaw }
 {}
 
-/// The gap of a list of deviations is what its definition says of its two numbers, and is the only one. It bounds how far the weighted
-/// squares of balanced whole flows exceed the dual value.
+/// The gap that is computed from a list of deviations has the properties that define it, and only that gap has them. It bounds how far
+/// the weighted squares of balanced whole flows exceed the dual value.
 pub fn gap_law()
     ensures numbers { AreGaps }
     ensures excess { GapLaw }
@@ -39,8 +39,8 @@ pub fn least_law()
     ensures distance { DistanceLaw }
 {}
 
-/// If the gap of balanced whole flows is met, the net dual flow of each group is at most this many standard deviations of the
-/// group's imbalance.
+/// If the gap of balanced whole flows is met at a number of thousandths, the net dual flow of each group is at most that many
+/// thousandths of the standard deviation of the group's imbalance.
 pub fn net_law()
     ensures { NetLaw }
 {}

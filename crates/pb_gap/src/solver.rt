@@ -113,7 +113,7 @@ impl<'a> Solver<'a> {
         self.gap.g
     }
 
-    /// The exponent of the gap's blocks of 2^h, in units of 2^-20 standard deviation.
+    /// The exponent of the gap's blocks, each of 2^h units of 2^-20 standard deviation.
     pub fn h(&self) -> u32
         ensures value { result ≡ (gap_in self.now).h }
         ensures most { result ≤ 32 }

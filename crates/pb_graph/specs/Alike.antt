@@ -17,8 +17,8 @@ shape_of stream = record { from = stream.from; to = stream.to; measured = is_mea
 abbrev pub shapes_of : List Stream → List StreamShape
 shapes_of streams = map shape_of streams
 
--- Two graphs are alike if they have the same number of nodes, and streams with the same ends in the same order, with the same ones
--- measured.
+-- Two graphs are alike if they have the same number of nodes and of streams, and the streams at each place have the same ends and are
+-- both measured or both unmeasured.
 pub record AreAlike (one other : ProcessGraph) : Type 0 where
   pub nodes : one.nodes ≡ other.nodes
   pub streams : shapes_of one.streams ≡ shapes_of other.streams

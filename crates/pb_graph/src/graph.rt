@@ -139,8 +139,8 @@ impl Graph {
         })
     }
 
-    /// Whether two graphs are alike: they have the same number of nodes, and streams with the same ends in the same order, with the same
-    /// ones measured. The classes of the streams of one graph are then those of the other.
+    /// Whether two graphs are alike: they have the same number of nodes and of streams, and the streams at each place have the same ends
+    /// and are both measured or both unmeasured. The classes of the streams of one graph are then those of the other.
     pub fn alike(&self, other: &Graph) -> bool
         ensures { IsTrue result ↔ AreAlike self.now other.now }
     {

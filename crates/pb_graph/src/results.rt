@@ -14,9 +14,9 @@ pub struct Bounds {
 /// What a test says.
 #[derive(Clone, Copy, Debug, PartialEq, Eq)]
 pub enum Verdict {
-    /// The limit is passed.
+    /// The limit is exceeded.
     Reject,
-    /// The limit isn't passed.
+    /// The limit isn't exceeded.
     Accept,
     /// The bounds of the statistic leave it open.
     Undecided,

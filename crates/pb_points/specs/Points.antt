@@ -19,7 +19,7 @@ pub record NodePoints : Type 0 where
   pub low : ℕ → ℕ
   pub high : ℕ → ℕ
 
--- tests of which streams may be taken: held unmeasured ones, except one if there is one; unmeasured ones that aren't held
+-- tests of which streams may be taken: held unmeasured ones, except a given one if there is one; unmeasured ones that aren't held
 abbrev pub branch_but : List Bool → Option ℕ → ℕ → Stream → Bool
 branch_but held None = held_unmeasured held
 branch_but held (Some j) = except j (held_unmeasured held)
@@ -86,7 +86,7 @@ pub record HasPoints (graph : ProcessGraph) (held : List Bool) (points : NodePoi
   pub high : IsCounted graph held points n (points.high n)
   pub greatest : (m : ℕ) → m < graph.nodes → Counts graph held points n m → points.number m ≤ points.high n
 
--- the entry numbers and points of a graph, by its spanning forest
+-- the entry numbers and points of a graph, given its spanning forest
 pub record ArePoints (graph : ProcessGraph) (points : NodePoints) : Type 0 where
   pub limits : IsProcessGraph graph
   pub nodes : points.nodes ≡ graph.nodes

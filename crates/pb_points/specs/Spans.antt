@@ -46,7 +46,7 @@ pub record IsSpan (streams : List Stream) (held : List Bool) (w : Entries) (j lo
   pub high : CountsAmong streams held w j lo span.last span.high
   pub greatest : (x : ℕ) → CountsAmong streams held w j lo span.last x → x ≤ span.high
 
--- each entry's own span, by the streams before place j
+-- each entry's own span, given the streams before place j
 pub record AreOwn (streams : List Stream) (held : List Bool) (w : Entries) (j : ℕ) (spans : List Span) : Type 0 where
   pub each : length spans ≡ length w.list
   pub last : (i : ℕ) → i < length w.list → (span_at spans i).last ≡ i
@@ -59,7 +59,7 @@ pub record IsDeeper (streams : List Stream) (held : List Bool) (w : Entries) (i 
   pub over : (m : ℕ) → i < m → m ≤ span.last → depth_at w i < depth_at w m
   pub ends : IsSpan streams held w (length streams) i span
 
--- such a span, if the entry after it, if there is one, isn't deeper
+-- such a span, which is whole: the entry after it, if there is one, isn't deeper
 pub record IsWholeSpan (streams : List Stream) (held : List Bool) (w : Entries) (i : ℕ) (span : Span) : Type 0 where
   pub deeper : IsDeeper streams held w i span
   pub end : span.last + 1 < length w.list → depth_at w (span.last + 1) ≤ depth_at w i
