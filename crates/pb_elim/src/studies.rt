@@ -78,7 +78,7 @@ fn rounds(
 
 /// The study of a graph: its stage, with the class of each stream, reconciled flows, bounds, least bounds, prices, the statistic, and
 /// tests if they are asked for. If elimination is asked for, there are also the stages of the graph without the streams that are taken
-/// one by one, each time the worst suspect, and the reason why it stopped (Narasimhan and Jordache, serial elimination).
+/// one by one, each time the worst suspect, and the reason why the elimination stopped (Narasimhan and Jordache, serial elimination).
 pub fn study(
     alloc: Global,
     graph: &Graph,
