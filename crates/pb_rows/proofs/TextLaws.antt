@@ -69,7 +69,7 @@ pub numbered_name : (letter n : ℕ) → is_name_byte letter ≡ true → n < 2 
 numbered_name letter n letter_is small =
     name_of_bytes letter (decimal_text n) letter_is (digits_in_name (decimal_text n) (decimal_digits n)) (omega (arith, decimal_short n small))
 
--- other names are told apart
+-- different names are told apart
 pub names_apart : (a b : List ℕ) → a ≢ b → same_name a b ≡ false
 names_apart a b other = elim (cases_Bool (same_name a b)) [ inl same ↦ absurd (other ((bytes_decides a b).0 same)) | inr differs ↦ differs ]
 
