@@ -15,8 +15,8 @@ use pb_form::{OutputKind, Value};
 use pb_rows::Names;
 use std::alloc::{AllocError, Global};
 
-/// Appends the rows of an advice: `advise` with the number of streams to meter and what their meters cost together, and one `meter`
-/// row for each, with what it costs and the cycle that shows why it needs a meter.
+/// Appends the rows of an advice: `advise` with the number of streams to meter and the total cost of their meters, and one `meter`
+/// row for each meter, with its stream, its cost and the cycle that shows why the stream needs one.
 pub fn write_advice(
     alloc: Global,
     names: &Names,
