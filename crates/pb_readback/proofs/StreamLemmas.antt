@@ -44,7 +44,7 @@ places_apart (name ∷ names) a b one other apart = elim (cases_Bool (same_name 
   ]
 ]
 
--- a list of names with a new one behind
+-- a list of names with a new one at the end
 pub names_more : (names : List (List ℕ)) (name : List ℕ) → AreNames names → is_name name ≡ true → is_among names name ≡ false → AreNames (names ++ name ∷ [])
 names_more names name are form new = record {
   forms = rw (all_more is_name names name, are.forms) form;
