@@ -77,7 +77,7 @@ map_none p g (x ∷ xs) fails =
     let rest = map_none p g xs (λ k d lt. fails (suc k) d (omega (arith, lt))) in
     rw (here, rest) refl
 
--- one item passes, and it alone is changed
+-- one item passes, and only it is changed
 pub map_one : {X : Type 0} (p : X → Bool) (g : X → X) (xs : List X) (i : ℕ) (d : X) → i < length xs → p (get_or xs i d) ≡ true
     → ((k : ℕ) (e : X) → k < length xs → k ≢ i → p (get_or xs k e) ≡ false) → set xs i (g (get_or xs i d)) ≡ map (λ x. if p x then g x else x) xs
 map_one p g [] i d within here others = absurd (omega (arith, within))
@@ -207,7 +207,7 @@ changed_range (Level m w v) (Dip id t d mm density variance) new old = (old.0, n
 abbrev amend_one : List ℕ → Change → KeptFact → KeptFact
 amend_one id c k = if is_live_with id k then record { fact = changed c k.fact; struck = false } else k
 
--- it is as live as it was, and says the same where the values aren't asked
+-- it is as live as it was, and says the same unless its values are looked at
 amend_one_same : {Y : Type 0} (h : Bool → Fact → Y) (id : List ℕ) (c : Change) (k : KeptFact) → ((b : Bool) (fact : Fact) → h b (changed c fact) ≡ h b fact)
     → h (amend_one id c k).struck (amend_one id c k).fact ≡ h k.struck k.fact
 amend_one_same h id c k same = elim (cases_Bool (is_live_with id k)) [
@@ -308,7 +308,7 @@ forgotten q id kept i d old one_day pairs only right = elim (cases_Bool (q (get_
   | inr off ↦ rw off (right ∙ sym (position_map (passes_live q) (strike_one id) kept (same off)))
 ]
   where
-    -- no live fact passes, where the struck one does
+    -- no live fact passes if the struck one does
     live_none : q (get_or kept i d).fact ≡ true → (k : ℕ) → k < length kept → k ≢ i → passes_live q (get_or kept k d) ≡ false
     live_none on k within apart = elim (cases_Bool (passes_live q (get_or kept k d))) [
       | inr fails ↦ fails
@@ -407,7 +407,7 @@ fault_at id c kept i d only =
           rw (there, some, misfit) refl
     ]
 
--- ---- the same of the item that was found at the place
+-- ---- the same for the item that was found at the place
 
 pub kept_struck_item : (id : List ℕ) (kept : List KeptFact) (old new : Places) (i : ℕ) (item : KeptFact) → IsOnly id kept i item → item ≡ get_or kept i item → IsKept kept old
     → Forgets old new item.fact → IsKept (struck id kept) new

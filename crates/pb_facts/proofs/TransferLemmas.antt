@@ -111,7 +111,7 @@ about stream from to (Transfer id s first last grams variance) brief short withi
     let blocks = begins_about first last from to (omega (arith, ints, front.1)) (omega (arith, ints, parts.1)) (omega (arith, ints, short)) brief in
     rw (front.0, blocks) refl
 
--- no item that passes a test is left out where all items that pass it are kept
+-- no item that passes a test is left out if all items that pass it are kept
 kept_pass : {X Y : Type 0} (keeps : X → Bool) (passes : Y → Bool) (f : X → Option Y) (xs : List X)
     → ((i : ℕ) (d : X) → i < length xs → keeps (get_or xs i d) ≡ false → filter passes (filter_map f (get_or xs i d ∷ [])) ≡ [])
     → filter passes (filter_map f xs) ≡ filter passes (filter_map f (filter keeps xs))

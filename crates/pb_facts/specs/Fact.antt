@@ -41,7 +41,7 @@ abbrev pub is_out_of_order : Fact → Bool
 is_out_of_order (Transfer id stream first last grams variance) = int_lt last first
 is_out_of_order _ = false
 
--- a transfer of too many days, its first and its last among them
+-- a transfer of too many days, counting its first and its last
 abbrev pub is_too_long : Fact → Bool
 is_too_long (Transfer id stream first last grams variance) =
     int_le (pos most_days_of_transfer) (last -ℤ first)
