@@ -98,7 +98,7 @@ ends_behind_name (byte ∷ text) (suc n) le all ends =
     item_later byte text (not_space byte parts.0)
     ∙ ap suc (ends_behind_name text n (omega (arith, le)) parts.1 (sym (ends_later byte text n) ∙ ends))
 
--- all bytes before the end of a name are those of a name
+-- all bytes before the end of a name are bytes of a name
 pub all_in_name : (text : List ℕ) → list_all is_name_byte (take (name_end text) text) ≡ true
 all_in_name [] = refl
 all_in_name (byte ∷ text) = elim (cases_Bool (is_name_byte byte)) [

@@ -10,7 +10,7 @@ use Rattle.pb_form.specs.Telling.{agrees, has_words, is_of, schema_told, told_at
 use Rattle.pb_form.specs.declared.fault.FormFault.{FormFault}
 use Rattle.pb_form.specs.declared.fault.FormFault.TheVariants as form
 
--- the place of the one item that there is
+-- the place of the only item
 alone : {A : Type 0} (test : A → Bool) (x : A) → position test (x ∷ []) ≡ (if test x then Some 0 else None)
 alone test x = elim (cases_Bool (test x)) [
   | inl holds ↦ rw holds refl

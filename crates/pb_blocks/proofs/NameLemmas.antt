@@ -144,7 +144,7 @@ pub unmarked : (nodes : List (List ℕ)) → replicate (length nodes) false ≡ 
 unmarked [] = refl
 unmarked (node ∷ nodes) = ap (λ (side : List Bool). false ∷ side) (unmarked nodes)
 
--- an item that is no node marks none
+-- an item that isn't a node marks none
 pub not_marked : (nodes done : List (List ℕ)) (item : List ℕ) → is_among nodes item ≡ false → side_of nodes done ≡ side_of nodes (done ++ item ∷ [])
 not_marked [] done item none = refl
 not_marked (node ∷ nodes) done item none =

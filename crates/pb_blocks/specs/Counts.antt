@@ -15,7 +15,7 @@ pub record AreCounts (nodes streams : ℤ) : Type 0 where
   pub natural : pos 0 ≤ℤ streams
   pub few_streams : streams ≤ℤ pos most_streams
 
--- a heading's counts are those of a graph
+-- a heading's counts are counts that a graph can have
 pub record IsHeading (heading : Heading) : Type 0 where
   pub env : 1 ≤ heading.nodes
   pub few_nodes : heading.nodes ≤ most_nodes

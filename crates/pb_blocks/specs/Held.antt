@@ -1,6 +1,5 @@
 -- Inside. What the code holds: the items of a list that are left, names that are found without walking the list, and what its
--- functions
--- require.
+-- functions require.
 use Rattle.std.specs.Prelude.{◌≡◌, ◌≤◌, ℕ, Bool, true, ◌==◌, ◌||◌, ◌&&◌, not, nat_le, List, [], ◌∷◌, map, length, slice_index_or, if◌then◌else◌}
 use Rattle.std.specs.List.{list_all, position_or_len, slice_split}
 use Rattle.pb_limits.specs.Limits.{most_streams}

@@ -13,9 +13,8 @@ use Rattle.pb_blocks.specs.declared.fault.RowFault.TheVariants.{Kind, Fields}
 abbrev pub has_word_of : List (List ℕ) → OutputKind → Bool
 has_word_of row kind = has_words row (output_schema kind)
 
--- The kind of a row among these: the first whose word and number of fields it has. Otherwise the fault: it has the word of one
--- of these
--- kinds and another number of fields, or the word of none.
+-- The kind of a row among these: the first whose word and number of fields it has. Otherwise the fault: it has the word of one of
+-- these kinds and another number of fields, or the word of none.
 abbrev pub kind_among : List OutputKind → List (List ℕ) → Result OutputKind RowFault
 kind_among kinds row =
     ok_or (find (λ kind. is_of row (output_schema kind)) kinds) (if list_any (has_word_of row) kinds then Fields else Kind)

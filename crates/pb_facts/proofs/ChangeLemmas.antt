@@ -111,7 +111,7 @@ apart_ids id kept i k d pairs low high apart here = elim (cases_Bool (has_id id 
       ]
 ]
 
--- the live fact with an id has it, is live, and is the one with it
+-- the live fact with an id has it, is live, and is the only fact with it
 pub record IsOnly (id : List ℕ) (kept : List KeptFact) (i : ℕ) (d : KeptFact) : Type 0 where
   pub within : i < length kept
   pub here : has_id id (get_or kept i d) ≡ true
@@ -180,7 +180,7 @@ changed_length (Level m w v) (Reading id s d grams variance) = refl
 changed_length (Level m w v) (Transfer id s first last grams variance) = refl
 changed_length (Level m w v) (Dip id t d mm density variance) = refl
 
--- the day of a new fact and that of a changed one
+-- the day of a new fact and the day of a changed fact
 changed_later : (c : Change) (fact other : Fact) → is_on_day_of fact (changed c other) ≡ is_on_day_of fact other
 changed_later c (Reading id s d grams variance) other = changed_reading s d c other
 changed_later c (Transfer id s first last grams variance) other = refl
@@ -248,7 +248,7 @@ kept_amended id c kept places new right =
       few = let long = length-map kept one in omega (arith, long, right.few);
     }
 
--- the live fact with the id is the one that is amended
+-- the live fact with the id is the fact that is amended
 pub set_amended : (id : List ℕ) (c : Change) (kept : List KeptFact) (i : ℕ) (d : KeptFact) → IsOnly id kept i d
     → set kept i (record { fact = changed c (get_or kept i d).fact; struck = false }) ≡ amended id c kept
 set_amended id c kept i d only =
@@ -367,7 +367,7 @@ kept_struck id kept old new i d only right forgets =
       few = let long = length-map kept one in omega (arith, long, right.few);
     }
 
--- the live fact with the id is the one that is struck
+-- the live fact with the id is the fact that is struck
 pub set_struck : (id : List ℕ) (kept : List KeptFact) (i : ℕ) (d : KeptFact) → IsOnly id kept i d
     → set kept i (record { fact = (get_or kept i d).fact; struck = true }) ≡ struck id kept
 set_struck id kept i d only =
@@ -381,7 +381,7 @@ unknown_id id c kept none =
     let absent : list_any (is_live_with id) kept ≡ false = sym (is_some-position (is_live_with id) kept) ∙ ap is_some none in
     rw absent refl
 
--- the live fact with the id is the one that a change has to fit
+-- the live fact with the id is the fact that a change has to fit
 pub fault_at : (id : List ℕ) (c : Change) (kept : List KeptFact) (i : ℕ) (d : KeptFact) → IsOnly id kept i d
     → amend_fault_of kept id c ≡ (if fits c (get_or kept i d).fact then None else Some Mismatch)
 fault_at id c kept i d only =

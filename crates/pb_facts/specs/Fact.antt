@@ -1,4 +1,4 @@
--- Statement. One fact: its id, its stream or tank and its days, and what can be wrong with it alone.
+-- Statement. One fact: its id, its stream or tank and its days, and what can be wrong with it by itself.
 use Rattle.std.specs.Prelude.{◌-ℤ◌, ◌≤ℤ◌, ◌&&◌, ℕ, ℤ, pos, neg_ℤ, int_le, int_lt, List, Bool, false}
 use Rattle.std.specs.Ordering.{int_eq}
 use Rattle.pb_limits.specs.Limits.{most_days_of_transfer}

@@ -22,7 +22,7 @@ same_key a b = same_name a.0 b.0 && int_eq a.1 b.1
 abbrev pub block_of : ℤ → ℤ
 block_of day = int_div_euclid day (pos 512)
 
--- a transfer of this stream that begins in this block of days, or in the one before it
+-- a transfer of this stream that begins in this block of days, or in the block before
 abbrev pub is_about : List ℕ × ℤ → Fact → Bool
 is_about key (Transfer id stream first last grams variance) =
     same_name stream key.0 && (int_eq (block_of first) key.1 || int_eq (block_of first +ℤ pos 1) key.1)

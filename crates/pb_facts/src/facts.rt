@@ -93,9 +93,8 @@ impl Facts {
         Ok(())
     }
 
-    /// The first fault of an amendment, of Unknown and Mismatch: no live fact has the id; the change is a level and the fact
-    /// isn't a dip,
-    /// or the change is an amount and the fact is a dip. `None` exactly when there is none.
+    /// The first fault of an amendment, of Unknown and Mismatch: no live fact has the id; the change is a level and the fact isn't
+    /// a dip, or the change is an amount and the fact is a dip. `None` exactly when there is none.
     pub fn judge_amend(&self, id: &Name, change: &Change) -> Option<FactFault>
         ensures { result ≡ amend_fault_of self.now id.now change.now }
     {
@@ -209,8 +208,7 @@ impl Facts {
     }
 
     /// Places of transfers, in the order of adding: they include all transfers of the stream that have a day from `first` to
-    /// `last`, and
-    /// none that begins long before or after these days.
+    /// `last`, and none that begins long before or after these days.
     pub fn transfers_within(&self, stream: &Name, first: i32, last: i32) -> &[u32]
         requires { (last -ℤ first) <ℤ pos most_days_of_period }
         ensures transfers { HoldsTransfers self.now stream.now first last result.now }

@@ -39,7 +39,7 @@ parts_of (Ok v) (Err bad) values says = absurd (cc says)
 parts_of (Err bad) (Ok others) values says = absurd (cc says)
 parts_of (Err bad) (Err other) values says = absurd (cc says)
 
--- the number of fields of a record that was read is right, its fields say the values, and those of its tail say some too
+-- the number of fields of a record that was read is right, its fields say the values, and the fields of its tail say some too
 pub record IsRead (schema : Schema) (values : List Value) (row : List (List ℕ)) : Type 0 where
   pub counts : has_count schema (length row) ≡ true
   pub says : fields_read schema.columns row ≡ Ok values

@@ -4,7 +4,7 @@ use Rattle.std.specs.List.{flat_map, range_with_len}
 use Rattle.std.specs.Ordering.{int_eq}
 use Rattle.pb_rows.specs.Date.{date_text, day_of, first_year}
 
--- the texts of the dates of a month, and of some that the calendar doesn't have
+-- the texts of the dates of a month, and of some dates that the calendar doesn't have
 unfoldable pub dates_of_month : ℕ → ℕ → List (List ℕ)
 dates_of_month year month = map (date_text year month) (range_with_len 1 31)
 

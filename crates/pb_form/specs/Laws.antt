@@ -25,7 +25,6 @@ pub record IsOfKind (kind : SessionKind) (fields : List (List ℕ)) : Type 0 whe
   pub filled : without_trailing_empty fields ≡ fields
 
 -- A record that has values by the schema of a kind is of this kind: no two kinds have their words and their number of fields in
--- common,
--- and none takes an empty field at its end.
+-- common, and none takes an empty field at its end.
 abbrev pub OneKindLaw : Type 0
 OneKindLaw = (kind : SessionKind) (values : List Value) (fields : List (List ℕ)) → Writes (session_schema kind) values fields → IsOfKind kind fields

@@ -34,6 +34,6 @@ abbrev pub told_at : List Schema → List (List ℕ) → Option ℕ → Result �
 told_at schemas fields (Some place) = Ok place
 told_at schemas fields None = Err (untold schemas fields)
 
--- The place among schemas of the first one that a row is of, or why there is none.
+-- The place of the first schema that a row is of, or why there is none.
 abbrev pub schema_told : List Schema → List (List ℕ) → Result ℕ FormFault
 schema_told schemas fields = told_at schemas fields (position (is_of fields) schemas)

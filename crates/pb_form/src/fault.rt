@@ -13,7 +13,7 @@ pub enum FormFault {
     Fields,
     /// A field isn't a name, or a reason.
     Name,
-    /// A field isn't a whole number of its range.
+    /// A field isn't a whole number in its range.
     Number,
     /// A field isn't a date.
     Date,

@@ -1,4 +1,4 @@
--- Statement. What is proved of signed whole numbers and their sums, law by law.
+-- Statement. What is proved about signed whole numbers and their sums, law by law.
 use Rattle.std.specs.Prelude.{◌≡◌, ℕ, ◌+◌, ◌*◌, ◌≤◌, ℤ, pos, neg_ℤ, ◌+ℤ◌, ◌*ℤ◌, ◌≤ℤ◌, ◌<ℤ◌, List, length, unsigned_abs}
 use Rattle.std.specs.List.{AllByRecursion}
 use Rattle.pb_integers.specs.Sums.{sum_over, total, item, AreDistinctBy}

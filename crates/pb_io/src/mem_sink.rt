@@ -89,7 +89,7 @@ impl Sink for MemSink {
 
     fn put(&mut self, piece: &[u8]) -> Result<usize, SinkFailed>
         // It fails exactly when the piece isn't empty, and the list names the call or no room is left.
-        // Then only its counts move on.
+        // Then only its counts go up.
         ensures fails { IsErr result ↔ ((0 < length piece.now) × RefusesNext self.old) }
         ensures err { OnErr result (self.new ≡ after_fault self.old) }
         ensures cause { OnErr result (Rose self.old.faults self.new.faults) }

@@ -73,7 +73,7 @@ impl Source for MemSource {
     ghost seen = { λ s. seen_in_memory s };
 
     fn take(&mut self, buf: &mut [u8]) -> Result<usize, SourceFailed>
-        // It fails exactly at the calls that the list names, and then only its counts move on.
+        // It fails exactly at the calls that the list names, and then only its counts go up.
         ensures fails { IsErr result ↔ FailsNext self.old }
         ensures err { OnErr result (self.new ≡ after_fault self.old) }
         ensures cause { OnErr result (Rose self.old.faults self.new.faults) }

@@ -101,7 +101,7 @@ pub fn read_all<S: Source>(alloc: Global, source: &mut S, limit: usize) -> Resul
     ensures never_idle { OnErr result
         ((S.seen source.new).idle ≡ (S.seen source.old).idle) }
 
-    // `TooLarge` is the answer exactly when one byte more than the limit was taken.
+    // `TooLarge` is the answer exactly when one more byte than the limit was taken.
     ensures too_large { IsErrOf result ReadEnd.TooLarge →
         TakesExactly (S.seen source.old) (S.seen source.new) (limit + 1) }
     ensures not_too_large { result ≢ Err ReadEnd.TooLarge →

@@ -118,7 +118,7 @@ advise_read version fields asks = at version asks
     at None asks = first (is_of (without_trailing_empty fields) (session_schema kind.Version)) (without_trailing_empty fields) asks
     at (Some version) asks = by (kinds_of version) (without_trailing_empty fields) asks
 
--- the fields after the word are those of the tail
+-- the fields after the word are the fields of the tail
 pub after_word : (filled : List (List ℕ)) → pairs_read (drop 1 filled) ≡ tail_read (session_schema kind.Advise) filled
 after_word filled =
     let count : length (drop 1 filled) ≡ length filled - 1 = length-drop 1 filled in
@@ -241,7 +241,7 @@ pub record IsCostRead (costs : List NamedCost) (place : ℕ) (read : Result (Lis
   pub reads : read ≡ Ok pair
   pub there : slice_get costs place ≡ Some (let it : NamedCost = record { stream = name_there pair 0; cost = number_there pair 1 } in it)
 
--- the columns of a tail, as the code has them, are those of a pair
+-- the columns of a tail, as the code has them, are the columns of a pair
 pub seen_pair : (schema : coded_schema.Schema) → schema_seen schema ≡ session_schema kind.Advise → map column_seen schema.tail.now ≡ cost_columns
 seen_pair schema is = ap (λ (s : Schema). s.tail) is
 

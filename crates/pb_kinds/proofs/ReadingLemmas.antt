@@ -58,7 +58,7 @@ six_read word id stream date grams variance day g v worded named of dated range 
   is = rw (named, of) refl;
 }
 
--- a row of a reading has six of them
+-- a row of a reading has six fields
 six_fields : (n : ℕ) → has_count (session_schema kind.Reading) n ≡ true → n ≡ 6
 six_fields n counts =
     let parts = and_parts (nat_le 6 n) (are_turns [] (n - 6)) counts in

@@ -76,7 +76,7 @@ told_may Two fields it values told =
     let at = told_among (kinds_of Two) fields it told in
     sym (asks_what_it_may (Some Two) it values) ∙ kept_passes is_of_version_2 session_kinds at.0 it at.1
 
--- so it is before a row is stored, for what may be declared in version 1
+-- what may be declared in version 1 may be declared before a row is stored
 declares_first : (declared : Declared) → may_declare (Some One) declared ≡ true → may_declare None declared ≡ true
 declares_first Version2 may = refl
 declares_first declared may = may

@@ -58,7 +58,7 @@ handed_dof n y most same =
 abbrev pub stream_given : coded.Value → coded.Value → coded.Value → ℤ → List coded.Value
 stream_given a b c base = given.Word 0 ∷ (a ∷ (b ∷ (c ∷ (given.Word 0 ∷ (given.Number base ∷ [])))))
 
--- there are as many as columns of a stream of a kind, they fit these columns, and they ask to store the stream
+-- there are as many values as a stream of this kind has columns, they fit the columns, and they ask to store the stream
 pub record StreamIsGiven (sort : Kind) (a b c : coded.Value) (name from to : List ℕ) (base : ℤ) : Type 0 where
   pub each : length (stream_given a b c base) ≡ length (session_columns (stream_kind sort))
   pub fit : FitEach (session_columns (stream_kind sort)) (values_as (session_columns (stream_kind sort)) (stream_given a b c base))

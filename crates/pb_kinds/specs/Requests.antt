@@ -150,8 +150,7 @@ asked_in None fields =
 asked_in (Some version) fields = asked_by (kinds_of version) fields
 
 -- What a record asks for in a session of a version, or its first fault: the fault of its kind, or the fault of its fields. The
--- session
--- has no version before its first row is stored. Empty fields at the record's end don't count.
+-- session has no version before its first row is stored. Empty fields at the record's end don't count.
 unfoldable pub request_in : Option Version → List (List ℕ) → Result Request FormFault
 request_in version fields = asked_in version (without_trailing_empty fields)
 

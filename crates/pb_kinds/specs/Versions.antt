@@ -1,4 +1,4 @@
--- Statement. What the rows of a session of a version may do, and of which kinds they are.
+-- Statement. What the rows of a session of a version may do, and which kinds they have.
 use Rattle.std.specs.Prelude.{Bool, true, false, Option, Some, None, is_none}
 use Rattle.pb_form.specs.SessionRows.{is_of_version_1, is_of_version_2}
 use Rattle.pb_form.specs.declared.session.SessionKind.{SessionKind}

@@ -20,7 +20,7 @@ pub fn most_assays_law()
     ensures { MOST_ASSAYS ≡ most_assays }
 {}
 
-/// The law that each cost that a record names which asks for advice is a cost that a meter may have.
+/// The law that each cost named by a record that asks for advice is a cost that a meter may have.
 pub fn named_costs_law()
     ensures { NamedCostsLaw }
 {

@@ -297,7 +297,7 @@ breaks_before start draft all left row stream opened read fine unknown =
 
 -- ---- what a refusal says
 
--- the records taken so far were given, and so was the one after them
+-- the records taken so far were given, and so was the record after them
 rows_taken : (old now : RecordsLeft) (draft start : Draft) → IsReadTo start old.left draft now.left → AreCounted old now → old.taken ≤ now.taken
 rows_taken old now draft start read counted =
     let long = ap length read.split ∙ length-append read.rows now.left in omega (arith, long, counted)

@@ -17,9 +17,8 @@ use Rattle.pb_readback.specs.declared.draft.Draft.{Draft}
 use Rattle.pb_readback.specs.Drafts.{kinds_next}
 
 -- the lowest fault of a stream's row besides the faults of its form: just one of two columns that belong together is left out; an end
--- or a node of the side isn't a node of the block; an earlier stream has the name; the side or the parts don't have their form;
--- or the
--- stream leads from a node to itself
+-- or a node of the side isn't a node of the block; an earlier stream has the name; the side or the parts don't have their form; or
+-- the stream leads from a node to itself
 abbrev pub stream_fault : OutputKind → Draft → List (List ℕ) → Option RowFault
 stream_fault kind draft row =
     if is_half_told kind row then Some Number

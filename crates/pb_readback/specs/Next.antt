@@ -27,9 +27,8 @@ pub data Next : Type 0 where
 abbrev pub ArePassedOver : List (List (List ℕ)) → Type 0
 ArePassedOver rows = list_all is_passed_over rows ≡ true
 
--- None of these rows has a fault after the rows before it. No row is read after the last stream if a stream's parts name a
--- stream that
--- the block doesn't have.
+-- None of these rows has a fault after the rows before it. No row is read after the last stream if a stream's parts name a stream
+-- that the block doesn't have.
 abbrev pub AreSound : Draft → List (List (List ℕ)) → Type 0
 AreSound draft [] = Unit {0}
 AreSound draft (row ∷ rows) =
@@ -46,8 +45,7 @@ fault_next draft (row ∷ rows) = fault_behind draft row
 
 -- After the first row of a block and this many more rows, this is the number, counted within the block, of the first row that has a
 -- fault: the row of the first stream whose parts name an unknown stream, once all streams are read; otherwise the next row,
--- before the
--- end. These records are left: a row that has the fault itself is taken, and no row after it.
+-- before the end. These records are left: a row that has the fault itself is taken, and no row after it.
 abbrev pub IsFault : Draft → ℕ → List (List (List ℕ)) → ℕ → RowFault → List (List (List ℕ)) → Type 0
 IsFault draft rows rest number fault left =
     ((stream : ℕ) × (first_unknown draft ≡ Some stream) × (number ≡ draft.heading.nodes + stream + 2) × (fault ≡ Unknown)
@@ -69,9 +67,8 @@ pub record IsFound (records : List (List (List ℕ))) (block : Block) (rest : Li
   pub ends : (with_rows (opened first) rows).last ≡ End
   pub value : block ≡ block_of (with_rows (opened first) rows)
 
--- A first row that isn't passed over doesn't begin a block with the records after it: it doesn't open a block, or a row after
--- it can't
--- be read. This is the number of the first row that has a fault, counted from the first row, and these records are left.
+-- A first row that isn't passed over doesn't begin a block with the records after it: it doesn't open a block, or a row after it
+-- can't be read. This is the number of the first row that has a fault, counted from the first row, and these records are left.
 abbrev pub IsNoBlock : List (List ℕ) → List (List (List ℕ)) → ℕ → RowFault → List (List (List ℕ)) → Type 0
 IsNoBlock first behind number fault left =
     ((opening_fault first ≡ Some fault) × (number ≡ 1) × (left ≡ behind))

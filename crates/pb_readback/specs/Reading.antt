@@ -105,7 +105,7 @@ abbrev pub KeepsResults : Draft → List StreamResult → Type 0
 KeepsResults draft results =
     length draft.streams ≡ draft.heading.streams → results ≡ map (result_of draft.streams) draft.rows
 
--- the rows of a whole block: the one that opens it, and those after it up to the end
+-- the rows of a whole block: the row that opens it, and the rows after it up to the end
 pub record IsBlock (first : List (List ℕ)) (rows : List (List (List ℕ))) (block : Block) : Type 0 where
   pub opens : opening_fault first ≡ None
   pub sound : AreSound (opened first) rows

@@ -1,4 +1,4 @@
--- Statement. That the rows of a study read back as its stages, and that the other rows of a session are passed over.
+-- Statement. The rows of a study read back as its stages, and the other rows of a session are passed over.
 use Rattle.std.specs.Prelude.{◌≡◌, ℕ, ◌+◌, ◌≤◌, List, [], ◌∷◌, map, length, All, AllPairs, None, slice_index_or, true, false, codes}
 use Rattle.std.specs.List.{list_all}
 use Rattle.pb_limits.specs.Limits.{most_gap, most_rounds, most_sweeps}

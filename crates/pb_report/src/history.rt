@@ -61,7 +61,7 @@ pub fn placed_edit(place: usize) -> Option<HistoryWord>
     EDITS.get(place).copied()
 }
 
-/// The law that this table works in both directions, and that its words are those of pb_form's column.
+/// The law that this table works in both directions, and that its words are the words of pb_form's column.
 pub fn edit_words_law()
     ensures { IsWordTable edit_words edit_place placed_edit }
 {}

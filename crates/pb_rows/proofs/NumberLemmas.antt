@@ -74,7 +74,7 @@ parsed_ok field (Err e) whole parses =
     let reads = whole_reads field whole in
     λ fits. parses (reads.0, rw reads.1 fits)
 
--- digits that were read so far, and one more of them
+-- digits that were read so far, and one more digit
 pub more_digits : (field : List ℕ) (i : ℕ) → i < length field → is_ascii_digit (get_or field i 0) ≡ true
     → digits_value 10 (take i field) * 10 + (get_or field i 0 - 48) ≡ digits_value 10 (take (i + 1) field)
 more_digits field i lt digit =

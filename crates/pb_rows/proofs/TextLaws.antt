@@ -32,7 +32,7 @@ unfolding decimal_text
 decimal_digits zero = refl
 decimal_digits (suc n) = (text_digits (suc n) (omega arith)).0
 
--- at most ten of them write a number of 32 bits
+-- at most ten digits write a number of 32 bits
 pub decimal_short : (n : ℕ) → n < 2 ^ 32 → length (decimal_text n) ≤ 10
 decimal_short n small =
     rw (← wide_text n (omega (arith, small))) (length-decimal-le 10 n (omega arith) (omega (arith, small)) (omega (arith, small)))

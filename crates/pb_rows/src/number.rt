@@ -101,7 +101,7 @@ fn whole_value(field: &[u8]) -> Option<i128>
     }
 }
 
-/// The bytes of a whole number in decimal, in the form that `read_whole` reads. Convert a `u32` or `u64` by `i128::from`.
+/// The bytes of a whole number in decimal, in the form that `read_whole` reads. Convert a `u32` or `u64` with `i128::from`.
 pub fn whole_bytes(alloc: Global, value: i128) -> Result<Vec<u8>, AllocError>
     ensures { IfOk result (λ bytes. bytes.items ≡ whole_text value) }
 {

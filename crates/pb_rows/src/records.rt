@@ -13,7 +13,7 @@ use std::marker::Model;
 use std::slice::Iter;
 
 /// The records of bytes in memory, one at a time, as `csv` reads them: with the comma, the double quote and its default
-/// terminator, without headers or trimming, of any lengths.
+/// terminator, without headers or trimming, and records of any lengths.
 #[derive(Drop)]
 pub struct Records<'a> {
     alloc: Global,

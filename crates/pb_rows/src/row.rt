@@ -1,4 +1,4 @@
-// A record: a list of fields, each of them its bytes.
+// A record: a list of fields, each a list of bytes.
 
 ghost use Rattle.std.specs.Prelude.{◌≡◌, ◌<◌, ◌≤◌, ◌∷◌, ◌++◌, [], length, map, min, take, slice_index_or, IfOk, IfErr, OnOk, OnErr, IsTrue, ◌↔◌};
 ghost use Rattle.csv.specs.Reading.{NotLengths, error_kind};

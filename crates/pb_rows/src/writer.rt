@@ -29,7 +29,7 @@ impl Model for RowWriter {
 }
 
 impl RowWriter {
-    /// A writer without rows and fields.
+    /// A writer without any rows or fields yet.
     pub fn new(alloc: Global) -> RowWriter
         ensures { result ≡ record { text = []; row = [] } }
     {
