@@ -93,7 +93,7 @@ impl Facts {
         Ok(())
     }
 
-    /// The first fault of an amendment, of Unknown and Mismatch: no live fact has the id; the change is a level and the fact isn't
+    /// The first fault of an amendment, among Unknown and Mismatch: no live fact has the id; the change is a level and the fact isn't
     /// a dip, or the change is an amount and the fact is a dip. `None` exactly when there is none.
     pub fn judge_amend(&self, id: &Name, change: &Change) -> Option<FactFault>
         ensures { result ≡ amend_fault_of self.now id.now change.now }
