@@ -5,7 +5,7 @@ use Rattle.pb_check.specs.declared.faults.Test.{Test}
 use Rattle.pb_check.specs.declared.faults.Fault.{Fault}
 use Rattle.pb_check.specs.Verdict.{code_of, Passes, Fails}
 
--- the first of the tests from one to another that fails, with its fault; none where the stage passes these
+-- the first of the tests from one to another that fails, with its fault; none if the stage passes all of these
 abbrev pub IsAmong : Stage → ℕ → ℕ → ℕ → ℕ → Option (Test × Fault) → Type 0
 IsAmong stage gap sweeps from to None =
     (test : Test) → from ≤ code_of test → code_of test ≤ to → Passes stage gap sweeps test

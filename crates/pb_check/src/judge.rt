@@ -31,8 +31,8 @@ fn first_of_all(
     first_of_flows(alloc, stage, gap, sweeps)
 }
 
-/// Whether a stage of a report, wherever it came from, passes the tests of a judge, at the gap in thousandths of a standard deviation
-/// and the sweeps that the report was asked for; else the first test that it fails, with its place and numbers.
+/// Whether a stage of a report, wherever it came from, passes the tests of a judge, at the gap, in thousandths of a standard deviation, and
+/// the sweeps that the report was asked for; if it doesn't, the first test that it fails, with its place and numbers.
 ///
 /// A stage that passes is certified by its own numbers. The work is in proportion to its streams, nodes, and the members and steps of
 /// its certificates.

@@ -11,7 +11,7 @@ pub fn some_verdict_law()
     nodal_tests_law();
 }
 
-/// No stage passes and has a first fault, and none has two; so a stage has one verdict.
+/// No stage passes and has a first fault, and no stage has two; so a stage has one verdict.
 pub fn one_verdict_law()
     ensures not_both { NotBothLaw }
     ensures one { OneFaultLaw }
