@@ -44,7 +44,7 @@ less_at marks f = set marks f false
 abbrev pub swapped : List Bool → ℕ → ℕ → List Bool
 swapped marks f e = set (set marks f false) e true
 
--- what is marked but for one stream is what is marked without it
+-- what is marked once one stream's mark is removed is what was marked, without that stream
 less_part : (ss : List Stream) (marks : List Bool) (f k : ℕ) (t : Stream) → is_open (less_at marks f) k t ≡ true → except f (is_open marks) k t ≡ true
 less_part ss marks f k t ok = elim (cases_eq k f) [
   | inl same ↦ cc_same (cases_size marks f) same
