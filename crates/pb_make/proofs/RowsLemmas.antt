@@ -46,7 +46,7 @@ reading_is number sides place truth draw plant old new truth_is draw_is adds =
     adds ∙ ap (λ (t : ℤ). old ++ line_of (reading_row place t draw)) truth_is
     ∙ ap (λ (d : ℕ). old ++ line_of (reading_row place (truth_at plant (stream_read place)) d)) draw_is
 
--- the parts of a session one after the other
+-- the parts of a session, one after another
 pub joined : (units streams middle readings : List (List (List ℕ))) (last : List (List ℕ)) (a b c d e f : List ℕ) → a ≡ [] → b ≡ a ++ text_of_rows units → c ≡ b ++ text_of_rows streams
     → d ≡ c ++ text_of_rows middle → e ≡ d ++ text_of_rows readings → AddsLine e f last → f ≡ text_of_rows ((units ++ (streams ++ (middle ++ readings))) ++ last ∷ [])
 joined units streams middle readings last a b c d e f a_is b_is c_is d_is e_is adds =
