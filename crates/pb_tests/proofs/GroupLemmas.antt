@@ -54,7 +54,7 @@ free_is g grouping k limits are lt =
     subst (λ (i : ℕ). (is_free_group grouping.group g.streams i ≡ true) ↔ IsFreeGroup g n) least.member (free_law g grouping.group n limits are.groups node) in
     same_bool (get_or grouping.free k false) (is_free_group grouping.group g.streams k) (λ is. said.1 (kept.0 is)) (λ is. kept.1 (said.0 is))
 
--- ---- one group more
+-- ---- one more group
 below_next : (group : List ℕ) (ss : List Stream) (critical : Option ℤ) (k : ℕ)
     → nodal_tests_below group ss critical (k + 1) ≡ nodal_tests_below group ss critical k ++ test_of_group group ss critical k
 below_next group ss critical k = let next : k + 1 ≡ suc k = omega arith in ap (nodal_tests_below group ss critical) next
