@@ -1,4 +1,4 @@
--- Each printed flow is within its own bounds, and so within its own least bounds.
+-- Each printed flow is within its bounds, and so within its least bounds.
 use Rattle.std.proofs.Common.{◌≡◌, ◌∙◌, ℕ, zero, suc, ℤ, pos, ◌+ℤ◌, ◌-ℤ◌, ◌≤ℤ◌, Bool, true, false, List, [], ◌∷◌, Option, Some, None, slice_get, refl, sym, ap, subst, arith}
 use Rattle.std.specs.Prelude.{is_some, ◌||◌, IfSome, MatchOption}
 use Rattle.std.specs.Option.{option_map}

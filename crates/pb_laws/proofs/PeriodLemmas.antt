@@ -25,7 +25,7 @@ use Rattle.pb_book.specs.Refusals.{is_closed_named, refusal_of}
 use Rattle.pb_book.specs.Rows.{closed_if_named, open_period, periods_after, periods_of}
 use Rattle.pb_laws.specs.Closing.{ClosedLaw, OpenedLaw, SomeRowCloses, opened_by}
 
--- ---- rows that were accepted one after the other
+-- ---- rows that were accepted one after another
 grown : (P : List StoredRow → Type 0) → ((rows : List StoredRow) (stored : StoredRow) → P rows → IsAcceptable rows stored.effect → P (rows ++ stored ∷ []))
     → (before rest : List StoredRow) → P before → AreAccepted (before ++ rest) → P (before ++ rest)
 grown P step before [] right accepted = subst P (sym (append-nil before)) right
