@@ -79,7 +79,7 @@ fn assert_as_from_classes(
     Ok(())
 }
 
-/// The same of a graph without critical values.
+/// The same for a graph without critical values.
 fn assert_both_ways(rt: &impl Abort, alloc: Global, g: &Graph) -> Result<(), AllocError> {
     let options = Options {
         gap: 10,
