@@ -1,4 +1,4 @@
--- The marks that the labels of the parts decide, one stream after the other, and that they are the advised choice.
+-- The marks that the labels of the parts decide, one stream after another, and that they are the advised choice.
 use Rattle.std.proofs.Common.{◌≡◌, ◌≢◌, ◌∙◌, ℕ, zero, suc, ◌+◌, ◌<◌, ◌≤◌, ℤ, Bool, true, false, ◌==◌, ◌||◌, List, [], ◌∷◌, ◌++◌, length, take, Some, slice_get, get_or, ap, sym, refl, subst, inl, inr, arith}
 use Rattle.std.specs.List.{list_any}
 use Rattle.std.proofs.lemmas.Bool.{cases_Bool, cases_eq, cases_lt, or_cases, or_left, or_right, not-true, not_from_false, eq-eqb, eqb-true}

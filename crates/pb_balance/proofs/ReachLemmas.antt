@@ -122,7 +122,7 @@ side_cuts_off g j s side at reach out =
           (ap (member_at side (0 + k)) (some_same (sym there ∙ ap (slice_get g.streams) (omega arith) ∙ at_t)) ∙ crosses));
     }
 
--- two vectors that tell a stream apart show that it is not determined
+-- two vectors that differ on a stream show that it is not determined
 pub not_both : (g : ProcessGraph) (j : ℕ) → IsDetermined g j → IsFree g j → ⊥
 not_both g j determined (xs, ys, apart) = apart.differ (determined xs ys apart.one apart.other apart.agree)
 

@@ -61,7 +61,7 @@ bring_both stream flow back nets once twice ends turn first second n =
     ap (λ (z : ℤ). if stream.from == n then z else pos 0) turn ∙ turned (stream.from == n) flow in
     omega (arith, ints, to, from, back_is)
 
--- one stream more is gathered
+-- one more stream is gathered
 pub gathered : (sum more rest whole part next : ℤ) → sum +ℤ rest ≡ whole → more ≡ sum +ℤ part → rest ≡ part +ℤ next → more +ℤ next ≡ whole
 gathered sum more rest whole part next so_far is step = omega (arith, ints, so_far, is, step)
 

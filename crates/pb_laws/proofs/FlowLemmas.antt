@@ -52,7 +52,7 @@ own_bounds stage certified j r at =
     (certified.enclosed (whole_flows (printed_flows stage)) (as_good stage certified) j r at)
 
 -- ---- least bounds
--- A number within some bounds is within the middle of itself and them.
+-- A number within some bounds is within the midpoints between itself and these bounds.
 middle_from : (flow sum low width : ℤ) → sum ≡ flow → (low -ℤ width) ≤ℤ flow → (floor_div (sum +ℤ low) (pos 2) -ℤ ceil_div width (pos 2)) ≤ℤ flow
 middle_from flow sum low width same from =
     let below = (floor_is (sum +ℤ low) (pos 2) (omega (arith, ints))).below in

@@ -55,7 +55,7 @@ unit_fine k few =
     nodes_of from zero = refl
     nodes_of from (suc count) = ap (λ (l : List (List ℕ)). node_name from ∷ l) (nodes_of (from + 1) count)
 
--- what is to be shown of the rows that are left
+-- what is to be shown of the remaining rows
 abbrev pub Rest : (List StoredRow → Type 0) → List Declared → List KeptFact → List Period → List (List (List ℕ)) → Type 0
 Rest Holds declared kept periods records = (rows : List StoredRow) (at : ℕ) → IsAt rows declared kept periods → AreTaken Holds rows at records
 

@@ -15,7 +15,7 @@ use Rattle.pb_make.specs.Plant.{change_of, end_from, leads_back, least_streams, 
 
 -- ---- side streams
 
--- a remainder is below what is divided by
+-- a remainder is below the divisor
 below : (a b : ℕ) → 1 ≤ b → a % b < b
 below a b some = omega (arith, some)
 

@@ -1,4 +1,4 @@
--- Texts of rows, one row more at a time.
+-- Texts of rows, one more row at a time.
 use Rattle.std.proofs.Common.{◌≡◌, ◌∙◌, ℕ, ◌+◌, ◌<◌, List, [], ◌∷◌, ◌++◌, ℤ, length, get_or, drop, sym, ap, append_assoc, append-nil}
 use Rattle.std.specs.Prelude.{map}
 use Rattle.std.specs.List.{range_with_len}
@@ -23,7 +23,7 @@ made_more f first n j front old new at adds so_far =
     adds ∙ row_more front old (map f (range_with_len first n)) (f j) so_far
     ∙ ap (λ (rows : List (List (List ℕ))). front ++ text_of_rows rows) (sym (map-range_with_len_more f first n j at))
 
--- one row less that is left
+-- one remaining row fewer
 pub stream_next : (front old new : List ℕ) (streams : List MadeStream) (k : ℕ) (d : MadeStream) → k < length streams → AddsLine old new (stream_row (k + 1) (get_or streams k d))
     → old ++ text_of_rows (stream_rows (k + 1) (drop k streams)) ≡ front
     → new ++ text_of_rows (stream_rows (k + 1 + 1) (drop (k + 1) streams)) ≡ front

@@ -120,7 +120,7 @@ period_stored law number streams least most =
     subst (λ (records : List (List (List ℕ))). AreTaken HasMadePeriod [] 1 records) (append-nil (stored_rows number streams))
     (taken_then (IsMadeOf number streams) HasMadePeriod [] 1 (stored_rows number streams) [] (stored_taken law number streams least most) (λ rows next is. is.periods_is))
 
--- ---- how many rows there are
+-- ---- the number of rows
 
 stream_count : (i : ℕ) (streams : List MadeStream) → length (stream_rows i streams) ≡ length streams
 stream_count i [] = refl

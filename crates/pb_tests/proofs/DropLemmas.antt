@@ -44,7 +44,7 @@ all_without P j ss keep all = λ k d lt.
       | inr changed ↦ subst P (sym changed) (keep (get_or ss k d) here)
     ]
 
--- it keeps the limits
+-- it is within the limits
 pub without_limits : (j : ℕ) (g : ProcessGraph) → IsProcessGraph g → IsProcessGraph (without_measurement j g)
 without_limits j g is = record {
   env = is.env;

@@ -13,7 +13,7 @@ use Rattle.pb_merge.specs.Grouping.{AreGroupsOf, Grouping, IsLeastNode, least_at
 use Rattle.pb_merge.proofs.GroupLaws.{free_law}
 use Rattle.pb_tests.specs.Nodal.{crossing_value, group_net, least_node, nodal_test, nodal_tests_below, test_of_group}
 
--- one stream more in the net flow of a group
+-- one more stream in the net flow of a group
 pub net_more : (numbers : List ℕ) (k j : ℕ) (ss : List Stream) (s : Stream) → j < length ss
     → group_net numbers k (drop j ss) ≡ crossing_value numbers k (get_or ss j s) +ℤ group_net numbers k (drop (j + 1) ss)
 net_more numbers k j ss s lt = ap (group_net numbers k) (drop_next ss j s lt)
