@@ -164,7 +164,7 @@ fn branches_from_the_leaves(rt: HostRuntime) -> Result<(), AllocError> {
     Ok(())
 }
 
-/// A cycle of units that the environment has no part in, two streams between the environment and a unit, and a unit alone.
+/// A cycle of units that the environment has no part in, two streams between the environment and a unit, and an isolated unit.
 #[test]
 fn several_trees(rt: HostRuntime) -> Result<(), AllocError> {
     let streams = [
@@ -231,7 +231,7 @@ fn assert_as_searched(rt: &impl Abort, alloc: Global, g: &Graph) -> Result<(), A
     assert_all_as_searched(rt, alloc, g, &near, &forest, &marks)
 }
 
-/// Two trees, one of which has a branch of three streams and one of two from one node, and a unit alone.
+/// Two trees, one of which has a branch of three streams and one of two from one node, and an isolated unit.
 #[test]
 fn paths_as_searched(rt: HostRuntime) -> Result<(), AllocError> {
     let alloc = rt.alloc();

@@ -10,7 +10,7 @@ use pb_limits::MOST_STREAMS;
 use pb_rows::{read_whole, whole_bytes};
 use std::alloc::{AllocError, Global};
 
-/// The gap that is asked, in thousandths of a standard deviation, and the sweeps that are allowed.
+/// The gap that is asked for, in thousandths of a standard deviation, and the sweeps that are allowed.
 const GAP: u32 = 10;
 
 const SWEEPS: u32 = 20;

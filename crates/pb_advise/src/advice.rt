@@ -103,8 +103,8 @@ fn meters_of(
 /// The cheapest metering of a graph: which unmeasured streams to meter, at these costs, so that every stream is observable.
 ///
 /// Among the choices that cost the least, this one takes streams by falling cost, the earlier first among equals, and leaves a stream
-/// without a meter unless the streams before it join its ends. The work is in proportion to nodes and streams (and to sorting the streams),
-/// to the steps of the cycles, and to the joins. There are at most as many joins as nodes, and each goes over the nodes.
+/// without a meter unless the streams before it join its ends. The work is proportional to the numbers of nodes and streams (and to sorting
+/// the streams), to the steps of the cycles, and to the joins. There are at most as many joins as nodes, and each goes over the nodes.
 pub fn advise(alloc: Global, graph: &Graph, costs: &[i64]) -> Result<Advice, AllocError>
     requires { AreCosts graph.now costs.now }
     ensures advice { IfOk result (IsAdvice graph.now costs.now) }

@@ -63,7 +63,7 @@ finding_row (unreadable number fault) = unreadable_row number fault
 abbrev pub text_of_findings : List Finding → List ℕ
 text_of_findings findings = text_in Csv (map finding_row findings)
 
--- a block that passes is certified, and its state is converged exactly where its gap is met
+-- a block that passes is certified, and its state is converged exactly when its gap is met
 abbrev pub IsCertifiedFinding : Finding → Type 0
 IsCertifiedFinding (passed block) = IsSound block.stage block.gap
 IsCertifiedFinding finding = Unit {0}

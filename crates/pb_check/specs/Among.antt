@@ -1,4 +1,4 @@
--- Inside. The verdict on a stage by some of the tests, one after the other.
+-- Inside. The verdict on a stage by some of the tests, one after another.
 use Rattle.std.specs.Prelude.{ℕ, ◌<◌, ◌≤◌, Option, Some, None}
 use Rattle.pb_graph.specs.declared.results.Stage.{Stage}
 use Rattle.pb_check.specs.declared.faults.Test.{Test}

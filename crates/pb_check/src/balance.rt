@@ -71,7 +71,7 @@ fn first_uneven(stage: &Stage, nets: &[i128]) -> Option<Fault>
     None
 }
 
-/// Test 3: the flows balance at each node, including the environment. The work is in proportion to nodes and streams.
+/// Test 3: the flows balance at each node, including the environment. The work is proportional to the numbers of nodes and streams.
 pub fn balance_fault(alloc: Global, stage: &Stage) -> Result<Option<Fault>, AllocError>
     requires { IsWellFormed stage.now }
     ensures { IfOk result

@@ -198,7 +198,7 @@ fn is_shown_at(stage: &Stage, j: u32) -> bool
     )
 }
 
-/// Test 2: the printed cut or cycle shows the class of each stream. The work is in proportion to members and steps.
+/// Test 2: the printed cut or cycle shows the class of each stream. The work is proportional to the numbers of members and steps.
 pub fn witness_fault(stage: &Stage) -> Option<Fault>
     requires { IsWellFormed stage.now }
     ensures { MatchOption result (AreShown stage.now) (IsWitnessFault stage.now) }

@@ -16,7 +16,7 @@ pub enum Test {
     Balance,
     /// The nodes of a group share a price, which is 0 if the group isn't free.
     Price,
-    /// The prices at the ends of a measured stream are near enough.
+    /// The prices at the ends of a measured stream are close enough.
     Box,
     /// The degrees of freedom are those of the graph.
     Freedom,

@@ -56,7 +56,7 @@ fn first_of_pair(
 
 /// The first of the tests 7 to 13 that fails, for a stage that passes those before.
 ///
-/// The work is in proportion to nodes, streams and members of cuts.
+/// The work is proportional to the numbers of nodes, streams and members of cuts.
 pub fn first_of_flows(
     alloc: Global,
     stage: &Stage,

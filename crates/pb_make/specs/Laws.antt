@@ -19,7 +19,7 @@ AreTaken Holds rows at (fields ∷ records) =
     (is_refused (answer_of rows fields) ≡ false)
     × AreTaken Holds (after rows at fields) (at + 1) records
 
--- nothing is asked of it
+-- any stored rows will do
 abbrev pub Anything : List StoredRow → Type 0
 Anything rows = Unit {0}
 

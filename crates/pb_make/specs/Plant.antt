@@ -18,7 +18,7 @@ units_of streams = streams / 3 + 1
 abbrev pub sides_of : ℕ → ℕ
 sides_of streams = streams - (units_of streams + 1)
 
--- what the line carries before a side stream leaves or joins it, in grams a day
+-- what the line carries before a side stream leaves or joins it, in grams per day
 abbrev pub line_grams : ℤ
 line_grams = pos 50000000000
 
@@ -26,7 +26,7 @@ line_grams = pos 50000000000
 abbrev pub end_from : ℕ → ℕ → ℕ
 end_from from to = if to == from then 0 else to
 
--- the side stream of three draws: the node where it begins, the node that it leads to, and its true flow in grams a day
+-- the side stream of three draws: the node where it begins, the node that it leads to, and its true flow in grams per day
 abbrev pub side_by : ℕ → ℕ → ℕ → ℕ → MadeStream
 side_by units first second third = record {
   from = first % units + 1;
@@ -60,7 +60,7 @@ change_of i side =
     else if leads_back side i then side.truth
     else pos 0
 
--- the true flow of the stream of the line with this number, in grams a day
+-- the true flow of the stream of the line with this number, in grams per day
 abbrev pub line_truth : List MadeStream → ℕ → ℤ
 line_truth sides i = line_grams +ℤ sum_over (change_of i) sides
 

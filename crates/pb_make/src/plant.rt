@@ -19,7 +19,7 @@ pub struct MadeStream {
     pub truth: i128,
 }
 
-// What the line carries before a side stream leaves or joins it, in grams a day.
+// What the line carries before a side stream leaves or joins it, in grams per day.
 const LINE_GRAMS: i128 = 50_000_000_000;
 
 /// The number of units of a plant of this many streams: one for every three, and one more.

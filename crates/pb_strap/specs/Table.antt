@@ -36,7 +36,7 @@ volume_of (p ∷ q ∷ rest) mm =
     else if int_le mm q.mm then Some (volume_between p q mm)
     else volume_of (q ∷ rest) mm
 
--- the grams at a level, for a density in grams a cubic metre, which is 10^6 ml: volume times density, rounded down
+-- the grams at a level, for a density in grams per cubic metre, which is 10^6 ml: volume times density, rounded down
 abbrev pub grams_of : List Point → ℤ → ℤ → Option ℤ
 grams_of points mm density =
     option_map (λ volume. floor_div (volume *ℤ density) (pos (10 ^ 6))) (volume_of points mm)

@@ -155,7 +155,7 @@ impl Strap {
         volume_at(&self.points, mm)
     }
 
-    /// The grams at a level in millimetres, for a density in grams a cubic metre: volume times density, rounded down.
+    /// The grams at a level in millimetres, for a density in grams per cubic metre: volume times density, rounded down.
     pub fn grams(&self, mm: i64, density: i64) -> Option<i64>
         requires { IsDensity density }
         ensures value { result ≡ grams_of self.now mm density }

@@ -1,4 +1,4 @@
-// What is proved of the definitions alone. The contract of each function is a law; it calls those that the proof stands on.
+// What is proved of the definitions alone. The contract of each function is a law; it calls the laws that its proof uses.
 
 ghost use Rattle.pb_tests.specs.Laws.{SomeNodalTestsLaw, OneNodalTestsLaw, FreeGroupsLaw, NodalRangeLaw, SomeMeasureTestLaw, OneMeasureTestLaw, SomeMeasureTestsLaw, OneMeasureTestsLaw, EndsLaw, GlobalRejectLaw, GlobalAcceptLaw, DropRejectLaw, DropAcceptLaw, MeasureRejectLaw, MeasureAcceptLaw};
 
