@@ -100,7 +100,7 @@ IsInBoxAt stage j =
     (stream : Stream) → slice_get stage.graph.streams j ≡ Some stream
     → IsInBox (printed_price stage) stream
 
--- the adjustment of each measured flow is
+-- the adjustment of each measured flow is within its limit
 abbrev pub AreInBox : Stage → Type 0
 AreInBox stage = All (IsInBox (printed_price stage)) stage.graph.streams
 
@@ -133,7 +133,7 @@ abbrev pub HasBoundsAt : Stage → ℕ → Type 0
 HasBoundsAt stage j =
     (result : StreamResult) → slice_get stage.streams j ≡ Some result → result.bounds ≡ found_bounds stage j result
 
--- the bounds of each stream are
+-- and so for each stream
 abbrev pub HaveBounds : Stage → Type 0
 HaveBounds stage = (j : ℕ) → HasBoundsAt stage j
 
@@ -178,6 +178,6 @@ abbrev pub HasLeastBoundsAt : Stage → ℕ → Type 0
 HasLeastBoundsAt stage j =
     (result : StreamResult) → slice_get stage.streams j ≡ Some result → result.least ≡ found_least stage j result
 
--- the least bounds of each stream are, if the stage has least bounds
+-- and so for each stream, if the stage has least bounds
 abbrev pub HaveLeastBounds : Stage → Type 0
 HaveLeastBounds stage = HasLeastBounds stage → (j : ℕ) → HasLeastBoundsAt stage j

@@ -39,8 +39,8 @@ abbrev pub FreeGroupsLaw : Type 0
 FreeGroupsLaw = (graph : ProcessGraph) (critical : Option ℤ) (tests : List NodalTest)
     → IsProcessGraph graph → AreNodalTests graph critical tests → AreOfFreeGroups graph tests
 
--- the net flow of a nodal test is within that of as many values as a graph may have streams, and its variance within that of as many
--- variances
+-- the net flow of a nodal test is at most what as many streams as a graph may have can bring, and its variance is at most the sum of as
+-- many variances
 pub record IsNodalNumber (test : NodalTest) : Type 0 where
   pub net : unsigned_abs test.net ≤ most_group_net
   pub positive : pos 0 ≤ℤ test.variance
