@@ -189,7 +189,7 @@ fn is(field: &[u8], word: &[u8]) -> bool {
     field == word
 }
 
-// Appends a word and a blank.
+// Appends a word and a space.
 fn tell(text: &mut Vec<u8>, word: &[u8]) -> Result<(), AllocError> {
     text.extend_from_slice(word)?;
     text.push(b' ')?;

@@ -65,7 +65,7 @@ fn is_state(solved: Solved, met: bool, sweeps: u32) -> bool
     }
 }
 
-// How many sweeps were done.
+// The number of sweeps done.
 fn sweeps_of(solved: Solved) -> u32
     ensures { result ≡ sweeps_of solved }
 {

@@ -13,8 +13,8 @@ pub struct Service {
     pub until: i32,
 }
 
-/// A stream of a plant, or the inventory of a tank, which leads from the tank to the environment. The environment is node 0;
-/// without days of service it is in service on every day.
+/// A stream of a plant, or the inventory of a tank, which leads from the tank to the environment. The environment is node 0. An arc without
+/// days of service is in service on every day.
 #[derive(Clone, Copy, Debug, PartialEq, Eq)]
 pub struct PlantArc {
     pub from: u32,
