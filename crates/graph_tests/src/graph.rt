@@ -280,7 +280,7 @@ fn results(alloc: Global, member: Member) -> Result<List<StreamResult>, AllocErr
     Ok(streams)
 }
 
-/// A balance tested.
+/// The nodal tests of one balance.
 fn nodal_tests(alloc: Global) -> Result<List<NodalTest>, AllocError> {
     let mut nodal = List::new(alloc);
     nodal.push(NodalTest {
@@ -293,7 +293,7 @@ fn nodal_tests(alloc: Global) -> Result<List<NodalTest>, AllocError> {
     Ok(nodal)
 }
 
-/// A stage of the line, with a balance tested; its streams have cuts of this member.
+/// A stage of the line, with one balance tested; its streams have cuts of this member.
 fn stage(
     rt: &impl Abort,
     alloc: Global,
